@@ -1,0 +1,44 @@
+-- Numbers of states and messages in the lists of a contract.
+use Rattle.std.proofs.Common.{◌≡◌, ◌≢◌, ℕ, zero, suc, ◌+◌, ◌<◌, List, [], ◌∷◌, length, map, get_or, sym, refl, ap, ◌∙◌, subst, arith}
+use Rattle.std.specs.Prelude.{Contains, All}
+use Rattle.std.proofs.lemmas.List.{length-map, get_or-map}
+use Rattle.names.specs.declared.resolved.State.{State}
+use Rattle.names.specs.declared.resolved.StateId.{StateId}
+use Rattle.names.specs.declared.resolved.Message.{Message}
+use Rattle.names.specs.declared.resolved.MessageId.{MessageId}
+use Rattle.contracts.specs.Parts.{StateParts, MessageParts, state_parts, message_parts}
+
+pub get_again : {A : Type 0} (xs : List A) (k : ℕ) (d e : A) → k < length xs → get_or xs k e ≡ get_or xs k d
+get_again [] k d e lt = absurd (omega (arith, lt))
+get_again (x ∷ xs) zero d e lt = refl
+get_again (x ∷ xs) (suc k) d e lt = get_again xs k d e (omega (arith, lt))
+
+-- what stands at a place is in the list
+pub at_place : {A : Type 0} (xs : List A) (k : ℕ) (d : A) → k < length xs → Contains xs (get_or xs k d)
+at_place xs k d lt = (k, lt, get_again xs k d (get_or xs k d) lt)
+
+-- what holds of each that is in the list holds at each place
+pub all_from : {A : Type 0} (P : A → Type 0) (xs : List A) → ((x : A) → Contains xs x → P x) → All P xs
+all_from P xs each = λ k d lt. each (get_or xs k d) (at_place xs k d lt)
+
+pub contains_map : {A B : Type 0} (f : A → B) (xs : List A) (x : A) → Contains xs x → Contains (map f xs) (f x)
+contains_map f xs x c =
+    let size = length-map xs f in
+    let below = c.1 in
+    (c.0, omega (arith, size, below), get_or-map f xs c.0 x (f x) c.1 ∙ ap f c.2)
+
+pub state_numbers_are : (states : List State) → map (λ (i : StateId). i.0) (map (λ (s : StateParts). s.id) (map state_parts states)) ≡ map (λ (s : State). s.id.0) states
+state_numbers_are [] = refl
+state_numbers_are (s ∷ rest) = ap (λ l. s.id.0 ∷ l) (state_numbers_are rest)
+
+pub message_numbers_are : (messages : List Message) → map (λ (i : MessageId). i.0) (map (λ (m : MessageParts). m.id) (map message_parts messages)) ≡ map (λ (m : Message). m.id.0) messages
+message_numbers_are [] = refl
+message_numbers_are (m ∷ rest) = ap (λ l. m.id.0 ∷ l) (message_numbers_are rest)
+
+-- a state's number stands among the numbers
+pub state_number_in : (states : List State) (id : StateId) → Contains (map (λ (s : StateParts). s.id) (map state_parts states)) id → Contains (map (λ (s : State). s.id.0) states) id.0
+state_number_in states id c = subst (λ l. Contains l id.0) (state_numbers_are states) (contains_map (λ (i : StateId). i.0) (map (λ (s : StateParts). s.id) (map state_parts states)) id c)
+
+-- a message's number stands among the numbers
+pub message_number_in : (messages : List Message) (id : MessageId) → Contains (map (λ (m : MessageParts). m.id) (map message_parts messages)) id → Contains (map (λ (m : Message). m.id.0) messages) id.0
+message_number_in messages id c = subst (λ l. Contains l id.0) (message_numbers_are messages) (contains_map (λ (i : MessageId). i.0) (map (λ (m : MessageParts). m.id) (map message_parts messages)) id c)

@@ -1,0 +1,18 @@
+use Rattle.std.proofs.Common.{◌<◌, ◌++◌, ◌∙◌, ap, sym, length, arith, []}
+use Rattle.std.proofs.lemmas.List.{length-map}
+use Rattle.std.proofs.lemmas.List.Elements.{All-same, All-append, All-cons, All-nil}
+use Rattle.contracts.proofs.bounds.reached_from.Goals as goal
+
+pub rows_of-requires : goal.rows_of-requires
+rows_of-requires c = record {
+  range = All-same (λ a. (a.from < c.args.count) × (a.to < c.args.count)) c.deref.result.now (c.args.sends.now ++ c.args.receives.now)
+      (c.deref.ensures.value ∙ c.in_ok-extend_from_slice-2.ensures.items ∙ ap (λ l. l ++ c.args.receives.now) (c.in_ok-extend_from_slice.ensures.items ∙ ap (λ l. l ++ c.args.sends.now) c.new-arcs.ensures.items))
+      (All-append (λ a. (a.from < c.args.count) × (a.to < c.args.count)) c.args.sends.now c.args.receives.now c.requires.sends c.requires.receives);
+}
+
+pub marked-requires-clause-starts : goal.marked-requires-clause-starts
+marked-requires-clause-starts c =
+    let a = c.in_ok-graph.ensures.rows.long in
+    let b = length-map c.in_ok-graph.graph.items (λ r. r.items) in
+    let d = ap length c.deref-2.ensures.value in
+    All-cons (λ s. s < length c.deref-2.result.now) c.args.first [] (let e = c.requires.first in omega (arith, a, b, d, e)) (All-nil (λ s. s < length c.deref-2.result.now))

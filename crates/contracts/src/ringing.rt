@@ -1,0 +1,157 @@
+//! Which vertices lie on a ring.
+
+ghost use Rattle.std.specs.Prelude.{◌≡◌, ◌==◌, ◌<◌, ◌≤◌, ℕ, List, length, map, filter, All, IfOk, IsTrue, IfSome, Bool, true, false};
+ghost use Rattle.contracts.specs.Arcs.{AllWithin, AreRows, turned_arc};
+ghost use Rattle.contracts.specs.Graphs.{rows, InRange};
+ghost use Rattle.contracts.specs.Marking.{Reaches};
+ghost use Rattle.contracts.specs.Numbering.{TellsRings, AreRings, AreRoots, number_in};
+
+use crate::arcs::{Arc, rows_of};
+use crate::marking::marked;
+use crate::numbering::{finishing, numbers};
+use std::alloc::{AllocError, Global};
+
+/// Whether each vertex lies on a ring. The time is near linear in the arcs, since the numbers that are found pass
+/// their test.
+pub fn rings(alloc: Global, graph: &[Vec<usize>], arcs: &[Arc]) -> Result<Vec<bool>, AllocError>
+    requires rows { AreRows (length graph.now) arcs.now (rows graph.now) }
+    requires range { AllWithin (length graph.now) arcs.now }
+    ensures long { IfOk result (λ rings. length rings.items ≡ length graph.now) }
+{
+    let numbers = found_numbers(alloc, graph, arcs)?;
+    match rings_by_numbers(alloc, arcs, &numbers)? {
+        Some(rings) => Ok(rings),
+        None => rings_by_search(alloc, graph),
+    }
+}
+
+/// The same number for vertices that lead to each other, and no higher one for what a vertex leads to: a proposal,
+/// which is to be tested.
+fn found_numbers(
+    alloc: Global,
+    graph: &[Vec<usize>],
+    arcs: &[Arc],
+) -> Result<Vec<usize>, AllocError>
+    requires range { AllWithin (length graph.now) arcs.now }
+    ensures long { IfOk result (λ numbers. length numbers.items ≡ length graph.now) }
+{
+    let order = finishing(alloc, graph)?;
+    let turned = turned(alloc, arcs)?;
+    let back = rows_of(alloc, graph.len(), &turned)?;
+    numbers(alloc, &back, &order)
+}
+
+/// Each arc turned round.
+fn turned(alloc: Global, arcs: &[Arc]) -> Result<Vec<Arc>, AllocError>
+    ensures { IfOk result (λ turned. turned.items ≡ map turned_arc arcs.now) }
+{
+    arcs.iter()
+        .map(|arc| Arc {
+            from: arc.to,
+            to: arc.from,
+        })
+        .collect(alloc)
+}
+
+/// The arcs between vertices of one number.
+fn inner_arcs(alloc: Global, arcs: &[Arc], numbers: &[usize]) -> Result<Vec<Arc>, AllocError>
+    requires range { AllWithin (length numbers.now) arcs.now }
+    ensures { IfOk result (λ inner. inner.items ≡ filter (λ a. number_in numbers.now a.from == number_in numbers.now a.to) arcs.now) }
+{
+    arcs.iter()
+        .copied()
+        .filter(|arc| numbers[arc.from] == numbers[arc.to])
+        .collect(alloc)
+}
+
+/// No arc leads to a higher number.
+fn falls(arcs: &[Arc], numbers: &[usize]) -> bool
+    requires range { AllWithin (length numbers.now) arcs.now }
+    ensures { IsTrue result → All (λ a. number_in numbers.now a.to ≤ number_in numbers.now a.from) arcs.now }
+{
+    arcs.iter().all(|arc| numbers[arc.to] <= numbers[arc.from])
+}
+
+/// The vertices that their number names in the table.
+fn roots_of(alloc: Global, numbers: &[usize], roots: &[usize]) -> Result<Vec<usize>, AllocError>
+    ensures roots { IfOk result (λ found. AreRoots numbers.now roots.now found.items) }
+{
+    let mut found = Vec::new(alloc);
+    for v in 0..numbers.len() {
+        if let Some(root) = roots.get(numbers[v]) {
+            if *root == v {
+                found.push(v)?;
+            }
+        }
+    }
+    Ok(found)
+}
+
+/// For each number a vertex that has it.
+fn named_by(alloc: Global, numbers: &[usize]) -> Result<Vec<usize>, AllocError> {
+    let mut named = vec![in alloc; 0; numbers.len()]?;
+    for v in 0..numbers.len() {
+        if let Some(name) = named.get_mut(numbers[v]) {
+            *name = v;
+        }
+    }
+    Ok(named)
+}
+
+/// Whether every vertex can be reached from the starts.
+fn reach_all(alloc: Global, graph: &[Vec<usize>], starts: &[usize]) -> Result<bool, AllocError>
+    requires range { InRange (rows graph.now) }
+    requires starts { All (λ s. s < length graph.now) starts.now }
+    ensures { IfOk result (λ all. all ≡ true → (v : ℕ) → v < length graph.now → Reaches (rows graph.now) starts.now v) }
+{
+    let marks = marked(alloc, graph, starts)?;
+    Ok(marks.iter().all(|mark| *mark))
+}
+
+/// Whether each vertex lies on a ring, where the numbers pass their test: no arc leads to a higher number, and one
+/// vertex of each number is joined both ways with all others of it.
+fn rings_by_numbers(
+    alloc: Global,
+    arcs: &[Arc],
+    numbers: &[usize],
+) -> Result<Option<Vec<bool>>, AllocError>
+    requires range { AllWithin (length numbers.now) arcs.now }
+    ensures long { IfOk result (λ found. IfSome found (λ rings. length rings.items ≡ length numbers.now)) }
+{
+    if !falls(arcs, numbers) {
+        return Ok(None);
+    }
+    let named = named_by(alloc, numbers)?;
+    let starts = roots_of(alloc, numbers, &named)?;
+    let inner = inner_arcs(alloc, arcs, numbers)?;
+    let down = rows_of(alloc, numbers.len(), &inner)?;
+    let turned = turned(alloc, &inner)?;
+    let up = rows_of(alloc, numbers.len(), &turned)?;
+    if reach_all(alloc, &down, &starts)? && reach_all(alloc, &up, &starts)? {
+        let rings = down.iter().map(|row| !row.is_empty()).collect(alloc)?;
+        return Ok(Some(rings));
+    }
+    Ok(None)
+}
+
+/// Whether a vertex lies on a ring, by a plain search from it.
+fn is_on_ring(alloc: Global, graph: &[Vec<usize>], v: usize) -> Result<bool, AllocError>
+    requires v { v < length graph.now }
+    requires range { InRange (rows graph.now) }
+    ensures tells { IfOk result (λ on. TellsRings (rows graph.now) v on) }
+{
+    let marks = marked(alloc, graph, &graph[v])?;
+    Ok(marks[v])
+}
+
+/// Whether each vertex lies on a ring, by a plain search from each.
+fn rings_by_search(alloc: Global, graph: &[Vec<usize>]) -> Result<Vec<bool>, AllocError>
+    requires range { InRange (rows graph.now) }
+    ensures rings { IfOk result (λ rings. AreRings (rows graph.now) rings.items) }
+{
+    let mut rings = Vec::new(alloc);
+    for v in 0..graph.len() {
+        rings.push(is_on_ring(alloc, graph, v)?)?;
+    }
+    Ok(rings)
+}

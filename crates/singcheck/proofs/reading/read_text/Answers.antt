@@ -1,0 +1,16 @@
+use Rattle.std.proofs.Common.{subst, sym, ◌∙◌, arith, rules}
+use Rattle.std.specs.Io.KnownBytes.{Consumes}
+use Rattle.std.proofs.KnownBytes.{Consumes-trans}
+use Rattle.singcheck.specs.declared.reading.TheConstants.{MAX_READ}
+use Rattle.singcheck.proofs.Texts.{longer}
+use Rattle.singcheck.proofs.reading.read_text.Goals as goal
+
+pub reads-preserved : goal.reads-preserved
+reads-preserved g c =
+    let kept = c.reads.invariant in
+    let more = c.in_ok-extend_from_slice-in-Ok.ensures.items in
+    record {
+      long = longer _ _ _ c.in-Ok.n c.min-room.result MAX_READ more (omega (arith, c.len.ensures, c.reads-test.true, c.reads.text.ok.0)) (omega (arith, c.min-room.ensures, c.len.ensures, c.reads.text.ok.0)) (search rules);
+      bytes = subst (Consumes _ _) (sym more) (Consumes-trans _ _ _ _ _ kept.bytes c.in-Ok.ensures.bytes.0);
+      same = c.in-Ok.ensures.failures ∙ kept.same;
+    }

@@ -1,0 +1,8 @@
+//! What a command line can ask for.
+
+/// What is asked for.
+#[derive(Clone, Copy, Debug, PartialEq, Eq)]
+pub enum Ask<'a> {
+    /// The queue bounds of the contracts in this file.
+    Bounds { file: &'a str },
+}

@@ -1,0 +1,89 @@
+//! The program `singcheck`: its arguments, files and exit statuses, and nothing else.
+#![tactic(auto)]
+
+use clap::error::ErrorKind;
+use singcheck::{Ask, Counted, Input, RunFault, Sink, Status, ask, ending, run_bounds};
+use std::alloc::{AllocError, Global};
+use std::fs::File;
+use std::process::ExitCode;
+use std::rt::{Env, Files};
+use std::{env, fs, io};
+
+fn main(rt: HostRuntime) -> ExitCode {
+    let mut output = Counted::new(rt.stdout());
+    let mut errors = Counted::new(rt.stderr());
+    ExitCode::from(run(&rt, &mut output, &mut errors))
+}
+
+/// Does what the command line asks for, and answers the exit status.
+fn run<R: AllocGlobal + Env + Files + Print + Eprint, O: Sink, E: Sink>(
+    rt: &R,
+    output: &mut O,
+    errors: &mut E,
+) -> u8 {
+    let texts = match texts_of_words(rt) {
+        Ok(texts) => texts,
+        Err(fault) if fault.kind() == io::ErrorKind::OutOfMemory => {
+            return ending(&RunFault::Memory, "", errors);
+        }
+        Err(_) => {
+            let _ = rt.eprintln("singcheck: a word of the command line is not UTF-8");
+            return 2;
+        }
+    };
+    match words_of(rt.alloc(), &texts) {
+        Ok(words) => answer(rt, &words, output, errors),
+        Err(AllocError) => ending(&RunFault::Memory, "", errors),
+    }
+}
+
+fn texts_of_words<R: AllocGlobal + Env>(rt: &R) -> io::Result<Vec<String>> {
+    let mut texts = Vec::new(rt.alloc());
+    for word in env::args(rt)? {
+        texts.push(word)?;
+    }
+    Ok(texts)
+}
+
+fn words_of(alloc: Global, texts: &[String]) -> Result<Vec<&str>, AllocError> {
+    let mut words = Vec::new(alloc);
+    for text in texts {
+        words.push(text.as_str())?;
+    }
+    Ok(words)
+}
+
+fn answer<R: AllocGlobal + Files + Print + Eprint, O: Sink, E: Sink>(
+    rt: &R,
+    words: &[&str],
+    output: &mut O,
+    errors: &mut E,
+) -> u8 {
+    match ask(rt.alloc(), words) {
+        Ok(Ask::Bounds { file }) => bounds(rt, file, output, errors),
+        Err(refusal) if refusal.kind() == ErrorKind::OutOfMemory => {
+            ending(&RunFault::Memory, "", errors)
+        }
+        Err(refusal) => match refusal.print(rt) {
+            Ok(()) if refusal.use_stderr() => 2,
+            Ok(()) => 0,
+            Err(_) => ending(&RunFault::Write, "", errors),
+        },
+    }
+}
+
+fn bounds<R: AllocGlobal + Files, O: Sink, E: Sink>(
+    rt: &R,
+    file: &str,
+    output: &mut O,
+    errors: &mut E,
+) -> u8 {
+    let Ok(text) = fs::open(rt, file) else {
+        return ending(&RunFault::Read(Input::Text), file, errors);
+    };
+    match run_bounds(rt.alloc(), &mut Counted::new(text), output) {
+        Ok(Status::Empty) => 0,
+        Ok(Status::Found) => 1,
+        Err(fault) => ending(&fault, file, errors),
+    }
+}

@@ -1,0 +1,15 @@
+-- Which bytes are what.
+use Rattle.std.specs.Prelude.{ℕ, Bool, ◌==◌, ◌||◌}
+use Rattle.std.specs.Char.{is_ascii_alphabetic, is_ascii_alphanumeric}
+
+-- a space, a tab, or a byte that ends a line
+abbrev pub is_blank_byte : ℕ → Bool
+is_blank_byte b = b == 32 || b == 9 || b == 13 || b == 10
+
+-- a letter or `_`
+abbrev pub starts_word : ℕ → Bool
+starts_word b = is_ascii_alphabetic b || b == 95
+
+-- a letter, a digit or `_`
+abbrev pub in_word : ℕ → Bool
+in_word b = is_ascii_alphanumeric b || b == 95

@@ -1,0 +1,166 @@
+//! What is said of each finding: its code and its text, in one function a message.
+//!
+//! Each takes the place of the finding, and the name that its text says where it says one. A name that is no UTF-8
+//! is printed with U+FFFD for what is none. The only fault is that a growth of memory was refused.
+
+ghost use Rattle.std.specs.Prelude.{◌≡◌, ◌++◌, IfOk, codes};
+ghost use Rattle.std.specs.Str.Lossy.{utf8_lossy};
+ghost use Rattle.source.specs.Findings.{IsFinding, Reports};
+ghost use Rattle.source.specs.Places.{first_place};
+
+use crate::fault::{Memory, TextFault};
+use crate::finding::{Code, Finding};
+use crate::place::{self, Place};
+use std::alloc::Global;
+
+/// A finding with this text.
+fn plain(alloc: Global, place: Place, code: Code, text: &str) -> Result<Finding, Memory>
+    ensures { IfOk result (IsFinding place code text.now) }
+{
+    let text = String::from_str(alloc, text)?;
+    Ok(Finding { place, code, text })
+}
+
+/// A finding whose text begins with a name.
+fn named(
+    alloc: Global,
+    place: Place,
+    code: Code,
+    name: &[u8],
+    rest: &str,
+) -> Result<Finding, Memory>
+    ensures { IfOk result (IsFinding place code (utf8_lossy name.now ++ rest.now)) }
+{
+    let mut text = String::from_utf8_lossy(alloc, name)?;
+    text.push_str(rest)?;
+    Ok(Finding { place, code, text })
+}
+
+/// A finding whose text ends with a name.
+fn naming(
+    alloc: Global,
+    place: Place,
+    code: Code,
+    front: &str,
+    name: &[u8],
+) -> Result<Finding, Memory>
+    ensures { IfOk result (IsFinding place code (front.now ++ utf8_lossy name.now)) }
+{
+    let mut text = String::from_str(alloc, front)?;
+    let name = String::from_utf8_lossy(alloc, name)?;
+    text.push_str(name.as_str())?;
+    Ok(Finding { place, code, text })
+}
+
+/// A byte with which no blank, comment or token begins.
+pub fn stray_byte(alloc: Global, place: Place) -> Result<Finding, Memory>
+    ensures { IfOk result (IsFinding place Code.S01 (codes "stray byte")) }
+{
+    plain(alloc, place, Code::S01, "stray byte")
+}
+
+/// A comment that does not end, at its `/*`.
+pub fn comment_not_closed(alloc: Global, place: Place) -> Result<Finding, Memory>
+    ensures { IfOk result (IsFinding place Code.S02 (codes "comment not closed")) }
+{
+    plain(alloc, place, Code::S02, "comment not closed")
+}
+
+/// A text of more bytes than a text may have, at its front.
+pub fn text_too_long(alloc: Global) -> Result<Finding, Memory>
+    ensures { IfOk result (IsFinding first_place Code.S03 (codes "text too long")) }
+{
+    plain(alloc, place::START, Code::S03, "text too long")
+}
+
+/// A bracket with which more are open than may be.
+pub fn brackets_too_deep(alloc: Global, place: Place) -> Result<Finding, Memory>
+    ensures { IfOk result (IsFinding place Code.S04 (codes "brackets too deep")) }
+{
+    plain(alloc, place, Code::S04, "brackets too deep")
+}
+
+/// A token that no program goes on with.
+pub fn unexpected_token(alloc: Global, place: Place) -> Result<Finding, Memory>
+    ensures { IfOk result (IsFinding place Code.S05 (codes "unexpected token")) }
+{
+    plain(alloc, place, Code::S05, "unexpected token")
+}
+
+/// The end of a text that is no whole program, at the place behind its last byte.
+pub fn unexpected_end(alloc: Global, place: Place) -> Result<Finding, Memory>
+    ensures { IfOk result (IsFinding place Code.S05 (codes "unexpected end")) }
+{
+    plain(alloc, place, Code::S05, "unexpected end")
+}
+
+/// A number above the greatest one.
+pub fn number_too_large(alloc: Global, place: Place) -> Result<Finding, Memory>
+    ensures { IfOk result (IsFinding place Code.S06 (codes "number too large")) }
+{
+    plain(alloc, place, Code::S06, "number too large")
+}
+
+/// A name that is declared already, at the later declaration.
+pub fn declared_twice(alloc: Global, place: Place, name: &[u8]) -> Result<Finding, Memory>
+    ensures { IfOk result (IsFinding place Code.N01 (utf8_lossy name.now ++ codes " declared twice")) }
+{
+    named(alloc, place, Code::N01, name, " declared twice")
+}
+
+/// A name that nothing declares.
+pub fn unknown(alloc: Global, place: Place, name: &[u8]) -> Result<Finding, Memory>
+    ensures { IfOk result (IsFinding place Code.N02 (utf8_lossy name.now ++ codes " unknown")) }
+{
+    named(alloc, place, Code::N02, name, " unknown")
+}
+
+/// One more of something than there may be.
+pub fn limit_passed(alloc: Global, place: Place) -> Result<Finding, Memory>
+    ensures { IfOk result (IsFinding place Code.N06 (codes "limit passed")) }
+{
+    plain(alloc, place, Code::N06, "limit passed")
+}
+
+/// An edge whose sign is against the direction of its message.
+pub fn against_its_direction(alloc: Global, place: Place, message: &[u8]) -> Result<Finding, Memory>
+    ensures { IfOk result (IsFinding place Code.C01 (utf8_lossy message.now ++ codes " against its direction")) }
+{
+    named(alloc, place, Code::C01, message, " against its direction")
+}
+
+/// A message of which a state has an edge already.
+pub fn twice_in_a_state(alloc: Global, place: Place, message: &[u8]) -> Result<Finding, Memory>
+    ensures { IfOk result (IsFinding place Code.C02 (utf8_lossy message.now ++ codes " twice in a state")) }
+{
+    named(alloc, place, Code::C02, message, " twice in a state")
+}
+
+/// A state in which either end may send.
+pub fn both_directions_in(alloc: Global, place: Place, state: &[u8]) -> Result<Finding, Memory>
+    ensures { IfOk result (IsFinding place Code.C03 (codes "both directions in " ++ utf8_lossy state.now)) }
+{
+    naming(alloc, place, Code::C03, "both directions in ", state)
+}
+
+/// A state on a way back to itself on which only one end sends.
+pub fn one_direction_round(alloc: Global, place: Place, state: &[u8]) -> Result<Finding, Memory>
+    ensures { IfOk result (IsFinding place Code.C04 (codes "one direction round " ++ utf8_lossy state.now)) }
+{
+    naming(alloc, place, Code::C04, "one direction round ", state)
+}
+
+/// The finding that a fault of a text is, and none where memory was refused, which is no fault of the text.
+pub fn finding_of(alloc: Global, fault: TextFault) -> Result<Option<Finding>, Memory>
+    ensures { IfOk result (Reports fault) }
+{
+    let finding = match fault {
+        TextFault::Stray(place) => stray_byte(alloc, place)?,
+        TextFault::OpenComment(place) => comment_not_closed(alloc, place)?,
+        TextFault::TooLong => text_too_long(alloc)?,
+        TextFault::TooDeep(place) => brackets_too_deep(alloc, place)?,
+        TextFault::TooLarge(place) => number_too_large(alloc, place)?,
+        TextFault::Memory => return Ok(None),
+    };
+    Ok(Some(finding))
+}

@@ -1,0 +1,199 @@
+//! Words: how far one goes, and which are reserved.
+
+ghost use Rattle.std.specs.Prelude.{◌≡◌, ◌<◌, ◌≤◌, ℕ, true, false, length, slice_index};
+ghost use Rattle.source.specs.Classes.{starts_word, in_word};
+ghost use Rattle.source.specs.Words.{word_kind, kind_among, word_text};
+
+use crate::kind::Kind;
+
+/// The reserved words.
+pub(crate) const RESERVED: [Kind; 37] = [
+    Kind::Bool,
+    Kind::Break,
+    Kind::Byte,
+    Kind::Case,
+    Kind::Class,
+    Kind::ChannelClosed,
+    Kind::Claims,
+    Kind::Continue,
+    Kind::Contract,
+    Kind::Delete,
+    Kind::Else,
+    Kind::Exp,
+    Kind::ExHeap,
+    Kind::False,
+    Kind::If,
+    Kind::Imp,
+    Kind::In,
+    Kind::Int,
+    Kind::Internal,
+    Kind::Message,
+    Kind::New,
+    Kind::NewChannel,
+    Kind::One,
+    Kind::Out,
+    Kind::Private,
+    Kind::Public,
+    Kind::Receive,
+    Kind::Rep,
+    Kind::Return,
+    Kind::Start,
+    Kind::State,
+    Kind::Static,
+    Kind::Struct,
+    Kind::Switch,
+    Kind::True,
+    Kind::Void,
+    Kind::While,
+];
+
+/// How a reserved word is written; nothing for another kind.
+pub(crate) fn written(kind: Kind) -> &'static [u8]
+    ensures { result.now ≡ word_text kind }
+{
+    match kind {
+        Kind::Bool => b"bool",
+        Kind::Break => b"break",
+        Kind::Byte => b"byte",
+        Kind::Case => b"case",
+        Kind::Class => b"class",
+        Kind::ChannelClosed => b"ChannelClosed",
+        Kind::Claims => b"Claims",
+        Kind::Continue => b"continue",
+        Kind::Contract => b"contract",
+        Kind::Delete => b"delete",
+        Kind::Else => b"else",
+        Kind::Exp => b"Exp",
+        Kind::ExHeap => b"ExHeap",
+        Kind::False => b"false",
+        Kind::If => b"if",
+        Kind::Imp => b"Imp",
+        Kind::In => b"in",
+        Kind::Int => b"int",
+        Kind::Internal => b"internal",
+        Kind::Message => b"message",
+        Kind::New => b"new",
+        Kind::NewChannel => b"NewChannel",
+        Kind::One => b"one",
+        Kind::Out => b"out",
+        Kind::Private => b"private",
+        Kind::Public => b"public",
+        Kind::Receive => b"receive",
+        Kind::Rep => b"rep",
+        Kind::Return => b"return",
+        Kind::Start => b"start",
+        Kind::State => b"state",
+        Kind::Static => b"static",
+        Kind::Struct => b"struct",
+        Kind::Switch => b"switch",
+        Kind::True => b"true",
+        Kind::Void => b"void",
+        Kind::While => b"while",
+        _ => b"",
+    }
+}
+
+/// The first of these kinds that is written so, else a name.
+fn among(kinds: &[Kind], word: &[u8]) -> Kind
+    ensures { result ≡ kind_among kinds.now word.now }
+{
+    for kind in kinds {
+        if *written(*kind) == *word {
+            return *kind;
+        }
+    }
+    Kind::Name
+}
+
+/// The kind of a whole word. Only words of its length are compared with it.
+pub(crate) fn of_word(word: &[u8]) -> Kind {
+    match word.len() {
+        2 => among(&[Kind::If, Kind::In], word),
+        3 => among(
+            &[
+                Kind::Exp,
+                Kind::Imp,
+                Kind::Int,
+                Kind::New,
+                Kind::One,
+                Kind::Out,
+                Kind::Rep,
+            ],
+            word,
+        ),
+        4 => among(
+            &[
+                Kind::Bool,
+                Kind::Byte,
+                Kind::Case,
+                Kind::Else,
+                Kind::True,
+                Kind::Void,
+            ],
+            word,
+        ),
+        _ => of_long_word(word),
+    }
+}
+
+/// The kind of a whole word of five bytes or more.
+fn of_long_word(word: &[u8]) -> Kind {
+    match word.len() {
+        5 => among(
+            &[
+                Kind::Break,
+                Kind::Class,
+                Kind::False,
+                Kind::Start,
+                Kind::State,
+                Kind::While,
+            ],
+            word,
+        ),
+        6 => among(
+            &[
+                Kind::Claims,
+                Kind::Delete,
+                Kind::ExHeap,
+                Kind::Public,
+                Kind::Return,
+                Kind::Static,
+                Kind::Struct,
+                Kind::Switch,
+            ],
+            word,
+        ),
+        7 => among(&[Kind::Message, Kind::Private, Kind::Receive], word),
+        8 => among(&[Kind::Continue, Kind::Contract, Kind::Internal], word),
+        10 => among(&[Kind::NewChannel], word),
+        13 => among(&[Kind::ChannelClosed], word),
+        _ => Kind::Name,
+    }
+}
+
+/// Whether a word may begin with it.
+pub(crate) fn begins(byte: u8) -> bool
+    ensures { result ≡ starts_word byte }
+{
+    byte.is_ascii_alphabetic() || byte == b'_'
+}
+
+/// Whether a word may go on with it.
+fn goes_on(byte: u8) -> bool
+    ensures { result ≡ in_word byte }
+{
+    byte.is_ascii_alphanumeric() || byte == b'_'
+}
+
+/// How many bytes at the front go on with a word.
+pub(crate) fn front_len(bytes: &[u8]) -> usize
+    ensures within { result ≤ length bytes.now }
+    ensures each { (k : ℕ) → k < result → in_word (slice_index bytes.now k) ≡ true }
+    ensures stop { result < length bytes.now → in_word (slice_index bytes.now result) ≡ false }
+{
+    let mut n = 0;
+    'bytes: while n < bytes.len() && goes_on(bytes[n]) {
+        n += 1;
+    }
+    n
+}

@@ -1,0 +1,147 @@
+//! A place among tokens.
+
+ghost use Rattle.std.specs.Prelude.{◌≡◌, ◌≢◌, ◌+◌, ◌≤◌, length, ◌↔◌, ◌∷◌, [], List, IsTrue, IsSome};
+ghost use Rattle.source.specs.declared.kind.Kind.{Kind};
+ghost use Rattle.syntax.specs.Symbols.{Symbol, Fixed, Named, kind_at, symbols};
+ghost use Rattle.syntax.specs.Reading.{Reads, ReadsEnded};
+
+use source::{Kind, Span, Token};
+use std::alloc::{AllocError, AllocFailed};
+use std::marker::Model;
+
+/// Why there is no tree.
+#[derive(Debug, Drop)]
+pub enum Stuck {
+    /// No program goes on with the token at which the cursor stands.
+    Unexpected,
+    Memory,
+}
+
+impl From<AllocError> for Stuck {
+    ghost use Rattle.std.specs.Prelude.{◌≡◌};
+    ghost use Rattle.syntax.specs.declared.cursor.Stuck.TheVariants.{Memory};
+
+    ghost from_gives = { λ _ e. e ≡ Memory };
+
+    fn from(_e: AllocError) -> Stuck {
+        Stuck::Memory
+    }
+}
+
+impl<T: Drop> From<AllocFailed<T>> for Stuck {
+    ghost use Rattle.std.specs.Prelude.{◌≡◌};
+    ghost use Rattle.syntax.specs.declared.cursor.Stuck.TheVariants.{Memory};
+
+    ghost from_gives = { λ _ e. e ≡ Memory };
+
+    fn from(_e: AllocFailed<T>) -> Stuck {
+        Stuck::Memory
+    }
+}
+
+/// What is left of a text's tokens.
+#[derive(Drop)]
+pub struct Cursor<'a> {
+    tokens: &'a [Token],
+    next: usize,
+}
+
+impl<'a> Model for Cursor<'a> {
+    ghost use Rattle.std.specs.Prelude.{◌≤◌, List, length, drop};
+    ghost use Rattle.syntax.specs.Symbols.{Symbol, symbols};
+
+    ghost Value = { List Symbol };
+
+    ghost view = { λ c. symbols (drop c.next c.tokens.now) };
+
+    ghost invariant = { λ c. c.next ≤ length c.tokens.now };
+}
+
+impl<'a> Cursor<'a> {
+    /// At the first of these tokens.
+    pub fn new(tokens: &'a [Token]) -> Cursor<'a>
+        ensures { result ≡ symbols tokens.now }
+    {
+        Cursor { tokens, next: 0 }
+    }
+}
+
+impl Cursor<'_> {
+    /// How many tokens are left.
+    pub fn left(&self) -> usize
+        ensures { result + 1 ≡ length self.now }
+    {
+        self.tokens.len() - self.next
+    }
+
+    /// The kind of the next token.
+    pub fn peek(&self) -> Option<Kind>
+        ensures { result ≡ kind_at self.now }
+    {
+        if self.next < self.tokens.len() {
+            Some(self.tokens[self.next].kind)
+        } else {
+            None
+        }
+    }
+
+    /// Whether the next token is of this kind.
+    pub fn is_next(&self, kind: Kind) -> bool
+        ensures is { IsTrue result ↔ (kind_at self.now ≡ Some kind) }
+        ensures some { self.now ≢ [] }
+    {
+        let _next = self.next;
+        match self.peek() {
+            Some(found) => found == kind,
+            None => false,
+        }
+    }
+
+    /// Takes a token of this kind, which is no name.
+    pub fn expect(&mut self, kind: Kind) -> Result<(), Stuck>
+        requires { kind ≢ Kind.Name }
+        ensures { ReadsEnded (λ x. x) (λ _. Fixed kind ∷ []) self.old self.new result }
+    {
+        if self.is_next(kind) {
+            self.skip();
+            Ok(())
+        } else {
+            Err(Stuck::Unexpected)
+        }
+    }
+
+    /// Takes a token of this kind, which is no name, if it is next.
+    pub fn take_if(&mut self, kind: Kind) -> bool
+        requires { kind ≢ Kind.Name }
+        ensures { length self.new ≤ length self.old }
+    {
+        if self.is_next(kind) {
+            self.skip();
+            true
+        } else {
+            false
+        }
+    }
+
+    /// Takes a name.
+    pub fn name(&mut self) -> Result<Span, Stuck>
+        ensures { ReadsEnded (λ x. x) (λ span. Named span ∷ []) self.old self.new result }
+    {
+        if self.is_next(Kind::Name) {
+            Ok(self.skip())
+        } else {
+            Err(Stuck::Unexpected)
+        }
+    }
+
+    /// Passes over a token, and answers where it lies.
+    pub fn skip(&mut self) -> Span
+        requires { IsSome (kind_at self.old) }
+        ensures fixed { (kind : Kind) → kind ≢ Kind.Name → kind_at self.old ≡ Some kind → self.old ≡ Fixed kind ∷ self.new }
+        ensures named { kind_at self.old ≡ Some Kind.Name → self.old ≡ Named result ∷ self.new }
+    {
+        let span = self.tokens[self.next].span;
+        self.next += 1;
+        span
+    }
+}
