@@ -1,0 +1,12 @@
+pub mod Positions
+pub mod Words
+pub mod Firsts
+pub mod Tables
+pub mod Declarations
+pub mod Outlines
+pub mod Scopes
+pub mod Found
+pub mod Findings
+pub mod Parts
+pub mod Numbered
+pub mod Resolving

@@ -1,87 +1,138 @@
 //! The edges of a contract, with numbers for its states and messages.
 
-use crate::outline::{Outline, paths};
-use crate::resolved::{Edge, Message, MessageId, StateId};
-use crate::scope::Inner;
-use crate::symbols::Symbols;
-use source::{Memory, Span};
+ghost use Rattle.std.specs.Prelude.{Contains, map, OnOk, IfOk, IfSome};
+ghost use Rattle.names.specs.Numbered.{AreListed, ids_of_states, ids_of_messages};
+
+use crate::outline::paths;
+use crate::resolved::{Edge, Message, MessageId, State, StateId};
+use crate::scope::Declared;
+use source::{Memory, Span, Tokens};
 use std::alloc::Global;
 use syntax::Path;
 
-/// The numbers of what a contract declares.
+/// What the names in the edges of a contract mean.
 #[derive(Clone, Copy)]
-pub(crate) struct Numbers<'a> {
-    pub(crate) symbols: &'a Symbols,
-    pub(crate) inner: &'a Inner,
+pub(crate) struct Meaning<'a, 't> {
+    pub(crate) tokens: &'a Tokens,
+    pub(crate) declared: &'a Declared<'t>,
     pub(crate) messages: &'a [Message],
-    /// The named states, in order.
-    pub(crate) states: &'a [StateId],
+    pub(crate) states: &'a [State],
+    /// Where the named states stand among the states, in order.
+    pub(crate) named: &'a [usize],
 }
 
-impl Numbers<'_> {
-    /// The message of this name; each name that is resolved is declared.
-    fn message(&self, name: Span) -> MessageId {
-        let place = self.inner.messages.find(self.symbols.at(name));
-        match place.and_then(|place| self.messages.get(place)) {
-            Some(message) => message.id,
-            None => MessageId(0),
-        }
+impl Meaning<'_, '_> {
+    /// The message of this name. Each name that is resolved is declared.
+    fn message(&self, name: Span) -> Option<MessageId>
+        ensures { IfSome result (Contains (ids_of_messages self.now.messages.now)) }
+    {
+        let place = self.declared.messages.find(self.tokens.slice(name))?;
+        message_at(self.messages, place)
     }
 
-    /// The state of this name; each name that is resolved is declared.
-    fn state(&self, name: Span) -> StateId {
-        let place = self.inner.states.find(self.symbols.at(name));
-        match place.and_then(|place| self.states.get(place)) {
-            Some(id) => *id,
-            None => StateId(0),
-        }
+    /// Where the state of this name stands. Each name that is resolved is declared.
+    fn state(&self, name: Span) -> Option<usize> {
+        let place = self.declared.states.find(self.tokens.slice(name))?;
+        self.named.get(place).copied()
+    }
+}
+
+fn message_at(messages: &[Message], place: usize) -> Option<MessageId>
+    ensures { IfSome result (Contains (ids_of_messages messages.now)) }
+{
+    if place < messages.len() {
+        Some(messages[place].id)
+    } else {
+        None
+    }
+}
+
+fn state_at(states: &[State], place: usize) -> Option<StateId>
+    ensures { IfSome result (Contains (ids_of_states states.now)) }
+{
+    if place < states.len() {
+        Some(states[place].id)
+    } else {
+        None
     }
 }
 
 /// The edges, in order of the text.
-pub(crate) fn edges_of(
-    alloc: Global,
-    numbers: &Numbers<'_>,
-    outline: &Outline<'_>,
-) -> Result<Vec<Edge>, Memory> {
+pub(crate) fn edges_of(alloc: Global, meaning: &Meaning<'_, '_>) -> Result<Vec<Edge>, Memory>
+    ensures { IfOk result (λ edges. AreListed (ids_of_states meaning.now.states.now) (ids_of_messages meaning.now.messages.now) edges.items) }
+{
     let mut edges = Vec::new(alloc);
-    for (state, id) in outline.states.iter().zip(numbers.states) {
-        let mut last = *id;
-        for path in paths(state) {
-            last = add_path(numbers, *id, last, path, &mut edges)?;
-        }
+    for (state, place) in meaning.declared.outline.states.iter().zip(meaning.named) {
+        add_paths(meaning, *place, paths(state), &mut edges)?;
     }
     Ok(edges)
 }
 
-/// Adds the edges of a path from a state. The unnamed states on it have the numbers behind `last`; the answer is the
-/// last of these.
-fn add_path(
-    numbers: &Numbers<'_>,
-    state: StateId,
-    last: StateId,
-    path: &Path,
+/// Adds the edges of the paths of the state that stands there. Behind it stand the unnamed states on these paths.
+fn add_paths(
+    meaning: &Meaning<'_, '_>,
+    state: usize,
+    paths: &[Path],
     edges: &mut Vec<Edge>,
-) -> Result<StateId, Memory> {
-    let mut from = state;
-    let mut last = last;
-    let mut edge = path.first;
-    for next in &path.others {
-        last = StateId(last.0.wrapping_add(1));
-        edges.push(edge_of(numbers, from, edge, last))?;
-        from = last;
-        edge = *next;
+) -> Result<(), Memory>
+    ensures { AreListed (ids_of_states meaning.now.states.now) (ids_of_messages meaning.now.messages.now) edges.old.items → OnOk result (AreListed (ids_of_states meaning.now.states.now) (ids_of_messages meaning.now.messages.now) edges.new.items) }
+{
+    let mut last = state;
+    for path in paths {
+        add_path(meaning, state, last, path, edges)?;
+        last = last.saturating_add(path.others.len());
     }
-    edges.push(edge_of(numbers, from, edge, numbers.state(path.target)))?;
-    Ok(last)
+    Ok(())
 }
 
-fn edge_of(numbers: &Numbers<'_>, from: StateId, edge: syntax::Edge, to: StateId) -> Edge {
-    Edge {
+/// Adds the edges of a path. The unnamed states on it stand behind `last`.
+fn add_path(
+    meaning: &Meaning<'_, '_>,
+    state: usize,
+    last: usize,
+    path: &Path,
+    edges: &mut Vec<Edge>,
+) -> Result<(), Memory>
+    ensures { AreListed (ids_of_states meaning.now.states.now) (ids_of_messages meaning.now.messages.now) edges.old.items → OnOk result (AreListed (ids_of_states meaning.now.states.now) (ids_of_messages meaning.now.messages.now) edges.new.items) }
+{
+    let mut from = state;
+    let mut edge = path.first;
+    let mut to = last;
+    for next in &path.others {
+        to = to.saturating_add(1);
+        add_edge(meaning, from, edge, Some(to), edges)?;
+        from = to;
+        edge = *next;
+    }
+    add_edge(meaning, from, edge, meaning.state(path.target), edges)
+}
+
+/// Adds an edge between the states that stand there.
+fn add_edge(
+    meaning: &Meaning<'_, '_>,
+    from: usize,
+    edge: syntax::Edge,
+    to: Option<usize>,
+    edges: &mut Vec<Edge>,
+) -> Result<(), Memory>
+    ensures { AreListed (ids_of_states meaning.now.states.now) (ids_of_messages meaning.now.messages.now) edges.old.items → OnOk result (AreListed (ids_of_states meaning.now.states.now) (ids_of_messages meaning.now.messages.now) edges.new.items) }
+{
+    let Some(place) = to else { return Ok(()) };
+    let Some(from) = state_at(meaning.states, from) else {
+        return Ok(());
+    };
+    let Some(to) = state_at(meaning.states, place) else {
+        return Ok(());
+    };
+    let Some(message) = meaning.message(edge.message) else {
+        return Ok(());
+    };
+    edges.push(Edge {
         from,
-        message: numbers.message(edge.message),
+        message,
         sign: edge.sign,
         to,
         place: edge.message.place,
-    }
+    })?;
+    Ok(())
 }

@@ -1,7 +1,12 @@
 //! What a contract declares, in order of the text.
 
-use source::{Memory, Span};
-use std::alloc::Global;
+ghost use Rattle.std.specs.Prelude.{◌≡◌, ◌++◌, ◌∷◌, [], map, IfOk, OnOk};
+ghost use Rattle.std.specs.List.{flat_map};
+ghost use Rattle.syntax.specs.Trees.{contract_tree, message_tree, state_tree, member_tree, path_tree, body_tree};
+ghost use Rattle.names.specs.Declarations.{message_among, state_among, paths_of};
+
+use source::Span;
+use std::alloc::{AllocError, Global};
 use std::slice;
 use syntax::{Contract, Member, Message, Path, State, StateBody};
 
@@ -14,8 +19,12 @@ pub(crate) struct Outline<'a> {
 }
 
 impl<'a> Outline<'a> {
+    ghost use Rattle.names.specs.Outlines.{IsOutline};
+
     /// The outline of a contract.
-    pub(crate) fn of(alloc: Global, contract: &'a Contract) -> Result<Outline<'a>, Memory> {
+    pub(crate) fn of(alloc: Global, contract: &'a Contract) -> Result<Outline<'a>, AllocError>
+        ensures { IfOk result (IsOutline (contract_tree contract.now)) }
+    {
         let mut messages = Vec::new(alloc);
         for message in &contract.messages {
             messages.push(message)?;
@@ -31,11 +40,15 @@ impl<'a> Outline<'a> {
     }
 }
 
+/// Adds the messages and the states among these members.
 fn add_members<'a>(
     messages: &mut Vec<&'a Message>,
     states: &mut Vec<&'a State>,
     members: &'a [Member],
-) -> Result<(), Memory> {
+) -> Result<(), AllocError>
+    ensures messages { OnOk result (map (λ m. message_tree m.now) messages.new.items ≡ map (λ m. message_tree m.now) messages.old.items ++ flat_map message_among (map member_tree members.now)) }
+    ensures states { OnOk result (map (λ s. state_tree s.now) states.new.items ≡ map (λ s. state_tree s.now) states.old.items ++ flat_map state_among (map member_tree members.now)) }
+{
     for member in members {
         match member {
             Member::Message(message) => messages.push(message)?,
@@ -46,7 +59,9 @@ fn add_members<'a>(
 }
 
 /// The paths of a state, in order.
-pub(crate) fn paths(state: &State) -> &[Path] {
+pub(crate) fn paths(state: &State) -> &[Path]
+    ensures { map path_tree result.now ≡ paths_of (body_tree state.now.body) }
+{
     match &state.body {
         StateBody::Empty => &[],
         StateBody::Path(path) => slice::from_ref(path),

@@ -1,75 +1,130 @@
 //! The names in scope.
 
-use crate::outline::Outline;
-use crate::symbols::Symbols;
-use crate::tables::Table;
-use source::{Memory, Span, Tokens};
-use std::alloc::Global;
-use syntax::{Message, State};
+ghost use Rattle.std.specs.Prelude.{◌≡◌, List, map, IfOk, slice_get};
+ghost use Rattle.std.specs.Option.{option_copied};
+ghost use Rattle.syntax.specs.Trees.{ContractTree, contract_tree, item_tree};
+ghost use Rattle.names.specs.Declarations.{names_of_messages, names_of_states, contract_named};
+ghost use Rattle.names.specs.Outlines.{outlined_messages, outlined_states};
 
-/// The names of a text, and the tables of first declarations.
-#[derive(Drop)]
+use crate::outline::Outline;
+use crate::tables::Table;
+use source::{Span, Tokens};
+use std::alloc::{AllocError, Global};
+use syntax::{Contract, Item};
+
+/// What a contract declares, and where each of its names is declared first.
+#[derive(Debug, Drop)]
+pub(crate) struct Declared<'a> {
+    pub(crate) outline: Outline<'a>,
+    pub(crate) messages: Table<'a>,
+    pub(crate) states: Table<'a>,
+}
+
+/// What the contracts of a text declare, in order, and where each name of a contract is declared first.
+#[derive(Debug, Drop)]
 pub(crate) struct Scope<'a> {
     pub(crate) tokens: &'a Tokens,
-    pub(crate) symbols: Symbols,
-    /// The contracts.
-    pub(crate) contracts: Table,
-    /// The messages and states of each contract, in order of the contracts.
-    pub(crate) inner: Vec<Inner>,
+    pub(crate) contracts: Table<'a>,
+    pub(crate) declared: Vec<Declared<'a>>,
 }
 
-/// The tables of a contract.
-#[derive(Debug, Drop)]
-pub(crate) struct Inner {
-    pub(crate) messages: Table,
-    pub(crate) states: Table,
+impl<'a> Outline<'a> {
+    /// The names of the messages, in order.
+    pub(crate) fn message_names(&self, alloc: Global) -> Result<Vec<Span>, AllocError>
+        ensures { IfOk result (λ names. names.items ≡ names_of_messages (outlined_messages self.now)) }
+    {
+        let mut names = Vec::new(alloc);
+        for message in &self.messages {
+            names.push(message.name)?;
+        }
+        Ok(names)
+    }
+
+    /// The names of the states, in order.
+    pub(crate) fn state_names(&self, alloc: Global) -> Result<Vec<Span>, AllocError>
+        ensures { IfOk result (λ names. names.items ≡ names_of_states (outlined_states self.now)) }
+    {
+        let mut names = Vec::new(alloc);
+        for state in &self.states {
+            names.push(state.name)?;
+        }
+        Ok(names)
+    }
 }
 
-impl<'a> Scope<'a> {
-    /// The tables of these contracts.
+impl<'a> Declared<'a> {
+    ghost use Rattle.names.specs.Scopes.{IsDeclared};
+
+    /// What a contract declares.
     pub(crate) fn of(
         alloc: Global,
         tokens: &'a Tokens,
-        outlines: &[Outline<'_>],
-    ) -> Result<Scope<'a>, Memory> {
-        let symbols = Symbols::of(alloc, tokens)?;
-        let mut names = Vec::new(alloc);
-        let mut inner = Vec::new(alloc);
-        for outline in outlines {
-            names.push(symbols.at(outline.name))?;
-            inner.push(Inner {
-                messages: messages_of(alloc, &symbols, &outline.messages)?,
-                states: states_of(alloc, &symbols, &outline.states)?,
-            })?;
+        contract: &'a Contract,
+    ) -> Result<Declared<'a>, AllocError>
+        ensures { IfOk result (IsDeclared tokens.now.text.items (contract_tree contract.now)) }
+    {
+        let outline = Outline::of(alloc, contract)?;
+        let messages = outline.message_names(alloc)?;
+        let states = outline.state_names(alloc)?;
+        let messages = Table::of(alloc, tokens, &messages)?;
+        let states = Table::of(alloc, tokens, &states)?;
+        Ok(Declared {
+            outline,
+            messages,
+            states,
+        })
+    }
+}
+
+impl<'a> Scope<'a> {
+    ghost use Rattle.names.specs.Scopes.{IsScope, IsAnswer, AreDeclared};
+
+    /// What the contracts among these items declare.
+    pub(crate) fn of(
+        alloc: Global,
+        tokens: &'a Tokens,
+        items: &'a [Item],
+    ) -> Result<Scope<'a>, AllocError>
+        ensures { IfOk result (IsScope tokens.now.text.items (map (λ i. contract_tree i.contract) items.now)) }
+    {
+        let names = contract_names(alloc, items)?;
+        let contracts = Table::of(alloc, tokens, &names)?;
+        let mut declared = Vec::new(alloc);
+        for item in items {
+            declared.push(Declared::of(alloc, tokens, &item.contract)?)?;
         }
-        let contracts = Table::of(alloc, &names)?;
         Ok(Scope {
             tokens,
-            symbols,
             contracts,
-            inner,
+            declared,
         })
     }
 
-    /// The tables of the first contract of this name.
-    pub(crate) fn contract(&self, name: Span) -> Option<&Inner> {
-        let place = self.contracts.find(self.symbols.at(name))?;
-        self.inner.get(place)
+    /// The first contract of this name.
+    pub(crate) fn contract(&self, name: Span) -> Option<&Declared<'a>>
+        ensures { (text : _) (contracts : List ContractTree) → IsScope text contracts self.now → IsAnswer text (contract_named text contracts name) (option_copied result) }
+    {
+        match self.contracts.find(self.tokens.slice(name)) {
+            Some(place) => declared_at(&self.declared, place),
+            None => None,
+        }
     }
 }
 
-fn messages_of(alloc: Global, symbols: &Symbols, messages: &[&Message]) -> Result<Table, Memory> {
-    let mut names = Vec::new(alloc);
-    for message in messages {
-        names.push(symbols.at(message.name))?;
-    }
-    Table::of(alloc, &names)
+/// What the contract at this place declares.
+fn declared_at<'s, 'a>(declared: &'s [Declared<'a>], place: usize) -> Option<&'s Declared<'a>>
+    ensures { option_copied result ≡ slice_get declared.now place }
+{
+    declared.get(place)
 }
 
-fn states_of(alloc: Global, symbols: &Symbols, states: &[&State]) -> Result<Table, Memory> {
+/// The names of the contracts among these items, in order.
+pub(crate) fn contract_names(alloc: Global, items: &[Item]) -> Result<Vec<Span>, AllocError>
+    ensures { IfOk result (λ names. names.items ≡ map (λ i. i.contract.name) items.now) }
+{
     let mut names = Vec::new(alloc);
-    for state in states {
-        names.push(symbols.at(state.name))?;
+    for item in items {
+        names.push(item.contract.name)?;
     }
-    Table::of(alloc, &names)
+    Ok(names)
 }

@@ -1,35 +1,64 @@
 //! Tables of first declarations.
 
-use source::Memory;
-use std::alloc::Global;
+ghost use Rattle.std.specs.Prelude.{◌≡◌, ◌↔◌, List, ℕ, map, IfOk, IsTrue, Some};
+ghost use Rattle.names.specs.Firsts.{first_of};
+ghost use Rattle.names.specs.Tables.{IsTable};
+ghost use Rattle.names.specs.Words.{words_at};
+
+use crate::positions::first_positions;
+use source::{Span, Tokens};
+use std::alloc::{AllocError, Global};
 use std::collections::BTreeMap;
 
-/// The first declaration of each name in a list of declarations.
+/// Where each name of a list is declared first. Names are compared and never hashed, so no choice of names makes it slow.
 #[derive(Debug, Drop)]
-pub(crate) struct Table {
-    /// By the number of the name, where its first declaration stands in the list.
-    first: BTreeMap<usize, usize>,
-    /// Where the later declarations of names stand, in order.
-    pub(crate) later: Vec<usize>,
+pub(crate) struct Table<'a> {
+    first: BTreeMap<&'a [u8], usize>,
 }
 
-impl Table {
-    /// The table of the names with these numbers, in order of declaration.
-    pub(crate) fn of(alloc: Global, names: &[usize]) -> Result<Table, Memory> {
-        let mut first = BTreeMap::new(alloc);
-        let mut later = Vec::new(alloc);
-        for (place, name) in names.iter().enumerate() {
-            if first.contains_key(name) {
-                later.push(place)?;
-            } else {
-                first.insert(*name, place)?;
-            }
-        }
-        Ok(Table { first, later })
+/// What is written at these names.
+pub(crate) fn words<'a>(
+    alloc: Global,
+    tokens: &'a Tokens,
+    names: &[Span],
+) -> Result<Vec<&'a [u8]>, AllocError>
+    ensures { IfOk result (λ words. map (λ w. w.now) words.items ≡ words_at tokens.now.text.items names.now) }
+{
+    let mut words = Vec::new(alloc);
+    for name in names {
+        words.push(tokens.slice(*name))?;
+    }
+    Ok(words)
+}
+
+impl<'a> Table<'a> {
+    /// The table of these names, in order of declaration.
+    pub(crate) fn of(
+        alloc: Global,
+        tokens: &'a Tokens,
+        names: &[Span],
+    ) -> Result<Table<'a>, AllocError>
+        ensures { IfOk result (IsTable (words_at tokens.now.text.items names.now)) }
+    {
+        let words = words(alloc, tokens, names)?;
+        let first = first_positions(alloc, &words)?;
+        Ok(Table { first })
     }
 
-    /// Where the first declaration of the name with this number stands in the list.
-    pub(crate) fn find(&self, name: usize) -> Option<usize> {
-        self.first.get(&name).copied()
+    /// Where the name is declared first, if it is.
+    pub(crate) fn find(&self, name: &[u8]) -> Option<usize>
+        ensures { (words : List (List ℕ)) → IsTable words self.now → result ≡ first_of words name.now }
+    {
+        self.first.get(name).copied()
+    }
+
+    /// Whether this is the place where the name is declared first.
+    pub(crate) fn is_first(&self, name: &[u8], place: usize) -> bool
+        ensures { (words : List (List ℕ)) → IsTable words self.now → IsTrue result ↔ (first_of words name.now ≡ Some place) }
+    {
+        match self.find(name) {
+            Some(first) => first == place,
+            None => false,
+        }
     }
 }

@@ -1,2 +1,15 @@
 pub mod PlaceLemmas
 pub mod NumberLemmas
+pub mod FrontLemmas
+pub mod FirstLemmas
+pub mod SymbolLemmas
+pub mod CommentLemmas
+pub mod BlockLemmas
+pub mod NeedleLemmas
+pub mod WordLemmas
+pub mod PieceLemmas
+pub mod CutLemmas
+pub mod LexedLemmas
+pub mod FaultLemmas
+pub mod SpelledLemmas
+pub mod OrderLemmas

@@ -1,8 +1,15 @@
-pub mod Findings
 pub mod Brackets
 pub mod Classes
+pub mod Comments
+pub mod Cutting
+pub mod Faults
+pub mod Findings
+pub mod Firsts
+pub mod Marks
 pub mod Numbers
+pub mod Pieces
 pub mod Places
 pub mod Slices
 pub mod Symbols
+pub mod Tokens
 pub mod Words

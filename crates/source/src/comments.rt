@@ -1,25 +1,28 @@
 //! Comments: how far one goes.
 
-ghost use Rattle.std.specs.Prelude.{◌≤◌, length, IfSome};
+ghost use Rattle.std.specs.Prelude.{◌≡◌, ◌∷◌, [], drop, take, codes, IfSome, IfNone};
+ghost use Rattle.source.specs.Cutting.{IsFirstPiece};
+ghost use Rattle.source.specs.Faults.{IsOpenComment};
 
-use bstr::ByteSlice;
+use bstr::{ByteSlice, Finder};
 
 /// How many bytes the comment at the front has that begins with `//`: it ends before the end of the line.
 pub(crate) fn line_len(rest: &[u8]) -> usize
-    requires { 2 ≤ length rest.now }
-    ensures some { 2 ≤ result }
-    ensures within { result ≤ length rest.now }
+    requires { take 2 rest.now ≡ codes "//" }
+    ensures { IsFirstPiece rest.now result }
 {
     let body = &rest[2..];
     2 + body.find_byte(b'\n').unwrap_or(body.len())
 }
 
-/// How many bytes the comment at the front has that begins with `/*`; none where it does not end.
-pub(crate) fn block_len(rest: &[u8]) -> Option<usize>
-    requires { 2 ≤ length rest.now }
-    ensures within { IfSome result (λ len. (2 ≤ len) × (len ≤ length rest.now)) }
+/// How many bytes the comment at the front has that begins with `/*`; none where it does not end. Its end is sought
+/// behind these two bytes, so that `/*/` does not end.
+pub(crate) fn block_len(rest: &[u8], closing: &Finder<'_>) -> Option<usize>
+    requires begins { take 2 rest.now ≡ codes "/*" }
+    requires closing { closing.now ≡ codes "*/" }
+    ensures some { IfSome result (IsFirstPiece rest.now) }
+    ensures none { IfNone result (IsOpenComment rest.now) }
 {
-    let body = &rest[2..];
-    let end = body.find(b"*/")?;
+    let end = closing.find(&rest[2..])?;
     Some(end + 4)
 }

@@ -1,12 +1,18 @@
 //! Tokens of a text, each the longest at its place.
 
-ghost use Rattle.std.specs.Prelude.{◌≡◌, ◌+◌, ◌≤◌, length, IfOk};
+ghost use Rattle.std.specs.Prelude.{◌≡◌, ◌≢◌, ◌+◌, ◌≤◌, ◌⊎◌, length, All, IfOk, IfErr};
+ghost use Rattle.source.specs.Faults.{HasFirst, IsFault};
+ghost use Rattle.source.specs.Marks.{mark_len, body_of};
+ghost use Rattle.source.specs.Places.{place_of};
+ghost use Rattle.source.specs.declared.fault.TextFault.{TextFault};
+ghost use Rattle.source.specs.Tokens.{IsLexed, AreTokens, IsSpelled, AreInOrder};
 
 use crate::brackets::{self, MAX_DEPTH};
 use crate::fault::TextFault;
 use crate::pieces::first_piece;
 use crate::place::{self, Place};
 use crate::token::{Span, Token, Tokens};
+use bstr::Finder;
 use std::alloc::Global;
 
 /// How many bytes a text may have.
@@ -14,9 +20,10 @@ pub const MAX_TEXT: usize = 4_194_304;
 
 /// How many bytes at the front are a UTF-8 byte order mark: 3 or none.
 fn mark_len(text: &[u8]) -> usize
-    ensures { result ≤ length text.now }
+    ensures value { result ≡ mark_len text.now }
+    ensures within { result ≤ length text.now }
 {
-    if text.len() >= 3 && text[0] == 0xef && text[1] == 0xbb && text[2] == 0xbf {
+    if text.starts_with(b"\xef\xbb\xbf") {
         3
     } else {
         0
@@ -33,14 +40,17 @@ struct Lexed {
 /// The tokens of what stands behind a byte order mark of so many bytes, or the first fault there.
 fn cut(alloc: Global, body: &[u8], mark: usize) -> Result<Lexed, TextFault>
     requires { mark + length body.now ≤ MAX_TEXT }
+    ensures found { IfOk result (λ found. IsLexed mark body.now found.list.items found.end) }
+    ensures fault { IfErr result (λ fault. fault ≢ TextFault.Memory → HasFirst body.now fault) }
 {
+    let closing = Finder::new(b"*/");
     let mut list = Vec::new(alloc);
     let mut place = place::START;
     let mut depth = 0;
     let mut at = 0;
     'pieces: while at < body.len() {
         let rest = &body[at..];
-        let piece = first_piece(rest, place)?;
+        let piece = first_piece(rest, place, &closing)?;
         if let Some(kind) = piece.kind {
             depth = brackets::after(depth, kind);
             if depth > MAX_DEPTH {
@@ -62,9 +72,27 @@ fn cut(alloc: Global, body: &[u8], mark: usize) -> Result<Lexed, TextFault>
     Ok(Lexed { list, end: place })
 }
 
-/// The tokens of a text, or its first fault.
+/// The tokens of a text, in order, each with its span and its place, or the first fault of the text.
+///
+/// The text is cut into blanks, comments and tokens, each the longest at its place. A word is a name or a reserved word,
+/// `[A-Za-z_][A-Za-z0-9_]*`; a number is `[0-9]+`. As in C, a comment runs from `//` to before the end of the line, or
+/// from `/*` to the next `*/` behind it, and does not nest. A UTF-8 byte order mark at the front is passed over: spans
+/// count its bytes, places do not.
+///
+/// `TooLong` comes before all else, for more than `MAX_TEXT` bytes. Else it is the fault that stands first in the text:
+/// `Stray` at a byte with which none of these begins, `OpenComment` at the `/*` of a comment that does not end,
+/// `TooDeep` at the bracket with which 101 are open (a closing one of any kind takes one away, not below none),
+/// `TooLarge` at a number above 2147483647. `Memory` comes where a growth of memory was refused. After an error nothing
+/// of the answer stays.
 pub fn lex(alloc: Global, text: &[u8]) -> Result<Tokens, TextFault>
     ensures text { IfOk result (λ found. found.text.items ≡ text.now) }
+    ensures tokens { IfOk result (λ found. AreTokens text.now found.list.items) }
+    ensures spelled { IfOk result (λ found. All (IsSpelled text.now) found.list.items) }
+    ensures ordered { IfOk result (λ found. AreInOrder 0 (length text.now) found.list.items) }
+    ensures end { IfOk result (λ found. found.end ≡ place_of (body_of text.now)) }
+    ensures fault { IfErr result (λ fault. fault ≢ TextFault.Memory → IsFault text.now fault) }
+    ensures first { (fault : TextFault) → IsFault text.now fault
+        → (result ≡ Err fault) ⊎ (result ≡ Err TextFault.Memory) }
 {
     if text.len() > MAX_TEXT {
         return Err(TextFault::TooLong);

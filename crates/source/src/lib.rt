@@ -6,6 +6,7 @@ mod comments;
 mod fault;
 mod finding;
 mod kind;
+pub mod laws;
 mod lexer;
 mod numbers;
 mod pieces;

@@ -1,14 +1,17 @@
 //! The longest blank, comment or token at the front of a text.
 
-ghost use Rattle.std.specs.Prelude.{◌≡◌, ◌<◌, ◌≤◌, length, slice_index, true, IfOk, IfSome};
+ghost use Rattle.std.specs.Prelude.{◌≡◌, ◌<◌, ℕ, length, slice_index, true, false, IfOk, IfErr, codes};
 ghost use Rattle.std.specs.Char.{is_ascii_digit};
-ghost use Rattle.source.specs.Classes.{is_blank_byte};
+ghost use Rattle.source.specs.Classes.{is_blank_byte, starts_word, IsOther};
+ghost use Rattle.source.specs.Faults.{StandsAt};
+ghost use Rattle.source.specs.Firsts.{IsFirst};
 
 use crate::fault::TextFault;
 use crate::kind::Kind;
 use crate::numbers::MAX_NUMBER;
 use crate::place::Place;
 use crate::{comments, numbers, symbols, words};
+use bstr::Finder;
 
 /// A blank, a comment or a token: how many bytes it has, and of which kind the token is.
 #[derive(Clone, Copy, Debug)]
@@ -24,32 +27,25 @@ fn is_blank(byte: u8) -> bool
     matches!(byte, b' ' | b'\t' | b'\r' | b'\n')
 }
 
-/// The longest symbol at the front.
-fn symbol(rest: &[u8]) -> Option<Piece>
-    requires { 0 < length rest.now }
-    ensures { IfSome result (λ piece. (0 < piece.len) × (piece.len ≤ length rest.now)) }
+/// The word at the front of what begins with one.
+fn word(rest: &[u8]) -> Piece
+    requires some { 0 < length rest.now }
+    requires begins { starts_word (slice_index rest.now 0) ≡ true }
+    ensures { IsFirst rest.now result }
 {
-    let first = rest[0];
-    if rest.len() > 1 {
-        if let Some(kind) = symbols::of_two(first, rest[1]) {
-            return Some(Piece {
-                kind: Some(kind),
-                len: 2,
-            });
-        }
+    let len = words::front_len(rest);
+    Piece {
+        kind: Some(words::of_word(&rest[..len])),
+        len,
     }
-    let kind = symbols::of_byte(first)?;
-    Some(Piece {
-        kind: Some(kind),
-        len: 1,
-    })
 }
 
 /// The number at the front of what begins with a digit.
 fn number(rest: &[u8], place: Place) -> Result<Piece, TextFault>
     requires some { 0 < length rest.now }
-    requires digit { is_ascii_digit (slice_index rest.now 0) ≡ true }
-    ensures { IfOk result (λ piece. (0 < piece.len) × (piece.len ≤ length rest.now)) }
+    requires begins { is_ascii_digit (slice_index rest.now 0) ≡ true }
+    ensures found { IfOk result (IsFirst rest.now) }
+    ensures fault { IfErr result (λ fault. (depth : ℕ) → StandsAt fault place depth rest.now) }
 {
     let len = numbers::front_len(rest);
     if numbers::capped_value(&rest[..len]) > MAX_NUMBER {
@@ -62,9 +58,12 @@ fn number(rest: &[u8], place: Place) -> Result<Piece, TextFault>
 }
 
 /// The comment at the front of what begins with `/`.
-fn comment(rest: &[u8], place: Place) -> Result<Piece, TextFault>
-    requires { 0 < length rest.now }
-    ensures { IfOk result (λ piece. (0 < piece.len) × (piece.len ≤ length rest.now)) }
+fn comment(rest: &[u8], place: Place, closing: &Finder<'_>) -> Result<Piece, TextFault>
+    requires some { 0 < length rest.now }
+    requires begins { slice_index rest.now 0 ≡ 47 }
+    requires closing { closing.now ≡ codes "*/" }
+    ensures found { IfOk result (IsFirst rest.now) }
+    ensures fault { IfErr result (λ fault. (depth : ℕ) → StandsAt fault place depth rest.now) }
 {
     if rest.len() < 2 {
         return Err(TextFault::Stray(place));
@@ -74,7 +73,7 @@ fn comment(rest: &[u8], place: Place) -> Result<Piece, TextFault>
             kind: None,
             len: comments::line_len(rest),
         }),
-        b'*' => match comments::block_len(rest) {
+        b'*' => match comments::block_len(rest, closing) {
             Some(len) => Ok(Piece { kind: None, len }),
             None => Err(TextFault::OpenComment(place)),
         },
@@ -82,27 +81,52 @@ fn comment(rest: &[u8], place: Place) -> Result<Piece, TextFault>
     }
 }
 
+/// The longest symbol at the front of what begins with no blank, word, number or comment.
+fn symbol(rest: &[u8], place: Place) -> Result<Piece, TextFault>
+    requires some { 0 < length rest.now }
+    requires other { IsOther (slice_index rest.now 0) }
+    ensures found { IfOk result (IsFirst rest.now) }
+    ensures fault { IfErr result (λ fault. (depth : ℕ) → StandsAt fault place depth rest.now) }
+{
+    let first = rest[0];
+    if rest.len() > 1 {
+        if let Some(kind) = symbols::of_two(first, rest[1]) {
+            return Ok(Piece {
+                kind: Some(kind),
+                len: 2,
+            });
+        }
+    }
+    match symbols::of_byte(first) {
+        Some(kind) => Ok(Piece {
+            kind: Some(kind),
+            len: 1,
+        }),
+        None => Err(TextFault::Stray(place)),
+    }
+}
+
 /// The longest blank, comment or token at the front, which stands at that place.
-pub(crate) fn first_piece(rest: &[u8], place: Place) -> Result<Piece, TextFault>
-    requires { 0 < length rest.now }
-    ensures { IfOk result (λ piece. (0 < piece.len) × (piece.len ≤ length rest.now)) }
+pub(crate) fn first_piece(
+    rest: &[u8],
+    place: Place,
+    closing: &Finder<'_>,
+) -> Result<Piece, TextFault>
+    requires some { 0 < length rest.now }
+    requires closing { closing.now ≡ codes "*/" }
+    ensures found { IfOk result (IsFirst rest.now) }
+    ensures fault { IfErr result (λ fault. (depth : ℕ) → StandsAt fault place depth rest.now) }
 {
     let first = rest[0];
     if is_blank(first) {
-        return Ok(Piece { kind: None, len: 1 });
+        Ok(Piece { kind: None, len: 1 })
+    } else if words::begins(first) {
+        Ok(word(rest))
+    } else if first.is_ascii_digit() {
+        number(rest, place)
+    } else if first == b'/' {
+        comment(rest, place, closing)
+    } else {
+        symbol(rest, place)
     }
-    if words::begins(first) {
-        let len = words::front_len(rest);
-        return Ok(Piece {
-            kind: Some(words::of_word(&rest[..len])),
-            len,
-        });
-    }
-    if first.is_ascii_digit() {
-        return number(rest, place);
-    }
-    if first == b'/' {
-        return comment(rest, place);
-    }
-    symbol(rest).ok_or(TextFault::Stray(place))
 }

@@ -2,7 +2,7 @@
 
 ghost use Rattle.std.specs.Prelude.{◌≡◌, ◌<◌, ◌≤◌, ℕ, true, false, length, slice_index};
 ghost use Rattle.source.specs.Classes.{starts_word, in_word};
-ghost use Rattle.source.specs.Words.{word_kind, kind_among, word_text};
+ghost use Rattle.source.specs.Words.{word_kind, kind_among, word_text, statement_word};
 
 use crate::kind::Kind;
 
@@ -53,41 +53,50 @@ pub(crate) fn written(kind: Kind) -> &'static [u8]
 {
     match kind {
         Kind::Bool => b"bool",
-        Kind::Break => b"break",
         Kind::Byte => b"byte",
-        Kind::Case => b"case",
         Kind::Class => b"class",
-        Kind::ChannelClosed => b"ChannelClosed",
         Kind::Claims => b"Claims",
-        Kind::Continue => b"continue",
         Kind::Contract => b"contract",
-        Kind::Delete => b"delete",
-        Kind::Else => b"else",
         Kind::Exp => b"Exp",
         Kind::ExHeap => b"ExHeap",
-        Kind::False => b"false",
-        Kind::If => b"if",
         Kind::Imp => b"Imp",
         Kind::In => b"in",
         Kind::Int => b"int",
         Kind::Internal => b"internal",
         Kind::Message => b"message",
-        Kind::New => b"new",
-        Kind::NewChannel => b"NewChannel",
         Kind::One => b"one",
         Kind::Out => b"out",
         Kind::Private => b"private",
         Kind::Public => b"public",
-        Kind::Receive => b"receive",
         Kind::Rep => b"rep",
-        Kind::Return => b"return",
-        Kind::Start => b"start",
         Kind::State => b"state",
         Kind::Static => b"static",
         Kind::Struct => b"struct",
+        Kind::Void => b"void",
+        _ => written_in_statements(kind),
+    }
+}
+
+/// How a reserved word of statements and expressions is written; nothing for another kind.
+fn written_in_statements(kind: Kind) -> &'static [u8]
+    ensures { result.now ≡ statement_word kind }
+{
+    match kind {
+        Kind::Break => b"break",
+        Kind::Case => b"case",
+        Kind::ChannelClosed => b"ChannelClosed",
+        Kind::Continue => b"continue",
+        Kind::Delete => b"delete",
+        Kind::Else => b"else",
+        Kind::False => b"false",
+        Kind::If => b"if",
+        Kind::New => b"new",
+        Kind::NewChannel => b"NewChannel",
+        Kind::Receive => b"receive",
+        Kind::Return => b"return",
+        Kind::Start => b"start",
         Kind::Switch => b"switch",
         Kind::True => b"true",
-        Kind::Void => b"void",
         Kind::While => b"while",
         _ => b"",
     }
@@ -106,7 +115,9 @@ fn among(kinds: &[Kind], word: &[u8]) -> Kind
 }
 
 /// The kind of a whole word. Only words of its length are compared with it.
-pub(crate) fn of_word(word: &[u8]) -> Kind {
+pub(crate) fn of_word(word: &[u8]) -> Kind
+    ensures { result ≡ word_kind word.now }
+{
     match word.len() {
         2 => among(&[Kind::If, Kind::In], word),
         3 => among(
@@ -132,12 +143,16 @@ pub(crate) fn of_word(word: &[u8]) -> Kind {
             ],
             word,
         ),
-        _ => of_long_word(word),
+        5.. => of_long_word(word),
+        _ => Kind::Name,
     }
 }
 
 /// The kind of a whole word of five bytes or more.
-fn of_long_word(word: &[u8]) -> Kind {
+fn of_long_word(word: &[u8]) -> Kind
+    requires { 5 ≤ length word.now }
+    ensures { result ≡ word_kind word.now }
+{
     match word.len() {
         5 => among(
             &[

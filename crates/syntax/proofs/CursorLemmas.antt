@@ -44,7 +44,10 @@ named_fails span (y ∷ ys) some other = record {
   rejects = λ x r s h e. other (kind_same y ys s ∙ sym (ap kind_at e));
 }
 
--- a token of one kind
+-- a token of one kind, as a piece
+abbrev pub fixed : Kind → Unit {0} → List Symbol
+fixed kind u = Fixed kind ∷ []
+
 pub fixed_piece : (kind : Kind) → Piece {X = Unit {0}} (λ _. Fixed kind ∷ []) never (λ _. never)
 fixed_piece kind = record { some = tt; each = λ x. record { only = λ y r s hr hs e. (refl, cc) } }
 

@@ -1,35 +1,47 @@
 -- A whole text's tokens: read to the end, or wrong at one of them.
-use Rattle.std.proofs.Common.{◌≡◌, Bool, false, ℕ, ◌+◌, ◌-◌, ◌≤◌, drop, length-drop, suc, length, arith, List, [], ◌∷◌, ◌++◌, sym, refl, ap, ◌∙◌, subst}
+use Rattle.std.proofs.Common.{◌≡◌, Bool, false, ℕ, ◌+◌, ◌-◌, ◌≤◌, take, drop, length-drop, suc, length, arith, List, [], ◌∷◌, ◌++◌, sym, refl, ap, ◌∙◌, subst, append_assoc}
+use Rattle.std.proofs.lemmas.List.{take-append-drop}
 use Rattle.source.specs.declared.kind.Kind.{Kind}
 use Rattle.source.specs.declared.kind.Kind.TheVariants.{Name}
 use Rattle.source.specs.declared.token.Span.{Span}
 use Rattle.source.specs.declared.token.Token.{Token}
 use Rattle.syntax.specs.Symbols.{Symbol, End, seen_as, symbols}
-use Rattle.syntax.specs.Reading.{never, Stops, Fails, IsFirstWrong, whole}
+use Rattle.syntax.specs.Reading.{never, Stops, Fails}
+use Rattle.syntax.specs.Parsing.{IsFirstWrong, Viable, Spells, whole}
 use Rattle.syntax.proofs.Pieces.{Piece, Follows, fails_first, fails_second, via_fails}
 
 len_both : (xs ys : List Symbol) → length (xs ++ ys) ≡ length xs + length ys
 len_both [] ys = omega arith
 len_both (x ∷ xs) ys = let h = len_both xs ys in omega arith
 
-first_wrong : {X : Type 0} {spell : X → List Symbol} {old new : List Symbol} (k : ℕ) → k + length new ≡ length old → Fails spell never old new → IsFirstWrong spell old k
-first_wrong {X} {spell} {old} {new} k is h = record {
-  front = h.front;
-  next = h.next;
-  rest = h.rest;
-  all_is = h.old_is;
-  count = counted;
-  good = record { piece = h.piece; more = h.more; begins = h.begins };
-  bad = λ v. h.rejects v.piece [] v.more tt (append_nil (spell v.piece) ∙ v.begins);
+take_front : (xs ys : List Symbol) → take (length xs) (xs ++ ys) ≡ xs
+take_front [] ys = refl
+take_front (x ∷ xs) ys = ap (λ t. x ∷ t) (take_front xs ys)
+
+append_nil : (xs : List Symbol) → xs ++ [] ≡ xs
+append_nil [] = refl
+append_nil (x ∷ xs) = ap (λ t. x ∷ t) (append_nil xs)
+
+-- what is read up to a symbol, and with it
+front_is : (old front : List Symbol) (next : Symbol) (rest : List Symbol) (k : ℕ) → old ≡ front ++ next ∷ rest → length front ≡ k → take k old ≡ front
+front_is old front next rest k is count = ap (λ t. take k t) is ∙ ap (λ n. take n (front ++ next ∷ rest)) (sym count) ∙ take_front front (next ∷ rest)
+
+front_more : (old front : List Symbol) (next : Symbol) (rest : List Symbol) (k : ℕ) → old ≡ front ++ next ∷ rest → length front ≡ k → take (k + 1) old ≡ front ++ next ∷ []
+front_more old front next rest k is count =
+    let counted : length (front ++ next ∷ []) ≡ k + 1 = len_both front (next ∷ []) ∙ ap (λ n. n + 1) count in
+    ap (λ t. take (k + 1) t) (is ∙ sym (append_assoc front (next ∷ []) rest)) ∙ ap (λ n. take n ((front ++ next ∷ []) ++ rest)) (sym counted) ∙ take_front (front ++ next ∷ []) rest
+
+first_wrong : {X : Type 0} {a : X → List Symbol} {new : List Symbol} (ts : List Token) (k : ℕ) → k + length new ≡ length (symbols ts) → Fails (whole a) never (symbols ts) new → IsFirstWrong a ts k
+first_wrong {X} {a} {new} ts k is h = record {
+  good = subst (Viable (whole a)) (sym (front_is (symbols ts) h.front h.next h.rest k h.old_is counted)) (record { piece = h.piece; more = h.more; begins = h.begins });
+  bad = λ v.
+      let w = subst (Viable (whole a)) (front_more (symbols ts) h.front h.next h.rest k h.old_is counted) v in
+      h.rejects w.piece [] w.more tt (append_nil (whole a w.piece) ∙ w.begins);
 }
   where
-    append_nil : (xs : List Symbol) → xs ++ [] ≡ xs
-    append_nil [] = refl
-    append_nil (x ∷ xs) = ap (λ t. x ∷ t) (append_nil xs)
-
     counted : length h.front ≡ k
     counted =
-        let olds : length old ≡ length h.front + length (h.next ∷ h.rest) = ap length h.old_is ∙ len_both h.front (h.next ∷ h.rest) in
+        let olds : length (symbols ts) ≡ length h.front + length (h.next ∷ h.rest) = ap length h.old_is ∙ len_both h.front (h.next ∷ h.rest) in
         let news : length new ≡ length (h.next ∷ h.rest) = ap length h.new_is in
         omega arith
 
@@ -105,12 +117,12 @@ end_fails ts w (y ∷ ys) e some one = record {
 
 module _ {X : Type 0} {a : X → List Symbol} {f : Symbol → Bool} {at : X → Symbol → Bool} (piece : Piece a f at) (apart : f End ≡ false) where
   -- a piece is read, and something else than the end is next
-  pub top_rest : (ts : List Token) (x : X) (new : List Symbol) (k : ℕ) → (symbols ts ≡ a x ++ new) × Stops (at x) new → (new ≡ [] → ⊥) → (length new ≡ 1 → ⊥) → k + length new ≡ length (symbols ts) → IsFirstWrong (whole a) (symbols ts) k
-  top_rest ts x new k read some more is = first_wrong k is (via_fails to from (λ _. refl) (fails_second x piece read (end_follows f apart) (end_fails ts (a x) new read.0 some more)))
+  pub top_rest : (ts : List Token) (x : X) (new : List Symbol) (k : ℕ) → (symbols ts ≡ a x ++ new) × Stops (at x) new → (new ≡ [] → ⊥) → (length new ≡ 1 → ⊥) → k + length new ≡ length (symbols ts) → IsFirstWrong a ts k
+  top_rest ts x new k read some more is = first_wrong ts k is (via_fails to from (λ _. refl) (fails_second x piece read (end_follows f apart) (end_fails ts (a x) new read.0 some more)))
 
   -- the piece fails
-  pub top_fails : (ts : List Token) (new : List Symbol) (k : ℕ) → Fails a f (symbols ts) new → k + length new ≡ length (symbols ts) → IsFirstWrong (whole a) (symbols ts) k
-  top_fails ts new k h is = first_wrong k is (via_fails to from (λ _. refl) (fails_first h end_piece (end_follows f apart)))
+  pub top_fails : (ts : List Token) (new : List Symbol) (k : ℕ) → Fails a f (symbols ts) new → k + length new ≡ length (symbols ts) → IsFirstWrong a ts k
+  top_fails ts new k h is = first_wrong ts k is (via_fails to from (λ _. refl) (fails_first h end_piece (end_follows f apart)))
 
 pub symbols_length : (ts : List Token) → length (symbols ts) ≡ length ts + 1
 symbols_length [] = omega arith
@@ -153,12 +165,24 @@ not_one : (left n : ℕ) → left + 1 ≡ n → (left ≡ 0 → ⊥) → n ≡ 1
 not_one left n is f e = f (omega arith)
 
 module _ {X : Type 0} {a : X → List Symbol} {f : Symbol → Bool} {at : X → Symbol → Bool} (piece : Piece a f at) (apart : f End ≡ false) where
-  pub wrong_rest : (ts : List Token) (x : X) (old new : List Symbol) (left : ℕ) → old ≡ symbols ts → (old ≡ a x ++ new) × Stops (at x) new → left + 1 ≡ length new → (left ≡ 0 → ⊥) → IsFirstWrong (whole a) (symbols ts) (length ts - left)
+  pub wrong_rest : (ts : List Token) (x : X) (old new : List Symbol) (left : ℕ) → old ≡ symbols ts → (old ≡ a x ++ new) × Stops (at x) new → left + 1 ≡ length new → (left ≡ 0 → ⊥) → IsFirstWrong a ts (length ts - left)
   wrong_rest ts x old new left start read is some =
       top_rest piece apart ts x new (length ts - left) (sym start ∙ read.0, read.1) (no_list left new is) (not_one left (length new) is some)
       (at_left (length ts) (length (symbols ts)) (length new) left (symbols_length ts) (left_ok ts (a x) old new left start read.0 is) is)
 
-  pub wrong_piece : (ts : List Token) (old new : List Symbol) (left : ℕ) → old ≡ symbols ts → Fails a f old new → left + 1 ≡ length new → IsFirstWrong (whole a) (symbols ts) (length ts - left)
+  pub wrong_piece : (ts : List Token) (old new : List Symbol) (left : ℕ) → old ≡ symbols ts → Fails a f old new → left + 1 ≡ length new → IsFirstWrong a ts (length ts - left)
   wrong_piece ts old new left start h is =
       top_fails piece apart ts new (length ts - left) (subst (λ t. Fails a f t new) start h)
       (at_left (length ts) (length (symbols ts)) (length new) left (symbols_length ts) (left_err ts old new left start h is) is)
+
+-- a tree that is spelled so
+
+pub one_tree : {X : Type 0} {a : X → List Symbol} {f : Symbol → Bool} {at : X → Symbol → Bool} → Piece a f at → f End ≡ false → ((x : X) → at x End ≡ false) → (ts : List Token) (x y : X) → Spells a x ts → Spells a y ts → x ≡ y
+one_tree {X} {a} {f} {at} piece apart ended ts x y this other = ((piece.each x).only y (End ∷ []) (End ∷ []) apart (ended y) (this ∙ sym other)).0
+
+pub not_wrong : {X : Type 0} {a : X → List Symbol} (ts : List Token) (k : ℕ) (x : X) → Spells a x ts → IsFirstWrong a ts k → ⊥
+not_wrong {X} {a} ts k x spelled wrong = wrong.bad (record { piece = x; more = drop (k + 1) (symbols ts); begins = spelled ∙ sym (take-append-drop (k + 1) (symbols ts)) })
+
+-- two trees with one spelling are one
+pub one_spelling : {X : Type 0} {a : X → List Symbol} {f : Symbol → Bool} {at : X → Symbol → Bool} → Piece a f at → (x y : X) → a x ≡ a y → x ≡ y
+one_spelling {X} {a} {f} {at} piece x y e = ((piece.each x).only y [] [] tt tt (ap (λ t. t ++ []) e)).0

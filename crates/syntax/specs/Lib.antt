@@ -1,2 +1,10 @@
 pub mod Symbols
+pub mod Spelling
 pub mod Reading
+pub mod Trees
+pub mod Grammar
+pub mod Firsts
+pub mod Types
+pub mod States
+pub mod Parsing
+pub mod Statements

@@ -1,6 +1,11 @@
 -- What it means to read a piece of the grammar, or to fail at the first symbol that it can't go on with.
-use Rattle.std.specs.Prelude.{◌≡◌, Bool, false, List, [], ◌∷◌, ◌++◌, ℕ, length, Result, Ok, Err}
-use Rattle.syntax.specs.Symbols.{Symbol, End}
+use Rattle.std.specs.Prelude.{◌≡◌, map, Vec, Bool, true, false, ◌||◌, Option, Some, None, List, [], ◌∷◌, ◌++◌, Result, Ok, Err}
+use Rattle.std.specs.List.{flat_map}
+use Rattle.std.specs.Global.{Global}
+use Rattle.source.specs.declared.kind.Kind.{Kind}
+use Rattle.source.specs.declared.kind.Kind.TheVariants.{Comma}
+use Rattle.syntax.specs.Symbols.{Symbol, is_kind, by_kind}
+use Rattle.syntax.specs.Spelling.{word, optional}
 use Rattle.syntax.specs.declared.cursor.Stuck.{Stuck}
 use Rattle.syntax.specs.declared.cursor.Stuck.TheVariants.{Unexpected, Memory}
 
@@ -39,32 +44,62 @@ abbrev pub AtFault : Stuck → Type 0 → Type 0
 AtFault Unexpected P = P
 AtFault Memory P = Unit {0}
 
+-- by what the last of some pieces could go on
+abbrev pub last_at : {X : Type 0} → (X → Symbol → Bool) → List X → Symbol → Bool
+last_at at [] = never
+last_at at (x ∷ []) = at x
+last_at at (x ∷ y ∷ xs) = last_at at (y ∷ xs)
+
+-- by what a row of pieces could go on: as its last piece could, or by a further one
+abbrev pub many_at : {X : Type 0} → (Symbol → Bool) → (X → Symbol → Bool) → List X → Symbol → Bool
+many_at starts at xs y = last_at at xs y || starts y
+
+-- by what an option could go on: by what begins it where it isn't there
+abbrev pub optional_at : {X : Type 0} → (Symbol → Bool) → (X → Symbol → Bool) → Option X → Symbol → Bool
+optional_at starts at None = starts
+optional_at starts at (Some x) = at x
+
+-- the same, where the tree keeps only whether it is there
+abbrev pub when_at : (Symbol → Bool) → Bool → Symbol → Bool
+when_at starts true = never
+when_at starts false = starts
+
+-- by what some list with commas could go on
+abbrev pub listed_on : (Symbol → Bool) → Symbol → Bool
+listed_on starts y = starts y || is_kind Comma y
+
+-- by what this list could
+abbrev pub listed_at : {X : Type 0} → (Symbol → Bool) → List X → Symbol → Bool
+listed_at starts [] = starts
+listed_at starts (x ∷ xs) = is_kind Comma
+
+-- by what an option could go on, or what stands before it where it isn't there
+abbrev pub open_at : (Symbol → Bool) → (Symbol → Bool) → Bool → Symbol → Bool
+open_at before starts true = never
+open_at before starts false = λ y. before y || starts y
+
+-- A piece is read, and by what comes next it does not go on. `at` has the symbols by which this one could.
+abbrev pub Takes : {Y : Type 0} → (Y → List Symbol) → (Y → Symbol → Bool) → List Symbol → List Symbol → Y → Type 0
+Takes spell at old new y = (old ≡ spell y ++ new) × Stops (at y) new
+
 -- What a function that reads a piece returns, seen by view, and what it leaves. `on` has the symbols by which
 -- some piece could go on, and `at` those by which this one could.
 abbrev pub Reads : {X Y : Type 0} → (X → Y) → (Y → List Symbol) → (Symbol → Bool) → (Y → Symbol → Bool) → List Symbol → List Symbol → Result X Stuck → Type 0
-Reads view spell on at old new (Ok x) = (old ≡ spell (view x) ++ new) × Stops (at (view x)) new
+Reads view spell on at old new (Ok x) = Takes spell at old new (view x)
 Reads view spell on at old new (Err fault) = AtFault fault (Fails spell on old new)
 
 -- What a function returns that reads a piece with an end of its own.
 abbrev pub ReadsEnded : {X Y : Type 0} → (X → Y) → (Y → List Symbol) → List Symbol → List Symbol → Result X Stuck → Type 0
 ReadsEnded view spell old new result = Reads view spell never (λ _. never) old new result
 
--- the spelling of a tree begins so
-pub record Viable {X : Type 0} (spell : X → List Symbol) (front : List Symbol) : Type 0 where
-  pub piece : X
-  pub more : List Symbol
-  pub begins : spell piece ≡ front ++ more
+-- What a function returns that reads one word of several.
+abbrev pub ReadsWord : {X : Type 0} → (X → Kind) → List Symbol → List Symbol → Result X Stuck → Type 0
+ReadsWord word_of old new result = ReadsEnded (λ x. x) (λ x. word (word_of x)) old new result
 
--- The first k symbols begin a spelling, and with one more they begin none.
-pub record IsFirstWrong {X : Type 0} (spell : X → List Symbol) (all : List Symbol) (k : ℕ) : Type 0 where
-  pub front : List Symbol
-  pub next : Symbol
-  pub rest : List Symbol
-  pub all_is : all ≡ front ++ next ∷ rest
-  pub count : length front ≡ k
-  pub good : Viable spell front
-  pub bad : Viable spell (front ++ next ∷ []) → ⊥
+-- What a function returns that reads a piece, or nothing where it does not begin with such a token.
+abbrev pub ReadsOption : {X : Type 0} → (X → List Symbol) → (Option Kind → Bool) → List Symbol → List Symbol → Result (Option X) Stuck → Type 0
+ReadsOption spell opens old new result = Reads (λ x. x) (optional spell) (by_kind opens) (optional_at (by_kind opens) (λ _. never)) old new result
 
--- a piece and the end behind it
-abbrev pub whole : {X : Type 0} → (X → List Symbol) → X → List Symbol
-whole a x = a x ++ End ∷ []
+-- What a function returns that reads pieces as long as one begins with such a token.
+abbrev pub ReadsRow : {X Y : Type 0} → (X → Y) → (Y → List Symbol) → (Option Kind → Bool) → List Symbol → List Symbol → Result (Vec X Global) Stuck → Type 0
+ReadsRow view spell opens old new result = Reads (λ v. map view v.items) (flat_map spell) (by_kind opens) (λ _. by_kind opens) old new result

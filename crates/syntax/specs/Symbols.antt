@@ -1,9 +1,11 @@
 -- What a grammar sees of tokens.
-use Rattle.std.specs.Prelude.{Bool, List, [], ◌∷◌, ◌++◌, Option, Some, None}
+use Rattle.std.specs.Prelude.{Bool, false, List, [], ◌∷◌, Option, Some, None}
 use Rattle.source.specs.declared.kind.Kind.{Kind}
 use Rattle.source.specs.declared.kind.Kind.TheVariants.{Name}
+use Rattle.source.specs.contracts.kind.Kind.{the_type}
 use Rattle.source.specs.declared.token.Span.{Span}
 use Rattle.source.specs.declared.token.Token.{Token}
+use denote.Enum.Bare.{sameb}
 
 -- A name with where it lies, another token by its kind, or the end behind the last token.
 pub data Symbol : Type 0 where
@@ -11,6 +13,7 @@ pub data Symbol : Type 0 where
   Named : Span → Symbol
   End : Symbol
 
+-- what a grammar sees of a token of this kind that lies there
 abbrev pub seen_as : Kind → Span → Symbol
 seen_as Name span = Named span
 seen_as kind span = Fixed kind
@@ -27,10 +30,15 @@ kind_at (Fixed kind ∷ ys) = Some kind
 kind_at (Named span ∷ ys) = Some Name
 kind_at (End ∷ ys) = None
 
+-- whether this is that kind
+abbrev pub kind_is : Kind → Option Kind → Bool
+kind_is kind None = false
+kind_is kind (Some other) = sameb the_type other kind
+
 -- the symbols of such a kind
 abbrev pub by_kind : (Option Kind → Bool) → Symbol → Bool
 by_kind p y = p (kind_at (y ∷ []))
 
--- a piece between two words
-abbrev pub within : {X : Type 0} → Kind → (X → List Symbol) → Kind → X → List Symbol
-within left a right x = Fixed left ∷ (a x ++ Fixed right ∷ [])
+-- the symbols of this kind
+abbrev pub is_kind : Kind → Symbol → Bool
+is_kind kind = by_kind (kind_is kind)

@@ -1,16 +1,26 @@
 //! Reads contracts.
 
-ghost use Rattle.std.specs.Prelude.{◌<◌, ◌≤◌, length, IfOk};
+ghost use Rattle.std.specs.Prelude.{◌≡◌, map};
+ghost use Rattle.std.specs.List.{flat_map};
+ghost use Rattle.syntax.specs.Symbols.{kind_is, by_kind};
+ghost use Rattle.syntax.specs.Spelling.{word, optional};
+ghost use Rattle.syntax.specs.Reading.{ReadsWord, ReadsOption, ReadsRow, never, Takes, Reads, ReadsEnded, optional_at, many_at};
+ghost use Rattle.syntax.specs.Grammar.{access_word, message, member, contract, item, program};
+ghost use Rattle.syntax.specs.Firsts.{access_of, opens_access, opens_message, opens_member, opens_item};
+ghost use Rattle.syntax.specs.States.{state_on, member_at, members_on};
+ghost use Rattle.syntax.specs.Trees.{message_tree, member_tree, contract_tree, item_tree};
 
 use crate::cursor::{Cursor, Stuck};
-use crate::messages::{is_direction, message};
+use crate::messages::{is_message, message};
 use crate::states::state;
 use crate::tree::{Access, Contract, Item, Member, Message};
 use source::Kind;
 use std::alloc::Global;
 
 /// Whether an item begins with this token.
-fn is_item(kind: Option<Kind>) -> bool {
+fn is_item(kind: Option<Kind>) -> bool
+    ensures { result ≡ opens_item kind }
+{
     matches!(
         kind,
         Some(Kind::Public | Kind::Private | Kind::Internal | Kind::Contract)
@@ -19,7 +29,7 @@ fn is_item(kind: Option<Kind>) -> bool {
 
 /// { item }
 pub fn items(alloc: Global, cursor: &mut Cursor<'_>) -> Result<Vec<Item>, Stuck>
-    ensures { IfOk result (λ _. length cursor.new ≤ length cursor.old) }
+    ensures { ReadsRow item_tree item opens_item cursor.old cursor.new result }
 {
     let mut all = Vec::new(alloc);
     'each: while is_item(cursor.peek()) {
@@ -30,7 +40,7 @@ pub fn items(alloc: Global, cursor: &mut Cursor<'_>) -> Result<Vec<Item>, Stuck>
 
 /// item = [ access ] contract .
 fn item(alloc: Global, cursor: &mut Cursor<'_>) -> Result<Item, Stuck>
-    ensures { IfOk result (λ _. length cursor.new < length cursor.old) }
+    ensures { ReadsEnded item_tree item cursor.old cursor.new result }
 {
     let access = access(cursor);
     let contract = contract(alloc, cursor)?;
@@ -39,21 +49,29 @@ fn item(alloc: Global, cursor: &mut Cursor<'_>) -> Result<Item, Stuck>
 
 /// [ "public" | "private" | "internal" ]
 fn access(cursor: &mut Cursor<'_>) -> Option<Access>
-    ensures { length cursor.new ≤ length cursor.old }
+    ensures { Takes (optional (λ a. word (access_word a))) (optional_at (by_kind opens_access) (λ _. never))
+        cursor.old cursor.new result }
 {
-    let found = match cursor.peek() {
-        Some(Kind::Public) => Access::Public,
-        Some(Kind::Private) => Access::Private,
-        Some(Kind::Internal) => Access::Internal,
-        _ => return None,
-    };
+    let access = access_of(cursor.peek())?;
     cursor.skip();
-    Some(found)
+    Some(access)
+}
+
+/// The access word that this token is.
+fn access_of(kind: Option<Kind>) -> Option<Access>
+    ensures { result ≡ access_of kind }
+{
+    match kind {
+        Some(Kind::Public) => Some(Access::Public),
+        Some(Kind::Private) => Some(Access::Private),
+        Some(Kind::Internal) => Some(Access::Internal),
+        _ => None,
+    }
 }
 
 /// contract = "contract" ID "{" { message } state { member } "}" .
 fn contract(alloc: Global, cursor: &mut Cursor<'_>) -> Result<Contract, Stuck>
-    ensures { IfOk result (λ _. length cursor.new < length cursor.old) }
+    ensures { ReadsEnded contract_tree contract cursor.old cursor.new result }
 {
     cursor.expect(Kind::Contract)?;
     let name = cursor.name()?;
@@ -72,23 +90,26 @@ fn contract(alloc: Global, cursor: &mut Cursor<'_>) -> Result<Contract, Stuck>
 
 /// { message }
 fn messages(alloc: Global, cursor: &mut Cursor<'_>) -> Result<Vec<Message>, Stuck>
-    ensures { IfOk result (λ _. length cursor.new ≤ length cursor.old) }
+    ensures { ReadsRow message_tree message opens_message cursor.old cursor.new result }
 {
     let mut all = Vec::new(alloc);
-    'each: while is_direction(cursor.peek()) {
+    'each: while is_message(cursor.peek()) {
         all.push(message(alloc, cursor)?)?;
     }
     Ok(all)
 }
 
 /// Whether a member begins with this token.
-fn is_member(kind: Option<Kind>) -> bool {
+fn is_member(kind: Option<Kind>) -> bool
+    ensures { result ≡ opens_member kind }
+{
     matches!(kind, Some(Kind::In | Kind::Out | Kind::State))
 }
 
 /// { member }
 fn members(alloc: Global, cursor: &mut Cursor<'_>) -> Result<Vec<Member>, Stuck>
-    ensures { IfOk result (λ _. length cursor.new ≤ length cursor.old) }
+    ensures { Reads (λ v. map member_tree v.items) (flat_map member) members_on (many_at (by_kind opens_member) member_at)
+        cursor.old cursor.new result }
 {
     let mut all = Vec::new(alloc);
     'each: while is_member(cursor.peek()) {
@@ -99,9 +120,9 @@ fn members(alloc: Global, cursor: &mut Cursor<'_>) -> Result<Vec<Member>, Stuck>
 
 /// member = message | state .
 fn member(alloc: Global, cursor: &mut Cursor<'_>) -> Result<Member, Stuck>
-    ensures { IfOk result (λ _. length cursor.new < length cursor.old) }
+    ensures { Reads member_tree member state_on member_at cursor.old cursor.new result }
 {
-    if is_direction(cursor.peek()) {
+    if is_message(cursor.peek()) {
         Ok(Member::Message(message(alloc, cursor)?))
     } else {
         Ok(Member::State(state(alloc, cursor)?))

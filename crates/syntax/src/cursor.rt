@@ -1,9 +1,10 @@
 //! A place among tokens.
 
-ghost use Rattle.std.specs.Prelude.{◌≡◌, ◌≢◌, ◌+◌, ◌≤◌, length, ◌↔◌, ◌∷◌, [], List, IsTrue, IsSome};
+ghost use Rattle.std.specs.Prelude.{◌≡◌, ◌≢◌, ◌+◌, length, ◌↔◌, ◌∷◌, [], List, IsTrue, IsSome};
 ghost use Rattle.source.specs.declared.kind.Kind.{Kind};
-ghost use Rattle.syntax.specs.Symbols.{Symbol, Fixed, Named, kind_at, symbols};
-ghost use Rattle.syntax.specs.Reading.{Reads, ReadsEnded};
+ghost use Rattle.syntax.specs.Symbols.{Symbol, Fixed, Named, kind_at, is_kind, symbols};
+ghost use Rattle.syntax.specs.Spelling.{word, name, when};
+ghost use Rattle.syntax.specs.Reading.{Takes, ReadsEnded, when_at};
 
 use source::{Kind, Span, Token};
 use std::alloc::{AllocError, AllocFailed};
@@ -76,7 +77,8 @@ impl Cursor<'_> {
 
     /// The kind of the next token.
     pub fn peek(&self) -> Option<Kind>
-        ensures { result ≡ kind_at self.now }
+        ensures kind { result ≡ kind_at self.now }
+        ensures some { self.now ≢ [] }
     {
         if self.next < self.tokens.len() {
             Some(self.tokens[self.next].kind)
@@ -90,7 +92,6 @@ impl Cursor<'_> {
         ensures is { IsTrue result ↔ (kind_at self.now ≡ Some kind) }
         ensures some { self.now ≢ [] }
     {
-        let _next = self.next;
         match self.peek() {
             Some(found) => found == kind,
             None => false,
@@ -100,7 +101,7 @@ impl Cursor<'_> {
     /// Takes a token of this kind, which is no name.
     pub fn expect(&mut self, kind: Kind) -> Result<(), Stuck>
         requires { kind ≢ Kind.Name }
-        ensures { ReadsEnded (λ x. x) (λ _. Fixed kind ∷ []) self.old self.new result }
+        ensures { ReadsEnded (λ x. x) (λ _. word kind) self.old self.new result }
     {
         if self.is_next(kind) {
             self.skip();
@@ -113,7 +114,7 @@ impl Cursor<'_> {
     /// Takes a token of this kind, which is no name, if it is next.
     pub fn take_if(&mut self, kind: Kind) -> bool
         requires { kind ≢ Kind.Name }
-        ensures { length self.new ≤ length self.old }
+        ensures { Takes (when (word kind)) (when_at (is_kind kind)) self.old self.new result }
     {
         if self.is_next(kind) {
             self.skip();
@@ -125,7 +126,7 @@ impl Cursor<'_> {
 
     /// Takes a name.
     pub fn name(&mut self) -> Result<Span, Stuck>
-        ensures { ReadsEnded (λ x. x) (λ span. Named span ∷ []) self.old self.new result }
+        ensures { ReadsEnded (λ x. x) name self.old self.new result }
     {
         if self.is_next(Kind::Name) {
             Ok(self.skip())

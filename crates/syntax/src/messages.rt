@@ -1,21 +1,51 @@
 //! Reads messages.
 
-ghost use Rattle.std.specs.Prelude.{◌<◌, ◌≤◌, length, IfOk};
+ghost use Rattle.std.specs.Prelude.{◌≡◌};
+ghost use Rattle.syntax.specs.Symbols.{kind_is, by_kind};
+ghost use Rattle.syntax.specs.Spelling.{word, comma, listed, within};
+ghost use Rattle.syntax.specs.Reading.{ReadsWord, ReadsOption, ReadsRow, Reads, ReadsEnded, listed_on, listed_at};
+ghost use Rattle.syntax.specs.Grammar.{direction_word, param, message};
+ghost use Rattle.syntax.specs.Firsts.{direction_of, opens_message, opens_type};
+ghost use Rattle.syntax.specs.Trees.{message_tree};
 
 use crate::cursor::{Cursor, Stuck};
 use crate::tree::{Direction, Message, Param};
-use crate::types::{is_type, type_of_value};
+use crate::types::{is_type, value_type};
 use source::Kind;
 use std::alloc::Global;
 
 /// Whether a message begins with this token.
-pub fn is_direction(kind: Option<Kind>) -> bool {
-    matches!(kind, Some(Kind::In | Kind::Out))
+pub fn is_message(kind: Option<Kind>) -> bool
+    ensures { result ≡ opens_message kind }
+{
+    direction_of(kind).is_some()
+}
+
+/// The direction that this token names.
+fn direction_of(kind: Option<Kind>) -> Option<Direction>
+    ensures { result ≡ direction_of kind }
+{
+    match kind {
+        Some(Kind::In) => Some(Direction::In),
+        Some(Kind::Out) => Some(Direction::Out),
+        _ => None,
+    }
+}
+
+/// direction = "in" | "out" .
+fn direction(cursor: &mut Cursor<'_>) -> Result<Direction, Stuck>
+    ensures { ReadsWord direction_word cursor.old cursor.new result }
+{
+    let Some(direction) = direction_of(cursor.peek()) else {
+        return Err(Stuck::Unexpected);
+    };
+    cursor.skip();
+    Ok(direction)
 }
 
 /// message = direction "message" ID params ";" .
 pub fn message(alloc: Global, cursor: &mut Cursor<'_>) -> Result<Message, Stuck>
-    ensures { IfOk result (λ _. length cursor.new < length cursor.old) }
+    ensures { ReadsEnded message_tree message cursor.old cursor.new result }
 {
     let direction = direction(cursor)?;
     cursor.expect(Kind::Message)?;
@@ -29,22 +59,10 @@ pub fn message(alloc: Global, cursor: &mut Cursor<'_>) -> Result<Message, Stuck>
     })
 }
 
-/// direction = "in" | "out" .
-fn direction(cursor: &mut Cursor<'_>) -> Result<Direction, Stuck>
-    ensures { IfOk result (λ _. length cursor.new < length cursor.old) }
-{
-    let found = match cursor.peek() {
-        Some(Kind::In) => Direction::In,
-        Some(Kind::Out) => Direction::Out,
-        _ => return Err(Stuck::Unexpected),
-    };
-    cursor.skip();
-    Ok(found)
-}
-
 /// params = "(" [ param { "," param } ] ")" .
 fn params(alloc: Global, cursor: &mut Cursor<'_>) -> Result<Vec<Param>, Stuck>
-    ensures { IfOk result (λ _. length cursor.new < length cursor.old) }
+    ensures { ReadsEnded (λ v. v.items) (within Kind.OpenParen (listed param) Kind.CloseParen)
+        cursor.old cursor.new result }
 {
     cursor.expect(Kind::OpenParen)?;
     let all = param_list(alloc, cursor)?;
@@ -54,7 +72,8 @@ fn params(alloc: Global, cursor: &mut Cursor<'_>) -> Result<Vec<Param>, Stuck>
 
 /// [ param { "," param } ]
 fn param_list(alloc: Global, cursor: &mut Cursor<'_>) -> Result<Vec<Param>, Stuck>
-    ensures { IfOk result (λ _. length cursor.new ≤ length cursor.old) }
+    ensures { Reads (λ v. v.items) (listed param) (listed_on (by_kind opens_type)) (listed_at (by_kind opens_type))
+        cursor.old cursor.new result }
 {
     let mut all = Vec::new(alloc);
     if !is_type(cursor.peek()) {
@@ -69,7 +88,7 @@ fn param_list(alloc: Global, cursor: &mut Cursor<'_>) -> Result<Vec<Param>, Stuc
 
 /// "," param
 fn comma_param(cursor: &mut Cursor<'_>) -> Result<Param, Stuck>
-    ensures { IfOk result (λ _. length cursor.new < length cursor.old) }
+    ensures { ReadsEnded (λ x. x) (comma param) cursor.old cursor.new result }
 {
     cursor.expect(Kind::Comma)?;
     Ok(param(cursor)?)
@@ -77,9 +96,9 @@ fn comma_param(cursor: &mut Cursor<'_>) -> Result<Param, Stuck>
 
 /// param = type ID .
 fn param(cursor: &mut Cursor<'_>) -> Result<Param, Stuck>
-    ensures { IfOk result (λ _. length cursor.new < length cursor.old) }
+    ensures { ReadsEnded (λ x. x) param cursor.old cursor.new result }
 {
-    let kind = type_of_value(cursor)?;
+    let kind = value_type(cursor)?;
     let name = cursor.name()?;
     Ok(Param { kind, name })
 }

@@ -1,5 +1,10 @@
 //! The tree of a whole text.
 
+ghost use Rattle.std.specs.Prelude.{ℕ, IfOk, IsErrOf};
+ghost use Rattle.syntax.specs.Trees.{program_tree};
+ghost use Rattle.syntax.specs.Grammar.{program};
+ghost use Rattle.syntax.specs.Parsing.{Spells, IsFirstWrong, FindsTree};
+
 use crate::contracts::items;
 use crate::cursor::{Cursor, Stuck};
 use crate::fault::SyntaxFault;
@@ -7,8 +12,19 @@ use crate::tree::Tree;
 use source::Tokens;
 use std::alloc::Global;
 
-/// The tree that is spelled as the tokens of a text.
-pub fn parse(alloc: Global, tokens: &Tokens) -> Result<Tree, SyntaxFault> {
+/// The tree of a program, from the first token of a text to its last.
+///
+/// `At(k)` names the first token, counted from 0, with which no program goes on: the tokens before it begin a program, and
+/// with it they begin none. Where all of them begin a program and are none, k is their number, as for a contract whose
+/// last brace is missing. `Memory` comes where a growth of memory is refused; the tokens stay as they were.
+///
+/// The grammar is that of channel contracts in Sing# (Fähndrich et al., "Language Support for Fast and Reliable
+/// Message-based Communication in Singularity OS", EuroSys 2006), a rule a line in `specs/Grammar.antt`.
+pub fn parse(alloc: Global, tokens: &Tokens) -> Result<Tree, SyntaxFault>
+    ensures tree { IfOk result (λ t. Spells program (program_tree t) tokens.now.list.items) }
+    ensures wrong { (k : ℕ) → IsErrOf result (SyntaxFault.At k) → IsFirstWrong program tokens.now.list.items k }
+    ensures found { FindsTree program program_tree tokens.now.list.items result }
+{
     let list = tokens.list.as_slice();
     let mut cursor = Cursor::new(list);
     match items(alloc, &mut cursor) {
@@ -17,10 +33,10 @@ pub fn parse(alloc: Global, tokens: &Tokens) -> Result<Tree, SyntaxFault> {
             if left == 0 {
                 Ok(Tree { items })
             } else {
-                Err(SyntaxFault::At(list.len().saturating_sub(left)))
+                Err(SyntaxFault::At(list.len() - left))
             }
         }
-        Err(Stuck::Unexpected) => Err(SyntaxFault::At(list.len().saturating_sub(cursor.left()))),
+        Err(Stuck::Unexpected) => Err(SyntaxFault::At(list.len() - cursor.left())),
         Err(Stuck::Memory) => Err(SyntaxFault::Memory),
     }
 }

@@ -1,15 +1,23 @@
 //! Reads states.
 
-ghost use Rattle.std.specs.Prelude.{◌<◌, ◌≤◌, length, IfOk};
+ghost use Rattle.std.specs.Prelude.{◌≡◌, map};
+ghost use Rattle.std.specs.List.{flat_map};
+ghost use Rattle.syntax.specs.Symbols.{kind_is, by_kind, is_kind};
+ghost use Rattle.syntax.specs.Spelling.{word};
+ghost use Rattle.syntax.specs.Reading.{ReadsWord, ReadsOption, ReadsRow, Reads, ReadsEnded};
+ghost use Rattle.syntax.specs.Grammar.{sign_word, path, line, body, state};
+ghost use Rattle.syntax.specs.Firsts.{sign_of, opens_sign};
+ghost use Rattle.syntax.specs.States.{hop, lines, one, one_at, state_on, body_at, state_at};
+ghost use Rattle.syntax.specs.Trees.{path_tree, body_tree, state_tree};
 
 use crate::cursor::{Cursor, Stuck};
 use crate::tree::{Edge, Path, Sign, State, StateBody};
-use source::Kind;
+use source::{Kind, Span};
 use std::alloc::Global;
 
 /// state = "state" ID ":" body .
 pub fn state(alloc: Global, cursor: &mut Cursor<'_>) -> Result<State, Stuck>
-    ensures { IfOk result (λ _. length cursor.new < length cursor.old) }
+    ensures { Reads state_tree state state_on state_at cursor.old cursor.new result }
 {
     cursor.expect(Kind::State)?;
     let name = cursor.name()?;
@@ -18,91 +26,130 @@ pub fn state(alloc: Global, cursor: &mut Cursor<'_>) -> Result<State, Stuck>
     Ok(State { name, body })
 }
 
-/// body = ";" | path ";" | one .
+/// body = one | line | ";" .
 fn body(alloc: Global, cursor: &mut Cursor<'_>) -> Result<StateBody, Stuck>
-    ensures { IfOk result (λ _. length cursor.new < length cursor.old) }
+    ensures { Reads body_tree body state_on body_at cursor.old cursor.new result }
 {
     if cursor.is_next(Kind::One) {
-        let paths = one(alloc, cursor)?;
-        let semicolon = cursor.take_if(Kind::Semicolon);
+        let (paths, semicolon) = one(alloc, cursor)?;
         Ok(StateBody::One { paths, semicolon })
     } else if cursor.is_next(Kind::Name) {
-        Ok(StateBody::Path(path_line(alloc, cursor)?))
+        Ok(StateBody::Path(line(alloc, cursor)?))
     } else {
         cursor.expect(Kind::Semicolon)?;
         Ok(StateBody::Empty)
     }
 }
 
-/// one = "one" "{" { path ";" } "}" .
-fn one(alloc: Global, cursor: &mut Cursor<'_>) -> Result<Vec<Path>, Stuck>
-    ensures { IfOk result (λ _. length cursor.new < length cursor.old) }
+/// one = "one" lines [ ";" ] .
+fn one(alloc: Global, cursor: &mut Cursor<'_>) -> Result<(Vec<Path>, bool), Stuck>
+    ensures { Reads (λ p. (map path_tree p.0.items, p.1)) one state_on one_at cursor.old cursor.new result }
 {
     cursor.expect(Kind::One)?;
+    let paths = lines(alloc, cursor)?;
+    let semicolon = cursor.take_if(Kind::Semicolon);
+    Ok((paths, semicolon))
+}
+
+/// lines = "{" { line } "}" .
+fn lines(alloc: Global, cursor: &mut Cursor<'_>) -> Result<Vec<Path>, Stuck>
+    ensures { ReadsEnded (λ v. map path_tree v.items) lines cursor.old cursor.new result }
+{
     cursor.expect(Kind::OpenBrace)?;
-    let paths = paths(alloc, cursor)?;
+    let paths = line_row(alloc, cursor)?;
     cursor.expect(Kind::CloseBrace)?;
     Ok(paths)
 }
 
-/// { path ";" }
-fn paths(alloc: Global, cursor: &mut Cursor<'_>) -> Result<Vec<Path>, Stuck>
-    ensures { IfOk result (λ _. length cursor.new ≤ length cursor.old) }
+/// { line }
+fn line_row(alloc: Global, cursor: &mut Cursor<'_>) -> Result<Vec<Path>, Stuck>
+    ensures { ReadsRow path_tree line (kind_is Kind.Name) cursor.old cursor.new result }
 {
     let mut all = Vec::new(alloc);
     'each: while cursor.is_next(Kind::Name) {
-        all.push(path_line(alloc, cursor)?)?;
+        all.push(line(alloc, cursor)?)?;
     }
     Ok(all)
 }
 
-/// path ";"
-fn path_line(alloc: Global, cursor: &mut Cursor<'_>) -> Result<Path, Stuck>
-    ensures { IfOk result (λ _. length cursor.new < length cursor.old) }
+/// line = path ";" .
+fn line(alloc: Global, cursor: &mut Cursor<'_>) -> Result<Path, Stuck>
+    ensures { ReadsEnded path_tree line cursor.old cursor.new result }
 {
     let path = path(alloc, cursor)?;
     cursor.expect(Kind::Semicolon)?;
     Ok(path)
 }
 
-/// path = edge { edge } ID . A name is an edge's where a sign follows.
+/// The sign of an edge, and the name behind it.
+#[derive(Clone, Copy, Debug)]
+pub struct Hop {
+    pub sign: Sign,
+    pub target: Span,
+}
+
+/// path = ID hop { hop } : each name but the last is an edge's message.
 fn path(alloc: Global, cursor: &mut Cursor<'_>) -> Result<Path, Stuck>
-    ensures { IfOk result (λ _. length cursor.new < length cursor.old) }
+    ensures { Reads path_tree path (by_kind opens_sign) (λ _. by_kind opens_sign) cursor.old cursor.new result }
 {
     let message = cursor.name()?;
-    let sign = hop(cursor)?;
+    let hop = read_hop(cursor)?;
+    let first = Edge {
+        message,
+        sign: hop.sign,
+    };
     let mut others = Vec::new(alloc);
-    let mut target = cursor.name()?;
+    let mut target = hop.target;
     'each: while is_sign(cursor.peek()) {
-        let sign = hop(cursor)?;
+        let next = read_hop(cursor)?;
         others.push(Edge {
             message: target,
-            sign,
+            sign: next.sign,
         })?;
-        target = cursor.name()?;
+        target = next.target;
     }
     Ok(Path {
-        first: Edge { message, sign },
+        first,
         others,
         target,
     })
 }
 
 /// Whether this token is a sign.
-fn is_sign(kind: Option<Kind>) -> bool {
-    matches!(kind, Some(Kind::Bang | Kind::Question))
+fn is_sign(kind: Option<Kind>) -> bool
+    ensures { result ≡ opens_sign kind }
+{
+    sign_of(kind).is_some()
 }
 
-/// hop = ( "!" | "?" ) "->" .
-fn hop(cursor: &mut Cursor<'_>) -> Result<Sign, Stuck>
-    ensures { IfOk result (λ _. length cursor.new < length cursor.old) }
+/// The sign that this token is.
+fn sign_of(kind: Option<Kind>) -> Option<Sign>
+    ensures { result ≡ sign_of kind }
 {
-    let sign = match cursor.peek() {
-        Some(Kind::Bang) => Sign::Send,
-        Some(Kind::Question) => Sign::Receive,
-        _ => return Err(Stuck::Unexpected),
+    match kind {
+        Some(Kind::Bang) => Some(Sign::Send),
+        Some(Kind::Question) => Some(Sign::Receive),
+        _ => None,
+    }
+}
+
+/// hop = sign "->" ID .
+fn read_hop(cursor: &mut Cursor<'_>) -> Result<Hop, Stuck>
+    ensures { ReadsEnded (λ x. x) hop cursor.old cursor.new result }
+{
+    let sign = sign(cursor)?;
+    cursor.expect(Kind::Arrow)?;
+    let target = cursor.name()?;
+    Ok(Hop { sign, target })
+}
+
+/// sign = "!" | "?" .
+fn sign(cursor: &mut Cursor<'_>) -> Result<Sign, Stuck>
+    ensures { ReadsWord sign_word cursor.old cursor.new result }
+{
+    let Some(sign) = sign_of(cursor.peek()) else {
+        return Err(Stuck::Unexpected);
     };
     cursor.skip();
-    cursor.expect(Kind::Arrow)?;
     Ok(sign)
 }

@@ -1,105 +1,101 @@
 //! Reads types.
 
-ghost use Rattle.std.specs.Prelude.{◌<◌, ◌≤◌, length, IfOk};
+ghost use Rattle.std.specs.Prelude.{◌≡◌};
+ghost use Rattle.syntax.specs.Symbols.{kind_is, is_kind};
+ghost use Rattle.syntax.specs.Spelling.{word, optional, when};
+ghost use Rattle.syntax.specs.Reading.{ReadsWord, ReadsOption, ReadsRow, never, Reads, ReadsEnded, optional_at, when_at};
+ghost use Rattle.syntax.specs.Grammar.{scalar_word, side_word, in_heap_words, colon_name, value_type};
+ghost use Rattle.syntax.specs.Firsts.{scalar_of, side_of, opens_type};
+ghost use Rattle.syntax.specs.Types.{bang_in_heap, array_tail, scalar_type, scalar_at, pointer_tail, endpoint_tail, endpoint_on, endpoint_at, named_tail, tail_at, named_type, named_at, type_on, type_at};
 
 use crate::cursor::{Cursor, Stuck};
-use crate::tree::{Heap, Scalar, Side, Type};
+use crate::fronts::{EndpointTail, NamedTail, NamedType, ScalarType};
+use crate::tree::{Scalar, Side, Type};
 use source::{Kind, Span};
 
-/// What follows the name that a heap type begins with.
-#[derive(Clone, Copy, Debug)]
-pub enum NamedTail {
-    Pointer(bool),
-    Endpoint(Endpoint),
-}
-
-/// What follows the name of a contract in the type of an endpoint.
-#[derive(Clone, Copy, Debug)]
-pub struct Endpoint {
-    pub side: Side,
-    pub state: Option<Span>,
-    pub bang: bool,
-    pub in_heap: bool,
-}
-
 /// Whether a type begins with this token.
-pub fn is_type(kind: Option<Kind>) -> bool {
-    matches!(
-        kind,
-        Some(Kind::Int | Kind::Bool | Kind::Byte | Kind::Name)
-    )
+pub fn is_type(kind: Option<Kind>) -> bool
+    ensures { result ≡ opens_type kind }
+{
+    matches!(kind, Some(Kind::Int | Kind::Bool | Kind::Byte | Kind::Name))
 }
 
-/// type = scalar [ array ] | ID named_tail .
-pub fn type_of_value(cursor: &mut Cursor<'_>) -> Result<Type, Stuck>
-    ensures { IfOk result (λ _. length cursor.new < length cursor.old) }
+/// type = named_type | scalar_type .
+pub fn value_type(cursor: &mut Cursor<'_>) -> Result<Type, Stuck>
+    ensures { Reads (λ x. x) value_type type_on type_at cursor.old cursor.new result }
 {
     if cursor.is_next(Kind::Name) {
-        named(cursor)
+        Ok(Type::from(named_type(cursor)?))
     } else {
-        scalar_or_array(cursor)
+        Ok(Type::from(scalar_type(cursor)?))
     }
 }
 
-/// scalar [ array ]
-fn scalar_or_array(cursor: &mut Cursor<'_>) -> Result<Type, Stuck>
-    ensures { IfOk result (λ _. length cursor.new < length cursor.old) }
+/// scalar_type = scalar [ array_tail ] .
+fn scalar_type(cursor: &mut Cursor<'_>) -> Result<ScalarType, Stuck>
+    ensures { Reads (λ x. x) scalar_type (is_kind Kind.OpenBracket) scalar_at cursor.old cursor.new result }
 {
-    let element = scalar(cursor)?;
-    if cursor.is_next(Kind::OpenBracket) {
-        let bang = array(cursor)?;
-        Ok(Type::Heap(Heap::Array { element, bang }))
-    } else {
-        Ok(Type::Scalar(element))
+    let scalar = scalar(cursor)?;
+    let array = maybe_array(cursor)?;
+    Ok(ScalarType { scalar, array })
+}
+
+/// The scalar that this token names.
+fn scalar_of(kind: Option<Kind>) -> Option<Scalar>
+    ensures { result ≡ scalar_of kind }
+{
+    match kind {
+        Some(Kind::Int) => Some(Scalar::Int),
+        Some(Kind::Bool) => Some(Scalar::Bool),
+        Some(Kind::Byte) => Some(Scalar::Byte),
+        _ => None,
     }
 }
 
 /// scalar = "int" | "bool" | "byte" .
 fn scalar(cursor: &mut Cursor<'_>) -> Result<Scalar, Stuck>
-    ensures { IfOk result (λ _. length cursor.new < length cursor.old) }
+    ensures { ReadsWord scalar_word cursor.old cursor.new result }
 {
-    let found = match cursor.peek() {
-        Some(Kind::Int) => Scalar::Int,
-        Some(Kind::Bool) => Scalar::Bool,
-        Some(Kind::Byte) => Scalar::Byte,
-        _ => return Err(Stuck::Unexpected),
+    let Some(scalar) = scalar_of(cursor.peek()) else {
+        return Err(Stuck::Unexpected);
     };
     cursor.skip();
-    Ok(found)
+    Ok(scalar)
 }
 
-/// array = "[" "]" [ "!" ] in_heap .
-fn array(cursor: &mut Cursor<'_>) -> Result<bool, Stuck>
-    ensures { IfOk result (λ _. length cursor.new < length cursor.old) }
+/// [ array_tail ]
+fn maybe_array(cursor: &mut Cursor<'_>) -> Result<Option<bool>, Stuck>
+    ensures { ReadsOption array_tail (kind_is Kind.OpenBracket) cursor.old cursor.new result }
+{
+    if cursor.is_next(Kind::OpenBracket) {
+        Ok(Some(array_tail(cursor)?))
+    } else {
+        Ok(None)
+    }
+}
+
+/// array_tail = "[" "]" bang_in_heap .
+fn array_tail(cursor: &mut Cursor<'_>) -> Result<bool, Stuck>
+    ensures { ReadsEnded (λ x. x) array_tail cursor.old cursor.new result }
 {
     cursor.expect(Kind::OpenBracket)?;
     cursor.expect(Kind::CloseBracket)?;
-    let bang = bang(cursor);
-    in_heap(cursor)?;
+    let bang = bang_in_heap(cursor)?;
     Ok(bang)
 }
 
-/// ID named_tail
-fn named(cursor: &mut Cursor<'_>) -> Result<Type, Stuck>
-    ensures { IfOk result (λ _. length cursor.new < length cursor.old) }
+/// named_type = ID named_tail .
+fn named_type(cursor: &mut Cursor<'_>) -> Result<NamedType, Stuck>
+    ensures { Reads (λ x. x) named_type endpoint_on named_at cursor.old cursor.new result }
 {
     let name = cursor.name()?;
     let tail = named_tail(cursor)?;
-    Ok(Type::Heap(match tail {
-        NamedTail::Pointer(bang) => Heap::Pointer { name, bang },
-        NamedTail::Endpoint(end) => Heap::Endpoint {
-            contract: name,
-            side: end.side,
-            state: end.state,
-            bang: end.bang,
-            in_heap: end.in_heap,
-        },
-    }))
+    Ok(NamedType { name, tail })
 }
 
 /// named_tail = pointer_tail | endpoint_tail .
 fn named_tail(cursor: &mut Cursor<'_>) -> Result<NamedTail, Stuck>
-    ensures { IfOk result (λ _. length cursor.new < length cursor.old) }
+    ensures { Reads (λ x. x) named_tail endpoint_on tail_at cursor.old cursor.new result }
 {
     if cursor.is_next(Kind::Star) {
         Ok(NamedTail::Pointer(pointer_tail(cursor)?))
@@ -108,26 +104,34 @@ fn named_tail(cursor: &mut Cursor<'_>) -> Result<NamedTail, Stuck>
     }
 }
 
-/// pointer_tail = "*" [ "!" ] in_heap .
+/// pointer_tail = "*" bang_in_heap .
 fn pointer_tail(cursor: &mut Cursor<'_>) -> Result<bool, Stuck>
-    ensures { IfOk result (λ _. length cursor.new < length cursor.old) }
+    ensures { ReadsEnded (λ x. x) pointer_tail cursor.old cursor.new result }
 {
     cursor.expect(Kind::Star)?;
-    let bang = bang(cursor);
+    let bang = bang_in_heap(cursor)?;
+    Ok(bang)
+}
+
+/// bang_in_heap = [ "!" ] in_heap .
+fn bang_in_heap(cursor: &mut Cursor<'_>) -> Result<bool, Stuck>
+    ensures { ReadsEnded (λ x. x) bang_in_heap cursor.old cursor.new result }
+{
+    let bang = cursor.take_if(Kind::Bang);
     in_heap(cursor)?;
     Ok(bang)
 }
 
-/// endpoint_tail = "." side [ ":" ID ] [ "!" ] [ in_heap ] .
-fn endpoint_tail(cursor: &mut Cursor<'_>) -> Result<Endpoint, Stuck>
-    ensures { IfOk result (λ _. length cursor.new < length cursor.old) }
+/// endpoint_tail = "." side [ colon_name ] [ "!" ] [ in_heap ] .
+fn endpoint_tail(cursor: &mut Cursor<'_>) -> Result<EndpointTail, Stuck>
+    ensures { Reads (λ x. x) endpoint_tail endpoint_on endpoint_at cursor.old cursor.new result }
 {
     cursor.expect(Kind::Dot)?;
     let side = side(cursor)?;
-    let state = colon_state(cursor)?;
-    let bang = bang(cursor);
+    let state = maybe_colon_name(cursor)?;
+    let bang = cursor.take_if(Kind::Bang);
     let in_heap = maybe_in_heap(cursor)?;
-    Ok(Endpoint {
+    Ok(EndpointTail {
         side,
         state,
         bang,
@@ -135,41 +139,51 @@ fn endpoint_tail(cursor: &mut Cursor<'_>) -> Result<Endpoint, Stuck>
     })
 }
 
-/// side = "Imp" | "Exp" .
-fn side(cursor: &mut Cursor<'_>) -> Result<Side, Stuck>
-    ensures { IfOk result (λ _. length cursor.new < length cursor.old) }
+/// The end of a channel that this token names.
+fn side_of(kind: Option<Kind>) -> Option<Side>
+    ensures { result ≡ side_of kind }
 {
-    let found = match cursor.peek() {
-        Some(Kind::Imp) => Side::Imp,
-        Some(Kind::Exp) => Side::Exp,
-        _ => return Err(Stuck::Unexpected),
-    };
-    cursor.skip();
-    Ok(found)
+    match kind {
+        Some(Kind::Imp) => Some(Side::Imp),
+        Some(Kind::Exp) => Some(Side::Exp),
+        _ => None,
+    }
 }
 
-/// [ ":" ID ]
-fn colon_state(cursor: &mut Cursor<'_>) -> Result<Option<Span>, Stuck>
-    ensures { IfOk result (λ _. length cursor.new ≤ length cursor.old) }
+/// side = "Imp" | "Exp" .
+fn side(cursor: &mut Cursor<'_>) -> Result<Side, Stuck>
+    ensures { ReadsWord side_word cursor.old cursor.new result }
+{
+    let Some(side) = side_of(cursor.peek()) else {
+        return Err(Stuck::Unexpected);
+    };
+    cursor.skip();
+    Ok(side)
+}
+
+/// [ colon_name ]
+fn maybe_colon_name(cursor: &mut Cursor<'_>) -> Result<Option<Span>, Stuck>
+    ensures { ReadsOption colon_name (kind_is Kind.Colon) cursor.old cursor.new result }
 {
     if cursor.is_next(Kind::Colon) {
-        cursor.skip();
-        Ok(Some(cursor.name()?))
+        Ok(Some(colon_name(cursor)?))
     } else {
         Ok(None)
     }
 }
 
-/// [ "!" ]
-fn bang(cursor: &mut Cursor<'_>) -> bool
-    ensures { length cursor.new ≤ length cursor.old }
+/// colon_name = ":" ID .
+fn colon_name(cursor: &mut Cursor<'_>) -> Result<Span, Stuck>
+    ensures { ReadsEnded (λ x. x) colon_name cursor.old cursor.new result }
 {
-    cursor.take_if(Kind::Bang)
+    cursor.expect(Kind::Colon)?;
+    Ok(cursor.name()?)
 }
 
 /// [ in_heap ]
 fn maybe_in_heap(cursor: &mut Cursor<'_>) -> Result<bool, Stuck>
-    ensures { IfOk result (λ _. length cursor.new ≤ length cursor.old) }
+    ensures { Reads (λ x. x) (when in_heap_words) endpoint_on (when_at (is_kind Kind.In))
+        cursor.old cursor.new result }
 {
     if cursor.is_next(Kind::In) {
         in_heap(cursor)?;
@@ -181,7 +195,7 @@ fn maybe_in_heap(cursor: &mut Cursor<'_>) -> Result<bool, Stuck>
 
 /// in_heap = "in" "ExHeap" .
 fn in_heap(cursor: &mut Cursor<'_>) -> Result<(), Stuck>
-    ensures { IfOk result (λ _. length cursor.new < length cursor.old) }
+    ensures { ReadsEnded (λ x. x) (λ _. in_heap_words) cursor.old cursor.new result }
 {
     cursor.expect(Kind::In)?;
     cursor.expect(Kind::ExHeap)?;

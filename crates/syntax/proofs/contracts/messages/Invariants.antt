@@ -1,8 +1,11 @@
-use Rattle.std.proofs.Common.{◌<◌, ◌≤◌, length}
+use Rattle.std.proofs.Common.{◌≡◌, ◌++◌, length, map}
+use Rattle.std.specs.List.{flat_map}
+use Rattle.syntax.specs.Grammar.{message}
+use Rattle.syntax.specs.Trees.{message_tree}
 use Rattle.syntax.proofs.contracts.messages.Given as goal
 
 abbrev pub invariant-each : goal.invariant-each
-invariant-each l = length l.cursor ≤ length l.fn.cursor
+invariant-each l = l.fn.cursor ≡ flat_map message (map message_tree l.all.items) ++ l.cursor
 
 abbrev pub decreases-each : goal.decreases-each
 decreases-each l = length l.cursor

@@ -1,8 +1,9 @@
-use Rattle.std.proofs.Common.{◌<◌, ◌≤◌, length}
+use Rattle.std.proofs.Common.{◌≡◌, ◌++◌, length}
+use Rattle.syntax.specs.Grammar.{path}
 use Rattle.syntax.proofs.states.path.Given as goal
 
 abbrev pub invariant-each : goal.invariant-each
-invariant-each l = length l.cursor < length l.fn.cursor
+invariant-each l = l.fn.cursor ≡ path (record { first = l.first; others = l.others.items; target = l.target }) ++ l.cursor
 
 abbrev pub decreases-each : goal.decreases-each
 decreases-each l = length l.cursor

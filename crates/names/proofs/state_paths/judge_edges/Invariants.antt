@@ -1,0 +1,12 @@
+use Rattle.std.proofs.Common.{take}
+use Rattle.std.specs.Prelude.{List}
+use Rattle.std.specs.List.{flat_map}
+use Rattle.source.specs.declared.token.Span.{Span}
+use Rattle.names.specs.Findings.{asked_name}
+use Rattle.names.specs.Found.{Adds}
+use Rattle.names.specs.Tables.{IsTable}
+use Rattle.names.specs.Words.{words_at}
+use Rattle.names.proofs.state_paths.judge_edges.Given as goal
+
+abbrev pub invariant-loop-edge : goal.invariant-loop-edge
+invariant-loop-edge l = (names : List Span) → IsTable (words_at l.tokens.text.items names) l.table → Adds l.fn.found.items l.found.items (flat_map (λ e. asked_name l.tokens.text.items names e.message) (take l.edge-index l.edges))

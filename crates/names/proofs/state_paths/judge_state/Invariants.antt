@@ -1,0 +1,14 @@
+use Rattle.std.proofs.Common.{map, take}
+use Rattle.std.specs.Prelude.{List}
+use Rattle.std.specs.List.{flat_map}
+use Rattle.source.specs.declared.token.Span.{Span}
+use Rattle.syntax.specs.Trees.{path_tree}
+use Rattle.names.specs.Findings.{path_findings}
+use Rattle.names.specs.Found.{Adds}
+use Rattle.names.specs.Tables.{IsTable}
+use Rattle.names.specs.Words.{words_at}
+use Rattle.names.proofs.state_paths.judge_state.Given as goal
+
+abbrev pub invariant-loop-path : goal.invariant-loop-path
+invariant-loop-path l = (messages states : List Span) → IsTable (words_at l.tokens.text.items messages) l.declared.messages → IsTable (words_at l.tokens.text.items states) l.declared.states
+    → Adds l.fn.found.items l.found.items (flat_map (λ p. path_findings l.tokens.text.items messages states (path_tree p)) (take l.path-index l.path-items))

@@ -1,0 +1,14 @@
+use Rattle.std.proofs.Common.{take}
+use Rattle.std.specs.Prelude.{List}
+use Rattle.std.specs.List.{flat_map}
+use Rattle.source.specs.declared.token.Span.{Span}
+use Rattle.syntax.specs.Trees.{state_tree}
+use Rattle.names.specs.Findings.{state_findings}
+use Rattle.names.specs.Found.{Adds}
+use Rattle.names.specs.Tables.{IsTable}
+use Rattle.names.specs.Words.{words_at}
+use Rattle.names.proofs.state_paths.judge_states.Given as goal
+
+abbrev pub invariant-loop-state : goal.invariant-loop-state
+invariant-loop-state l = (messages states : List Span) → IsTable (words_at l.tokens.text.items messages) l.declared.messages → IsTable (words_at l.tokens.text.items states) l.declared.states
+    → Adds l.fn.found.items l.found.items (flat_map (λ s. state_findings l.tokens.text.items messages states (state_tree s.now)) (take l.state-index l.state-items))

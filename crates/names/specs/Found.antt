@@ -1,0 +1,35 @@
+-- Findings without memory, and those of this stage.
+use Rattle.std.specs.Prelude.{◌≡◌, ℕ, List, map, ◌++◌, codes}
+use Rattle.std.specs.String.{string_bytes}
+use Rattle.std.specs.Str.Lossy.{utf8_lossy}
+use Rattle.source.specs.declared.finding.Code.{Code}
+use Rattle.source.specs.declared.finding.Code.TheVariants.{N01, N02, N06}
+use Rattle.source.specs.declared.finding.Finding.{Finding}
+use Rattle.source.specs.declared.place.Place.{Place}
+use Rattle.source.specs.declared.token.Span.{Span}
+use Rattle.names.specs.Words.{word_at}
+
+-- a finding: its place, its code and its text
+pub record FindingParts : Type 0 where
+  pub place : Place
+  pub code : Code
+  pub text : List ℕ
+
+abbrev pub finding_parts : Finding → FindingParts
+finding_parts f = record { place = f.place; code = f.code; text = string_bytes f.text }
+
+-- a name that an earlier one has
+abbrev pub declared_twice : List ℕ → Span → FindingParts
+declared_twice text name = record { place = name.place; code = N01; text = utf8_lossy (word_at text name) ++ codes " declared twice" }
+
+-- a name that nothing declares
+abbrev pub unknown : List ℕ → Span → FindingParts
+unknown text name = record { place = name.place; code = N02; text = utf8_lossy (word_at text name) ++ codes " unknown" }
+
+-- the name one past a limit
+abbrev pub limit_passed : Span → FindingParts
+limit_passed name = record { place = name.place; code = N06; text = codes "limit passed" }
+
+-- the new list has these findings behind those of the old one
+pub record Adds (old new : List Finding) (more : List FindingParts) : Type 0 where
+  pub all : map finding_parts new ≡ map finding_parts old ++ more

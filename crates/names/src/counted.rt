@@ -1,0 +1,53 @@
+//! The names at which states are counted.
+
+ghost use Rattle.std.specs.Prelude.{◌≡◌, ◌++◌, map, OnOk, IfOk};
+ghost use Rattle.std.specs.List.{flat_map};
+ghost use Rattle.syntax.specs.Trees.{path_tree, state_tree};
+ghost use Rattle.names.specs.Declarations.{unnamed_of, counted_states};
+ghost use Rattle.names.specs.Outlines.{outlined_states};
+
+use crate::outline::paths;
+use crate::scope::Declared;
+use source::Span;
+use std::alloc::{AllocError, Global};
+use syntax::{Edge, Path, State};
+
+/// The names at which the states of these contracts are counted: its own for a named state, and the message behind
+/// it for an unnamed one.
+pub(crate) fn all_counted(alloc: Global, declared: &[Declared<'_>]) -> Result<Vec<Span>, AllocError>
+    ensures { IfOk result (λ names. names.items ≡ flat_map (λ d. counted_states (outlined_states d.outline)) declared.now) }
+{
+    let mut names = Vec::new(alloc);
+    for contract in declared {
+        add_states(&mut names, &contract.outline.states)?;
+    }
+    Ok(names)
+}
+
+fn add_states(names: &mut Vec<Span>, states: &[&State]) -> Result<(), AllocError>
+    ensures { OnOk result (names.new.items ≡ names.old.items ++ counted_states (map (λ s. state_tree s.now) states.now)) }
+{
+    for state in states {
+        names.push(state.name)?;
+        add_paths(names, paths(state))?;
+    }
+    Ok(())
+}
+
+fn add_paths(names: &mut Vec<Span>, paths: &[Path]) -> Result<(), AllocError>
+    ensures { OnOk result (names.new.items ≡ names.old.items ++ flat_map unnamed_of (map path_tree paths.now)) }
+{
+    for path in paths {
+        add_messages(names, &path.others)?;
+    }
+    Ok(())
+}
+
+fn add_messages(names: &mut Vec<Span>, edges: &[Edge]) -> Result<(), AllocError>
+    ensures { OnOk result (names.new.items ≡ names.old.items ++ map (λ e. e.message) edges.now) }
+{
+    for edge in edges {
+        names.push(edge.message)?;
+    }
+    Ok(())
+}

@@ -1,0 +1,79 @@
+//! What is wrong with the paths of states.
+
+ghost use Rattle.std.specs.Prelude.{List, OnOk};
+ghost use Rattle.std.specs.List.{flat_map};
+ghost use Rattle.source.specs.declared.token.Span.{Span};
+ghost use Rattle.syntax.specs.Trees.{path_tree, state_tree};
+ghost use Rattle.names.specs.Findings.{asked_name, path_findings, state_findings};
+ghost use Rattle.names.specs.Found.{Adds};
+ghost use Rattle.names.specs.Outlines.{outlined_states};
+ghost use Rattle.names.specs.Tables.{IsTable};
+ghost use Rattle.names.specs.Words.{words_at};
+
+use crate::judging::judge_name;
+use crate::outline::paths;
+use crate::scope::Declared;
+use crate::tables::Table;
+use source::{Finding, Memory, Tokens};
+use std::alloc::Global;
+use syntax::{Edge, Path, State};
+
+/// Adds the messages and states on the paths of a state that its contract does not declare.
+pub(crate) fn judge_state(
+    alloc: Global,
+    tokens: &Tokens,
+    declared: &Declared<'_>,
+    state: &State,
+    found: &mut Vec<Finding>,
+) -> Result<(), Memory>
+    ensures { (messages states : List Span) → IsTable (words_at tokens.now.text.items messages) declared.now.messages → IsTable (words_at tokens.now.text.items states) declared.now.states → OnOk result (Adds found.old.items found.new.items (state_findings tokens.now.text.items messages states (state_tree state.now))) }
+{
+    for path in paths(state) {
+        judge_path(alloc, tokens, declared, path, found)?;
+    }
+    Ok(())
+}
+
+fn judge_path(
+    alloc: Global,
+    tokens: &Tokens,
+    declared: &Declared<'_>,
+    path: &Path,
+    found: &mut Vec<Finding>,
+) -> Result<(), Memory>
+    ensures { (messages states : List Span) → IsTable (words_at tokens.now.text.items messages) declared.now.messages → IsTable (words_at tokens.now.text.items states) declared.now.states → OnOk result (Adds found.old.items found.new.items (path_findings tokens.now.text.items messages states (path_tree path.now))) }
+{
+    judge_name(alloc, tokens, &declared.messages, path.first.message, found)?;
+    judge_edges(alloc, tokens, &declared.messages, &path.others, found)?;
+    judge_name(alloc, tokens, &declared.states, path.target, found)
+}
+
+fn judge_edges(
+    alloc: Global,
+    tokens: &Tokens,
+    table: &Table<'_>,
+    edges: &[Edge],
+    found: &mut Vec<Finding>,
+) -> Result<(), Memory>
+    ensures { (names : List Span) → IsTable (words_at tokens.now.text.items names) table.now → OnOk result (Adds found.old.items found.new.items (flat_map (λ e. asked_name tokens.now.text.items names e.message) edges.now)) }
+{
+    for edge in edges {
+        judge_name(alloc, tokens, table, edge.message, found)?;
+    }
+    Ok(())
+}
+
+/// Adds the messages and states on the paths of these states that their contract does not declare.
+pub(crate) fn judge_states(
+    alloc: Global,
+    tokens: &Tokens,
+    declared: &Declared<'_>,
+    found: &mut Vec<Finding>,
+) -> Result<(), Memory>
+    ensures { (messages states : List Span) → IsTable (words_at tokens.now.text.items messages) declared.now.messages → IsTable (words_at tokens.now.text.items states) declared.now.states → OnOk result (Adds found.old.items found.new.items (flat_map (state_findings tokens.now.text.items messages states) (outlined_states declared.now.outline))) }
+{
+    for state in &declared.outline.states {
+        judge_state(alloc, tokens, declared, state, found)?;
+    }
+    Ok(())
+}

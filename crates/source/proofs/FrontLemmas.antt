@@ -1,0 +1,110 @@
+-- What pieces begin with a byte.
+use Rattle.std.proofs.Common.{◌≡◌, ℕ, Bool, true, false, List, [], ◌∷◌, None, refl, ◌∙◌, ap, arith}
+use Rattle.std.specs.Prelude.{is_some, not, ◌||◌, ◌&&◌, ◌==◌}
+use Rattle.std.specs.List.{list_all}
+use Rattle.std.specs.Char.{is_ascii_digit}
+use Rattle.std.proofs.lemmas.Bool.Decides.{nat_tests}
+use Rattle.source.specs.Classes.{is_blank_byte, starts_word, in_word}
+use Rattle.source.specs.Comments.{is_comment, closes}
+use Rattle.source.specs.Places.{ends_line}
+use Rattle.source.specs.Pieces.{is_piece, is_blank}
+use Rattle.source.specs.Symbols.{single, double, symbol}
+
+-- a byte that begins a word begins nothing else
+word_no_blank : (b : ℕ) → starts_word b ≡ true → is_blank_byte b ≡ false
+word_no_blank b h = grind (arith, nat_tests)
+
+word_no_slash : (b : ℕ) → starts_word b ≡ true → (b == 47) ≡ false
+word_no_slash b h = grind (arith, nat_tests)
+
+pub word_no_digit : (b : ℕ) → starts_word b ≡ true → is_ascii_digit b ≡ false
+word_no_digit b h = grind (arith, nat_tests)
+
+word_no_single : (b : ℕ) → starts_word b ≡ true → single b ≡ None
+word_no_single b h = grind (arith, nat_tests)
+
+word_no_double : (b c : ℕ) → starts_word b ≡ true → double b c ≡ None
+word_no_double b c h = grind (arith, nat_tests)
+
+-- a digit begins nothing but a number
+digit_no_blank : (b : ℕ) → is_ascii_digit b ≡ true → is_blank_byte b ≡ false
+digit_no_blank b h = grind (arith, nat_tests)
+
+digit_no_slash : (b : ℕ) → is_ascii_digit b ≡ true → (b == 47) ≡ false
+digit_no_slash b h = grind (arith, nat_tests)
+
+pub digit_no_word : (b : ℕ) → is_ascii_digit b ≡ true → starts_word b ≡ false
+digit_no_word b h = grind (arith, nat_tests)
+
+digit_no_single : (b : ℕ) → is_ascii_digit b ≡ true → single b ≡ None
+digit_no_single b h = grind (arith, nat_tests)
+
+digit_no_double : (b c : ℕ) → is_ascii_digit b ≡ true → double b c ≡ None
+digit_no_double b c h = grind (arith, nat_tests)
+
+-- a blank begins nothing else
+blank_no_slash : (b : ℕ) → is_blank_byte b ≡ true → (b == 47) ≡ false
+blank_no_slash b h = grind (arith, nat_tests)
+
+pub blank_no_word : (b : ℕ) → is_blank_byte b ≡ true → starts_word b ≡ false
+blank_no_word b h = grind (arith, nat_tests)
+
+pub blank_no_digit : (b : ℕ) → is_blank_byte b ≡ true → is_ascii_digit b ≡ false
+blank_no_digit b h = grind (arith, nat_tests)
+
+blank_no_double : (b c : ℕ) → is_blank_byte b ≡ true → double b c ≡ None
+blank_no_double b c h = grind (arith, nat_tests)
+
+-- what is known of the other forms of piece
+no_blank : (b : ℕ) (bs : List ℕ) → is_blank_byte b ≡ false → is_blank (b ∷ bs) ≡ false
+no_blank b [] h = h
+no_blank b (c ∷ bs) h = refl
+
+no_comment : (b : ℕ) (bs : List ℕ) → (b == 47) ≡ false → is_comment (b ∷ bs) ≡ false
+no_comment b [] h = refl
+no_comment b (c ∷ bs) h = λ i. h i && c == 47 && list_all (λ x. not (ends_line x)) bs || h i && c == 42 && closes bs
+
+no_symbol : (b : ℕ) (bs : List ℕ) → single b ≡ None → ((c : ℕ) → double b c ≡ None) → is_some (symbol (b ∷ bs)) ≡ false
+no_symbol b [] h k = ap is_some h
+no_symbol b (c ∷ []) h k = ap is_some (k c)
+no_symbol b (c ∷ d ∷ bs) h k = refl
+
+or_false : (t : Bool) → (t || false) ≡ t
+or_false true = refl
+or_false false = refl
+
+-- what goes on a word
+pub front_word : (b : ℕ) (bs : List ℕ) → starts_word b ≡ true → is_piece (b ∷ bs) ≡ list_all in_word bs
+front_word b bs h =
+    let t = list_all in_word bs in
+    let only : is_piece (b ∷ bs) ≡ ((t || false) || false) = λ i. no_blank b bs (word_no_blank b h) i || no_comment b bs (word_no_slash b h) i || h i && t || word_no_digit b h i && list_all is_ascii_digit bs || no_symbol b bs (word_no_single b h) (λ c. word_no_double b c h) i in
+    only ∙ ap (λ v. v || false) (or_false t) ∙ or_false t
+
+-- what goes on a number
+pub front_digit : (b : ℕ) (bs : List ℕ) → is_ascii_digit b ≡ true → is_piece (b ∷ bs) ≡ list_all is_ascii_digit bs
+front_digit b bs h =
+    let t = list_all is_ascii_digit bs in
+    let only : is_piece (b ∷ bs) ≡ (t || false) = λ i. no_blank b bs (digit_no_blank b h) i || no_comment b bs (digit_no_slash b h) i || digit_no_word b h i && list_all in_word bs || h i && t || no_symbol b bs (digit_no_single b h) (λ c. digit_no_double b c h) i in
+    only ∙ or_false t
+
+-- nothing goes on a blank
+pub front_blank : (b c : ℕ) (bs : List ℕ) → is_blank_byte b ≡ true → is_piece (b ∷ c ∷ bs) ≡ false
+front_blank b c bs h = λ i. false || no_comment b (c ∷ bs) (blank_no_slash b h) i || blank_no_word b h i && list_all in_word (c ∷ bs) || blank_no_digit b h i && list_all is_ascii_digit (c ∷ bs) || long b c bs h i
+  where
+    long : (b c : ℕ) (bs : List ℕ) → is_blank_byte b ≡ true → is_some (symbol (b ∷ c ∷ bs)) ≡ false
+    long b c [] h = ap is_some (blank_no_double b c h)
+    long b c (d ∷ bs) h = refl
+
+or_three : (t : Bool) → (((t || false) || false) || false) ≡ t
+or_three true = refl
+or_three false = refl
+
+-- a slash begins comments
+pub front_slash : (bs : List ℕ) → is_piece (47 ∷ bs) ≡ is_comment (47 ∷ bs)
+front_slash [] = refl
+front_slash (c ∷ []) = or_three (is_comment (47 ∷ c ∷ []))
+front_slash (c ∷ d ∷ bs) = or_three (is_comment (47 ∷ c ∷ d ∷ bs))
+
+-- any other byte begins symbols
+pub front_other : (b : ℕ) (bs : List ℕ) → is_blank_byte b ≡ false → starts_word b ≡ false → is_ascii_digit b ≡ false → (b == 47) ≡ false → is_piece (b ∷ bs) ≡ is_some (symbol (b ∷ bs))
+front_other b bs blank word digit slash = λ i. no_blank b bs blank i || no_comment b bs slash i || word i && list_all in_word bs || digit i && list_all is_ascii_digit bs || is_some (symbol (b ∷ bs))

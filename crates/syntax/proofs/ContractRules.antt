@@ -1,0 +1,218 @@
+-- Contracts as pieces.
+use Rattle.std.proofs.Common.{◌≡◌, true, false, List, [], ◌∷◌, ◌++◌, Option, Some, None, refl, ap, ◌∙◌, append_assoc, sym, subst, map}
+use Rattle.std.specs.Prelude.{not}
+use Rattle.std.specs.List.{flat_map}
+use Rattle.std.proofs.lemmas.List.{map-append}
+use Rattle.source.specs.declared.kind.Kind.{Kind}
+use Rattle.source.specs.declared.kind.Kind.TheVariants as kind
+use Rattle.source.specs.declared.token.Span.{Span}
+use Rattle.syntax.specs.Symbols.{Symbol, Fixed, by_kind}
+use Rattle.syntax.specs.Spelling.{word, optional}
+use Rattle.syntax.specs.Reading.{never, Stops, optional_at, last_at, many_at}
+use Rattle.syntax.specs.Trees.{member_tree, MessageTree, BodyTree, Empty, Path, One, StateTree, MemberTree, Message, State, ContractTree, ItemTree}
+use Rattle.syntax.specs.Grammar.{access_word, direction_word, message, state, member, contract, item, program}
+use Rattle.syntax.specs.Firsts.{access_of, opens_access, opens_message, opens_member, opens_item}
+use Rattle.syntax.specs.States.{state_on, body_at, state_at, member_at, members_on}
+use Rattle.syntax.specs.declared.tree as tree
+use Rattle.syntax.specs.declared.tree.Member.{Member}
+use Rattle.syntax.specs.declared.tree.Access.TheVariants as access
+use Rattle.syntax.specs.declared.tree.Direction.TheVariants as direction
+use Rattle.syntax.proofs.Pieces.{Piece, Follows, Meets, ReadsOneWay, both, both_piece, next, via_piece, wide_way, or_left, or_right}
+use Rattle.syntax.proofs.Beginnings.{Begins, Starts, Splits, Leaves, splits_self}
+use Rattle.syntax.proofs.Repeats.{many_piece, many_open_piece, many_stops, row_stops, last_more}
+use Rattle.syntax.proofs.Options.{opt_piece}
+use Rattle.syntax.proofs.Choices.{Form, Same, Other, form_way}
+use Rattle.syntax.proofs.Words.{Words, words_piece, words_starts, one_some, none_some}
+use Rattle.syntax.proofs.KindLemmas.{kinds_apart}
+use Rattle.syntax.proofs.CursorLemmas.{fixed, fixed_piece, named_piece}
+use Rattle.syntax.proofs.MessageRules.{message_piece, message_starts}
+use Rattle.syntax.proofs.BodyRules.{state_piece}
+
+-- [ "public" | "private" | "internal" ]
+
+pub accesses : Words access_word access_of
+accesses = record { some = access.Public; known = known; blank = refl; only = only; plain = plain }
+  where
+    known : (a : tree.Access.Access) → access_of (Some (access_word a)) ≡ Some a
+    known access.Public = refl
+    known access.Private = refl
+    known access.Internal = refl
+
+    only : (k : Kind) (a : tree.Access.Access) → access_of (Some k) ≡ Some a → k ≡ access_word a
+    only kind.Public a e = ap access_word (one_some e)
+    only kind.Private a e = ap access_word (one_some e)
+    only kind.Internal a e = ap access_word (one_some e)
+    only k a e = absurd (none_some e)
+
+    plain : (a : tree.Access.Access) → access_word a ≡ kind.Name → ⊥
+    plain access.Public e = cc
+    plain access.Private e = cc
+    plain access.Internal e = cc
+
+pub access_piece : Piece (optional (λ a. word (access_word a))) (by_kind opens_access) (optional_at (by_kind opens_access) (λ _. never))
+access_piece = opt_piece (words_piece accesses) (words_starts accesses) splits_self
+
+-- { message }
+
+pub messages_piece : Piece (flat_map message) (by_kind opens_message) (λ _. by_kind opens_message)
+messages_piece = many_piece message_starts splits_self message_piece
+
+-- member = message | state .
+
+direction_head : (d : tree.Direction.Direction) → not (not (opens_message (Some (direction_word d)))) ≡ true
+direction_head direction.In = refl
+direction_head direction.Out = refl
+
+direction_opens : (d : tree.Direction.Direction) → opens_member (Some (direction_word d)) ≡ true
+direction_opens direction.In = refl
+direction_opens direction.Out = refl
+
+pub message_form : Form member message Message (by_kind opens_message)
+message_form = record {
+  first = message_starts;
+  same = λ m. refl;
+  each = elim [ Message m ↦ Same m refl | State s ↦ Other (record { head = Fixed kind.State; tail = _; is = refl; first = refl }) ];
+}
+
+pub state_form : Form member state State (λ y. not (by_kind opens_message y))
+state_form = record {
+  first = record { each = λ s. record { head = Fixed kind.State; tail = _; is = refl; first = refl } };
+  same = λ s. refl;
+  each = elim [ Message m ↦ Other (record { head = Fixed (direction_word m.direction); tail = _; is = refl; first = direction_head m.direction }) | State s ↦ Same s refl ];
+}
+
+pub member_piece : Piece member state_on member_at
+member_piece = record { some = State state_piece.some; each = way }
+  where
+    way : (m : MemberTree) → ReadsOneWay member state_on member_at m
+    way (Message m) = form_way message_form (λ _ r h. h) (wide_way (λ y h. refl) (message_piece.each m))
+    way (State s) = form_way state_form (λ _ r h. h) (state_piece.each s)
+
+-- { member }
+
+pub member_starts : Starts member (by_kind opens_member)
+member_starts = record {
+  each = elim [
+    | Message m ↦ record { head = Fixed (direction_word m.direction); tail = _; is = refl; first = direction_opens m.direction }
+    | State s ↦ record { head = Fixed kind.State; tail = _; is = refl; first = refl }
+  ];
+}
+
+pub member_splits : Splits (by_kind opens_member) state_on members_on
+member_splits = record { none = λ y h. or_right (state_on y) (by_kind opens_member y) h; last = λ y h. or_left (state_on y) (by_kind opens_member y) h; apart = kinds_apart opens_member kind.Semicolon refl }
+
+-- what a state goes on by is a semicolon
+
+state_apart : (b : BodyTree) (y : Symbol) → state_on y ≡ false → body_at b y ≡ false
+state_apart Empty y h = refl
+state_apart (Path p) y h = refl
+state_apart (One paths true) y h = refl
+state_apart (One paths false) y h = h
+
+member_apart : (m : MemberTree) (y : Symbol) → state_on y ≡ false → member_at m y ≡ false
+member_apart (Message m) y h = refl
+member_apart (State s) y h = state_apart s.body y h
+
+pub member_leaves : Leaves member_at (by_kind opens_member)
+member_leaves = record { apart = λ m y h. member_apart m y (kinds_apart opens_member kind.Semicolon refl y h) }
+
+pub members_piece : Piece (flat_map member) members_on (many_at (by_kind opens_member) member_at)
+members_piece = many_open_piece member_piece member_starts member_splits member_leaves
+
+-- what the last member that was read could go on by
+pub members_end_at : (m : Member) (ms all : List Member) (r : List Symbol) → all ≡ ms ++ m ∷ [] → Stops (member_at (member_tree m)) r → Stops (last_at member_at (map member_tree all)) r
+members_end_at m ms all r is h =
+    let last : last_at member_at (map member_tree all) ≡ member_at (member_tree m) =
+    ap (λ l. last_at member_at (map member_tree l)) is ∙ ap (last_at member_at) (map-append member_tree ms (m ∷ [])) ∙ last_more member_at (map member_tree ms) (member_tree m) in
+    subst (λ at. Stops at r) (sym last) h
+
+-- { member } "}"
+
+abbrev pub members_end : List MemberTree × Unit {0} → List Symbol
+members_end = both (flat_map member) (fixed kind.CloseBrace)
+
+pub members_follow : Follows members_on (fixed kind.CloseBrace) never
+members_follow = record { each = λ u r h. refl }
+
+members_meet : Meets {Y = Unit {0}} (many_at (by_kind opens_member) member_at) (fixed kind.CloseBrace) (λ _. never)
+members_meet = record { here = λ ms u r h. row_stops (by_kind opens_member) member_at (Fixed kind.CloseBrace) refl (λ m. member_apart m (Fixed kind.CloseBrace) refl) ms }
+
+pub members_end_piece : Piece members_end never (λ _. never)
+members_end_piece = both_piece members_piece (fixed_piece kind.CloseBrace) members_follow members_meet
+
+-- state { member } "}"
+
+members_stop : (p : List MemberTree × Unit {0}) (r : List Symbol) → Stops state_on (members_end p ++ r)
+members_stop p r = subst (Stops state_on) (sym (append_assoc (flat_map member p.0) (fixed kind.CloseBrace p.1) r)) (many_stops member_starts member_splits member_leaves p.0 (fixed kind.CloseBrace p.1 ++ r) refl)
+
+state_stops : (s : StateTree) (ys : List Symbol) → Stops state_on ys → Stops (state_at s) ys
+state_stops s [] h = tt
+state_stops s (y ∷ ys) h = state_apart s.body y h
+
+pub state_follows : Follows state_on members_end never
+state_follows = record { each = λ p r h. members_stop p r }
+
+state_meets : Meets state_at members_end (λ _. never)
+state_meets = record { here = λ s p r h. state_stops s (members_end p ++ r) (members_stop p r) }
+
+abbrev pub states_end : StateTree × (List MemberTree × Unit {0}) → List Symbol
+states_end = both state members_end
+
+pub states_end_piece : Piece states_end never (λ _. never)
+states_end_piece = both_piece state_piece members_end_piece state_follows state_meets
+
+-- { message } state { member } "}"
+
+pub messages_follow : Follows (by_kind opens_message) states_end never
+messages_follow = record { each = λ p r h. refl }
+
+messages_meet : Meets {X = List MessageTree} (λ _. by_kind opens_message) states_end (λ _. never)
+messages_meet = record { here = λ ms p r h. refl }
+
+pub inside_piece : Piece (both (flat_map message) states_end) never (λ _. never)
+inside_piece = both_piece messages_piece states_end_piece messages_follow messages_meet
+
+-- contract = "contract" ID "{" { message } state { member } "}" .
+
+abbrev pub contract_to : ContractTree → Unit {0} × (Span × (Unit {0} × (List MessageTree × (StateTree × (List MemberTree × Unit {0})))))
+contract_to c = (tt, (c.name, (tt, (c.messages, (c.state, (c.members, tt))))))
+
+abbrev pub contract_from : Unit {0} × (Span × (Unit {0} × (List MessageTree × (StateTree × (List MemberTree × Unit {0}))))) → ContractTree
+contract_from p = record { name = p.1.0; messages = p.1.1.1.0; state = p.1.1.1.1.0; members = p.1.1.1.1.1.0 }
+
+pub contract_piece : Piece contract never (λ _. never)
+contract_piece = via_piece contract_to contract_from (λ _. refl) (next (fixed_piece kind.Contract) (next named_piece (next (fixed_piece kind.OpenBrace) inside_piece)))
+
+-- item = [ access ] contract .
+
+abbrev pub item_to : ItemTree → Option tree.Access.Access × ContractTree
+item_to i = (i.access, i.contract)
+
+abbrev pub item_from : Option tree.Access.Access × ContractTree → ItemTree
+item_from p = record { access = p.0; contract = p.1 }
+
+pub access_follows : Follows (by_kind opens_access) contract never
+access_follows = record { each = λ c r h. refl }
+
+access_meets : Meets {X = Option tree.Access.Access} (optional_at (by_kind opens_access) (λ _. never)) contract (λ _. never)
+access_meets = record { here = elim [ None ↦ λ c r h. refl | Some a ↦ λ c r h. refl ] }
+
+pub item_piece : Piece item never (λ _. never)
+item_piece = via_piece item_to item_from (λ _. refl) (both_piece access_piece contract_piece access_follows access_meets)
+
+pub item_starts : Starts item (by_kind opens_item)
+item_starts = record { each = λ i. begins i.access i.contract }
+  where
+    opens : (a : tree.Access.Access) → opens_item (Some (access_word a)) ≡ true
+    opens access.Public = refl
+    opens access.Private = refl
+    opens access.Internal = refl
+
+    begins : (o : Option tree.Access.Access) (c : ContractTree) → Begins item (by_kind opens_item) (record { access = o; contract = c })
+    begins None c = record { head = Fixed kind.Contract; tail = _; is = refl; first = refl }
+    begins (Some a) c = record { head = Fixed (access_word a); tail = contract c; is = refl; first = opens a }
+
+-- program = { item } .
+
+pub program_piece : Piece program (by_kind opens_item) (λ _. by_kind opens_item)
+program_piece = many_piece item_starts splits_self item_piece

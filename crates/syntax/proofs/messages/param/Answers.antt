@@ -1,0 +1,16 @@
+use Rattle.std.proofs.Common.{refl}
+use Rattle.syntax.specs.Reading.{never}
+use Rattle.syntax.specs.Grammar.{param}
+use Rattle.syntax.proofs.Exits.{exits}
+use Rattle.syntax.proofs.Pieces.{fails_first, fails_second, via_fails}
+use Rattle.syntax.proofs.CursorLemmas.{named_piece}
+use Rattle.syntax.proofs.TypeForms.{param_to, param_from, type_piece, type_follows}
+use Rattle.syntax.proofs.messages.param.Goals as goal
+
+pub returns-in_err-kind : goal.returns-in_err-kind
+returns-in_err-kind c = exits (λ x. x) param never (λ _. never) _ _ _ _ _ c.from_residual.ensures.1 c.in_err-kind.ensures
+    (λ h. via_fails param_to param_from (λ _. refl) (fails_first h named_piece type_follows))
+
+pub returns-in_err-name : goal.returns-in_err-name
+returns-in_err-name c = exits (λ x. x) param never (λ _. never) _ _ _ _ _ c.from_residual-in_err-name.ensures.1 c.in_err-name.ensures
+    (λ h. via_fails param_to param_from (λ _. refl) (fails_second c.in_ok-kind.kind type_piece c.in_ok-kind.ensures type_follows h))

@@ -1,0 +1,67 @@
+-- By which token a rule begins.
+use Rattle.std.specs.Prelude.{Bool, ◌||◌, Option, Some, None, is_some}
+use Rattle.source.specs.declared.kind.Kind.{Kind}
+use Rattle.source.specs.declared.kind.Kind.TheVariants as kind
+use Rattle.syntax.specs.Symbols.{kind_is}
+use Rattle.syntax.specs.declared.tree as tree
+use Rattle.syntax.specs.declared.tree.Access.TheVariants as access
+use Rattle.syntax.specs.declared.tree.Direction.TheVariants as direction
+use Rattle.syntax.specs.declared.tree.Sign.TheVariants as sign
+use Rattle.syntax.specs.declared.tree.Scalar.TheVariants as scalar
+use Rattle.syntax.specs.declared.tree.Side.TheVariants as side
+
+-- the access word of this kind, if it is one
+abbrev pub access_of : Option Kind → Option tree.Access.Access
+access_of (Some kind.Public) = Some access.Public
+access_of (Some kind.Private) = Some access.Private
+access_of (Some kind.Internal) = Some access.Internal
+access_of _ = None
+
+-- the direction of this kind, if it is one
+abbrev pub direction_of : Option Kind → Option tree.Direction.Direction
+direction_of (Some kind.In) = Some direction.In
+direction_of (Some kind.Out) = Some direction.Out
+direction_of _ = None
+
+-- the sign of this kind, if it is one
+abbrev pub sign_of : Option Kind → Option tree.Sign.Sign
+sign_of (Some kind.Bang) = Some sign.Send
+sign_of (Some kind.Question) = Some sign.Receive
+sign_of _ = None
+
+-- the scalar of this kind, if it is one
+abbrev pub scalar_of : Option Kind → Option tree.Scalar.Scalar
+scalar_of (Some kind.Int) = Some scalar.Int
+scalar_of (Some kind.Bool) = Some scalar.Bool
+scalar_of (Some kind.Byte) = Some scalar.Byte
+scalar_of _ = None
+
+-- the side of this kind, if it is one
+abbrev pub side_of : Option Kind → Option tree.Side.Side
+side_of (Some kind.Imp) = Some side.Imp
+side_of (Some kind.Exp) = Some side.Exp
+side_of _ = None
+
+-- whether a message begins with this token
+abbrev pub opens_message : Option Kind → Bool
+opens_message k = is_some (direction_of k)
+
+-- whether it is a sign
+abbrev pub opens_sign : Option Kind → Bool
+opens_sign k = is_some (sign_of k)
+
+-- whether a type begins with it
+abbrev pub opens_type : Option Kind → Bool
+opens_type k = is_some (scalar_of k) || kind_is kind.Name k
+
+-- whether a member does
+abbrev pub opens_member : Option Kind → Bool
+opens_member k = opens_message k || kind_is kind.State k
+
+-- whether it is an access word
+abbrev pub opens_access : Option Kind → Bool
+opens_access k = is_some (access_of k)
+
+-- whether an item begins with it
+abbrev pub opens_item : Option Kind → Bool
+opens_item k = opens_access k || kind_is kind.Contract k

@@ -1,0 +1,50 @@
+-- States and members by their parts, and by what they could go on.
+use Rattle.std.specs.Prelude.{Bool, ◌||◌, List, [], ◌∷◌}
+use Rattle.std.specs.List.{flat_map}
+use Rattle.source.specs.declared.kind.Kind.TheVariants as kind
+use Rattle.syntax.specs.Symbols.{Symbol, is_kind, by_kind}
+use Rattle.syntax.specs.Spelling.{word, name, row, when, within}
+use Rattle.syntax.specs.Reading.{never, when_at}
+use Rattle.syntax.specs.Trees.{PathTree, BodyTree, Empty, Path, One, StateTree, MemberTree, Message, State}
+use Rattle.syntax.specs.Grammar.{line, sign_word}
+use Rattle.syntax.specs.Firsts.{opens_member}
+use Rattle.syntax.specs.declared.states.Hop.{Hop}
+
+-- hop = sign "->" ID .
+abbrev pub hop : Hop → List Symbol
+hop h = row (word (sign_word h.sign) ∷ word kind.Arrow ∷ name h.target ∷ [])
+
+-- lines = "{" { line } "}" .
+abbrev pub lines : List PathTree → List Symbol
+lines = within kind.OpenBrace (flat_map line) kind.CloseBrace
+
+-- one = "one" lines [ ";" ] .
+abbrev pub one : List PathTree × Bool → List Symbol
+one p = row (word kind.One ∷ lines p.0 ∷ when (word kind.Semicolon) p.1 ∷ [])
+
+-- by what such a body could go on
+abbrev pub one_at : List PathTree × Bool → Symbol → Bool
+one_at p = when_at (is_kind kind.Semicolon) p.1
+
+-- by what some state could go on: a semicolon behind the brace
+abbrev pub state_on : Symbol → Bool
+state_on = is_kind kind.Semicolon
+
+-- by what this body could go on
+abbrev pub body_at : BodyTree → Symbol → Bool
+body_at Empty = never
+body_at (Path p) = never
+body_at (One paths semicolon) = when_at state_on semicolon
+
+-- by what this state could
+abbrev pub state_at : StateTree → Symbol → Bool
+state_at s = body_at s.body
+
+-- by what this member could
+abbrev pub member_at : MemberTree → Symbol → Bool
+member_at (Message m) = never
+member_at (State s) = state_at s
+
+-- by what some members could go on
+abbrev pub members_on : Symbol → Bool
+members_on y = state_on y || by_kind opens_member y

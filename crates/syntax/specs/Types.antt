@@ -1,0 +1,93 @@
+-- Types by their fronts: one that begins with a name, one that begins with a scalar.
+use Rattle.std.specs.Prelude.{Bool, ◌||◌, List, [], ◌∷◌, Option, Some, None}
+use Rattle.source.specs.declared.kind.Kind.TheVariants as kind
+use Rattle.syntax.specs.Symbols.{Symbol, is_kind}
+use Rattle.syntax.specs.Spelling.{word, name, row, optional, when}
+use Rattle.syntax.specs.Reading.{never, optional_at, open_at}
+use Rattle.source.specs.declared.token.Span.{Span}
+use Rattle.syntax.specs.Grammar.{scalar_word, side_word, bang_word, in_heap_words, colon_name}
+use Rattle.syntax.specs.declared.tree.Scalar.{Scalar}
+use Rattle.syntax.specs.declared.tree as tree
+use Rattle.syntax.specs.declared.tree.Type.TheVariants as type
+use Rattle.syntax.specs.declared.tree.Heap.TheVariants as heap
+use Rattle.syntax.specs.declared.fronts as parts
+use Rattle.syntax.specs.declared.fronts.NamedTail.TheVariants as tail
+
+-- bang_in_heap = [ bang ] in_heap .
+abbrev pub bang_in_heap : Bool → List Symbol
+bang_in_heap bang = row (when bang_word bang ∷ in_heap_words ∷ [])
+
+-- array_tail = "[" "]" bang_in_heap .
+abbrev pub array_tail : Bool → List Symbol
+array_tail bang = row (word kind.OpenBracket ∷ word kind.CloseBracket ∷ bang_in_heap bang ∷ [])
+
+-- scalar_type = scalar [ array_tail ] .
+abbrev pub scalar_type : parts.ScalarType.ScalarType → List Symbol
+scalar_type s = row (word (scalar_word s.scalar) ∷ optional array_tail s.array ∷ [])
+
+-- pointer_tail = "*" bang_in_heap .
+abbrev pub pointer_tail : Bool → List Symbol
+pointer_tail bang = row (word kind.Star ∷ bang_in_heap bang ∷ [])
+
+-- endpoint_tail = "." side [ colon_name ] [ bang ] [ in_heap ] .
+abbrev pub endpoint_tail : parts.EndpointTail.EndpointTail → List Symbol
+endpoint_tail e = row (word kind.Dot ∷ word (side_word e.side) ∷ optional colon_name e.state ∷ when bang_word e.bang ∷ when in_heap_words e.in_heap ∷ [])
+
+-- named_tail = pointer_tail | endpoint_tail .
+abbrev pub named_tail : parts.NamedTail.NamedTail → List Symbol
+named_tail (tail.Pointer bang) = pointer_tail bang
+named_tail (tail.Endpoint e) = endpoint_tail e
+
+-- named_type = ID named_tail .
+abbrev pub named_type : parts.NamedType.NamedType → List Symbol
+named_type n = row (name n.name ∷ named_tail n.tail ∷ [])
+
+-- a scalar, or an array of it
+abbrev pub of_array : Scalar → Option Bool → tree.Type.Type
+of_array scalar None = type.Scalar scalar
+of_array scalar (Some bang) = type.Heap (heap.Array scalar bang)
+
+-- the type that begins with this scalar
+abbrev pub of_scalar : parts.ScalarType.ScalarType → tree.Type.Type
+of_scalar s = of_array s.scalar s.array
+
+-- what a name and what follows it are
+abbrev pub of_tail : Span → parts.NamedTail.NamedTail → tree.Type.Type
+of_tail span (tail.Pointer bang) = type.Heap (heap.Pointer span bang)
+of_tail span (tail.Endpoint e) = type.Heap (heap.Endpoint span e.side e.state e.bang e.in_heap)
+
+-- the type that begins with this name
+abbrev pub of_named : parts.NamedType.NamedType → tree.Type.Type
+of_named n = of_tail n.name n.tail
+
+-- by what the type of some endpoint could go on
+abbrev pub endpoint_on : Symbol → Bool
+endpoint_on y = (is_kind kind.Colon y || is_kind kind.Bang y) || is_kind kind.In y
+
+-- by what the type of this one could
+abbrev pub endpoint_at : parts.EndpointTail.EndpointTail → Symbol → Bool
+endpoint_at e = open_at (open_at (optional_at (is_kind kind.Colon) (λ _. never) e.state) (is_kind kind.Bang) e.bang) (is_kind kind.In) e.in_heap
+
+-- by what this could go on that follows a name
+abbrev pub tail_at : parts.NamedTail.NamedTail → Symbol → Bool
+tail_at (tail.Pointer bang) = never
+tail_at (tail.Endpoint e) = endpoint_at e
+
+-- by what this type could go on that begins with a name
+abbrev pub named_at : parts.NamedType.NamedType → Symbol → Bool
+named_at n = tail_at n.tail
+
+-- by what this type could go on that begins with a scalar
+abbrev pub scalar_at : parts.ScalarType.ScalarType → Symbol → Bool
+scalar_at s = optional_at (is_kind kind.OpenBracket) (λ _. never) s.array
+
+-- by what some type could go on
+abbrev pub type_on : Symbol → Bool
+type_on y = is_kind kind.OpenBracket y || endpoint_on y
+
+-- by what this type could go on
+abbrev pub type_at : tree.Type.Type → Symbol → Bool
+type_at (type.Scalar s) = is_kind kind.OpenBracket
+type_at (type.Heap (heap.Array element bang)) = never
+type_at (type.Heap (heap.Pointer span bang)) = never
+type_at (type.Heap (heap.Endpoint contract side state bang in_heap)) = endpoint_at (record { side = side; state = state; bang = bang; in_heap = in_heap })

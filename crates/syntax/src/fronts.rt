@@ -1,0 +1,71 @@
+//! Types by their fronts: one that begins with a scalar, one that begins with a name.
+
+use crate::tree::{Heap, Scalar, Side, Type};
+use source::Span;
+
+/// A type that begins with a scalar; of an array, whether `!` stands behind its brackets.
+#[derive(Clone, Copy, Debug)]
+pub struct ScalarType {
+    pub scalar: Scalar,
+    pub array: Option<bool>,
+}
+
+/// A type that begins with a name.
+#[derive(Clone, Copy, Debug)]
+pub struct NamedType {
+    pub name: Span,
+    pub tail: NamedTail,
+}
+
+/// What follows that name; of a pointer, whether `!` stands behind the star.
+#[derive(Clone, Copy, Debug)]
+pub enum NamedTail {
+    Pointer(bool),
+    Endpoint(EndpointTail),
+}
+
+/// What follows the name of a contract in the type of an endpoint.
+#[derive(Clone, Copy, Debug)]
+pub struct EndpointTail {
+    pub side: Side,
+    pub state: Option<Span>,
+    pub bang: bool,
+    pub in_heap: bool,
+}
+
+impl From<ScalarType> for Type {
+    ghost use Rattle.std.specs.Prelude.{◌≡◌};
+    ghost use Rattle.syntax.specs.Types.{of_scalar};
+
+    ghost from_gives = { λ s t. t ≡ of_scalar s };
+
+    fn from(s: ScalarType) -> Type {
+        match s.array {
+            Some(bang) => Type::Heap(Heap::Array {
+                element: s.scalar,
+                bang,
+            }),
+            None => Type::Scalar(s.scalar),
+        }
+    }
+}
+
+impl From<NamedType> for Type {
+    ghost use Rattle.std.specs.Prelude.{◌≡◌};
+    ghost use Rattle.syntax.specs.Types.{of_named};
+
+    ghost from_gives = { λ n t. t ≡ of_named n };
+
+    fn from(n: NamedType) -> Type {
+        Type::Heap(match n.tail {
+            NamedTail::Pointer(bang) => Heap::Pointer { name: n.name, bang },
+            NamedTail::Endpoint(end) => Heap::Endpoint {
+                contract: n.name,
+                side: end.side,
+                state: end.state,
+                bang: end.bang,
+                in_heap: end.in_heap,
+            },
+        })
+    }
+}
