@@ -1,12 +1,15 @@
 -- Numbers of states and messages in the lists of a contract.
-use Rattle.std.proofs.Common.{◌≡◌, ◌≢◌, ℕ, zero, suc, ◌+◌, ◌<◌, List, [], ◌∷◌, length, map, get_or, sym, refl, ap, ◌∙◌, subst, arith}
-use Rattle.std.specs.Prelude.{Contains, All}
+use Rattle.std.proofs.Common.{◌≡◌, ◌≢◌, ℕ, zero, suc, ◌<◌, List, [], ◌∷◌, length, map, get_or, sym, refl, ap, ◌∙◌, subst, arith, ⊎_elim}
+use Rattle.std.specs.Prelude.{Contains, All, AllPairs}
 use Rattle.std.proofs.lemmas.List.{length-map, get_or-map}
+use Rattle.std.proofs.lemmas.Bool.{cases_order}
 use Rattle.names.specs.declared.resolved.State.{State}
 use Rattle.names.specs.declared.resolved.StateId.{StateId}
 use Rattle.names.specs.declared.resolved.Message.{Message}
 use Rattle.names.specs.declared.resolved.MessageId.{MessageId}
-use Rattle.contracts.specs.Parts.{StateParts, MessageParts, state_parts, message_parts}
+use Rattle.contracts.specs.declared.parts.Edges.{Edges}
+use Rattle.contracts.specs.Arcs.{EndsListed}
+use Rattle.contracts.specs.Parts.{StateParts, MessageParts, state_parts, message_parts, parts_of, IsWhole}
 
 pub get_again : {A : Type 0} (xs : List A) (k : ℕ) (d e : A) → k < length xs → get_or xs k e ≡ get_or xs k d
 get_again [] k d e lt = absurd (omega (arith, lt))
@@ -42,3 +45,48 @@ state_number_in states id c = subst (λ l. Contains l id.0) (state_numbers_are s
 -- a message's number stands among the numbers
 pub message_number_in : (messages : List Message) (id : MessageId) → Contains (map (λ (m : MessageParts). m.id) (map message_parts messages)) id → Contains (map (λ (m : Message). m.id.0) messages) id.0
 message_number_in messages id c = subst (λ l. Contains l id.0) (message_numbers_are messages) (contains_map (λ (i : MessageId). i.0) (map (λ (m : MessageParts). m.id) (map message_parts messages)) id c)
+
+-- each number stands at one place
+pub record IsOnce (numbers : List ℕ) : Type 0 where
+  pub same : (v w : ℕ) → v < length numbers → w < length numbers → get_or numbers v 0 ≡ get_or numbers w 0 → v ≡ w
+
+id_of : ℕ → StateId
+id_of n = record { 0 = n }
+
+pub numbers_once : (states : List State) → AllPairs (λ x y. x ≢ y) (map (λ (s : StateParts). s.id) (map state_parts states)) → IsOnce (map (λ (s : State). s.id.0) states)
+unfolding id_of
+numbers_once states apart = record {
+  same = λ v w lt_v lt_w equal. ⊎_elim
+      (λ done. done)
+      (λ either. ⊎_elim
+      (λ less. absurd (apart v w (id_of 0) less (below w lt_w) (ap id_of (at v lt_v ∙ equal ∙ sym (at w lt_w)))))
+      (λ more. absurd (apart w v (id_of 0) more (below v lt_v) (ap id_of (at w lt_w ∙ sym equal ∙ sym (at v lt_v)))))
+      either)
+      (cases_order v w);
+}
+  where
+    ids : List StateId
+    ids = map (λ (s : StateParts). s.id) (map state_parts states)
+
+    numbers : List ℕ
+    numbers = map (λ (s : State). s.id.0) states
+
+    below : (k : ℕ) → k < length numbers → k < length ids
+    below k lt =
+        let a = length-map ids (λ (i : StateId). i.0) in
+        let b = ap length (state_numbers_are states) in
+        omega (arith, a, b, lt)
+
+    at : (k : ℕ) → k < length numbers → (get_or ids k (id_of 0)).0 ≡ get_or numbers k 0
+    at k lt = sym (get_or-map (λ (i : StateId). i.0) ids k (id_of 0) 0 (below k lt)) ∙ ap (λ l. get_or l k 0) (state_numbers_are states)
+
+-- the states of the edges of a contract stand among the numbers
+pub ends_listed : (e : Edges) (numbers : List ℕ) → IsWhole (parts_of e) → numbers ≡ map (λ (s : State). s.id.0) e.states.items → EndsListed numbers e.edges.items
+ends_listed e numbers whole is x c = (
+  subst (λ l. Contains l x.from.0) (sym is) (state_number_in e.states.items x.from (whole.from x c)),
+  subst (λ l. Contains l x.to.0) (sym is) (state_number_in e.states.items x.to (whole.to x c)),
+)
+
+-- numbers that stand once each differ
+pub apart : (numbers : List ℕ) → IsOnce numbers → AllPairs (λ x y. x ≢ y) numbers
+apart numbers once = λ i j d less lt same. let e = once.same i j (omega (arith, less, lt)) lt (get_again numbers i d 0 (omega (arith, less, lt)) ∙ same ∙ get_again numbers j 0 d lt) in omega (arith, e, less)

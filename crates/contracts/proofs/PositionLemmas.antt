@@ -1,14 +1,16 @@
 -- Positions of keys in a list that grows.
-use Rattle.std.proofs.Common.{◌≡◌, ℕ, zero, suc, ◌+◌, ◌<◌, ◌≤◌, List, [], ◌∷◌, ◌++◌, length, get_or, Option, Some, None, Bool, true, false, not, cond, ltb, eqb, sym, refl, ap, ◌∙◌, arith, ⊎_elim, inl, inr}
-use Rattle.std.specs.Prelude.{is_some, position, ◌⊎◌, Contains}
+use Rattle.std.proofs.Common.{◌≡◌, ℕ, zero, suc, ◌+◌, ◌<◌, ◌≤◌, List, [], ◌∷◌, ◌++◌, length, get_or, Option, Some, None, Bool, true, false, not, cond, ltb, eqb, sym, refl, ap, ◌∙◌, arith, ⊎_elim}
+use Rattle.std.specs.Prelude.{is_some, position, Contains}
 use Rattle.std.specs.List.{position_or_len}
-use Rattle.std.specs.Ordering.{is_eq, nat_cmp}
-use Rattle.std.specs.Cmp.{IsEquivalence, unsigned_tied}
+use Rattle.std.specs.Ordering.{is_eq, nat_cmp, ordering_then}
+use Rattle.std.specs.Cmp.{IsEquivalence, unsigned_tied, Equal-is}
 use Rattle.std.proofs.Math.ListN.{length-append}
 use Rattle.std.proofs.lemmas.Bool.{cases_eq, cases_Bool, cond-true, cond-false, lt-ltb, le-ltb, eq-eqb, ne_eqb, eqb-true}
 use Rattle.std.proofs.lemmas.List.Folds.{position_or_len_push}
 use Rattle.std.proofs.lemmas.List.Quantifiers.{position-Some}
-use Rattle.contracts.specs.Positions.{first_position}
+use Rattle.std.proofs.lemmas.Map.Lookups.{exact_pairs, exact_unsigned}
+use Rattle.contracts.specs.Positions.{first_position, pair_cmp}
+use Rattle.contracts.proofs.PartLemmas.{get_again}
 use Rattle.std.proofs.lemmas.List.Sums.{prefix_len-le-length}
 
 abbrev found : ℕ → ℕ → Option ℕ
@@ -62,7 +64,7 @@ position_kept {K} e laws xs y q there =
     ⊎_elim
     (λ some. position_push (e q) xs y ∙ cond-true (is_some (position (e q) xs)) (position (e q) xs) (cond (e q y) (Some (length xs)) None) some)
     (λ none. position_push (e q) xs y ∙ cond-false (is_some (position (e q) xs)) (position (e q) xs) (cond (e q y) (Some (length xs)) None) none
-        ∙ cond-false (e q y) (Some (length xs)) None (other none) ∙ sym (none_is (position (e q) xs) none))
+    ∙ cond-false (e q y) (Some (length xs)) None (other none) ∙ sym (none_is (position (e q) xs) none))
     (cases_Bool (is_some (position (e q) xs)))
   where
     other : is_some (position (e q) xs) ≡ false → e q y ≡ false
@@ -77,7 +79,7 @@ position_added {K} e laws xs y q none =
     ⊎_elim
     (λ yes. let same = same_position (e q) (e y) (λ x. laws.congr q y x yes) xs in
     position_push (e q) xs y ∙ cond-false (is_some (position (e q) xs)) (position (e q) xs) (cond (e q y) (Some (length xs)) None) (ap is_some same ∙ none)
-        ∙ cond-true (e q y) (Some (length xs)) None yes ∙ sym (cond-true (e y q) (Some (length xs)) (position (e q) xs) (laws.symm y q ∙ yes)))
+    ∙ cond-true (e q y) (Some (length xs)) None yes ∙ sym (cond-true (e y q) (Some (length xs)) (position (e q) xs) (laws.symm y q ∙ yes)))
     (λ no'. position_push (e q) xs y ∙ last no' ∙ sym (cond-false (e y q) (Some (length xs)) (position (e q) xs) (laws.symm y q ∙ no')))
     (cases_Bool (e q y))
   where
@@ -113,10 +115,11 @@ position_there p xs x c passes =
     let rest = position-Some p xs (position_or_len p xs) x is in
     record { at = position_or_len p xs; is = is; within = rest.0; passes = rest.1 }
 
-equal_is : (x y : ℕ) → is_eq (nat_cmp x y) ≡ true → x ≡ y
+-- numbers that compare as equal are equal
+pub equal_is : (x y : ℕ) → is_eq (nat_cmp x y) ≡ true → x ≡ y
 equal_is x y e = eqb-true x y (sym (unsigned_tied x y) ∙ e)
 
-is_equal : (x : ℕ) → is_eq (nat_cmp x x) ≡ true
+pub is_equal : (x : ℕ) → is_eq (nat_cmp x x) ≡ true
 is_equal x = unsigned_tied x x ∙ eq-eqb x x refl
 
 -- a number that stands in the list has a position, at which it stands
@@ -124,3 +127,21 @@ pub number_there : (ids : List ℕ) (x : ℕ) → Contains ids x → (i : ℕ) �
 number_there ids x c =
     let s = position_there (λ y. is_eq (nat_cmp x y)) ids x c (is_equal x) in
     (s.at, s.is, s.within, sym (equal_is x (get_or ids s.at x) s.passes))
+
+-- where an element isn't the first that passes, one before it passes
+pub not_first : {X : Type 0} (p : X → Bool) (xs : List X) (i : ℕ) (d : X) → i < length xs → p (get_or xs i d) ≡ true → (position p xs ≡ Some i → ⊥) → (j : ℕ) × (j < i) × (p (get_or xs j d) ≡ true)
+not_first {X} p xs i d lt passes other =
+    let x = get_or xs i d in
+    let most = first_by p xs i x lt (get_again xs i d x lt) passes in
+    let is = found_lt (position_or_len p xs) (length xs) (omega (arith, most, lt)) in
+    let rest = position-Some p xs (position_or_len p xs) d is in
+    ⊎_elim
+    (λ same. absurd (other (is ∙ ap (λ k. Some k) same)))
+    (λ differ. (position_or_len p xs, grind (arith, most, differ), rest.1))
+    (cases_eq (position_or_len p xs) i)
+
+pub pair_equal : (x y : ℕ × ℕ) → is_eq (pair_cmp x y) ≡ true → x ≡ y
+pair_equal x y e = exact_pairs nat_cmp nat_cmp exact_unsigned exact_unsigned x y ((Equal-is (pair_cmp x y)).0 e)
+
+pub equal_pair : (x y : ℕ × ℕ) → x ≡ y → is_eq (pair_cmp x y) ≡ true
+equal_pair x y e = ap (λ z. is_eq (pair_cmp x z)) (sym e) ∙ ap (λ o. is_eq (ordering_then o (nat_cmp x.1 x.1))) ((Equal-is (nat_cmp x.0 x.0)).0 (is_equal x.0)) ∙ is_equal x.1

@@ -1,7 +1,15 @@
--- Arcs between positions, and the rows that they make.
-use Rattle.std.specs.Prelude.{◌≡◌, ℕ, ◌<◌, List, length, Contains, All}
+-- Edges as arcs between the positions of their states.
+use Rattle.std.specs.Prelude.{◌≡◌, ℕ, ◌<◌, List, length, Contains, All, slice_index}
+use Rattle.syntax.specs.declared.tree.Sign.{Sign}
+use Rattle.names.specs.declared.resolved.Edge.{Edge}
 use Rattle.contracts.specs.declared.arcs.Arc.{Arc}
 use Rattle.contracts.specs.Graphs.{HasEdge, InRange}
+
+abbrev pub arc : ℕ → ℕ → Arc
+arc v w = record { from = v; to = w }
+
+abbrev pub turned_arc : Arc → Arc
+turned_arc a = record { from = a.to; to = a.from }
 
 -- both ends stand below the count
 abbrev pub AllWithin : ℕ → List Arc → Type 0
@@ -11,8 +19,27 @@ AllWithin count arcs = All (λ a. (a.from < count) × (a.to < count)) arcs
 pub record AreRows (count : ℕ) (arcs : List Arc) (graph : List (List ℕ)) : Type 0 where
   pub long : length graph ≡ count
   pub range : InRange graph
-  pub right : (v w : ℕ) → HasEdge graph v w → Contains arcs (record { from = v; to = w })
-  pub all : (v w : ℕ) → Contains arcs (record { from = v; to = w }) → HasEdge graph v w
+  pub right : (v w : ℕ) → HasEdge graph v w → Contains arcs (arc v w)
+  pub all : (v w : ℕ) → Contains arcs (arc v w) → HasEdge graph v w
 
-abbrev pub turned_arc : Arc → Arc
-turned_arc a = record { from = a.to; to = a.from }
+-- the arc leads between the positions of the edge's states
+pub record Joins (numbers : List ℕ) (e : Edge) (v w : ℕ) : Type 0 where
+  pub v_in : v < length numbers
+  pub w_in : w < length numbers
+  pub from : slice_index numbers v ≡ e.from.0
+  pub to : slice_index numbers w ≡ e.to.0
+
+-- the arcs are exactly those of the edges that have the sign
+pub record AreArcs (numbers : List ℕ) (edges : List Edge) (sign : Sign) (arcs : List Arc) : Type 0 where
+  pub right : (a : Arc) → Contains arcs a → (e : Edge) × Contains edges e × (e.sign ≡ sign) × Joins numbers e a.from a.to
+  pub all : (e : Edge) → Contains edges e → e.sign ≡ sign → (a : Arc) × Contains arcs a × Joins numbers e a.from a.to
+
+-- the graph has exactly the edges of which something holds
+pub record IsDrawn (numbers : List ℕ) (edges : List Edge) (Has : Edge → Type 0) (graph : List (List ℕ)) : Type 0 where
+  pub long : length graph ≡ length numbers
+  pub right : (v w : ℕ) → HasEdge graph v w → (e : Edge) × Contains edges e × Has e × Joins numbers e v w
+  pub all : (e : Edge) → Contains edges e → Has e → (v : ℕ) × ((w : ℕ) × HasEdge graph v w × Joins numbers e v w)
+
+-- the states of the edges stand in the list
+abbrev pub EndsListed : List ℕ → List Edge → Type 0
+EndsListed numbers edges = (e : Edge) → Contains edges e → Contains numbers e.from.0 × Contains numbers e.to.0

@@ -1,7 +1,14 @@
 pub mod Arcs
+pub mod Bounds
+pub mod Conditions
+pub mod Found
 pub mod Graphs
 pub mod Marking
 pub mod Numbering
 pub mod Parts
 pub mod Peeling
 pub mod Positions
+pub mod Reached
+pub mod Sounds
+pub mod TwoEnds
+pub mod Walks

@@ -1,8 +1,32 @@
 -- Where keys stand in a list.
-use Rattle.std.specs.Prelude.{ℕ, List, Option, position}
+use Rattle.std.specs.Prelude.{◌≡◌, ℕ, List, Option, position, map, IsSome}
+use Rattle.std.specs.BTreeMap.{BTreeMap, get}
 use Rattle.std.specs.declared.cmp.Ordering.{Ordering}
-use Rattle.std.specs.Ordering.{is_eq}
+use Rattle.std.specs.Ordering.{is_eq, nat_cmp, ordering_then}
+use Rattle.names.specs.declared.resolved.Edge.{Edge}
 
 -- the position at which a key stands first
 abbrev pub first_position : {K : Type 0} → (K → K → Ordering) → List K → K → Option ℕ
 first_position cmp keys key = position (λ x. is_eq (cmp key x)) keys
+
+-- the map has for each number the position at which it stands first
+abbrev pub ArePositions : List ℕ → BTreeMap ℕ ℕ → Type 0
+ArePositions numbers positions = (k : ℕ) → get nat_cmp positions k ≡ first_position nat_cmp numbers k
+
+-- how pairs of numbers are compared
+abbrev pub pair_cmp : ℕ × ℕ → ℕ × ℕ → Ordering
+pair_cmp x y = ordering_then (nat_cmp x.0 y.0) (nat_cmp x.1 y.1)
+
+-- what tells the edges of a contract apart: the numbers of the state and of the message
+abbrev pub key_of : Edge → ℕ × ℕ
+key_of e = (e.from.0, e.message.0)
+
+-- the map has for each key the position of the first edge that has it
+abbrev pub AreEdgePositions : List Edge → BTreeMap (ℕ × ℕ) ℕ → Type 0
+AreEdgePositions edges positions = (k : ℕ × ℕ) → get pair_cmp positions k ≡ first_position pair_cmp (map key_of edges) k
+
+-- the maps have the states and the message of the edge
+pub record EndsHave (states messages : BTreeMap ℕ ℕ) (e : Edge) : Type 0 where
+  pub from : IsSome (get nat_cmp states e.from.0)
+  pub to : IsSome (get nat_cmp states e.to.0)
+  pub message : IsSome (get nat_cmp messages e.message.0)

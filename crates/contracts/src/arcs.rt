@@ -1,13 +1,12 @@
 //! Edges of one sign as arcs between the positions of their states.
 
-ghost use Rattle.std.specs.Prelude.{◌≡◌, ◌<◌, ℕ, length, IfOk};
-ghost use Rattle.contracts.specs.Graphs.{rows, InRange};
-ghost use Rattle.contracts.specs.Arcs.{AllWithin, AreRows};
+ghost use Rattle.std.specs.Prelude.{◌≡◌, ◌==◌, ◌<◌, length, not, IfOk};
+ghost use Rattle.contracts.specs.Graphs.{rows, row_at};
+ghost use Rattle.contracts.specs.Arcs.{AllWithin, AreRows, AreArcs, IsDrawn, EndsListed};
 
-use crate::positions::position_of;
+use crate::positions::Listing;
 use names::Edge;
 use std::alloc::{AllocError, Global};
-use std::collections::BTreeMap;
 use syntax::Sign;
 
 /// From one position to another.
@@ -17,26 +16,61 @@ pub struct Arc {
     pub to: usize,
 }
 
-/// The edges of a sign, between the positions of the numbers of their states.
-pub fn arcs_of(
+/// The edges of one sign between the positions of their states: as arcs, and by the rows of their ends.
+#[derive(Drop)]
+pub struct SignGraph {
+    pub arcs: Vec<Arc>,
+    pub rows: Vec<Vec<usize>>,
+}
+
+impl SignGraph {
+    /// The graph of the edges that have the sign.
+    pub fn new(
+        alloc: Global,
+        edges: &[Edge],
+        states: &Listing,
+        sign: Sign,
+    ) -> Result<SignGraph, AllocError>
+        requires listed { EndsListed states.now.numbers.items edges.now }
+        ensures range { IfOk result (λ graph. AllWithin
+            (length states.now.numbers.items) graph.arcs.items) }
+        ensures rows { IfOk result (λ graph. AreRows
+            (length states.now.numbers.items) graph.arcs.items (rows graph.rows.items)) }
+        ensures drawn { IfOk result (λ graph. IsDrawn states.now.numbers.items edges.now
+            (λ e. e.sign ≡ sign) (rows graph.rows.items)) }
+    {
+        let arcs = arcs_of(alloc, edges, states, sign)?;
+        let rows = rows_of(alloc, states.len(), &arcs)?;
+        Ok(SignGraph { arcs, rows })
+    }
+
+    /// Whether an edge begins at the position.
+    pub fn leaves(&self, v: usize) -> bool
+        requires { v < length self.now.rows.items }
+        ensures { result ≡ not (length (row_at (rows self.now.rows.items) v) == 0) }
+    {
+        !self.rows[v].is_empty()
+    }
+}
+
+/// The arcs of the edges that have the sign.
+fn arcs_of(
     alloc: Global,
     edges: &[Edge],
-    positions: &BTreeMap<u32, usize>,
-    count: usize,
+    states: &Listing,
     sign: Sign,
 ) -> Result<Vec<Arc>, AllocError>
-    ensures range { IfOk result (λ arcs. AllWithin count arcs.items) }
+    requires listed { EndsListed states.now.numbers.items edges.now }
+    ensures arcs { IfOk result
+        (λ arcs. AreArcs states.now.numbers.items edges.now sign arcs.items) }
 {
     let mut arcs = Vec::new(alloc);
     for edge in edges {
         if edge.sign == sign {
-            if let Some(from) = position_of(positions, edge.from.0) {
-                if let Some(to) = position_of(positions, edge.to.0) {
-                    if from < count && to < count {
-                        arcs.push(Arc { from, to })?;
-                    }
-                }
-            }
+            arcs.push(Arc {
+                from: states.position(edge.from.0),
+                to: states.position(edge.to.0),
+            })?;
         }
     }
     Ok(arcs)

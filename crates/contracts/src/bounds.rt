@@ -1,17 +1,22 @@
 //! How many messages a queue can hold.
 
-ghost use Rattle.std.specs.Prelude.{◌≡◌, ◌<◌, length, IfOk, All};
+ghost use Rattle.std.specs.Prelude.{◌≡◌, ◌≢◌, ◌<◌, ◌≤◌, ◌++◌, ◌⊎◌, ℕ, length, IfOk, AllPairs, get_or, false};
 ghost use Rattle.contracts.specs.Arcs.{AllWithin};
-ghost use Rattle.contracts.specs.Graphs.{rows, InRange};
+ghost use Rattle.contracts.specs.Bounds.{IsBound};
+ghost use Rattle.contracts.specs.Conditions.{IsSound};
+ghost use Rattle.contracts.specs.Graphs.{rows, InRange, OnRing, height_at};
+ghost use Rattle.contracts.specs.Marking.{IsMarked};
 ghost use Rattle.contracts.specs.Parts.{IsWhole, parts_of};
+ghost use Rattle.contracts.specs.Reached.{AreReached, IsLongest, counted_height};
+ghost use Rattle.syntax.specs.declared.tree.Sign.TheVariants.{Send, Receive};
 
-use crate::arcs::{Arc, arcs_of, rows_of};
+use crate::arcs::{Arc, SignGraph, rows_of};
 use crate::heights::all_heights;
 use crate::keys::state_numbers;
 use crate::marking::marked;
 use crate::numbering::finishing;
 use crate::parts::Edges;
-use crate::positions::{first_positions, position_of};
+use crate::positions::Listing;
 use std::alloc::{AllocError, Global};
 use syntax::Sign;
 
@@ -22,33 +27,29 @@ pub struct Bounds {
     pub to_exp: u32,
 }
 
-/// The bounds of a contract without rings of one sign.
+/// The bounds of a sound contract.
 pub fn bounds_of(alloc: Global, edges: &Edges) -> Result<Bounds, AllocError>
+    requires whole { IsWhole (parts_of edges.now) }
+    requires sound { IsSound (parts_of edges.now) }
+    ensures to_imp { IfOk result
+        (λ bounds. IsBound edges.now.edges.items edges.now.first Send bounds.to_imp) }
+    ensures to_exp { IfOk result
+        (λ bounds. IsBound edges.now.edges.items edges.now.first Receive bounds.to_exp) }
 {
-    let count = edges.states.len();
-    let numbers = state_numbers(alloc, &edges.states)?;
-    let positions = first_positions(alloc, &numbers)?;
-    let sends = arcs_of(alloc, &edges.edges, &positions, count, Sign::Send)?;
-    let receives = arcs_of(alloc, &edges.edges, &positions, count, Sign::Receive)?;
-    let sending = rows_of(alloc, count, &sends)?;
-    let receiving = rows_of(alloc, count, &receives)?;
-    let first = match position_of(&positions, edges.first.0) {
-        Some(first) if first < count => first,
-        _ => {
-            return Ok(Bounds {
-                to_imp: 0,
-                to_exp: 0,
-            });
-        }
-    };
-    let reached = reached_from(alloc, count, &sends, &receives, first)?;
+    let states = Listing::new(alloc, state_numbers(alloc, &edges.states)?)?;
+    let sends = SignGraph::new(alloc, &edges.edges, &states, Sign::Send)?;
+    let receives = SignGraph::new(alloc, &edges.edges, &states, Sign::Receive)?;
+    let first = states.position(edges.first.0);
+    let reached = reached_from(alloc, states.len(), &sends.arcs, &receives.arcs, first)?;
+    let to_imp = longest(alloc, &sends.rows, &reached)?;
+    let to_exp = longest(alloc, &receives.rows, &reached)?;
     Ok(Bounds {
-        to_imp: longest(alloc, &sending, &reached)?,
-        to_exp: longest(alloc, &receiving, &reached)?,
+        to_imp: narrowed(&states.numbers, to_imp),
+        to_exp: narrowed(&states.numbers, to_exp),
     })
 }
 
-/// Which states can be reached from the first one along edges of both signs.
+/// Which positions can be reached from the first one along arcs of both kinds.
 fn reached_from(
     alloc: Global,
     count: usize,
@@ -60,30 +61,58 @@ fn reached_from(
     requires receives { AllWithin count receives.now }
     requires first { first < count }
     ensures long { IfOk result (λ marks. length marks.items ≡ count) }
+    ensures reached { IfOk result (λ marks. AreReached count (sends.now
+        ++ receives.now) first marks.items) }
 {
     let mut arcs = Vec::new(alloc);
     arcs.extend_from_slice(sends)?;
     arcs.extend_from_slice(receives)?;
     let graph = rows_of(alloc, count, &arcs)?;
-    marked(alloc, &graph, &[first])
+    let marks = marked(alloc, &graph, &[first])?;
+    Ok(marks)
 }
 
-/// The greatest length of a walk from one of the marked vertices.
-fn longest(alloc: Global, graph: &[Vec<usize>], reached: &[bool]) -> Result<u32, AllocError>
+/// The greatest length of a walk from one of the marked vertices, where no vertex lies on a ring.
+fn longest(alloc: Global, graph: &[Vec<usize>], reached: &[bool]) -> Result<usize, AllocError>
     requires range { InRange (rows graph.now) }
     requires reached { length reached.now ≡ length graph.now }
+    requires start { (s : ℕ) × IsMarked reached.now s }
+    requires quiet { (v : ℕ) → OnRing (rows graph.now) v → ⊥ }
+    ensures longest { IfOk result (λ n. IsLongest (rows graph.now) reached.now n) }
+    ensures below { IfOk result (λ n. n < length graph.now) }
 {
     let order = finishing(alloc, graph)?;
     let heights = all_heights(alloc, graph, &order)?;
+    Ok(tallest_of(&heights, reached))
+}
+
+/// The greatest height of a marked vertex.
+fn tallest_of(heights: &[Option<usize>], reached: &[bool]) -> usize
+    requires reached { length reached.now ≡ length heights.now }
+    ensures most { (v : ℕ) → v < length heights.now → counted_height (height_at heights.now v)
+        (get_or reached.now v false) ≤ result }
+    ensures some { (result ≡ 0) ⊎ ((v : ℕ) × (v < length heights.now) × (counted_height
+        (height_at heights.now v) (get_or reached.now v false) ≡ result)) }
+{
     let mut most = 0;
-    for v in 0..graph.len() {
-        if reached[v] {
-            if let Some(height) = heights[v] {
-                if height > most {
-                    most = height;
-                }
-            }
-        }
+    for v in 0..heights.len() {
+        most = most.max(counted(heights[v], reached[v]));
     }
-    Ok(u32::try_from(most).unwrap_or(u32::MAX))
+    most
+}
+
+/// The height, if the vertex is marked.
+fn counted(height: Option<usize>, mark: bool) -> usize
+    ensures { result ≡ counted_height height mark }
+{
+    if mark { height.unwrap_or(0) } else { 0 }
+}
+
+/// A number below the count of some numbers that differ.
+fn narrowed(numbers: &[u32], n: usize) -> u32
+    requires once { AllPairs (λ x y. x ≢ y) numbers.now }
+    requires below { n < length numbers.now }
+    ensures { result ≡ n }
+{
+    n as u32
 }

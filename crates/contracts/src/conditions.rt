@@ -1,20 +1,25 @@
 //! The four conditions of a contract.
 
-ghost use Rattle.std.specs.Prelude.{◌≡◌, ◌<◌, length};
-ghost use Rattle.contracts.specs.Parts.{IsWhole, parts_of};
+ghost use Rattle.std.specs.Prelude.{◌≡◌, ◌<◌, IfOk, length, map, Contains};
+ghost use Rattle.contracts.specs.Arcs.{AllWithin, AreRows, IsDrawn};
+ghost use Rattle.contracts.specs.Conditions.{AreExactly, IsAgainst, IsTwice, IsBoth, IsRound, IsFault, finding_parts};
+ghost use Rattle.contracts.specs.Found.{FoundBelow};
+ghost use Rattle.contracts.specs.Graphs.{rows};
+ghost use Rattle.contracts.specs.Parts.{IsWhole, parts_of, message_ids, state_parts, message_parts};
+ghost use Rattle.syntax.specs.declared.tree.Sign.TheVariants.{Send, Receive};
+ghost use Rattle.contracts.specs.Conditions.{sign_of as sign_of_direction};
 
-use crate::arcs::{arcs_of, rows_of};
+use crate::arcs::SignGraph;
 use crate::keys::{edge_keys, message_numbers, state_numbers};
 use crate::parts::Edges;
-use crate::positions::{first_positions, position_of};
+use crate::positions::{Listing, first_positions};
 use crate::ringing::rings;
-use crate::texts::{
+use source::texts::{
     against_its_direction, both_directions_in, one_direction_round, twice_in_a_state,
 };
-use names::{Edge, Message, State};
+use names::{Message, MessageId};
 use source::{Finding, Memory};
 use std::alloc::Global;
-use std::collections::BTreeMap;
 use syntax::{Direction, Sign};
 
 /// What breaks a condition of the contract:
@@ -22,130 +27,151 @@ use syntax::{Direction, Sign};
 /// - an edge with the message of an earlier edge of its state; at the later one;
 /// - a state with edges of both signs; at the state;
 /// - a state from which edges of one sign lead back to it; at each such state.
+///
+/// The sign counts as it is written. That contracts be deterministic and have one direction in a state is asked for by
+/// Villard, Lozes and Calcagno (APLAS 2009), and that each cycle have both directions by the Singularity team (EuroSys
+/// 2006).
 pub fn faults(alloc: Global, edges: &Edges) -> Result<Vec<Finding>, Memory>
+    requires whole { IsWhole (parts_of edges.now) }
+    ensures exactly { IfOk result (λ found. AreExactly (IsFault (parts_of edges.now))
+        (map finding_parts found.items)) }
 {
-    let numbers = message_numbers(alloc, &edges.messages)?;
-    let positions = first_positions(alloc, &numbers)?;
-    let mut found = against_directions(alloc, &edges.edges, &edges.messages, &positions)?;
-    let mut twice = twice_in_states(alloc, &edges.edges, &edges.messages, &positions)?;
+    let states = Listing::new(alloc, state_numbers(alloc, &edges.states)?)?;
+    let messages = Listing::new(alloc, message_numbers(alloc, &edges.messages)?)?;
+    let sends = SignGraph::new(alloc, &edges.edges, &states, Sign::Send)?;
+    let receives = SignGraph::new(alloc, &edges.edges, &states, Sign::Receive)?;
+    let mut found = against_directions(alloc, edges, &messages)?;
+    let mut twice = twice_in_states(alloc, edges, &messages)?;
+    let mut both = both_directions(alloc, edges, &sends, &receives)?;
+    let mut round = one_direction(alloc, edges, &sends, &receives)?;
     found.append(&mut twice)?;
-    let mut states = state_faults(alloc, edges)?;
-    found.append(&mut states)?;
-    Ok(found)
-}
-
-/// What breaks the conditions that speak of states.
-fn state_faults(alloc: Global, edges: &Edges) -> Result<Vec<Finding>, Memory> {
-    let count = edges.states.len();
-    let numbers = state_numbers(alloc, &edges.states)?;
-    let positions = first_positions(alloc, &numbers)?;
-    let sends = arcs_of(alloc, &edges.edges, &positions, count, Sign::Send)?;
-    let receives = arcs_of(alloc, &edges.edges, &positions, count, Sign::Receive)?;
-    let sending = rows_of(alloc, count, &sends)?;
-    let receiving = rows_of(alloc, count, &receives)?;
-    let mut found = both_directions(alloc, &edges.states, &sending, &receiving)?;
-    let send_rings = rings(alloc, &sending, &sends)?;
-    let receive_rings = rings(alloc, &receiving, &receives)?;
-    let mut round = one_direction(alloc, &edges.states, &send_rings, &receive_rings)?;
+    found.append(&mut both)?;
     found.append(&mut round)?;
     Ok(found)
 }
 
 /// The sign that a message takes in an edge.
-fn sign_of(direction: Direction) -> Sign {
+fn sign_of(direction: Direction) -> Sign
+    ensures { result ≡ sign_of_direction direction }
+{
     match direction {
         Direction::In => Sign::Receive,
         Direction::Out => Sign::Send,
     }
 }
 
+/// The message that has the number.
+fn message_of<'a>(edges: &'a Edges, messages: &Listing, id: MessageId) -> &'a Message
+    requires numbers { messages.now.numbers.items ≡ map (λ m. m.id.0) edges.now.messages.items }
+    requires listed { Contains (message_ids (parts_of edges.now)) id }
+    ensures its { result.now.id ≡ id }
+    ensures listed { Contains edges.now.messages.items result.now }
+{
+    &edges.messages[messages.position(id.0)]
+}
+
+/// The edges whose sign is not their message's.
 fn against_directions(
     alloc: Global,
-    edges: &[Edge],
-    messages: &[Message],
-    positions: &BTreeMap<u32, usize>,
-) -> Result<Vec<Finding>, Memory> {
+    edges: &Edges,
+    messages: &Listing,
+) -> Result<Vec<Finding>, Memory>
+    requires whole { IsWhole (parts_of edges.now) }
+    requires numbers { messages.now.numbers.items ≡ map (λ m. m.id.0) edges.now.messages.items }
+    ensures found { IfOk result (λ found. FoundBelow (IsAgainst
+        (map message_parts edges.now.messages.items) edges.now.edges.items)
+        (length edges.now.edges.items) (map finding_parts found.items)) }
+{
     let mut found = Vec::new(alloc);
-    for edge in edges {
-        if let Some(position) = position_of(positions, edge.message.0) {
-            if let Some(message) = messages.get(position) {
-                if edge.sign != sign_of(message.direction) {
-                    found.push(against_its_direction(
-                        alloc,
-                        edge.place,
-                        message.name.as_bytes(),
-                    )?)?;
-                }
-            }
+    for edge in &edges.edges {
+        let message = message_of(edges, messages, edge.message);
+        if edge.sign != sign_of(message.direction) {
+            let finding = against_its_direction(alloc, edge.place, message.name.as_bytes())?;
+            found.push(finding)?;
         }
     }
     Ok(found)
 }
 
-fn twice_in_states(
-    alloc: Global,
-    edges: &[Edge],
-    messages: &[Message],
-    positions: &BTreeMap<u32, usize>,
-) -> Result<Vec<Finding>, Memory> {
-    let keys = edge_keys(alloc, edges)?;
+/// The edges with the message of an earlier edge of their state.
+fn twice_in_states(alloc: Global, edges: &Edges, messages: &Listing) -> Result<Vec<Finding>, Memory>
+    requires whole { IsWhole (parts_of edges.now) }
+    requires numbers { messages.now.numbers.items ≡ map (λ m. m.id.0) edges.now.messages.items }
+    ensures found { IfOk result (λ found. FoundBelow (IsTwice
+        (map message_parts edges.now.messages.items) edges.now.edges.items)
+        (length edges.now.edges.items) (map finding_parts found.items)) }
+{
+    let keys = edge_keys(alloc, &edges.edges)?;
     let firsts = first_positions(alloc, &keys)?;
     let mut found = Vec::new(alloc);
-    for i in 0..edges.len() {
-        let edge = edges[i];
-        let first = firsts.get(&(edge.from.0, edge.message.0)).copied();
-        if first != Some(i) {
-            if let Some(position) = position_of(positions, edge.message.0) {
-                if let Some(message) = messages.get(position) {
-                    found.push(twice_in_a_state(alloc, edge.place, message.name.as_bytes())?)?;
-                }
-            }
+    for i in 0..edges.edges.len() {
+        let edge = edges.edges[i];
+        if firsts.get(&(edge.from.0, edge.message.0)).copied() != Some(i) {
+            let message = message_of(edges, messages, edge.message);
+            let finding = twice_in_a_state(alloc, edge.place, message.name.as_bytes())?;
+            found.push(finding)?;
         }
     }
     Ok(found)
 }
 
+/// The states with edges of both signs.
 fn both_directions(
     alloc: Global,
-    states: &[State],
-    sending: &[Vec<usize>],
-    receiving: &[Vec<usize>],
+    edges: &Edges,
+    sends: &SignGraph,
+    receives: &SignGraph,
 ) -> Result<Vec<Finding>, Memory>
-    requires sending { length sending.now ≡ length states.now }
-    requires receiving { length receiving.now ≡ length states.now }
+    requires whole { IsWhole (parts_of edges.now) }
+    requires sends { IsDrawn (map (λ s. s.id.0) edges.now.states.items) edges.now.edges.items
+        (λ e. e.sign ≡ Send) (rows sends.now.rows.items) }
+    requires receives { IsDrawn (map (λ s. s.id.0) edges.now.states.items) edges.now.edges.items
+        (λ e. e.sign ≡ Receive) (rows receives.now.rows.items) }
+    ensures found { IfOk result (λ found. FoundBelow (IsBoth
+        (map state_parts edges.now.states.items) edges.now.edges.items)
+        (length edges.now.states.items) (map finding_parts found.items)) }
 {
     let mut found = Vec::new(alloc);
-    for i in 0..states.len() {
-        if !sending[i].is_empty() && !receiving[i].is_empty() {
-            let state = &states[i];
-            found.push(both_directions_in(
-                alloc,
-                state.place,
-                state.name.as_bytes(),
-            )?)?;
+    for i in 0..edges.states.len() {
+        if sends.leaves(i) & receives.leaves(i) {
+            let state = &edges.states[i];
+            let finding = both_directions_in(alloc, state.place, state.name.as_bytes())?;
+            found.push(finding)?;
         }
     }
     Ok(found)
 }
 
+/// The states from which edges of one sign lead back to them.
 fn one_direction(
     alloc: Global,
-    states: &[State],
-    sending: &[bool],
-    receiving: &[bool],
+    edges: &Edges,
+    sends: &SignGraph,
+    receives: &SignGraph,
 ) -> Result<Vec<Finding>, Memory>
-    requires sending { length sending.now ≡ length states.now }
-    requires receiving { length receiving.now ≡ length states.now }
+    requires whole { IsWhole (parts_of edges.now) }
+    requires send_arcs { AllWithin (length edges.now.states.items) sends.now.arcs.items }
+    requires send_rows { AreRows (length edges.now.states.items) sends.now.arcs.items
+        (rows sends.now.rows.items) }
+    requires receive_arcs { AllWithin (length edges.now.states.items) receives.now.arcs.items }
+    requires receive_rows { AreRows (length edges.now.states.items) receives.now.arcs.items
+        (rows receives.now.rows.items) }
+    requires sends { IsDrawn (map (λ s. s.id.0) edges.now.states.items) edges.now.edges.items
+        (λ e. e.sign ≡ Send) (rows sends.now.rows.items) }
+    requires receives { IsDrawn (map (λ s. s.id.0) edges.now.states.items) edges.now.edges.items
+        (λ e. e.sign ≡ Receive) (rows receives.now.rows.items) }
+    ensures found { IfOk result (λ found. FoundBelow (IsRound
+        (map state_parts edges.now.states.items) edges.now.edges.items)
+        (length edges.now.states.items) (map finding_parts found.items)) }
 {
+    let sending = rings(alloc, &sends.rows, &sends.arcs)?;
+    let receiving = rings(alloc, &receives.rows, &receives.arcs)?;
     let mut found = Vec::new(alloc);
-    for i in 0..states.len() {
-        if sending[i] || receiving[i] {
-            let state = &states[i];
-            found.push(one_direction_round(
-                alloc,
-                state.place,
-                state.name.as_bytes(),
-            )?)?;
+    for i in 0..edges.states.len() {
+        if sending[i] | receiving[i] {
+            let state = &edges.states[i];
+            let finding = one_direction_round(alloc, state.place, state.name.as_bytes())?;
+            found.push(finding)?;
         }
     }
     Ok(found)

@@ -4,6 +4,7 @@
 mod arcs;
 mod bounds;
 mod conditions;
+mod ends;
 mod heights;
 mod keys;
 mod marking;
@@ -15,9 +16,11 @@ mod sound;
 mod taking;
 #[cfg(test)]
 mod tests;
-mod texts;
+mod wholeness;
 
 pub use conditions::faults;
+pub use ends::two_ends;
 pub use parts::Edges;
 pub use sound::{Sound, SoundFault};
 pub use taking::edges;
+pub use wholeness::is_whole;

@@ -1,9 +1,9 @@
 //! Where keys stand in a list.
 
-ghost use Rattle.std.specs.Prelude.{◌≡◌, IfOk};
+ghost use Rattle.std.specs.Prelude.{◌≡◌, ◌<◌, IfOk, Contains, length, slice_index};
 ghost use Rattle.std.specs.BTreeMap.{get};
-ghost use Rattle.std.specs.Ordering.{nat_cmp};
-ghost use Rattle.contracts.specs.Positions.{first_position};
+ghost use Rattle.std.proofs.Props.{props};
+ghost use Rattle.contracts.specs.Positions.{first_position, ArePositions};
 
 use std::alloc::{AllocError, Global};
 use std::collections::BTreeMap;
@@ -24,9 +24,36 @@ pub fn first_positions<K: Ord + Copy>(
     Ok(positions)
 }
 
-/// The position that the map has for a number.
-pub fn position_of(positions: &BTreeMap<u32, usize>, number: u32) -> Option<usize>
-    ensures { result ≡ get nat_cmp positions.now number }
-{
-    positions.get(&number).copied()
+/// Numbers in a list, and the position at which each stands first.
+#[derive(Drop)]
+pub struct Listing {
+    pub numbers: Vec<u32>,
+    positions: BTreeMap<u32, usize>,
+    ghost right: { ArePositions numbers.items positions } by { Prim.hlevel props },
+}
+
+impl Listing {
+    /// The listing of these numbers.
+    pub fn new(alloc: Global, numbers: Vec<u32>) -> Result<Listing, AllocError>
+        ensures { IfOk result (λ listing. listing.numbers.items ≡ numbers.items) }
+    {
+        let positions = first_positions(alloc, &numbers)?;
+        Ok(Listing { numbers, positions })
+    }
+
+    /// How many numbers there are.
+    pub fn len(&self) -> usize
+        ensures { result ≡ length self.now.numbers.items }
+    {
+        self.numbers.len()
+    }
+
+    /// The position of a number of the list.
+    pub fn position(&self, number: u32) -> usize
+        requires { Contains self.now.numbers.items number }
+        ensures within { result < length self.now.numbers.items }
+        ensures at { slice_index self.now.numbers.items result ≡ number }
+    {
+        self.positions.get(&number).copied().unwrap()
+    }
 }

@@ -1,10 +1,10 @@
 //! Which vertices lie on a ring.
 
-ghost use Rattle.std.specs.Prelude.{◌≡◌, ◌==◌, ◌<◌, ◌≤◌, ℕ, List, length, map, filter, All, IfOk, IsTrue, IfSome, Bool, true, false};
+ghost use Rattle.std.specs.Prelude.{◌≡◌, ◌==◌, ◌<◌, ◌≤◌, ℕ, List, length, map, filter, All, IfOk, IsTrue, IfSome, Bool, true, false, not, vec_len};
 ghost use Rattle.contracts.specs.Arcs.{AllWithin, AreRows, turned_arc};
 ghost use Rattle.contracts.specs.Graphs.{rows, InRange};
 ghost use Rattle.contracts.specs.Marking.{Reaches};
-ghost use Rattle.contracts.specs.Numbering.{TellsRings, AreRings, AreRoots, number_in};
+ghost use Rattle.contracts.specs.Numbering.{TellsRings, AreRings, AreRoots, TellArcs, number_in};
 
 use crate::arcs::{Arc, rows_of};
 use crate::marking::marked;
@@ -16,7 +16,7 @@ use std::alloc::{AllocError, Global};
 pub fn rings(alloc: Global, graph: &[Vec<usize>], arcs: &[Arc]) -> Result<Vec<bool>, AllocError>
     requires rows { AreRows (length graph.now) arcs.now (rows graph.now) }
     requires range { AllWithin (length graph.now) arcs.now }
-    ensures long { IfOk result (λ rings. length rings.items ≡ length graph.now) }
+    ensures rings { IfOk result (λ rings. AreRings (rows graph.now) rings.items) }
 {
     let numbers = found_numbers(alloc, graph, arcs)?;
     match rings_by_numbers(alloc, arcs, &numbers)? {
@@ -56,7 +56,8 @@ fn turned(alloc: Global, arcs: &[Arc]) -> Result<Vec<Arc>, AllocError>
 /// The arcs between vertices of one number.
 fn inner_arcs(alloc: Global, arcs: &[Arc], numbers: &[usize]) -> Result<Vec<Arc>, AllocError>
     requires range { AllWithin (length numbers.now) arcs.now }
-    ensures { IfOk result (λ inner. inner.items ≡ filter (λ a. number_in numbers.now a.from == number_in numbers.now a.to) arcs.now) }
+    ensures { IfOk result (λ inner. inner.items ≡ filter
+        (λ a. number_in numbers.now a.from == number_in numbers.now a.to) arcs.now) }
 {
     arcs.iter()
         .copied()
@@ -67,7 +68,8 @@ fn inner_arcs(alloc: Global, arcs: &[Arc], numbers: &[usize]) -> Result<Vec<Arc>
 /// No arc leads to a higher number.
 fn falls(arcs: &[Arc], numbers: &[usize]) -> bool
     requires range { AllWithin (length numbers.now) arcs.now }
-    ensures { IsTrue result → All (λ a. number_in numbers.now a.to ≤ number_in numbers.now a.from) arcs.now }
+    ensures { IsTrue result → All (λ a. number_in numbers.now a.to
+        ≤ number_in numbers.now a.from) arcs.now }
 {
     arcs.iter().all(|arc| numbers[arc.to] <= numbers[arc.from])
 }
@@ -102,10 +104,18 @@ fn named_by(alloc: Global, numbers: &[usize]) -> Result<Vec<usize>, AllocError> 
 fn reach_all(alloc: Global, graph: &[Vec<usize>], starts: &[usize]) -> Result<bool, AllocError>
     requires range { InRange (rows graph.now) }
     requires starts { All (λ s. s < length graph.now) starts.now }
-    ensures { IfOk result (λ all. all ≡ true → (v : ℕ) → v < length graph.now → Reaches (rows graph.now) starts.now v) }
+    ensures { IfOk result (λ all. all ≡ true → (v : ℕ) → v < length graph.now → Reaches
+        (rows graph.now) starts.now v) }
 {
     let marks = marked(alloc, graph, starts)?;
     Ok(marks.iter().all(|mark| *mark))
+}
+
+/// Which rows are not empty.
+fn filled(alloc: Global, graph: &[Vec<usize>]) -> Result<Vec<bool>, AllocError>
+    ensures { IfOk result (λ marks. marks.items ≡ map (λ row. not (vec_len row == 0)) graph.now) }
+{
+    graph.iter().map(|row| !row.is_empty()).collect(alloc)
 }
 
 /// Whether each vertex lies on a ring, where the numbers pass their test: no arc leads to a higher number, and one
@@ -116,7 +126,8 @@ fn rings_by_numbers(
     numbers: &[usize],
 ) -> Result<Option<Vec<bool>>, AllocError>
     requires range { AllWithin (length numbers.now) arcs.now }
-    ensures long { IfOk result (λ found. IfSome found (λ rings. length rings.items ≡ length numbers.now)) }
+    ensures rings { IfOk result (λ found. IfSome found (λ rings. TellArcs
+        (length numbers.now) arcs.now rings.items)) }
 {
     if !falls(arcs, numbers) {
         return Ok(None);
@@ -128,8 +139,7 @@ fn rings_by_numbers(
     let turned = turned(alloc, &inner)?;
     let up = rows_of(alloc, numbers.len(), &turned)?;
     if reach_all(alloc, &down, &starts)? && reach_all(alloc, &up, &starts)? {
-        let rings = down.iter().map(|row| !row.is_empty()).collect(alloc)?;
-        return Ok(Some(rings));
+        return Ok(Some(filled(alloc, &down)?));
     }
     Ok(None)
 }

@@ -1,5 +1,14 @@
 //! Contracts that meet the four conditions.
 
+ghost use Rattle.std.specs.Prelude.{◌≡◌, IfOk, OnOk};
+ghost use Rattle.std.proofs.Props.{props};
+ghost use Rattle.syntax.specs.declared.tree.Sign.TheVariants.{Send, Receive};
+ghost use Rattle.contracts.specs.Bounds.{IsBound, sign_to};
+ghost use Rattle.contracts.specs.Conditions.{FindingParts, IsFault, IsSound};
+ghost use Rattle.contracts.specs.Parts.{IsWhole, parts_of};
+ghost use Rattle.contracts.specs.Positions.{AreEdgePositions};
+ghost use Rattle.contracts.specs.Walks.{IsNext};
+
 use crate::bounds::{Bounds, bounds_of};
 use crate::conditions::faults;
 use crate::keys::edge_keys;
@@ -62,13 +71,23 @@ pub struct Sound {
     edges: Edges,
     bounds: Bounds,
     firsts: BTreeMap<(u32, u32), usize>,
+    pub ghost whole: { ∥ IsWhole (parts_of edges) ∥₁ },
+    pub ghost sound: { IsSound (parts_of edges) },
+    ghost to_imp: { ∥ IsBound edges.edges.items edges.first Send bounds.to_imp ∥₁ },
+    ghost to_exp: { ∥ IsBound edges.edges.items edges.first Receive bounds.to_exp ∥₁ },
+    ghost keyed: { AreEdgePositions edges.edges.items firsts } by { Prim.hlevel props },
 }
 
 impl Sound {
-    ghost use Rattle.contracts.specs.Parts.{IsWhole, parts_of};
+    ghost use Rattle.contracts.specs.Sounds.{sound_parts};
 
     /// A sound contract of these parts. `Found` comes exactly where a condition is not met.
     pub fn new(alloc: Global, edges: Edges) -> Result<Sound, SoundFault>
+        requires whole { IsWhole (parts_of edges) }
+        ensures parts { IfOk result (λ sound. sound_parts sound ≡ parts_of edges) }
+        ensures sound { OnOk result (IsSound (parts_of edges)) }
+        ensures found { result ≡ Err SoundFault.Found → (f : FindingParts) × IsFault
+            (parts_of edges) f }
     {
         let found = faults(alloc, &edges)?;
         if !found.is_empty() {
@@ -84,14 +103,21 @@ impl Sound {
         })
     }
 
-    /// Its parts.
-    pub fn edges(&self) -> &Edges {
+    /// Its parts, which meet the four conditions.
+    pub fn edges(&self) -> &Edges
+        ensures parts { parts_of result.now ≡ sound_parts self.now }
+        ensures whole { ∥ IsWhole (parts_of result.now) ∥₁ }
+        ensures sound { IsSound (parts_of result.now) }
+    {
         &self.edges
     }
 
     /// How many messages the queue to an end can hold: the greatest number of edges in a walk of `!` edges, for the
     /// importer, or of `?` edges, for the exporter, that begins at a state which can be reached from the first one.
-    pub fn bound(&self, side: Side) -> u32 {
+    pub fn bound(&self, side: Side) -> u32
+        ensures { ∥ IsBound (sound_parts self.now).edges (sound_parts self.now).first
+            (sign_to side) result ∥₁ }
+    {
         match side {
             Side::Imp => self.bounds.to_imp,
             Side::Exp => self.bounds.to_exp,
@@ -99,9 +125,10 @@ impl Sound {
     }
 
     /// The state in which the edge of a state on a message ends, if there is one.
-    pub fn next(&self, state: StateId, message: MessageId) -> Option<StateId> {
-        let position = self.firsts.get(&(state.0, message.0))?;
-        let edge = self.edges.edges.get(*position)?;
-        Some(edge.to)
+    pub fn next(&self, state: StateId, message: MessageId) -> Option<StateId>
+        ensures { IsNext (sound_parts self.now).edges state message result }
+    {
+        let position = self.firsts.get(&(state.0, message.0)).copied()?;
+        Some(self.edges.edges[position].to)
     }
 }

@@ -11,7 +11,8 @@ use std::alloc::Global;
 /// The parts of a contract of the program.
 pub fn edges(alloc: Global, resolved: &Resolved, id: ContractId) -> Result<Edges, Memory>
     requires { id.0 < length resolved.now.contracts.items }
-    ensures { IfOk result (λ edges. slice_get (map contract_parts resolved.now.contracts.items) id.0 ≡ Some (parts_of edges)) }
+    ensures { IfOk result (λ edges. slice_get
+        (map contract_parts resolved.now.contracts.items) id.0 ≡ Some (parts_of edges)) }
 {
     let contract: &Contract = &resolved.contracts[id.0 as usize];
     let states = copied_states(alloc, &contract.states)?;
@@ -40,7 +41,8 @@ fn copied_states(alloc: Global, states: &[State]) -> Result<Vec<State>, Memory>
 }
 
 fn copied_messages(alloc: Global, messages: &[Message]) -> Result<Vec<Message>, Memory>
-    ensures { IfOk result (λ copies. map message_parts copies.items ≡ map message_parts messages.now) }
+    ensures { IfOk result (λ copies. map message_parts copies.items
+        ≡ map message_parts messages.now) }
 {
     let mut copies = Vec::new(alloc);
     for message in messages {

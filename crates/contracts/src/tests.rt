@@ -1,9 +1,13 @@
 //! The worked contracts, by hand, and larger ones.
 
-use crate::{Edges, Sound, SoundFault, edges, faults};
+ghost use Rattle.std.specs.Prelude.{IfOk};
+ghost use Rattle.contracts.specs.Parts.{IsWhole, parts_of};
+
+use crate::{Edges, Sound, SoundFault, edges, faults, is_whole, two_ends};
 use names::{Contract, ContractId, Edge, Message, MessageId, Resolved, State, StateId};
-use source::{Code, Finding, Place};
+use source::{Code, Finding, Memory, Place};
 use std::alloc::{AllocError, Global};
+use std::process::Abort;
 use std::test::Fail;
 use syntax::{Direction, Side, Sign};
 
@@ -68,6 +72,15 @@ fn add_edge(
     Ok(())
 }
 
+/// The contract, once it is seen to be whole.
+fn whole(rt: &impl Abort, alloc: Global, edges: Edges) -> Result<Edges, Memory>
+    ensures { IfOk result (λ edges. IsWhole (parts_of edges)) }
+{
+    let whole = is_whole(alloc, &edges)?;
+    assert!(rt; whole);
+    Ok(edges)
+}
+
 /// `state Start: Req? -> Pend; state Pend: Rep! -> Start;`
 fn ping(alloc: Global) -> Result<Edges, AllocError> {
     let mut ping = empty(alloc, 7);
@@ -96,8 +109,9 @@ fn are(findings: &[Finding], wanted: &[(Code, u32, &str)]) -> bool {
 #[test]
 fn ping_is_sound(rt: HostRuntime) -> Result<(), Fail> {
     let alloc = rt.alloc();
-    assert!(rt; faults(alloc, &ping(alloc)?)?.is_empty());
-    let sound = Sound::new(alloc, ping(alloc)?)?;
+    let ping = whole(&rt, alloc, ping(alloc)?)?;
+    assert!(rt; faults(alloc, &ping)?.is_empty());
+    let sound = Sound::new(alloc, ping)?;
     assert_eq!(rt; sound.bound(Side::Exp), 1);
     assert_eq!(rt; sound.bound(Side::Imp), 1);
     assert_eq!(rt; sound.next(StateId(7), MessageId(3)), Some(StateId(5)));
@@ -105,6 +119,16 @@ fn ping_is_sound(rt: HostRuntime) -> Result<(), Fail> {
     assert_eq!(rt; sound.next(StateId(7), MessageId(4)), None);
     assert_eq!(rt; sound.next(StateId(9), MessageId(3)), None);
     assert_eq!(rt; sound.edges().first, StateId(7));
+    Ok(())
+}
+
+#[test]
+fn a_missing_state_is_seen(rt: HostRuntime) -> Result<(), Fail> {
+    let alloc = rt.alloc();
+    let mut ping = ping(alloc)?;
+    add_edge(&mut ping, 5, 4, Sign::Send, 6, 5)?;
+    assert!(rt; !is_whole(alloc, &ping)?);
+    two_ends();
     Ok(())
 }
 
@@ -127,7 +151,10 @@ fn parts_are_taken(rt: HostRuntime) -> Result<(), Fail> {
     assert_eq!(rt; taken.first, StateId(7));
     assert_eq!(rt; taken.states.len(), 2);
     assert_eq!(rt; taken.messages.len(), 2);
-    assert_eq!(rt; taken.edges.as_slice(), resolved.contracts[0].edges.as_slice());
+    assert_eq!(rt;
+        taken.edges.as_slice(),
+        resolved.contracts[0].edges.as_slice()
+    );
     for (state, wanted) in taken.states.iter().zip(&resolved.contracts[0].states) {
         assert_eq!(rt; state.name.as_str(), wanted.name.as_str());
     }
@@ -148,7 +175,7 @@ fn burst_holds_two(rt: HostRuntime) -> Result<(), Fail> {
     add_edge(&mut burst, 0, 0, Sign::Send, 1, 4)?;
     add_edge(&mut burst, 1, 1, Sign::Send, 2, 2)?;
     add_edge(&mut burst, 2, 2, Sign::Receive, 0, 5)?;
-    let sound = Sound::new(alloc, burst)?;
+    let sound = Sound::new(alloc, whole(&rt, alloc, burst)?)?;
     assert_eq!(rt; sound.bound(Side::Exp), 1);
     assert_eq!(rt; sound.bound(Side::Imp), 2);
     Ok(())
@@ -168,7 +195,7 @@ fn unreached_walks_do_not_count(rt: HostRuntime) -> Result<(), Fail> {
     add_edge(&mut edges, 0, 0, Sign::Receive, 3, 5)?;
     add_edge(&mut edges, 1, 1, Sign::Send, 2, 6)?;
     add_edge(&mut edges, 2, 1, Sign::Send, 3, 3)?;
-    let sound = Sound::new(alloc, edges)?;
+    let sound = Sound::new(alloc, whole(&rt, alloc, edges)?)?;
     assert_eq!(rt; sound.bound(Side::Exp), 1);
     assert_eq!(rt; sound.bound(Side::Imp), 0);
     Ok(())
@@ -185,6 +212,7 @@ fn rings_are_found_at_each_state(rt: HostRuntime) -> Result<(), Fail> {
     add_state(alloc, &mut ring, 2, "(A)", 3)?;
     add_edge(&mut ring, 1, 0, Sign::Send, 2, 4)?;
     add_edge(&mut ring, 2, 0, Sign::Send, 1, 3)?;
+    let ring = whole(&rt, alloc, ring)?;
     let found = faults(alloc, &ring)?;
     let wanted = [
         (Code::C04, 2, "one direction round U"),
@@ -207,7 +235,7 @@ fn mixed_and_repeated(rt: HostRuntime) -> Result<(), Fail> {
     add_edge(&mut mixed, 0, 0, Sign::Send, 1, 3)?;
     add_edge(&mut mixed, 0, 1, Sign::Receive, 1, 4)?;
     add_edge(&mut mixed, 0, 0, Sign::Send, 1, 5)?;
-    let found = faults(alloc, &mixed)?;
+    let found = faults(alloc, &whole(&rt, alloc, mixed)?)?;
     let wanted = [
         (Code::C02, 5, "A twice in a state"),
         (Code::C03, 1, "both directions in S"),
@@ -226,7 +254,7 @@ fn signs_count_as_written(rt: HostRuntime) -> Result<(), Fail> {
     add_state(alloc, &mut edges, 0, "S", 53)?;
     add_edge(&mut edges, 0, 0, Sign::Send, 0, 62)?;
     add_edge(&mut edges, 0, 1, Sign::Send, 0, 71)?;
-    let found = faults(alloc, &edges)?;
+    let found = faults(alloc, &whole(&rt, alloc, edges)?)?;
     let wanted = [
         (Code::C04, 53, "one direction round S"),
         (Code::C01, 62, "X against its direction"),
@@ -252,7 +280,7 @@ fn long_path(alloc: Global, count: u32) -> Result<Edges, AllocError> {
 #[test]
 fn two_thousand_states_on_a_path(rt: HostRuntime) -> Result<(), Fail> {
     let alloc = rt.alloc();
-    let sound = Sound::new(alloc, long_path(alloc, 2_000)?)?;
+    let sound = Sound::new(alloc, whole(&rt, alloc, long_path(alloc, 2_000)?)?)?;
     assert_eq!(rt; sound.bound(Side::Imp), 2_000);
     assert_eq!(rt; sound.bound(Side::Exp), 0);
     Ok(())
@@ -263,6 +291,7 @@ fn two_thousand_states_on_a_ring(rt: HostRuntime) -> Result<(), Fail> {
     let alloc = rt.alloc();
     let mut ring = long_path(alloc, 2_000)?;
     add_edge(&mut ring, 0, 0, Sign::Send, 2_000, 2)?;
+    let ring = whole(&rt, alloc, ring)?;
     assert_eq!(rt; faults(alloc, &ring)?.len(), 2_001);
     Ok(())
 }
@@ -283,7 +312,7 @@ fn a_complete_order(rt: HostRuntime) -> Result<(), Fail> {
             }
         }
     }
-    let sound = Sound::new(alloc, order)?;
+    let sound = Sound::new(alloc, whole(&rt, alloc, order)?)?;
     assert_eq!(rt; sound.bound(Side::Exp), 59);
     assert_eq!(rt; sound.next(StateId(5), MessageId(50)), Some(StateId(50)));
     Ok(())

@@ -1,22 +1,11 @@
--- Findings without memory, and those of this stage.
+-- The findings of this stage.
 use Rattle.std.specs.Prelude.{◌≡◌, ℕ, List, map, ◌++◌, codes}
-use Rattle.std.specs.String.{string_bytes}
 use Rattle.std.specs.Str.Lossy.{utf8_lossy}
-use Rattle.source.specs.declared.finding.Code.{Code}
 use Rattle.source.specs.declared.finding.Code.TheVariants.{N01, N02, N06}
 use Rattle.source.specs.declared.finding.Finding.{Finding}
-use Rattle.source.specs.declared.place.Place.{Place}
+pub use Rattle.source.specs.Findings.{FindingParts, finding_parts}
 use Rattle.source.specs.declared.token.Span.{Span}
 use Rattle.names.specs.Words.{word_at}
-
--- a finding: its place, its code and its text
-pub record FindingParts : Type 0 where
-  pub place : Place
-  pub code : Code
-  pub text : List ℕ
-
-abbrev pub finding_parts : Finding → FindingParts
-finding_parts f = record { place = f.place; code = f.code; text = string_bytes f.text }
 
 -- a name that an earlier one has
 abbrev pub declared_twice : List ℕ → Span → FindingParts

@@ -1,6 +1,7 @@
 //! The stages before the methods: the text, its names and its contracts.
 
-ghost use Rattle.std.specs.Prelude.{◌≤◌, length};
+ghost use Rattle.std.specs.Prelude.{◌≤◌, ◌<◌, All, length};
+ghost use Rattle.names.specs.Parts.{IsWhole, contract_parts};
 
 use contracts::{Sound, SoundFault, edges, faults};
 use names::{ContractId, NameFaults, Resolved, resolve};
@@ -59,24 +60,18 @@ fn named(alloc: Global, tree: &Tree, tokens: &Tokens) -> Result<Staged, Memory> 
     }
 }
 
-/// How many contracts a resolved program has.
-fn count_of(resolved: &Resolved) -> u32
-    ensures { result ≤ length resolved.now.contracts.items }
+/// The contracts that are sound, or what is wrong with the others.
+fn judged(alloc: Global, resolved: Resolved) -> Result<Staged, Memory>
+    requires { All (λ c. IsWhole (contract_parts c)) resolved.contracts.items }
 {
-    u32::try_from(resolved.contracts.len()).unwrap_or(u32::MAX)
-}
-
-fn judged(alloc: Global, resolved: Resolved) -> Result<Staged, Memory> {
-    let mut findings = Vec::new(alloc);
-    let mut sounds = Vec::new(alloc);
+    let mut judging = Judging {
+        sounds: Vec::new(alloc),
+        findings: Vec::new(alloc),
+    };
     for number in 0..count_of(&resolved) {
-        let edges = edges(alloc, &resolved, ContractId(number))?;
-        let mut more = faults(alloc, &edges)?;
-        if more.is_empty() {
-            add_sound(alloc, edges, &mut sounds)?;
-        }
-        findings.append(&mut more)?;
+        judge(alloc, &resolved, ContractId(number), &mut judging)?;
     }
+    let Judging { sounds, findings } = judging;
     if findings.is_empty() {
         Ok(Staged::Clean(Clean { resolved, sounds }))
     } else {
@@ -84,14 +79,36 @@ fn judged(alloc: Global, resolved: Resolved) -> Result<Staged, Memory> {
     }
 }
 
-fn add_sound(
+/// How many contracts a resolved program has. The names of more than 256 are a finding.
+fn count_of(resolved: &Resolved) -> u32
+    ensures { result ≤ length resolved.now.contracts.items }
+{
+    u32::try_from(resolved.contracts.len()).unwrap_or(u32::MAX)
+}
+
+/// What has been judged so far.
+#[derive(Drop)]
+struct Judging {
+    sounds: Vec<Sound>,
+    findings: Vec<Finding>,
+}
+
+/// Adds a contract where it is sound, and else what is wrong with it.
+fn judge(
     alloc: Global,
-    edges: contracts::Edges,
-    sounds: &mut Vec<Sound>,
-) -> Result<(), Memory> {
-    match Sound::new(alloc, edges) {
-        Ok(sound) => sounds.push(sound)?,
-        Err(SoundFault::Found) => {}
+    resolved: &Resolved,
+    id: ContractId,
+    judging: &mut Judging,
+) -> Result<(), Memory>
+    requires there { id.0 < length resolved.now.contracts.items }
+    requires whole { All (λ c. IsWhole (contract_parts c)) resolved.now.contracts.items }
+{
+    match Sound::new(alloc, edges(alloc, resolved, id)?) {
+        Ok(sound) => judging.sounds.push(sound)?,
+        Err(SoundFault::Found) => {
+            let mut more = faults(alloc, &edges(alloc, resolved, id)?)?;
+            judging.findings.append(&mut more)?;
+        }
         Err(SoundFault::Memory) => return Err(Memory),
     }
     Ok(())

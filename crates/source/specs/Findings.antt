@@ -12,6 +12,15 @@ use Rattle.source.specs.declared.finding.Code.{Code}
 use Rattle.source.specs.declared.finding.Code.TheVariants.{A01, A02, A03, A04, A05, A06, A07, A08, A09, A10, A11, A12, A13, A14, C01, C02, C03, C04, N01, N02, N03, N04, N05, N06, N07, N08, N09, S01, S02, S03, S04, S05, S06}
 use Rattle.source.specs.declared.finding.Finding.{Finding}
 
+-- a finding without its memory: its place, its code and its text
+pub record FindingParts : Type 0 where
+  pub place : Place
+  pub code : Code
+  pub text : List ℕ
+
+abbrev pub finding_parts : Finding → FindingParts
+finding_parts f = record { place = f.place; code = f.code; text = string_bytes f.text }
+
 -- it is found at this place, and has this code and this text
 pub record IsFinding (at : Place) (kind : Code) (says : List ℕ) (f : Finding) : Type 0 where
   pub place : f.place ≡ at

@@ -1,5 +1,6 @@
-use Rattle.contracts.specs.Arcs.{AllWithin}
+use Rattle.std.proofs.Common.{take}
+use Rattle.contracts.specs.Arcs.{AreArcs}
 use Rattle.contracts.proofs.arcs.arcs_of.Given as goal
 
 abbrev pub invariant-loop-edge : goal.invariant-loop-edge
-invariant-loop-edge l = AllWithin l.count l.arcs.items
+invariant-loop-edge l = AreArcs l.states.numbers.items (take l.edge-index l.edges) l.sign l.arcs.items

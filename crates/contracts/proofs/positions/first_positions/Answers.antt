@@ -1,4 +1,4 @@
-use Rattle.std.proofs.Common.{◌≡◌, ◌+◌, [], ◌∷◌, ◌++◌, length, Some, cond, get_or, take, sym, ap, ◌∙◌, subst, arith}
+use Rattle.std.proofs.Common.{[], ◌∷◌, ◌++◌, length, Some, cond, take, sym, ap, ◌∙◌, arith}
 use Rattle.std.specs.Prelude.{is_some}
 use Rattle.std.specs.BTreeMap.{get}
 use Rattle.std.specs.Ordering.{eq_by_cmp}
@@ -22,10 +22,10 @@ loop-i-preserved g c = λ k.
       | then-not-contains_key+in_ok-insert w ↦
           let size = length-take-le i keys (omega (arith, c.loop-i-test.true)) in
           ap (λ m. get cmp m k) w.positions-is ∙ w.in_ok-insert.ensures.updates.0 k
-              ∙ ap (λ n. cond (eq_by_cmp cmp key k) (Some n) (get cmp c.loop-i.positions k)) (sym size)
-              ∙ ap (λ o. cond (eq_by_cmp cmp key k) (Some (length (take i keys))) o) (c.loop-i.invariant k)
-              ∙ sym (position_added (eq_by_cmp cmp) laws (take i keys) key k (sym there ∙ w.if-not-contains_key.true))
-              ∙ sym (ap (λ l. first_position cmp l k) more)
+          ∙ ap (λ n. cond (eq_by_cmp cmp key k) (Some n) (get cmp c.loop-i.positions k)) (sym size)
+          ∙ ap (λ o. cond (eq_by_cmp cmp key k) (Some (length (take i keys))) o) (c.loop-i.invariant k)
+          ∙ sym (position_added (eq_by_cmp cmp) laws (take i keys) key k (sym there ∙ w.if-not-contains_key.true))
+          ∙ sym (ap (λ l. first_position cmp l k) more)
       | else-not-contains_key w ↦ ap (λ m. get cmp m k) w.positions-is ∙ c.loop-i.invariant k ∙ sym (position_kept (eq_by_cmp cmp) laws (take i keys) key k (sym there ∙ w.if-not-contains_key.false)) ∙ sym (ap (λ l. first_position cmp l k) more)
     ]
 

@@ -1,6 +1,4 @@
 use Rattle.std.proofs.Common.{length, ◌∙◌}
-
-use Rattle.contracts.specs.declared.arcs.Arc.{Arc}
 use Rattle.contracts.proofs.ArcLemmas.{turned_within}
 use Rattle.contracts.proofs.ringing.found_numbers.Goals as goal
 

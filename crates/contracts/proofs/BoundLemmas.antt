@@ -1,0 +1,69 @@
+-- Bounds of a contract from the longest walks of its graphs.
+use Rattle.std.proofs.Common.{◌≡◌, ℕ, ◌<◌, List, ◌++◌, length, get_or, Bool, refl, ⊎_elim}
+use Rattle.std.specs.Prelude.{All}
+use Rattle.std.proofs.lemmas.List.Elements.{Contains-append_cases, Contains-append_left, Contains-append_right}
+use Rattle.syntax.specs.declared.tree.Sign.{Sign}
+use Rattle.syntax.specs.declared.tree.Sign.TheVariants.{Send, Receive}
+use Rattle.names.specs.declared.resolved.Edge.{Edge}
+use Rattle.names.specs.declared.resolved.StateId.{StateId}
+use Rattle.contracts.specs.declared.arcs.Arc.{Arc}
+use Rattle.contracts.specs.Arcs.{AreRows, IsDrawn, Joins, arc}
+use Rattle.contracts.specs.Bounds.{IsBound}
+use Rattle.contracts.specs.Graphs.{HasEdge}
+use Rattle.contracts.specs.Reached.{AreReached, IsLongest}
+use Rattle.contracts.proofs.PartLemmas.{IsOnce}
+use Rattle.contracts.proofs.SignLemmas.{each_sign}
+use Rattle.contracts.proofs.WalkLemmas.{spelt, traced}
+
+abbrev Any : Edge → Type 0
+Any e = Unit {0}
+
+abbrev Leaves : List ℕ → Edge → List (List ℕ) → Type 0
+Leaves numbers e graph = (v : ℕ) × ((w : ℕ) × HasEdge graph v w × Joins numbers e v w)
+
+-- the arcs of both signs draw all edges
+any_drawn : (numbers : List ℕ) (edges : List Edge) (a b : List Arc) (sends receives graph : List (List ℕ))
+    → AreRows (length numbers) a sends → AreRows (length numbers) b receives
+    → IsDrawn numbers edges (λ e. e.sign ≡ Send) sends → IsDrawn numbers edges (λ e. e.sign ≡ Receive) receives
+    → AreRows (length numbers) (a ++ b) graph → IsDrawn numbers edges Any graph
+any_drawn numbers edges a b sends receives graph in_a in_b drawn_a drawn_b all = record {
+  long = all.long;
+  right = λ v w edge. ⊎_elim
+      (λ x. let r = drawn_a.right v w (in_a.all v w x) in (r.0, r.1, tt, r.3))
+      (λ x. let r = drawn_b.right v w (in_b.all v w x) in (r.0, r.1, tt, r.3))
+      (Contains-append_cases a b (arc v w) (all.right v w edge));
+  all = λ e c _. each_sign (λ s. e.sign ≡ s → Leaves numbers e graph)
+      (λ is. let r = drawn_a.all e c is in (r.0, (r.1.0, all.all r.0 r.1.0 (Contains-append_left a b (arc r.0 r.1.0) (in_a.right r.0 r.1.0 r.1.1)), r.1.2)))
+      (λ is. let r = drawn_b.all e c is in (r.0, (r.1.0, all.all r.0 r.1.0 (Contains-append_right a b (arc r.0 r.1.0) (in_b.right r.0 r.1.0 r.1.1)), r.1.2)))
+      e.sign refl;
+}
+
+any_all : (walk : List Edge) → All Any walk
+any_all walk = λ k d lt. tt
+
+-- what the longest walk of a graph says of the contract
+pub bound_is : (numbers : List ℕ) (edges : List Edge) (sign : Sign) (a b : List Arc) (sends receives graph : List (List ℕ)) (marks : List Bool) (first : StateId) (v n : ℕ)
+    → IsOnce numbers → v < length numbers → get_or numbers v 0 ≡ first.0
+    → AreRows (length numbers) a sends → AreRows (length numbers) b receives
+    → IsDrawn numbers edges (λ e. e.sign ≡ Send) sends → IsDrawn numbers edges (λ e. e.sign ≡ Receive) receives
+    → AreReached (length numbers) (a ++ b) v marks
+    → IsDrawn numbers edges (λ e. e.sign ≡ sign) graph → IsLongest graph marks n → IsBound edges first sign n
+bound_is numbers edges sign a b sends receives graph marks first v n once lt at in_a in_b drawn_a drawn_b reached drawn longest =
+    let whole = any_drawn numbers edges a b sends receives reached.graph in_a in_b drawn_a drawn_b reached.drawn in
+    let way = reached.right longest.from longest.marked in
+    let there = spelt numbers edges Any reached.graph whole way.0 v longest.from first at way.1 in
+    let onward = spelt numbers edges (λ e. e.sign ≡ sign) graph drawn n longest.from longest.to there.to there.at longest.walk in
+    record {
+      most = λ p q path walk leads more one_sign.
+          let t = traced numbers edges Any reached.graph once whole path first p v lt at leads (any_all path) in
+          let u = traced numbers edges (λ e. e.sign ≡ sign) graph once drawn walk p q t.to t.within t.at more one_sign in
+          longest.most t.to u.to (length walk) (reached.all t.to (length path) t.walk) u.walk;
+      from = there.to;
+      to = onward.to;
+      way = there.walk;
+      walk = onward.walk;
+      reached = there.leads;
+      leads = onward.leads;
+      one_sign = onward.has;
+      long = onward.long;
+    }

@@ -1,0 +1,189 @@
+-- What is found at one edge or one state.
+use Rattle.std.proofs.Common.{◌≡◌, ◌≢◌, ℕ, ◌+◌, ◌<◌, List, [], ◌∷◌, ◌++◌, length, map, get_or, Option, Some, None, not, true, false, eqb, sym, refl, ap, ◌∙◌, arith, ⊎_elim}
+use Rattle.std.specs.Prelude.{Contains, AllPairs, slice_get, codes, string_bytes, ◌⊎◌}
+use Rattle.std.specs.Str.Lossy.{utf8_lossy}
+use Rattle.std.proofs.lemmas.Bool.{cases_order, cases_Bool, true≢false, eq-eqb, eqb-true}
+use Rattle.std.specs.Option.{option_eq}
+use Rattle.std.proofs.lemmas.List.{get_or-map, length-map, map-append}
+use Rattle.source.specs.declared.finding.Code.{Code}
+use Rattle.source.specs.declared.finding.Code.TheVariants.{C01, C02, C03}
+use Rattle.source.specs.declared.finding.Finding.{Finding}
+use Rattle.source.specs.declared.place.Place.{Place}
+use Rattle.names.specs.declared.resolved.Edge.{Edge}
+use Rattle.names.specs.declared.resolved.MessageId.{MessageId}
+use Rattle.names.specs.declared.resolved.StateId.{StateId}
+use Rattle.syntax.specs.declared.tree.Sign.{Sign}
+use Rattle.syntax.specs.declared.tree.Sign.TheVariants.{Send, Receive}
+use Rattle.std.specs.Ordering.{is_eq}
+use Rattle.std.proofs.lemmas.List.Quantifiers.{position-Some}
+use Rattle.std.proofs.lemmas.Option.{slice_get_within, get_or_from_slice_get, slice_get-get_or}
+use Rattle.contracts.specs.Positions.{first_position, key_of, pair_cmp}
+use Rattle.contracts.proofs.PositionLemmas.{not_first, pair_equal, equal_pair}
+use Rattle.contracts.specs.Parts.{StateParts, MessageParts}
+use Rattle.contracts.specs.Conditions.{FindingParts, finding_parts, sign_of, IsAgainst, IsTwice, IsBoth}
+use Rattle.contracts.specs.Found.{FoundBelow}
+use Rattle.contracts.proofs.FoundLemmas.{found_same, found_more}
+use Rattle.contracts.proofs.PartLemmas.{get_again}
+
+-- of two elements with one key, where each key stands once
+pub once : {A B : Type 0} (key : A → B) (xs : List A) → AllPairs (λ x y. x ≢ y) (map key xs) → (x y : A) → Contains xs x → Contains xs y → key x ≡ key y → x ≡ y
+once key xs apart x y c d same =
+    let size = length-map xs key in
+    let in_x = c.1 in
+    let in_y = d.1 in
+    let at_x : get_or (map key xs) c.0 (key x) ≡ key x = get_or-map key xs c.0 x (key x) c.1 ∙ ap key c.2 in
+    let at_y : get_or (map key xs) d.0 (key x) ≡ key y = get_or-map key xs d.0 y (key x) d.1 ∙ ap key d.2 in
+    ⊎_elim
+    (λ equal. sym c.2 ∙ ap (λ k. get_or xs k x) equal ∙ get_again xs d.0 y x d.1 ∙ d.2)
+    (λ either. ⊎_elim
+    (λ less. absurd (apart c.0 d.0 (key x) less (omega (arith, size, in_y)) (at_x ∙ same ∙ sym at_y)))
+    (λ more. absurd (apart d.0 c.0 (key x) more (omega (arith, size, in_x)) (at_y ∙ sym same ∙ sym at_x)))
+    either)
+    (cases_order c.0 d.0)
+
+abbrev made : Place → Code → List ℕ → FindingParts
+made p c t = record { place = p; code = c; text = t }
+
+-- a finding from its three parts
+pub parts_are : (f : Finding) (place : Place) (code : Code) (text : List ℕ) → f.place ≡ place → f.code ≡ code → string_bytes f.text ≡ text → finding_parts f ≡ record { place = place; code = code; text = text }
+parts_are f place code text p c t = ap (λ x. made x f.code (string_bytes f.text)) p ∙ ap (λ x. made place x (string_bytes f.text)) c ∙ ap (made place code) t
+
+pub one_of : {A : Type 0} (x y : A) → Some x ≡ Some y → x ≡ y
+one_of x y e = cc
+
+abbrev against : Edge → MessageParts → FindingParts
+against e m = record { place = e.place; code = C01; text = utf8_lossy m.name ++ codes " against its direction" }
+
+pub against_more : (messages : List MessageParts) (edges : List Edge) (i : ℕ) (e : Edge) (m : MessageParts) (found : List FindingParts)
+    → AllPairs (λ x y. x ≢ y) (map (λ (m : MessageParts). m.id) messages) → slice_get edges i ≡ Some e → Contains messages m → m.id ≡ e.message → e.sign ≢ sign_of m.direction
+    → FoundBelow (IsAgainst messages edges) i found → FoundBelow (IsAgainst messages edges) (i + 1) (found ++ record { place = e.place; code = C01; text = utf8_lossy m.name ++ codes " against its direction" } ∷ [])
+against_more messages edges i e m found apart at listed its differs h = found_more (IsAgainst messages edges) i found (against e m) h
+    (record { edge = e; at = at; message = m; listed = listed; its = its; differs = differs; is = refl })
+    (λ f is. let same : e ≡ is.edge = one_of e is.edge (sym at ∙ is.at) in
+    let named : m ≡ is.message = once (λ (m : MessageParts). m.id) messages apart m is.message listed is.listed (its ∙ ap (λ (x : Edge). x.message) same ∙ sym is.its) in
+    ap (λ x. against x m) same ∙ ap (against is.edge) named ∙ sym is.is)
+
+pub against_same : (messages : List MessageParts) (edges : List Edge) (i : ℕ) (e : Edge) (m : MessageParts) (found : List FindingParts)
+    → AllPairs (λ x y. x ≢ y) (map (λ (m : MessageParts). m.id) messages) → slice_get edges i ≡ Some e → Contains messages m → m.id ≡ e.message → e.sign ≡ sign_of m.direction
+    → FoundBelow (IsAgainst messages edges) i found → FoundBelow (IsAgainst messages edges) (i + 1) found
+against_same messages edges i e m found apart at listed its agrees h = found_same (IsAgainst messages edges) i found h
+    (λ f is. let same : e ≡ is.edge = one_of e is.edge (sym at ∙ is.at) in
+    let named : m ≡ is.message = once (λ (m : MessageParts). m.id) messages apart m is.message listed is.listed (its ∙ ap (λ (x : Edge). x.message) same ∙ sym is.its) in
+    is.differs (ap (λ (x : Edge). x.sign) (sym same) ∙ agrees ∙ ap (λ (x : MessageParts). sign_of x.direction) named))
+
+-- one more finding
+pub pushed : (found new : List Finding) (f : Finding) (g : FindingParts) → new ≡ found ++ f ∷ [] → finding_parts f ≡ g → map finding_parts new ≡ map finding_parts found ++ g ∷ []
+pushed found new f g is same = ap (map finding_parts) is ∙ map-append finding_parts found (f ∷ []) ∙ ap (λ x. map finding_parts found ++ x ∷ []) same
+
+abbrev pub twice : Edge → MessageParts → FindingParts
+twice e m = record { place = e.place; code = C02; text = utf8_lossy m.name ++ codes " twice in a state" }
+
+abbrev state_of : ℕ → StateId
+state_of n = record { 0 = n }
+
+abbrev message_of : ℕ → MessageId
+message_of n = record { 0 = n }
+
+-- edges with one state and one message have one key
+pub keys_same : (d e : Edge) → d.from ≡ e.from → d.message ≡ e.message → key_of d ≡ key_of e
+keys_same d e state message = ap (λ (x : StateId). pair x.0 d.message.0) state ∙ ap (λ (x : MessageId). pair e.from.0 x.0) message
+  where
+    pair : ℕ → ℕ → ℕ × ℕ
+    pair a b = (a, b)
+
+pub twice_more : (messages : List MessageParts) (edges : List Edge) (i : ℕ) (e : Edge) (m : MessageParts) (found : List FindingParts)
+    → AllPairs (λ x y. x ≢ y) (map (λ (m : MessageParts). m.id) messages) → slice_get edges i ≡ Some e → Contains messages m → m.id ≡ e.message
+    → (j : ℕ) × ((d : Edge) × (j < i) × (slice_get edges j ≡ Some d) × (key_of d ≡ key_of e))
+    → FoundBelow (IsTwice messages edges) i found → FoundBelow (IsTwice messages edges) (i + 1) (found ++ record { place = e.place; code = C02; text = utf8_lossy m.name ++ codes " twice in a state" } ∷ [])
+twice_more messages edges i e m found apart at listed its before h = found_more (IsTwice messages edges) i found (twice e m) h
+    (record {
+      edge = e;
+      at = at;
+      place = before.0;
+      before = before.1.1;
+      earlier = before.1.0;
+      there = before.1.2;
+      state = ap (λ (k : ℕ × ℕ). state_of k.0) before.1.3;
+      same = ap (λ (k : ℕ × ℕ). message_of k.1) before.1.3;
+      message = m;
+      listed = listed;
+      its = its;
+      is = refl;
+    })
+    (λ f is. let same : e ≡ is.edge = one_of e is.edge (sym at ∙ is.at) in
+    let named : m ≡ is.message = once (λ (m : MessageParts). m.id) messages apart m is.message listed is.listed (its ∙ ap (λ (x : Edge). x.message) same ∙ sym is.its) in
+    ap (λ x. twice x m) same ∙ ap (twice is.edge) named ∙ sym is.is)
+
+pub twice_same : (messages : List MessageParts) (edges : List Edge) (i : ℕ) (e : Edge) (found : List FindingParts)
+    → slice_get edges i ≡ Some e → ((j : ℕ) (d : Edge) → j < i → slice_get edges j ≡ Some d → key_of d ≡ key_of e → ⊥)
+    → FoundBelow (IsTwice messages edges) i found → FoundBelow (IsTwice messages edges) (i + 1) found
+twice_same messages edges i e found at none h = found_same (IsTwice messages edges) i found h
+    (λ f is. let same : e ≡ is.edge = one_of e is.edge (sym at ∙ is.at) in
+    none is.place is.earlier is.before is.there (keys_same is.earlier e (is.state ∙ ap (λ (x : Edge). x.from) (sym same)) (is.same ∙ ap (λ (x : Edge). x.message) (sym same))))
+
+-- where the map has another position for the edge's key, an edge before it has the key
+pub earlier_key : (edges : List Edge) (i : ℕ) (e : Edge) → slice_get edges i ≡ Some e → (first_position pair_cmp (map key_of edges) (key_of e) ≡ Some i → ⊥) → (j : ℕ) × ((d : Edge) × (j < i) × (slice_get edges j ≡ Some d) × (key_of d ≡ key_of e))
+earlier_key edges i e at other =
+    let lt = slice_get_within edges i e at in
+    let size = length-map edges key_of in
+    let here : get_or (map key_of edges) i (key_of e) ≡ key_of e = get_or-map key_of edges i e (key_of e) lt ∙ ap key_of (get_or_from_slice_get edges i e e at) in
+    let n = not_first (λ x. is_eq (pair_cmp (key_of e) x)) (map key_of edges) i (key_of e) (omega (arith, lt, size)) (equal_pair (key_of e) _ (sym here)) other in
+    let less = n.1 in
+    let below : n.0 < length edges = omega (arith, less, lt) in
+    (n.0, (get_or edges n.0 e, n.1, slice_get-get_or edges n.0 e below, sym (get_or-map key_of edges n.0 e (key_of e) below) ∙ sym (pair_equal (key_of e) _ n.2)))
+
+-- where the map has the edge's position, none before it has the key
+pub no_earlier_key : (edges : List Edge) (i : ℕ) (e : Edge) → slice_get edges i ≡ Some e → first_position pair_cmp (map key_of edges) (key_of e) ≡ Some i → (j : ℕ) (d : Edge) → j < i → slice_get edges j ≡ Some d → key_of d ≡ key_of e → ⊥
+no_earlier_key edges i e at is j d less there same =
+    let below = slice_get_within edges j d there in
+    let at_j : get_or (map key_of edges) j (key_of e) ≡ key_of e = get_or-map key_of edges j d (key_of e) below ∙ ap key_of (get_or_from_slice_get edges j d d there) ∙ same in
+    let no' = (position-Some (λ x. is_eq (pair_cmp (key_of e) x)) (map key_of edges) i (key_of e) is).2 j less in
+    true≢false (sym (equal_pair (key_of e) _ (sym at_j)) ∙ no')
+
+abbrev pub both : StateParts → FindingParts
+both s = record { place = s.place; code = C03; text = codes "both directions in " ++ utf8_lossy s.name }
+
+pub both_more : (states : List StateParts) (edges : List Edge) (i : ℕ) (s : StateParts) (found : List FindingParts)
+    → slice_get states i ≡ Some s
+    → (e : Edge) × Contains edges e × (e.from ≡ s.id) × (e.sign ≡ Send)
+    → (e : Edge) × Contains edges e × (e.from ≡ s.id) × (e.sign ≡ Receive)
+    → FoundBelow (IsBoth states edges) i found → FoundBelow (IsBoth states edges) (i + 1) (found ++ record { place = s.place; code = C03; text = codes "both directions in " ++ utf8_lossy s.name } ∷ [])
+both_more states edges i s found at a b h = found_more (IsBoth states edges) i found (both s) h
+    (record {
+      state = s;
+      at = at;
+      sends = a.0;
+      sends_in = a.1;
+      sends_from = a.2;
+      sends_sign = a.3;
+      receives = b.0;
+      receives_in = b.1;
+      receives_from = b.2;
+      receives_sign = b.3;
+      is = refl;
+    })
+    (λ f is. let same : s ≡ is.state = one_of s is.state (sym at ∙ is.at) in ap both same ∙ sym is.is)
+
+-- no edge of the sign begins at the state
+abbrev pub NoneFrom : List Edge → StateId → Sign → Type 0
+NoneFrom edges q sign = (e : Edge) → Contains edges e → e.sign ≡ sign → e.from ≡ q → ⊥
+
+pub both_same : (states : List StateParts) (edges : List Edge) (i : ℕ) (found : List FindingParts)
+    → ((s : StateParts) → slice_get states i ≡ Some s → NoneFrom edges s.id Send ⊎ NoneFrom edges s.id Receive)
+    → FoundBelow (IsBoth states edges) i found → FoundBelow (IsBoth states edges) (i + 1) found
+both_same states edges i found none h = found_same (IsBoth states edges) i found h
+    (λ f is. ⊎_elim
+    (λ a. a is.sends is.sends_in is.sends_sign is.sends_from)
+    (λ b. b is.receives is.receives_in is.receives_sign is.receives_from)
+    (none is.state is.at))
+
+pub option_ne : (o : Option ℕ) (i : ℕ) → not (option_eq eqb o (Some i)) ≡ true → o ≡ Some i → ⊥
+option_ne None i h e = cc
+option_ne (Some k) i h e = let same : k ≡ i = one_of k i e in true≢false (sym h ∙ ap not (eq-eqb k i same))
+
+pub option_same : (o : Option ℕ) (i : ℕ) → not (option_eq eqb o (Some i)) ≡ false → o ≡ Some i
+option_same None i h = absurd (true≢false h)
+option_same (Some k) i h = ap (λ x. Some x) (⊎_elim
+    (λ same. eqb-true k i same)
+    (λ differ. absurd (true≢false (sym (ap not differ) ∙ h)))
+    (cases_Bool (eqb k i)))

@@ -1,0 +1,41 @@
+-- From positions of numbers to the lists of a contract.
+use Rattle.std.proofs.Common.{◌≡◌, ◌≢◌, ℕ, ◌<◌, List, length, map, get_or, Option, Some, None, sym, refl, ap, ◌∙◌, subst, arith}
+use Rattle.std.specs.Prelude.{Contains, AllPairs, IsSome}
+use Rattle.std.specs.BTreeMap.{BTreeMap, get}
+use Rattle.std.specs.Ordering.{is_eq, nat_cmp}
+use Rattle.std.proofs.lemmas.Bool.{true≢false}
+use Rattle.std.proofs.lemmas.List.{length-map, get_or-map}
+use Rattle.std.proofs.lemmas.List.Quantifiers.{position-Some}
+use Rattle.contracts.specs.Positions.{ArePositions, first_position}
+use Rattle.contracts.proofs.PartLemmas.{get_again}
+use Rattle.contracts.proofs.PositionLemmas.{equal_is, is_equal}
+use Rattle.contracts.proofs.RingLemmas.{made_from}
+
+-- numbers of which each stands first where it stands differ
+pub firsts_once : (numbers : List ℕ) → ((k : ℕ) → k < length numbers → first_position nat_cmp numbers (get_or numbers k 0) ≡ Some k) → AllPairs (λ x y. x ≢ y) numbers
+firsts_once numbers firsts = λ i j d less lt same.
+    let x = get_or numbers j 0 in
+    let other = (position-Some (λ y. is_eq (nat_cmp x y)) numbers j 0 (firsts j lt)).2 i less in
+    let equal : x ≡ get_or numbers i 0 = get_again numbers j d 0 lt ∙ sym same ∙ get_again numbers i 0 d (omega (arith, less, lt)) in
+    true≢false (sym (is_equal x) ∙ ap (λ y. is_eq (nat_cmp x y)) equal ∙ other)
+
+some_of : (o : Option ℕ) → IsSome o → (i : ℕ) × (o ≡ Some i)
+some_of None some = absurd (true≢false (sym some))
+some_of (Some i) some = (i, refl)
+
+-- what has a position stands in the list
+pub number_in : (numbers : List ℕ) (positions : BTreeMap ℕ ℕ) → ArePositions numbers positions → (x : ℕ) → IsSome (get nat_cmp positions x) → Contains numbers x
+number_in numbers positions are x some =
+    let at = some_of (first_position nat_cmp numbers x) (subst IsSome (are x) some) in
+    let found = position-Some (λ y. is_eq (nat_cmp x y)) numbers at.0 x at.1 in
+    (at.0, found.0, sym (equal_is x (get_or numbers at.0 x) found.1))
+
+-- what is told apart by numbers that differ differs
+pub ids_once : {A : Type 0} (number : A → ℕ) (ids : List A) → AllPairs (λ x y. x ≢ y) (map number ids) → AllPairs (λ x y. x ≢ y) ids
+ids_once number ids apart = λ i j d less lt same.
+    let size = length-map ids number in
+    let below : i < length ids = omega (arith, less, lt) in
+    apart i j (number d) less (omega (arith, lt, size)) (get_or-map number ids i d (number d) below ∙ ap number same ∙ sym (get_or-map number ids j d (number d) lt))
+
+pub id_in : {A : Type 0} (number : A → ℕ) (ids : List A) (x : A) → ((a b : A) → number a ≡ number b → a ≡ b) → Contains (map number ids) (number x) → Contains ids x
+id_in number ids x one c = let m = made_from number ids (number x) c in subst (Contains ids) (one m.0 x m.2) m.1

@@ -1,0 +1,7 @@
+use Rattle.std.proofs.Common.{◌≡◌, ◌<◌, ℕ, get_or, Some}
+use Rattle.std.specs.Ordering.{nat_cmp}
+use Rattle.contracts.specs.Positions.{first_position}
+use Rattle.contracts.proofs.wholeness.stand_once.Given as goal
+
+abbrev pub invariant-loop-i : goal.invariant-loop-i
+invariant-loop-i l = (k : ℕ) → k < l.i → first_position nat_cmp l.numbers (get_or l.numbers k 0) ≡ Some k

@@ -1,0 +1,11 @@
+-- The contracts of a program are whole, each by its place.
+use Rattle.std.proofs.Common.{◌≡◌, ℕ, zero, suc, ◌<◌, List, [], ◌∷◌, length, map, Some, sym, subst, arith}
+use Rattle.std.specs.Prelude.{All, slice_get}
+use Rattle.std.proofs.lemmas.Option.{same_Some}
+use Rattle.names.specs.Parts.{Parts, IsWhole, contract_parts}
+use Rattle.names.specs.declared.resolved.Contract.{Contract}
+
+pub whole_at : (contracts : List Contract) (i : ℕ) (parts : Parts) → All (λ c. IsWhole (contract_parts c)) contracts → slice_get (map contract_parts contracts) i ≡ Some parts → IsWhole parts
+whole_at [] i parts all e = absurd (cc)
+whole_at (c ∷ cs) zero parts all e = let same : contract_parts c ≡ parts = cc in subst IsWhole same (all 0 c (omega arith))
+whole_at (c ∷ cs) (suc i) parts all e = whole_at cs i parts (λ k d lt. all (suc k) d (omega (arith, lt))) e
