@@ -20,3 +20,6 @@ pub use endings::ending;
 pub use fault::{Input, RunFault, Status};
 pub use reading::MAX_READ;
 pub use request::Ask;
+
+#[cfg(test)]
+mod tests;
