@@ -1,6 +1,9 @@
 -- Where keys stand in a list.
-use Rattle.std.specs.Prelude.{◌≡◌, ℕ, List, Option, position, map, IsSome}
+use Rattle.std.specs.Prelude.{◌≡◌, ℕ, List, Option, position, map, IsSome, nat_eq}
 use Rattle.std.specs.BTreeMap.{BTreeMap, get}
+use Rattle.std.specs.declared.hash.BuildHasherDefault.{BuildHasherDefault}
+use Rattle.std.specs.declared.hash.FoldHasher.{FoldHasher}
+use Rattle.indexmap.specs.IndexMap.{IndexMap, get as entry}
 use Rattle.std.specs.declared.cmp.Ordering.{Ordering}
 use Rattle.std.specs.Ordering.{is_eq, nat_cmp, ordering_then}
 use Rattle.names.specs.declared.resolved.Edge.{Edge}
@@ -12,6 +15,14 @@ first_position cmp keys key = position (λ x. is_eq (cmp key x)) keys
 -- the map has for each number the position at which it stands first
 abbrev pub ArePositions : List ℕ → BTreeMap ℕ ℕ → Type 0
 ArePositions numbers positions = (k : ℕ) → get nat_cmp positions k ≡ first_position nat_cmp numbers k
+
+-- a table that keeps numbers in the order in which they were put, with their positions
+abbrev pub NumberTable : Type 0
+NumberTable = IndexMap ℕ ℕ (BuildHasherDefault FoldHasher)
+
+-- the table has for each number the position at which it stands first
+abbrev pub AreInTable : List ℕ → NumberTable → Type 0
+AreInTable numbers positions = (k : ℕ) → entry nat_eq positions k ≡ position (nat_eq k) numbers
 
 -- how pairs of numbers are compared
 abbrev pub pair_cmp : ℕ × ℕ → ℕ × ℕ → Ordering

@@ -14,10 +14,10 @@ use crate::keys::{edge_keys, message_numbers, state_numbers};
 use crate::parts::Edges;
 use crate::positions::{Listing, first_positions};
 use crate::ringing::rings;
+use names::{Message, MessageId};
 use source::texts::{
     against_its_direction, both_directions_in, one_direction_round, twice_in_a_state,
 };
-use names::{Message, MessageId};
 use source::{Finding, Memory};
 use std::alloc::Global;
 use syntax::{Direction, Sign};

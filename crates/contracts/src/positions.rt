@@ -3,8 +3,9 @@
 ghost use Rattle.std.specs.Prelude.{◌≡◌, ◌<◌, IfOk, Contains, length, slice_index};
 ghost use Rattle.std.specs.BTreeMap.{get};
 ghost use Rattle.std.proofs.Props.{props};
-ghost use Rattle.contracts.specs.Positions.{first_position, ArePositions};
+ghost use Rattle.contracts.specs.Positions.{first_position, AreInTable};
 
+use indexmap::IndexMap;
 use std::alloc::{AllocError, Global};
 use std::collections::BTreeMap;
 
@@ -24,12 +25,26 @@ pub fn first_positions<K: Ord + Copy>(
     Ok(positions)
 }
 
+/// For each number of the list, the position at which it stands first. These numbers are handed out in order of the
+/// text, one after another, so no author of a text chooses which of them meet in the table.
+fn number_positions(alloc: Global, numbers: &[u32]) -> Result<IndexMap<u32, usize>, AllocError>
+    ensures { IfOk result (AreInTable numbers.now) }
+{
+    let mut positions = IndexMap::new(alloc);
+    for (i, number) in numbers.iter().enumerate() {
+        if !positions.contains_key(number) {
+            positions.insert(*number, i)?;
+        }
+    }
+    Ok(positions)
+}
+
 /// Numbers in a list, and the position at which each stands first.
 #[derive(Drop)]
 pub struct Listing {
     pub numbers: Vec<u32>,
-    positions: BTreeMap<u32, usize>,
-    ghost right: { ArePositions numbers.items positions } by { Prim.hlevel props },
+    positions: IndexMap<u32, usize>,
+    ghost right: { AreInTable numbers.items positions } by { Prim.hlevel props },
 }
 
 impl Listing {
@@ -37,7 +52,7 @@ impl Listing {
     pub fn new(alloc: Global, numbers: Vec<u32>) -> Result<Listing, AllocError>
         ensures { IfOk result (λ listing. listing.numbers.items ≡ numbers.items) }
     {
-        let positions = first_positions(alloc, &numbers)?;
+        let positions = number_positions(alloc, &numbers)?;
         Ok(Listing { numbers, positions })
     }
 

@@ -21,3 +21,6 @@ pub use fault::NameFaults;
 pub use limits::{MOST_CONTRACTS, MOST_PARAMETERS, MOST_STATES};
 pub use resolved::{Contract, ContractId, Edge, Message, MessageId, Resolved, State, StateId};
 pub use resolving::resolve;
+
+#[cfg(test)]
+mod tests;

@@ -1,12 +1,15 @@
 use Rattle.std.proofs.Common.{◌≡◌, ◌∙◌, sym, ap, get_or, Some, subst, rules}
-use Rattle.std.specs.Prelude.{IsSome}
+use Rattle.std.specs.Prelude.{IsSome, nat_eq}
+use Rattle.std.specs.Cmp.{unsigned_tied}
+use Rattle.std.specs.Ordering.{is_eq, nat_cmp}
 use Rattle.contracts.proofs.PartLemmas.{get_again}
-use Rattle.contracts.proofs.PositionLemmas.{number_there}
+use Rattle.contracts.proofs.PositionLemmas.{number_there, same_position}
 use Rattle.contracts.proofs.positions.Listing.position.Goals as goal
 use Rattle.contracts.proofs.positions.Listing.position.Goals.{After-copied, After-unwrap}
 
 at_is : (c : After-copied) → c.copied.result ≡ Some (number_there c.args.self.now.numbers.items c.args.number c.requires).0
-at_is c = c.copied.ensures ∙ c.get.ensures.value ∙ c.args.self.now.right c.args.number ∙ (number_there c.args.self.now.numbers.items c.args.number c.requires).1
+at_is c = c.copied.ensures ∙ c.get.ensures.value ∙ c.args.self.now.right c.args.number
+    ∙ same_position (nat_eq c.args.number) (λ x. is_eq (nat_cmp c.args.number x)) (λ x. sym (unsigned_tied c.args.number x)) c.args.self.now.numbers.items ∙ (number_there c.args.self.now.numbers.items c.args.number c.requires).1
 
 pub unwrap-requires : goal.unwrap-requires
 unwrap-requires c = subst IsSome (sym (at_is (goal.at.unwrap-requires c).After-copied)) (search rules)
