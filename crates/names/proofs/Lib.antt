@@ -3,5 +3,11 @@ pub mod TableLemmas
 pub mod ScopeLemmas
 pub mod AddLemmas
 pub mod TwiceLemmas
+pub mod BehindLemmas
+pub mod MeantLemmas
+pub mod SeenLemmas
+pub mod ReadyLemmas
+pub mod FewLemmas
 pub mod NumberLemmas
 pub mod WholeLemmas
+pub mod ApartLemmas

@@ -1,44 +1,48 @@
--- One more number.
-use Rattle.std.proofs.Common.{◌≡◌, ◌≢◌, ℕ, ◌+◌, ◌<◌, List, [], ◌∷◌, ◌++◌, length, map, get_or, sym, ap, ◌∙◌, subst, arith}
+-- Numbers in a row, and what all have that is added one after another.
+use Rattle.std.proofs.Common.{◌≡◌, ◌≢◌, ℕ, zero, suc, ◌+◌, ◌-◌, ◌<◌, ◌≤◌, List, [], ◌∷◌, ◌++◌, length, map, take, get_or, sym, refl, ap, ◌∙◌, subst, arith, append_assoc, append-nil}
 use Rattle.std.specs.Prelude.{All, AllPairs, Contains}
-use Rattle.std.proofs.lemmas.List.{map-append, length-map, get_or-map}
-use Rattle.std.proofs.lemmas.List.Elements.{All-push, All-weaker, All-contains, Contains-get_or}
-use Rattle.std.proofs.lemmas.List.Quantifiers.{all_pairs_push}
-use Rattle.names.specs.declared.resolved.Message.{Message}
-use Rattle.names.specs.declared.resolved.MessageId.{MessageId}
-use Rattle.names.specs.declared.resolved.State.{State}
-use Rattle.names.specs.declared.resolved.StateId.{StateId}
-use Rattle.names.specs.Numbered.{StatesBelow, MessagesBelow, ids_of_states, ids_of_messages}
+use Rattle.std.specs.List.{enumerate_from}
+use Rattle.std.proofs.lemmas.List.Elements.{All-nil, All-append}
+use Rattle.names.specs.Resolution.{each_behind}
 
-all_more : {I : Type 0} (number : I → ℕ) (next : ℕ) (ids : List I) (i : I) → All (λ j. number j < next) ids → number i ≡ next → All (λ j. number j < next + 1) (ids ++ i ∷ [])
-all_more {I} number next ids i below at =
-    All-push (λ (j : I). number j < next + 1) ids i (All-weaker (λ (j : I). number j < next) (λ (j : I). number j < next + 1) (λ j lt. omega (arith, lt)) ids below) (omega (arith, at))
+-- the numbers of things in a row
+number_at : {Y Z I : Type 0} (f : ℕ → Y → Z) (id : Z → I) (make : ℕ → I) → ((n : ℕ) (y : Y) → id (f n y) ≡ make n) → (first : ℕ) (ys : List Y) (i : ℕ) (d : I) → i < length ys
+    → get_or (map id (map (λ p. f p.0 p.1) (enumerate_from first ys))) i d ≡ make (first + i)
+number_at f id make same first [] i d lt = absurd (omega (arith, lt))
+number_at f id make same first (y ∷ ys) zero d lt = same first y ∙ ap make (omega arith)
+number_at f id make same first (y ∷ ys) (suc i) d lt = number_at f id make same (first + 1) ys i d (omega (arith, lt)) ∙ ap make (omega arith)
 
-once_more : {I : Type 0} (number : I → ℕ) (next : ℕ) (ids : List I) (i : I) → All (λ j. number j < next) ids → AllPairs (λ x y. x ≢ y) ids → number i ≡ next → AllPairs (λ x y. x ≢ y) (ids ++ i ∷ [])
-once_more {I} number next ids i below once at =
-    all_pairs_push (λ (x y : I). x ≢ y) ids i once
-    (λ k d lt e. let less = All-contains (λ (j : I). number j < next) ids (get_or ids k d) below (Contains-get_or ids k d lt) in
-    let same : number (get_or ids k d) ≡ next = ap number e ∙ at in absurd (omega (arith, less, same)))
+numbers : {Y Z I : Type 0} (f : ℕ → Y → Z) (id : Z → I) (first : ℕ) (ys : List Y) → length (map id (map (λ p. f p.0 p.1) (enumerate_from first ys))) ≡ length ys
+numbers f id first [] = refl
+numbers f id first (y ∷ ys) = ap suc (numbers f id (first + 1) ys)
 
-pub states_more : (next : ℕ) (states more : List State) (s : State) → StatesBelow next states → s.id.0 ≡ next → more ≡ states ++ s ∷ [] → StatesBelow (next + 1) more
-states_more next states more s h at is =
-    let ids = sym (ap ids_of_states is ∙ map-append (λ (t : State). t.id) states (s ∷ [])) in
-    record {
-      below = subst (All (λ (j : StateId). j.0 < next + 1)) ids (all_more (λ (j : StateId). j.0) next (ids_of_states states) s.id h.below at);
-      once = subst (AllPairs (λ (x y : StateId). x ≢ y)) ids (once_more (λ (j : StateId). j.0) next (ids_of_states states) s.id h.below h.once at);
-    }
+-- a number is among so many from the first on
+pub record Among (first many n : ℕ) : Type 0 where
+  pub low : first ≤ n
+  pub high : n < first + many
 
-pub messages_more : (next : ℕ) (messages more : List Message) (m : Message) → MessagesBelow next messages → m.id.0 ≡ next → more ≡ messages ++ m ∷ [] → MessagesBelow (next + 1) more
-messages_more next messages more m h at is =
-    let ids = sym (ap ids_of_messages is ∙ map-append (λ (t : Message). t.id) messages (m ∷ [])) in
-    record {
-      below = subst (All (λ (j : MessageId). j.0 < next + 1)) ids (all_more (λ (j : MessageId). j.0) next (ids_of_messages messages) m.id h.below at);
-      once = subst (AllPairs (λ (x y : MessageId). x ≢ y)) ids (once_more (λ (j : MessageId). j.0) next (ids_of_messages messages) m.id h.below h.once at);
-    }
+pub among_numbers : {Y Z I : Type 0} (f : ℕ → Y → Z) (id : Z → I) (make : ℕ → I) → ((n : ℕ) (y : Y) → id (f n y) ≡ make n) → (first : ℕ) (ys : List Y) (n : ℕ) → Among first (length ys) n
+    → Contains (map id (map (λ p. f p.0 p.1) (enumerate_from first ys))) (make n)
+among_numbers f id make same first ys n h =
+    let k = n - first in
+    let low = h.low in
+    let high = h.high in
+    let lt : k < length ys = omega (arith, low, high) in
+    let size = numbers f id first ys in
+    (k, omega (arith, lt, size), number_at f id make same first ys k (make n) lt ∙ ap make (omega (arith, low)))
 
--- what stands in a list stands in what it is mapped to
-pub mapped_at : {X Y : Type 0} (f : X → Y) (xs : List X) (i : ℕ) (d : X) → i < length xs → Contains (map f xs) (f (get_or xs i d))
-mapped_at f xs i d lt =
-    let size = length-map xs f in
-    let within : i < length (map f xs) = omega (arith, lt, size) in
-    subst (Contains (map f xs)) (get_or-map f xs i d (f (get_or xs i d)) lt) (Contains-get_or (map f xs) i (f (get_or xs i d)) within)
+pub once_numbered : {Y Z I : Type 0} (f : ℕ → Y → Z) (id : Z → I) (make : ℕ → I) (value : I → ℕ) → ((n : ℕ) (y : Y) → id (f n y) ≡ make n) → ((n : ℕ) → value (make n) ≡ n) → (first : ℕ) (ys : List Y)
+    → AllPairs (λ x y. x ≢ y) (map id (map (λ p. f p.0 p.1) (enumerate_from first ys)))
+once_numbered f id make value same back first ys = λ i j d less lt e.
+    let size = numbers f id first ys in
+    let left = number_at f id make same first ys i d (omega (arith, less, lt, size)) in
+    let right = number_at f id make same first ys j d (omega (arith, lt, size)) in
+    let equal : first + i ≡ first + j = sym (back (first + i)) ∙ ap value (sym left ∙ e ∙ right) ∙ back (first + j) in
+    absurd (omega (arith, less, equal))
+
+-- what all that is added has, all have
+pub all_behind : {X Y : Type 0} (P : Y → Type 0) (f : List X → X → List Y) (before xs : List X) → ((i : ℕ) (x : X) → i < length xs → x ≡ get_or xs i x → All P (f (before ++ take i xs) x)) → All P (each_behind f before xs)
+all_behind P f before [] each = All-nil P
+all_behind P f before (x ∷ xs) each =
+    All-append P (f before x) (each_behind f (before ++ x ∷ []) xs) (subst (λ b. All P (f b x)) (append-nil before) (each 0 x (omega arith) refl))
+    (all_behind P f (before ++ x ∷ []) xs (λ i y lt is. subst (λ b. All P (f b y)) (sym (append_assoc before (x ∷ []) (take i xs))) (each (suc i) y (omega (arith, lt)) is)))

@@ -1,26 +1,168 @@
--- When a contract is whole.
-use Rattle.std.proofs.Common.{map, sym, subst}
-use Rattle.std.specs.Prelude.{◌≢◌, AllPairs, Contains}
-use Rattle.std.proofs.lemmas.List.Elements.{All-contains}
-use Rattle.std.proofs.lemmas.Simd.{map-map}
-use Rattle.names.specs.Numbered.{AreListed, IsListed, ids_of_states, ids_of_messages}
-use Rattle.names.specs.Parts.{IsWhole, StateParts, MessageParts, contract_parts, state_parts, message_parts}
+-- A resolved contract is whole where each name in its edges is declared.
+use Rattle.std.proofs.Common.{◌≡◌, ℕ, ◌+◌, ◌<◌, ◌≤◌, List, [], ◌∷◌, length, map, take, Option, Some, None, true, sym, refl, ap, ◌∙◌, subst, arith, ⊎_elim}
+use Rattle.std.specs.Prelude.{All, Contains, is_some}
+use Rattle.std.specs.List.{flat_map}
+use Rattle.std.specs.Option.{option_map_or}
+use Rattle.std.proofs.lemmas.Bool.{cases_Bool, cond-false}
+use Rattle.std.proofs.lemmas.List.{get_or-map, length-map}
+use Rattle.std.proofs.lemmas.List.Elements.{All-nil, All-cons, All-head, All-tail, All-contains}
+use Rattle.std.proofs.lemmas.List.Folds.{length-flat_map-take}
+use Rattle.std.proofs.lemmas.List.Quantifiers.{position-Some}
+use Rattle.source.specs.declared.token.Span.{Span}
+use Rattle.syntax.specs.Trees.{ContractTree, Empty, MessageTree, PathTree, StateTree}
+use Rattle.syntax.specs.declared.tree as tree
+use Rattle.names.specs.Declarations.{counted_in_state, counted_states, first_among, is_declared, messages_of, names_of_messages, names_of_states, paths_of, states_of, unnamed_of}
+use Rattle.names.specs.Findings.{asked_name, contract_findings, path_findings, state_findings}
+use Rattle.names.specs.Found.{unknown}
+use Rattle.names.specs.Meant.{path_left}
+use Rattle.names.specs.Parts.{IsWhole, contract_parts}
+use Rattle.names.specs.Resolution.{ContractSeen, Meanings, contract_seen, counted_in, edges_from, message_count, message_meant, numbered_message, numbered_state, path_edges, paths_edges, resolved_contract, resolved_contracts, state_count, state_meant}
+use Rattle.names.specs.Words.{same_word, word_at, words_at}
 use Rattle.names.specs.declared.resolved.Contract.{Contract}
 use Rattle.names.specs.declared.resolved.Edge.{Edge}
 use Rattle.names.specs.declared.resolved.MessageId.{MessageId}
 use Rattle.names.specs.declared.resolved.StateId.{StateId}
+use Rattle.names.proofs.BehindLemmas.{nothing_in}
+use Rattle.names.proofs.MeantLemmas.{as_counted, nil_left, nil_right, path_is}
+use Rattle.names.proofs.NumberLemmas.{Among, all_behind, among_numbers, once_numbered}
+use Rattle.names.proofs.ReadyLemmas.{clean_edges}
 
-pub whole_of : (c : Contract) → Contains (ids_of_states c.states.items) c.first → AreListed (ids_of_states c.states.items) (ids_of_messages c.messages.items) c.edges.items
-    → AllPairs (λ x y. x ≢ y) (ids_of_states c.states.items) → AllPairs (λ x y. x ≢ y) (ids_of_messages c.messages.items) → IsWhole (contract_parts c)
-whole_of c first listed states_once messages_once =
-    let states = sym (map-map (λ (p : StateParts). p.id) state_parts c.states.items) in
-    let messages = sym (map-map (λ (p : MessageParts). p.id) message_parts c.messages.items) in
-    let each = IsListed (ids_of_states c.states.items) (ids_of_messages c.messages.items) in
+-- a name that nothing is wrong with stands among those that are declared
+pub record Declared (text : List ℕ) (names : List Span) (name : Span) : Type 0 where
+  pub place : ℕ
+  pub found : first_among text names name ≡ Some place
+  pub within : place < length names
+
+declared_at : (text : List ℕ) (names : List Span) (name : Span) (o : Option ℕ) → first_among text names name ≡ o → is_some o ≡ true → Declared text names name
+declared_at text names name None is there = cc
+declared_at text names name (Some k) is there =
+    let below = (position-Some (same_word (word_at text name)) (words_at text names) k [] is).0 in
+    let size = length-map names (word_at text) in
+    record { place = k; found = is; within = omega (arith, below, size) }
+
+declared : (text : List ℕ) (names : List Span) (name : Span) → asked_name text names name ≡ [] → Declared text names name
+declared text names name none =
+    ⊎_elim
+    (λ there. declared_at text names name (first_among text names name) refl there)
+    (λ missing. let found : unknown text name ∷ [] ≡ [] = sym (cond-false (is_declared text names name) [] (unknown text name ∷ []) missing) ∙ none in cc)
+    (cases_Bool (is_declared text names name))
+
+message_is : (text : List ℕ) (first : ℕ) (messages : List MessageTree) (name : Span) → asked_name text (names_of_messages messages) name ≡ [] → Among first (length messages) (message_meant text first messages name)
+message_is text first messages name none =
+    let here = declared text (names_of_messages messages) name none in
+    let value = ap (λ o. option_map_or (λ k. first + k) o 0) here.found in
+    let size = length-map messages (λ m. m.name) in
+    let within = here.within in
+    record { low = omega (arith, value); high = omega (arith, value, within, size) }
+
+state_is : (text : List ℕ) (first : ℕ) (states : List StateTree) (name : Span) → asked_name text (names_of_states states) name ≡ [] → Among first (length (counted_states states)) (state_meant text first states name)
+state_is text first states name none =
+    let here = declared text (names_of_states states) name none in
+    let value = ap (λ o. option_map_or (λ k. first + length (counted_states (take k states))) o 0) here.found in
+    let size = length-map states (λ s. s.name) in
+    let within = here.within in
+    let front = length-flat_map-take counted_in_state states here.place (record { name = name; body = Empty }) (omega (arith, within, size)) in
+    record { low = omega (arith, value); high = omega (arith, value, front) }
+
+-- the states of an edge are among the n from the number s on, and its message among the k from m on
+pub record IsAmong (s n m k : ℕ) (e : Edge) : Type 0 where
+  pub from : Among s n e.from.0
+  pub to : Among s n e.to.0
+  pub message : Among m k e.message.0
+
+all_left : (means : Meanings) (s n m k from to : ℕ) (e : tree.Edge.Edge) (others : List tree.Edge.Edge) (target : Span) → Among s n from → s ≤ to → to + length others ≤ s + n → Among s n (means.state target)
+    → Among m k (means.message e.message) → All (λ o. Among m k (means.message o.message)) others → All (IsAmong s n m k) (path_left means from to e others target)
+all_left means s n m k from to e [] target here low room last message rest =
+    All-cons (IsAmong s n m k) _ [] (record { from = here; to = last; message = message }) (All-nil (IsAmong s n m k))
+all_left means s n m k from to e (o ∷ others) target here low room last message rest =
+    let known = λ (x : tree.Edge.Edge). Among m k (means.message x.message) in
+    let next : Among s n to = record { low = low; high = omega (arith, room) } in
+    All-cons (IsAmong s n m k) _ (path_left means to (to + 1) o others target) (record { from = here; to = next; message = message })
+    (all_left means s n m k to (to + 1) o others target next (omega (arith, low)) (omega (arith, room)) last (All-head known o others rest) (All-tail known o others rest))
+
+others_known : (text : List ℕ) (m : ℕ) (messages : List MessageTree) (others : List tree.Edge.Edge) → flat_map (λ e. asked_name text (names_of_messages messages) e.message) others ≡ []
+    → All (λ (o : tree.Edge.Edge). Among m (length messages) (message_meant text m messages o.message)) others
+others_known text m messages [] none = All-nil (λ (o : tree.Edge.Edge). Among m (length messages) (message_meant text m messages o.message))
+others_known text m messages (o ∷ others) none =
+    let asked = asked_name text (names_of_messages messages) o.message in
+    All-cons (λ (x : tree.Edge.Edge). Among m (length messages) (message_meant text m messages x.message)) o others
+    (message_is text m messages o.message (nil_left asked _ none)) (others_known text m messages others (nil_right asked _ none))
+
+abbrev means_in : List ℕ → ℕ → ℕ → List MessageTree → List StateTree → Meanings
+means_in text m s messages states = record { message = message_meant text m messages; state = state_meant text s states }
+
+path_known : (text : List ℕ) (m s : ℕ) (messages : List MessageTree) (states : List StateTree) (from to : ℕ) (p : PathTree) → path_findings text (names_of_messages messages) (names_of_states states) p ≡ []
+    → s ≤ from → from < to → to + length p.others ≤ s + length (counted_states states)
+    → All (IsAmong s (length (counted_states states)) m (length messages)) (path_edges (means_in text m s messages states) from to p)
+path_known text m s messages states from to p none low next room =
+    let asked = asked_name text (names_of_messages messages) in
+    let n = length (counted_states states) in
+    let behind = nil_right (asked p.first.message) _ none in
+    let others = flat_map (λ e. asked e.message) p.others in
+    subst (All (IsAmong s n m (length messages))) (sym (path_is (means_in text m s messages states) from to p.first p.others p.target))
+    (all_left (means_in text m s messages states) s n m (length messages) from to p.first p.others p.target
+    (record { low = low; high = omega (arith, next, room) }) (omega (arith, low, next)) room
+    (state_is text s states p.target (nil_right others _ behind))
+    (message_is text m messages p.first.message (nil_left (asked p.first.message) _ none))
+    (others_known text m messages p.others (nil_left others _ behind)))
+
+edges_known : (text : List ℕ) (m s : ℕ) (messages : List MessageTree) (states : List StateTree) → flat_map (state_findings text (names_of_messages messages) (names_of_states states)) states ≡ []
+    → All (IsAmong s (length (counted_states states)) m (length messages)) (edges_from (means_in text m s messages states) s states)
+edges_known text m s messages states none =
+    let means = means_in text m s messages states in
+    let findings = path_findings text (names_of_messages messages) (names_of_states states) in
+    let n = length (counted_states states) in
+    let known = IsAmong s n m (length messages) in
+    all_behind known (λ before t. paths_edges means (s + length (counted_states before)) (paths_of t.body)) [] states
+    (λ i t lt is.
+    let front = length-flat_map-take counted_in_state states i t lt in
+    let here = ap (λ x. length (counted_in_state x)) is in
+    let from = s + length (counted_states (take i states)) in
+    let paths = paths_of t.body in
+    let clean : flat_map findings paths ≡ [] = ap (state_findings text (names_of_messages messages) (names_of_states states)) is ∙ nothing_in (state_findings text (names_of_messages messages) (names_of_states states)) states i t lt none in
+    all_behind known (λ before p. path_edges means from (from + 1 + length (flat_map unnamed_of before)) p) [] paths
+    (λ j p within same.
+    let room = length-flat_map-take unnamed_of paths j p within in
+    let more = ap (λ x. length (unnamed_of x)) same in
+    let size = length-map p.others (λ e. e.message) in
+    path_known text m s messages states from (from + 1 + length (flat_map unnamed_of (take j paths))) p (ap findings same ∙ nothing_in findings paths j p within clean)
+    (omega arith) (omega arith) (omega (arith, front, here, room, more, size))))
+
+-- a contract that has a state, and whose edges name what it declares, is whole
+whole_of : (text : List ℕ) (m s : ℕ) (name : Span) (messages : List MessageTree) (states : List StateTree) → 0 < length (counted_states states)
+    → flat_map (state_findings text (names_of_messages messages) (names_of_states states)) states ≡ [] → IsWhole (resolved_contract text m s name messages states).parts
+whole_of text m s name messages states some none =
+    let counted = flat_map (counted_in text) states in
+    let many = as_counted text states in
+    let edges = edges_from (means_in text m s messages states) s states in
+    let known = IsAmong s (length (counted_states states)) m (length messages) in
+    let edge = λ (e : Edge) (h : Contains edges e). All-contains known edges e (edges_known text m s messages states none) h in
+    let state_id : ℕ → StateId = λ n. record { 0 = n } in
+    let message_id : ℕ → MessageId = λ n. record { 0 = n } in
+    let state = λ (n : ℕ) (h : Among s (length (counted_states states)) n). among_numbers numbered_state (λ t. t.id) state_id (λ k y. refl) s counted n (subst (λ l. Among s l n) (sym many) h) in
+    let message = λ (n : ℕ) (h : Among m (length messages) n). among_numbers (numbered_message text) (λ t. t.id) message_id (λ k y. refl) m messages n h in
     record {
-      first = subst (λ l. Contains l c.first) states first;
-      from = λ e h. subst (λ l. Contains l e.from) states (All-contains each c.edges.items e listed h).from;
-      to = λ e h. subst (λ l. Contains l e.to) states (All-contains each c.edges.items e listed h).to;
-      message = λ e h. subst (λ l. Contains l e.message) messages (All-contains each c.edges.items e listed h).message;
-      states_once = subst (AllPairs (λ (x y : StateId). x ≢ y)) states states_once;
-      messages_once = subst (AllPairs (λ (x y : MessageId). x ≢ y)) messages messages_once;
+      first = state s (record { low = omega arith; high = omega (arith, some) });
+      from = λ e h. state e.from.0 (edge e h).from;
+      to = λ e h. state e.to.0 (edge e h).to;
+      message = λ e h. message e.message.0 (edge e h).message;
+      states_once = once_numbered numbered_state (λ t. t.id) state_id (λ i. i.0) (λ k y. refl) (λ k. refl) s counted;
+      messages_once = once_numbered (numbered_message text) (λ t. t.id) message_id (λ i. i.0) (λ k y. refl) (λ k. refl) m messages;
     }
+
+all_whole : (text : List ℕ) (contracts : List ContractTree) → flat_map (contract_findings text contracts) contracts ≡ [] → All (λ s. IsWhole s.parts) (resolved_contracts text contracts)
+all_whole text contracts none =
+    let whole = λ (s : ContractSeen). IsWhole s.parts in
+    let seen = λ (before : List ContractTree) (c : ContractTree). resolved_contract text (message_count before) (state_count before) c.name (messages_of c) (states_of c) in
+    all_behind whole (λ before c. seen before c ∷ []) [] contracts
+    (λ i c lt is. let before = take i contracts in
+    All-cons whole (seen before c) [] (whole_of text (message_count before) (state_count before) c.name (messages_of c) (states_of c) (omega arith)
+    (clean_edges text contracts c (ap (contract_findings text contracts) is ∙ nothing_in (contract_findings text contracts) contracts i c lt none))) (All-nil whole))
+
+-- the same of contracts that are seen so
+pub seen_whole : (text : List ℕ) (contracts : List ContractTree) (resolved : List Contract) → map contract_seen resolved ≡ resolved_contracts text contracts → flat_map (contract_findings text contracts) contracts ≡ []
+    → All (λ c. IsWhole (contract_parts c)) resolved
+seen_whole text contracts resolved are none = λ k d lt.
+    let size = length-map resolved contract_seen in
+    let all = subst (All (λ s. IsWhole s.parts)) (sym are) (all_whole text contracts none) in
+    subst (λ s. IsWhole s.parts) (get_or-map contract_seen resolved k d (contract_seen d) lt) (all k (contract_seen d) (omega (arith, lt, size)))

@@ -2,7 +2,8 @@
 use Rattle.std.specs.Prelude.{ℕ, Bool, List, [], ◌∷◌, ◌++◌, map, Option, is_some, option_and_then, slice_get}
 use Rattle.std.specs.List.{flat_map}
 use Rattle.source.specs.declared.token.Span.{Span}
-use Rattle.syntax.specs.Trees.{ContractTree, MessageTree, StateTree, BodyTree, Empty, Path, One, MemberTree, Message, State, PathTree}
+use Rattle.syntax.specs.Trees.{ContractTree, MessageTree, StateTree, BodyTree, Empty, Path, One, MemberTree, Message, State, PathTree, contract_tree}
+use Rattle.syntax.specs.declared.tree.Item.{Item}
 use Rattle.names.specs.Firsts.{first_of}
 use Rattle.names.specs.Words.{word_at, words_at}
 
@@ -46,6 +47,10 @@ counted_in_state s = s.name ∷ flat_map unnamed_of (paths_of s.body)
 
 abbrev pub counted_states : List StateTree → List Span
 counted_states states = flat_map counted_in_state states
+
+-- the contracts among the items of a program, in order
+abbrev pub contracts_among : List Item → List ContractTree
+contracts_among items = map (λ i. contract_tree i.contract) items
 
 -- the names that contracts are declared by
 abbrev pub names_of_contracts : List ContractTree → List Span

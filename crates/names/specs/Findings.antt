@@ -1,12 +1,11 @@
 -- What is wrong with the names of contracts: a union over the nodes of the tree. What a node adds depends on the node,
 -- the names in scope and the number of such names before it, and on no other finding.
-use Rattle.std.specs.Prelude.{ℕ, Bool, true, false, List, [], ◌∷◌, ◌++◌, map, Option, None, Some, slice_get, if◌then◌else◌}
+use Rattle.std.specs.Prelude.{ℕ, List, [], ◌∷◌, ◌++◌, map, Option, None, Some, slice_get, if◌then◌else◌}
 use Rattle.std.specs.List.{flat_map}
 use Rattle.std.specs.Option.{option_map_or}
 use Rattle.source.specs.declared.token.Span.{Span}
 use Rattle.syntax.specs.Trees.{ContractTree, MessageTree, StateTree, PathTree}
 use Rattle.syntax.specs.declared.tree.Param.{Param}
-use Rattle.syntax.specs.declared.tree.Edge.{Edge}
 use Rattle.syntax.specs.declared.tree as tree
 use Rattle.syntax.specs.declared.tree.Type.TheVariants.{Scalar, Heap}
 use Rattle.syntax.specs.declared.tree.Heap as heaps

@@ -8,5 +8,8 @@ pub mod Scopes
 pub mod Found
 pub mod Findings
 pub mod Parts
+pub mod Resolution
 pub mod Numbered
+pub mod Meant
+pub mod Ready
 pub mod Resolving

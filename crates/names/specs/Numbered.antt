@@ -1,31 +1,26 @@
--- What is numbered so far.
-use Rattle.std.specs.Prelude.{◌≢◌, ℕ, ◌<◌, List, map, Contains, AllPairs, All}
-use Rattle.names.specs.declared.resolved.Edge.{Edge}
-use Rattle.names.specs.declared.resolved.Message.{Message}
-use Rattle.names.specs.declared.resolved.MessageId.{MessageId}
-use Rattle.names.specs.declared.resolved.State.{State}
-use Rattle.names.specs.declared.resolved.StateId.{StateId}
+-- The names at which states are counted, as the code has them.
+use Rattle.std.specs.Prelude.{ℕ, List, [], ◌∷◌, length, map}
+use Rattle.std.specs.List.{flat_map}
+use Rattle.source.specs.declared.token.Span.{Span}
+use Rattle.syntax.specs.Trees.{StateTree}
+use Rattle.names.specs.Declarations.{paths_of, unnamed_of, counted_states}
+use Rattle.names.specs.Resolution.{Counted, each_behind, named_state, unnamed_state}
+use Rattle.names.specs.declared.state_names.StateName.{StateName}
+use Rattle.names.specs.declared.state_names.StateName.TheVariants.{Named, Unnamed}
 
-abbrev pub ids_of_states : List State → List StateId
-ids_of_states states = map (λ s. s.id) states
+-- what is counted at such a name
+abbrev pub counted_as : List ℕ → StateName → Counted
+counted_as text (Named name) = named_state text name
+counted_as text (Unnamed message) = unnamed_state text message
 
-abbrev pub ids_of_messages : List Message → List MessageId
-ids_of_messages messages = map (λ m. m.id) messages
+-- the names of unnamed states
+abbrev pub unnamed_names : List Span → List StateName
+unnamed_names messages = map (λ m. Unnamed m) messages
 
--- each number stands once among these, and is below the one that comes next
-pub record StatesBelow (next : ℕ) (states : List State) : Type 0 where
-  pub below : All (λ (i : StateId). i.0 < next) (ids_of_states states)
-  pub once : AllPairs (λ x y. x ≢ y) (ids_of_states states)
+-- the name of a state, and behind it those of the unnamed ones of its paths
+abbrev pub names_in : StateTree → List StateName
+names_in s = Named s.name ∷ unnamed_names (flat_map unnamed_of (paths_of s.body))
 
-pub record MessagesBelow (next : ℕ) (messages : List Message) : Type 0 where
-  pub below : All (λ (i : MessageId). i.0 < next) (ids_of_messages messages)
-  pub once : AllPairs (λ x y. x ≢ y) (ids_of_messages messages)
-
--- the states and the message of an edge stand among these
-pub record IsListed (states : List StateId) (messages : List MessageId) (e : Edge) : Type 0 where
-  pub from : Contains states e.from
-  pub to : Contains states e.to
-  pub message : Contains messages e.message
-
-abbrev pub AreListed : List StateId → List MessageId → List Edge → Type 0
-AreListed states messages edges = All (IsListed states messages) edges
+-- where named states stand among all
+abbrev pub places_named : List StateTree → List ℕ
+places_named states = each_behind (λ before s. length (counted_states before) ∷ []) [] states

@@ -1,6 +1,6 @@
 -- The names in scope, as the code has them.
 use Rattle.std.specs.Prelude.{◌≡◌, ℕ, List, [], ◌∷◌, Option, None, Some}
-use Rattle.syntax.specs.Trees.{ContractTree, MessageTree, StateTree}
+use Rattle.syntax.specs.Trees.{ContractTree}
 use Rattle.names.specs.Declarations.{names_of_contracts, names_of_messages, names_of_states, messages_of, states_of}
 use Rattle.names.specs.Outlines.{IsOutline}
 use Rattle.names.specs.Tables.{IsTable}

@@ -2,7 +2,8 @@
 
 ghost use Rattle.std.specs.Prelude.{◌≡◌, ℕ, List, map, OnOk};
 ghost use Rattle.std.specs.List.{flat_map};
-ghost use Rattle.syntax.specs.Trees.{ContractTree, contract_tree};
+ghost use Rattle.syntax.specs.Trees.{ContractTree};
+ghost use Rattle.names.specs.Declarations.{contracts_among};
 ghost use Rattle.names.specs.Findings.{contract_findings, program_findings};
 ghost use Rattle.names.specs.Found.{Adds};
 ghost use Rattle.names.specs.Scopes.{IsScope, IsDeclared};
@@ -51,7 +52,7 @@ pub(crate) fn judge_contracts(
     items: &[Item],
     found: &mut Vec<Finding>,
 ) -> Result<(), Memory>
-    ensures { (text : List ℕ) → IsScope text (map (λ i. contract_tree i.contract) items.now) scope.now → OnOk result (Adds found.old.items found.new.items (program_findings text (map (λ i. contract_tree i.contract) items.now))) }
+    ensures { (text : List ℕ) → IsScope text (contracts_among items.now) scope.now → OnOk result (Adds found.old.items found.new.items (program_findings text (contracts_among items.now))) }
 {
     let names = contract_names(alloc, items)?;
     judge_twice(alloc, scope.tokens, &scope.contracts, &names, found)?;

@@ -7,6 +7,7 @@ mod edges;
 mod fault;
 mod judging;
 mod limits;
+mod meaning;
 mod message_types;
 mod numbering;
 mod outline;
@@ -14,6 +15,7 @@ mod positions;
 mod resolved;
 mod resolving;
 mod scope;
+mod state_names;
 mod state_paths;
 mod tables;
 

@@ -1,30 +1,44 @@
 //! From a tree to numbers.
 
-ghost use Rattle.std.specs.Prelude.{◌≡◌, [], All, Contains, map, IfErr, IfSome, IfOk, OnOk};
-ghost use Rattle.names.specs.Numbered.{ids_of_states};
-ghost use Rattle.syntax.specs.Trees.{contract_tree};
+ghost use Rattle.std.specs.Prelude.{◌≡◌, [], ◌+◌, ◌^◌, ◌<◌, All, length, map, IfErr, IfOk, OnOk};
+ghost use Rattle.syntax.specs.Trees.{program_tree};
+ghost use Rattle.syntax.specs.Grammar.{program};
+ghost use Rattle.syntax.specs.Parsing.{Spells};
+ghost use Rattle.names.specs.Declarations.{contracts_among, counted_states};
 ghost use Rattle.names.specs.Findings.{program_findings};
-ghost use Rattle.names.specs.Parts.{IsWhole, contract_parts};
+ghost use Rattle.names.specs.Outlines.{outlined_messages, outlined_states};
+ghost use Rattle.names.specs.Parts.{AreApart, IsWhole, contract_parts};
+ghost use Rattle.names.specs.Ready.{IsReady, declared_messages, declared_states, resolved_declared, all_resolved};
+ghost use Rattle.names.specs.Resolution.{contract_seen, resolved_contracts};
 ghost use Rattle.names.specs.Resolving.{Explains};
 
 use crate::contracts::judge_contracts;
-use crate::edges::{Meaning, edges_of};
+use crate::edges::edges_of;
 use crate::fault::NameFaults;
-use crate::numbering::{Next, number_messages, number_states};
-use crate::resolved::{Contract, Resolved, State, StateId};
+use crate::meaning::Meaning;
+use crate::numbering::{number_messages, number_states};
+use crate::resolved::{Contract, Resolved, StateId};
 use crate::scope::{Declared, Scope};
+use crate::state_names::state_names;
 use source::{Memory, Tokens};
 use std::alloc::Global;
 use syntax::Tree;
 
-/// Resolves a program: its contracts, with a number for each message and state.
+/// Resolves a program: its contracts in order of the text, each with its messages, states and edges.
 ///
-/// The tree is the one that these tokens spell. `Found` has all that is wrong with the names of the program, and comes
-/// exactly where something is; `Memory` is answered where a growth was refused. The first state of each contract, and the
-/// states and messages of its edges, are among its own, and each number stands once there.
+/// The tokens are the spelling of the tree, as `lex` and `parse` make them. Messages and states are counted through the
+/// whole program, each from 0, so no two of them share a number; a named state is counted at its name, and behind it the
+/// unnamed ones of its paths. A name in an edge means the first declaration of that name in its contract.
+///
+/// `Found` has all that is wrong with the names of the program, and comes exactly where something is; `Memory` is answered
+/// where a growth was refused.
 pub fn resolve(alloc: Global, tree: &Tree, tokens: &Tokens) -> Result<Resolved, NameFaults>
-    ensures found { IfErr result (Explains tokens.now.text.items (map (λ i. contract_tree i.contract) tree.now.items.items)) }
-    ensures clean { OnOk result (program_findings tokens.now.text.items (map (λ i. contract_tree i.contract) tree.now.items.items) ≡ []) }
+    requires spelled { Spells program (program_tree tree.now) tokens.now.list.items }
+    requires few { length tokens.now.list.items < 2 ^ 32 }
+    ensures found { IfErr result (Explains tokens.now.text.items (contracts_among tree.now.items.items)) }
+    ensures clean { OnOk result (program_findings tokens.now.text.items (contracts_among tree.now.items.items) ≡ []) }
+    ensures resolved { IfOk result (λ r. map contract_seen r.contracts.items ≡ resolved_contracts tokens.now.text.items (contracts_among tree.now.items.items)) }
+    ensures apart { IfOk result (λ r. AreApart (map contract_parts r.contracts.items)) }
     ensures whole { IfOk result (λ r. All (λ c. IsWhole (contract_parts c)) r.contracts.items) }
 {
     let scope = Scope::of(alloc, tokens, &tree.items)?;
@@ -39,69 +53,55 @@ pub fn resolve(alloc: Global, tree: &Tree, tokens: &Tokens) -> Result<Resolved, 
     }
 }
 
+/// The contracts, in order. The numbers of each begin behind those of the contracts before it.
 fn resolve_contracts(alloc: Global, scope: &Scope<'_>) -> Result<Vec<Contract>, Memory>
-    ensures { IfOk result (λ contracts. All (λ c. IsWhole (contract_parts c)) contracts.items) }
+    requires ready { All (IsReady scope.now.tokens.now.text.items) scope.now.declared.items }
+    requires messages { declared_messages scope.now.declared.items < 2 ^ 32 }
+    requires states { declared_states scope.now.declared.items < 2 ^ 32 }
+    ensures { IfOk result (λ contracts. map contract_seen contracts.items ≡ all_resolved scope.now.tokens.now.text.items scope.now.declared.items) }
 {
     let mut contracts = Vec::new(alloc);
-    let mut next = Next {
-        message: 0,
-        state: 0,
-    };
+    let mut messages = 0;
+    let mut states = 0;
     for declared in &scope.declared {
-        let contract = resolve_contract(alloc, scope.tokens, declared, &mut next)?;
-        add_contract(contract, &mut contracts)?;
+        let contract = resolve_contract(alloc, scope.tokens, declared, messages, states)?;
+        messages += contract.messages.len() as u32;
+        states += contract.states.len() as u32;
+        contracts.push(contract)?;
     }
     Ok(contracts)
 }
 
-fn add_contract(contract: Option<Contract>, contracts: &mut Vec<Contract>) -> Result<(), Memory>
-    ensures { IfSome contract (λ c. IsWhole (contract_parts c)) → All (λ c. IsWhole (contract_parts c)) contracts.old.items → OnOk result (All (λ c. IsWhole (contract_parts c)) contracts.new.items) }
-{
-    if let Some(contract) = contract {
-        contracts.push(contract)?;
-    }
-    Ok(())
-}
-
-/// The contract, which has a state.
+/// The contract. So many messages and so many states stand before its own in the text.
 fn resolve_contract(
     alloc: Global,
     tokens: &Tokens,
     declared: &Declared<'_>,
-    next: &mut Next,
-) -> Result<Option<Contract>, Memory>
-    ensures { IfOk result (λ found. IfSome found (λ c. IsWhole (contract_parts c))) }
+    messages_before: u32,
+    states_before: u32,
+) -> Result<Contract, Memory>
+    requires ready { IsReady tokens.now.text.items declared.now }
+    requires messages { messages_before + length (outlined_messages declared.now.outline) < 2 ^ 32 }
+    requires states { states_before + length (counted_states (outlined_states declared.now.outline)) < 2 ^ 32 }
+    ensures { IfOk result (λ c. contract_seen c ≡ resolved_declared tokens.now.text.items messages_before states_before declared.now) }
 {
     let outline = &declared.outline;
-    let messages = number_messages(alloc, tokens, &outline.messages, next)?;
-    let states = number_states(alloc, tokens, &outline.states, next)?;
+    let names = state_names(alloc, &outline.states)?;
+    let messages = number_messages(alloc, tokens, &outline.messages, messages_before)?;
+    let states = number_states(alloc, tokens, &names.all, states_before)?;
     let meaning = Meaning {
         tokens,
         declared,
-        messages: &messages,
-        states: &states.all,
-        named: &states.named,
+        messages_before,
+        states_before,
+        named: &names.named,
     };
     let edges = edges_of(alloc, &meaning)?;
-    let Some(first) = first_of(&states.all) else {
-        return Ok(None);
-    };
-    Ok(Some(Contract {
+    Ok(Contract {
         name: String::from_utf8_lossy(alloc, tokens.slice(outline.name))?,
-        first,
-        states: states.all,
+        first: StateId(states_before),
+        states,
         messages,
         edges,
-    }))
-}
-
-/// The number of the first state.
-fn first_of(states: &[State]) -> Option<StateId>
-    ensures { IfSome result (Contains (ids_of_states states.now)) }
-{
-    if states.is_empty() {
-        None
-    } else {
-        Some(states[0].id)
-    }
+    })
 }

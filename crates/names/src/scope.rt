@@ -2,8 +2,8 @@
 
 ghost use Rattle.std.specs.Prelude.{◌≡◌, List, map, IfOk, slice_get};
 ghost use Rattle.std.specs.Option.{option_copied};
-ghost use Rattle.syntax.specs.Trees.{ContractTree, contract_tree, item_tree};
-ghost use Rattle.names.specs.Declarations.{names_of_messages, names_of_states, contract_named};
+ghost use Rattle.syntax.specs.Trees.{ContractTree, contract_tree};
+ghost use Rattle.names.specs.Declarations.{contracts_among, names_of_messages, names_of_states, contract_named};
 ghost use Rattle.names.specs.Outlines.{outlined_messages, outlined_states};
 
 use crate::outline::Outline;
@@ -85,7 +85,7 @@ impl<'a> Scope<'a> {
         tokens: &'a Tokens,
         items: &'a [Item],
     ) -> Result<Scope<'a>, AllocError>
-        ensures { IfOk result (IsScope tokens.now.text.items (map (λ i. contract_tree i.contract) items.now)) }
+        ensures { IfOk result (IsScope tokens.now.text.items (contracts_among items.now)) }
     {
         let names = contract_names(alloc, items)?;
         let contracts = Table::of(alloc, tokens, &names)?;

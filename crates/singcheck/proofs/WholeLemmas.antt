@@ -1,7 +1,6 @@
 -- The contracts of a program are whole, each by its place.
-use Rattle.std.proofs.Common.{◌≡◌, ℕ, zero, suc, ◌<◌, List, [], ◌∷◌, length, map, Some, sym, subst, arith}
+use Rattle.std.proofs.Common.{◌≡◌, ℕ, zero, suc, List, [], ◌∷◌, map, Some, subst, arith}
 use Rattle.std.specs.Prelude.{All, slice_get}
-use Rattle.std.proofs.lemmas.Option.{same_Some}
 use Rattle.names.specs.Parts.{Parts, IsWhole, contract_parts}
 use Rattle.names.specs.declared.resolved.Contract.{Contract}
 

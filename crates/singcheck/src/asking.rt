@@ -1,5 +1,8 @@
 //! What a command line asks for.
 
+ghost use Rattle.std.specs.Prelude.{map, IfOk};
+ghost use Rattle.singcheck.specs.Asking.{Asks};
+
 use crate::request::Ask;
 use clap::error::ErrorKind;
 use clap::{Arg, ArgAction, Command, Error};
@@ -8,7 +11,9 @@ use std::alloc::Global;
 /// What the words of a command line ask for, the program's name first among them.
 ///
 /// An `Err` has the text to show, which is the refusal, or help where that was asked for.
-pub fn ask<'a>(alloc: Global, words: &'a [&'a str]) -> Result<Ask<'a>, Error> {
+pub fn ask<'a>(alloc: Global, words: &'a [&'a str]) -> Result<Ask<'a>, Error>
+    ensures { IfOk result (Asks (map (λ w. w.now) words.entry.now)) }
+{
     let file = Arg::new(alloc, "FILE")
         .required(true)
         .help("The program text")

@@ -1,17 +1,24 @@
 //! Queue bounds of the contracts of a text.
 
-ghost use Rattle.std.specs.Prelude.{◌≡◌, ◌≢◌, IsErrOf, OnErr};
+ghost use Rattle.std.specs.Prelude.{◌≡◌, ◌≢◌, ℕ, List, take, IfOk, IfSome, IsErrOf, OnOk, OnErr, string_bytes};
 ghost use Rattle.std.specs.Io.KnownBytes.{Keeps};
+ghost use Rattle.contracts.specs.Sounds.{sound_parts};
+ghost use Rattle.singcheck.specs.Answers.{Answers, AreBounds};
+ghost use Rattle.singcheck.specs.Runs.{Writes, BeginsAnswer, LeavesRest, TakesAtMost};
+ghost use Rattle.singcheck.specs.Stages.{IsClean, AddsLine};
 
 use crate::device::{Sink, Source};
 use crate::fault::{Input, RunFault, Status};
 use crate::lines::{add_bounds, add_contracts};
-use crate::reading::read_text;
+use crate::reading::{MAX_READ, read_text};
 use crate::reports::report;
 use crate::stages::{Clean, Staged, run_stages};
 use crate::writing::write_all;
+use contracts::Sound;
+use names::Contract;
 use source::Memory;
 use std::alloc::Global;
+use syntax::Side;
 
 /// What a run writes, and its status.
 #[derive(Drop)]
@@ -32,6 +39,12 @@ pub fn run_bounds<R: Source, W: Sink>(
     reader: &mut R,
     writer: &mut W,
 ) -> Result<Status, RunFault>
+    ensures written { IfOk result (λ status. IfSome (R.remaining reader.old) (λ text.
+        Writes (take MAX_READ text) (W.contents writer.old) (W.contents writer.new) status)) }
+    ensures begun { IsErrOf result RunFault.Write → IfSome (R.remaining reader.old) (λ text.
+        BeginsAnswer (take MAX_READ text) (W.contents writer.old) (W.contents writer.new)) }
+    ensures rest { OnOk result (LeavesRest MAX_READ (R.remaining reader.old) (R.remaining reader.new)) }
+    ensures most { TakesAtMost MAX_READ (R.remaining reader.old) (R.remaining reader.new) }
     ensures read { IsErrOf result (RunFault.Read Input.Text) → R.failed reader.new ≢ R.failed reader.old }
     ensures write { IsErrOf result RunFault.Write → W.failed writer.new ≢ W.failed writer.old }
     ensures unwritten { OnErr result ((IsErrOf result RunFault.Write → ⊥) → Keeps (W.contents writer.old) (W.contents writer.new)) }
@@ -43,7 +56,9 @@ pub fn run_bounds<R: Source, W: Sink>(
 }
 
 /// The answer to a text.
-fn bounds_of(alloc: Global, text: &[u8]) -> Result<Answer, Memory> {
+fn bounds_of(alloc: Global, text: &[u8]) -> Result<Answer, Memory>
+    ensures { IfOk result (λ answer. Answers text.now answer.bytes.items answer.status) }
+{
     match run_stages(alloc, text)? {
         Staged::Found(findings) => Ok(Answer {
             bytes: report(alloc, findings)?,
@@ -56,11 +71,29 @@ fn bounds_of(alloc: Global, text: &[u8]) -> Result<Answer, Memory> {
     }
 }
 
-fn bounds_lines(alloc: Global, clean: &Clean) -> Result<Vec<u8>, Memory> {
+/// A line for each contract, and then their number.
+fn bounds_lines(alloc: Global, clean: &Clean) -> Result<Vec<u8>, Memory>
+    ensures { IfOk result (λ bytes. (text : List ℕ) → IsClean text clean.now → AreBounds text bytes.items) }
+{
     let mut answer = Vec::new(alloc);
     for (contract, sound) in clean.resolved.contracts.iter().zip(&clean.sounds) {
-        add_bounds(alloc, &mut answer, contract.name.as_str(), sound)?;
+        add_bounds_of(alloc, &mut answer, contract, sound)?;
     }
     add_contracts(alloc, &mut answer, clean.resolved.contracts.len())?;
     Ok(answer)
+}
+
+/// Adds the line of a contract.
+fn add_bounds_of(
+    alloc: Global,
+    answer: &mut Vec<u8>,
+    contract: &Contract,
+    sound: &Sound,
+) -> Result<(), Memory>
+    ensures { OnOk result (AddsLine (record { name = string_bytes contract.now.name; parts = sound_parts sound.now })
+        answer.old.items answer.new.items) }
+{
+    let to_exp = sound.bound(Side::Exp);
+    let to_imp = sound.bound(Side::Imp);
+    add_bounds(alloc, answer, contract.name.as_str(), to_exp, to_imp)
 }

@@ -1,7 +1,9 @@
 //! How the program ends after a run that gave up.
 
-ghost use Rattle.std.specs.Prelude.{◌≡◌};
-ghost use Rattle.singcheck.specs.Endings.{status_of};
+ghost use Rattle.std.specs.Prelude.{◌≡◌, ◌≢◌, ◌++◌, codes, OnOk, OnErr};
+ghost use Rattle.std.specs.Io.KnownBytes.{Appends};
+ghost use Rattle.singcheck.specs.Devices.{Begins};
+ghost use Rattle.singcheck.specs.Endings.{status_of, line_of};
 
 use crate::device::Sink;
 use crate::fault::RunFault;
@@ -9,27 +11,46 @@ use crate::writing::write_all;
 
 /// Writes the line of a fault, and answers the exit status: 3 for a file or a device, 4 for want of memory.
 ///
-/// `name` is the name of the file. The status is answered also where the line cannot be written; no memory is taken.
+/// `name` is the name of the file. The line is written where the writer does not fail, and a beginning of it where it
+/// does. The status is answered also where the line cannot be written; no memory is taken.
 pub fn ending<W: Sink>(fault: &RunFault, name: &str, writer: &mut W) -> u8
+    ensures status { result ≡ status_of fault.now }
+    ensures begun { Begins (W.contents writer.old) (W.contents writer.new) (line_of fault.now name.now) }
+    ensures whole { W.failed writer.new ≡ W.failed writer.old
+        → Appends (W.contents writer.old) (W.contents writer.new) (line_of fault.now name.now) }
+{
+    let _ = write_line(fault, name, writer);
+    exit_status(fault)
+}
+
+fn exit_status(fault: &RunFault) -> u8
     ensures { result ≡ status_of fault.now }
 {
     match fault {
-        RunFault::Read(_) => {
-            let _ = write_read_line(name, writer);
-            3
-        }
-        RunFault::Write => {
-            let _ = write_all(b"singcheck: cannot write\n", writer);
-            3
-        }
-        RunFault::Memory => {
-            let _ = write_all(b"singcheck: out of memory\n", writer);
-            4
-        }
+        RunFault::Read(_) | RunFault::Write => 3,
+        RunFault::Memory => 4,
     }
 }
 
-fn write_read_line<W: Sink>(name: &str, writer: &mut W) -> Result<(), RunFault> {
+fn write_line<W: Sink>(fault: &RunFault, name: &str, writer: &mut W) -> Result<(), RunFault>
+    ensures all { OnOk result (Appends (W.contents writer.old) (W.contents writer.new) (line_of fault.now name.now)) }
+    ensures begun { OnErr result (Begins (W.contents writer.old) (W.contents writer.new) (line_of fault.now name.now)) }
+    ensures write { OnErr result (W.failed writer.new ≢ W.failed writer.old) }
+{
+    match fault {
+        RunFault::Read(_) => write_read_line(name, writer),
+        RunFault::Write => write_all(b"singcheck: cannot write\n", writer),
+        RunFault::Memory => write_all(b"singcheck: out of memory\n", writer),
+    }
+}
+
+fn write_read_line<W: Sink>(name: &str, writer: &mut W) -> Result<(), RunFault>
+    ensures all { OnOk result (Appends (W.contents writer.old) (W.contents writer.new)
+        (codes "singcheck: cannot read " ++ name.now ++ codes "\n")) }
+    ensures begun { OnErr result (Begins (W.contents writer.old) (W.contents writer.new)
+        (codes "singcheck: cannot read " ++ name.now ++ codes "\n")) }
+    ensures write { OnErr result (W.failed writer.new ≢ W.failed writer.old) }
+{
     write_all(b"singcheck: cannot read ", writer)?;
     write_all(name.as_bytes(), writer)?;
     write_all(b"\n", writer)

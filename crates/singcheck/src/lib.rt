@@ -6,6 +6,7 @@ mod bounds;
 mod device;
 mod endings;
 mod fault;
+pub mod laws;
 mod lines;
 mod reading;
 mod reports;

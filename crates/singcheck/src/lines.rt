@@ -1,18 +1,25 @@
 //! The lines of an answer.
 
-use contracts::Sound;
+ghost use Rattle.std.specs.Prelude.{◌≡◌, ◌++◌, OnOk};
+ghost use Rattle.std.specs.Fmt.{decimal};
+ghost use Rattle.source.specs.Findings.{finding_parts};
+ghost use Rattle.singcheck.specs.Lines.{finding_line, count_line, bounds_line, ok_line};
+
 use source::{Finding, Memory};
 use std::alloc::Global;
-use syntax::Side;
 
 /// Adds a text.
-fn add(answer: &mut Vec<u8>, text: &str) -> Result<(), Memory> {
+fn add(answer: &mut Vec<u8>, text: &str) -> Result<(), Memory>
+    ensures { OnOk result (answer.new.items ≡ answer.old.items ++ text.now) }
+{
     answer.extend_from_slice(text.as_bytes())?;
     Ok(())
 }
 
 /// Adds a number in decimal.
-fn add_number(alloc: Global, answer: &mut Vec<u8>, number: usize) -> Result<(), Memory> {
+fn add_number(alloc: Global, answer: &mut Vec<u8>, number: usize) -> Result<(), Memory>
+    ensures { OnOk result (answer.new.items ≡ answer.old.items ++ decimal number) }
+{
     let digits = number.to_string(alloc)?;
     add(answer, digits.as_str())
 }
@@ -22,7 +29,9 @@ pub(crate) fn add_finding(
     alloc: Global,
     answer: &mut Vec<u8>,
     finding: &Finding,
-) -> Result<(), Memory> {
+) -> Result<(), Memory>
+    ensures { OnOk result (answer.new.items ≡ answer.old.items ++ finding_line (finding_parts finding.now)) }
+{
     add_number(alloc, answer, finding.place.line as usize)?;
     add(answer, ":")?;
     add_number(alloc, answer, finding.place.col as usize)?;
@@ -34,7 +43,9 @@ pub(crate) fn add_finding(
 }
 
 /// Adds `findings: N`.
-pub(crate) fn add_count(alloc: Global, answer: &mut Vec<u8>, count: usize) -> Result<(), Memory> {
+pub(crate) fn add_count(alloc: Global, answer: &mut Vec<u8>, count: usize) -> Result<(), Memory>
+    ensures { OnOk result (answer.new.items ≡ answer.old.items ++ count_line count) }
+{
     add(answer, "findings: ")?;
     add_number(alloc, answer, count)?;
     add(answer, "\n")
@@ -45,22 +56,23 @@ pub(crate) fn add_bounds(
     alloc: Global,
     answer: &mut Vec<u8>,
     name: &str,
-    sound: &Sound,
-) -> Result<(), Memory> {
+    to_exp: u32,
+    to_imp: u32,
+) -> Result<(), Memory>
+    ensures { OnOk result (answer.new.items ≡ answer.old.items ++ bounds_line name.now to_exp to_imp) }
+{
     add(answer, name)?;
     add(answer, ": to Exp ")?;
-    add_number(alloc, answer, sound.bound(Side::Exp) as usize)?;
+    add_number(alloc, answer, to_exp as usize)?;
     add(answer, ", to Imp ")?;
-    add_number(alloc, answer, sound.bound(Side::Imp) as usize)?;
+    add_number(alloc, answer, to_imp as usize)?;
     add(answer, "\n")
 }
 
 /// Adds `ok: C contracts`.
-pub(crate) fn add_contracts(
-    alloc: Global,
-    answer: &mut Vec<u8>,
-    count: usize,
-) -> Result<(), Memory> {
+pub(crate) fn add_contracts(alloc: Global, answer: &mut Vec<u8>, count: usize) -> Result<(), Memory>
+    ensures { OnOk result (answer.new.items ≡ answer.old.items ++ ok_line count) }
+{
     add(answer, "ok: ")?;
     add_number(alloc, answer, count)?;
     add(answer, " contracts\n")

@@ -1,7 +1,8 @@
 //! Reads a text whole.
 
-ghost use Rattle.std.specs.Prelude.{◌≡◌, ◌≢◌, ◌<◌, ◌≤◌, length, IfOk, IsErrOf};
+ghost use Rattle.std.specs.Prelude.{◌≡◌, ◌≢◌, ◌<◌, ◌≤◌, length, IfOk, OnErr, IsErrOf};
 ghost use Rattle.std.specs.Io.KnownBytes.{Consumes, IsAtEnd};
+ghost use Rattle.singcheck.specs.Runs.{TakesAtMost};
 
 use crate::device::{Failed, Source};
 use crate::fault::{Input, RunFault};
@@ -19,6 +20,7 @@ pub(crate) fn read_text<R: Source>(alloc: Global, reader: &mut R) -> Result<Vec<
     ensures bytes { IfOk result (λ text. Consumes (R.remaining reader.old) (R.remaining reader.new) text.items) }
     ensures long { IfOk result (λ text. length text.items ≤ MAX_READ) }
     ensures end { IfOk result (λ text. length text.items < MAX_READ → IsAtEnd (R.remaining reader.new)) }
+    ensures most { OnErr result (TakesAtMost MAX_READ (R.remaining reader.old) (R.remaining reader.new)) }
     ensures read { IsErrOf result (RunFault.Read Input.Text) → R.failed reader.new ≢ R.failed reader.old }
     ensures no_write { IsErrOf result RunFault.Write → R.failed reader.old ≢ R.failed reader.old }
 {

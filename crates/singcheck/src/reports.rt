@@ -1,17 +1,29 @@
 //! The report of findings.
 
+ghost use Rattle.std.specs.Prelude.{◌≡◌, map, IfOk};
+ghost use Rattle.source.specs.Findings.{finding_parts};
+ghost use Rattle.singcheck.specs.Reports.{IsReport, report_bytes};
+
 use crate::lines::{add_count, add_finding};
 use source::{Finding, Memory, compare};
 use std::alloc::Global;
-use std::cmp::Ordering;
 
 /// The report: a line a finding, sorted by line, column, code and text, each once, and then their number.
-pub(crate) fn report(alloc: Global, findings: Vec<Finding>) -> Result<Vec<u8>, Memory> {
+pub(crate) fn report(alloc: Global, findings: Vec<Finding>) -> Result<Vec<u8>, Memory>
+    ensures { IfOk result (λ bytes. IsReport (map finding_parts findings.items) bytes.items) }
+{
     let mut findings = findings;
     findings.sort_by(|a, b| compare(a, b))?;
-    findings.dedup_by(|later, earlier| compare(earlier, later) == Ordering::Equal);
+    findings.dedup_by(|later, earlier| compare(later, earlier).is_eq());
+    written(alloc, &findings)
+}
+
+/// A line a finding, as they stand, and then their number.
+fn written(alloc: Global, findings: &[Finding]) -> Result<Vec<u8>, Memory>
+    ensures { IfOk result (λ bytes. bytes.items ≡ report_bytes (map finding_parts findings.now)) }
+{
     let mut answer = Vec::new(alloc);
-    for finding in &findings {
+    for finding in findings {
         add_finding(alloc, &mut answer, finding)?;
     }
     add_count(alloc, &mut answer, findings.len())?;

@@ -1,9 +1,20 @@
 //! The stages before the methods: the text, its names and its contracts.
 
-ghost use Rattle.std.specs.Prelude.{◌≤◌, ◌<◌, All, length};
+ghost use Rattle.std.specs.Prelude.{◌≡◌, ◌≢◌, ◌<◌, ◌^◌, ◌∷◌, [], ℕ, List, All, length, map, slice_get, IfOk, OnOk};
+ghost use Rattle.source.specs.Findings.{finding_parts};
+ghost use Rattle.source.specs.Marks.{body_of};
+ghost use Rattle.source.specs.Places.{place_of};
+ghost use Rattle.source.specs.Tokens.{AreTokens};
+ghost use Rattle.syntax.specs.Grammar.{program};
+ghost use Rattle.syntax.specs.Parsing.{Spells};
+ghost use Rattle.syntax.specs.Trees.{program_tree};
 ghost use Rattle.names.specs.Parts.{IsWhole, contract_parts};
+ghost use Rattle.names.specs.Resolution.{ContractSeen, contract_seen};
+ghost use Rattle.contracts.specs.Parts.{parts_of};
+ghost use Rattle.singcheck.specs.Answers.{IsResolved, fault_findings, wrong_token};
+ghost use Rattle.singcheck.specs.Stages.{IsStaged, Judges, AddsAll};
 
-use contracts::{Sound, SoundFault, edges, faults};
+use contracts::{Edges, Sound, SoundFault, edges, faults};
 use names::{ContractId, NameFaults, Resolved, resolve};
 use source::{Finding, Memory, TextFault, Tokens, lex, texts};
 use std::alloc::Global;
@@ -27,32 +38,57 @@ pub(crate) struct Clean {
 }
 
 /// The stages of a text.
-pub(crate) fn run_stages(alloc: Global, text: &[u8]) -> Result<Staged, Memory> {
+pub(crate) fn run_stages(alloc: Global, text: &[u8]) -> Result<Staged, Memory>
+    ensures { IfOk result (IsStaged text.now) }
+{
     match lex(alloc, text) {
         Ok(tokens) => parsed(alloc, &tokens),
-        Err(fault) => text_fault(alloc, fault),
+        Err(fault) => Ok(Staged::Found(fault_at(alloc, fault)?)),
     }
 }
 
-fn text_fault(alloc: Global, fault: TextFault) -> Result<Staged, Memory> {
+/// The finding of a fault.
+fn fault_at(alloc: Global, fault: TextFault) -> Result<Vec<Finding>, Memory>
+    ensures fault { OnOk result (fault ≢ TextFault.Memory) }
+    ensures told { IfOk result (λ found. map finding_parts found.items ≡ fault_findings fault) }
+{
     match texts::finding_of(alloc, fault)? {
-        Some(finding) => found_one(alloc, finding),
+        Some(finding) => one(alloc, finding),
         None => Err(Memory),
     }
 }
 
-fn parsed(alloc: Global, tokens: &Tokens) -> Result<Staged, Memory> {
+fn parsed(alloc: Global, tokens: &Tokens) -> Result<Staged, Memory>
+    requires lexed { AreTokens tokens.now.text.items tokens.now.list.items }
+    requires end { tokens.now.end ≡ place_of (body_of tokens.now.text.items) }
+    requires few { length tokens.now.list.items < 2 ^ 32 }
+    ensures { IfOk result (IsStaged tokens.now.text.items) }
+{
     match parse(alloc, tokens) {
         Ok(tree) => named(alloc, &tree, tokens),
-        Err(SyntaxFault::At(number)) => match tokens.list.get(number) {
-            Some(token) => found_one(alloc, texts::unexpected_token(alloc, token.span.place)?),
-            None => found_one(alloc, texts::unexpected_end(alloc, tokens.end)?),
-        },
+        Err(SyntaxFault::At(number)) => Ok(Staged::Found(wrong_at(alloc, tokens, number)?)),
         Err(SyntaxFault::Memory) => Err(Memory),
     }
 }
 
-fn named(alloc: Global, tree: &Tree, tokens: &Tokens) -> Result<Staged, Memory> {
+/// The finding of the token of that number, or of the end where there is none.
+fn wrong_at(alloc: Global, tokens: &Tokens, number: usize) -> Result<Vec<Finding>, Memory>
+    requires end { tokens.now.end ≡ place_of (body_of tokens.now.text.items) }
+    ensures { IfOk result (λ found. map finding_parts found.items
+        ≡ wrong_token tokens.now.text.items (slice_get tokens.now.list.items number) ∷ []) }
+{
+    match tokens.list.get(number) {
+        Some(token) => one(alloc, texts::unexpected_token(alloc, token.span.place)?),
+        None => one(alloc, texts::unexpected_end(alloc, tokens.end)?),
+    }
+}
+
+fn named(alloc: Global, tree: &Tree, tokens: &Tokens) -> Result<Staged, Memory>
+    requires lexed { AreTokens tokens.now.text.items tokens.now.list.items }
+    requires spelled { Spells program (program_tree tree.now) tokens.now.list.items }
+    requires few { length tokens.now.list.items < 2 ^ 32 }
+    ensures { IfOk result (IsStaged tokens.now.text.items) }
+{
     match resolve(alloc, tree, tokens) {
         Ok(resolved) => judged(alloc, resolved),
         Err(NameFaults::Found(findings)) => Ok(Staged::Found(findings)),
@@ -62,13 +98,16 @@ fn named(alloc: Global, tree: &Tree, tokens: &Tokens) -> Result<Staged, Memory> 
 
 /// The contracts that are sound, or what is wrong with the others.
 fn judged(alloc: Global, resolved: Resolved) -> Result<Staged, Memory>
-    requires { All (λ c. IsWhole (contract_parts c)) resolved.contracts.items }
+    requires whole { All (λ c. IsWhole (contract_parts c)) resolved.contracts.items }
+    requires few { length resolved.contracts.items < 2 ^ 32 }
+    ensures { IfOk result (λ staged. (text : List ℕ)
+        → IsResolved text (map contract_seen resolved.contracts.items) → IsStaged text staged) }
 {
     let mut judging = Judging {
         sounds: Vec::new(alloc),
         findings: Vec::new(alloc),
     };
-    for number in 0..count_of(&resolved) {
+    for number in 0..resolved.contracts.len() as u32 {
         judge(alloc, &resolved, ContractId(number), &mut judging)?;
     }
     let Judging { sounds, findings } = judging;
@@ -77,13 +116,6 @@ fn judged(alloc: Global, resolved: Resolved) -> Result<Staged, Memory>
     } else {
         Ok(Staged::Found(findings))
     }
-}
-
-/// How many contracts a resolved program has. The names of more than 256 are a finding.
-fn count_of(resolved: &Resolved) -> u32
-    ensures { result ≤ length resolved.now.contracts.items }
-{
-    u32::try_from(resolved.contracts.len()).unwrap_or(u32::MAX)
 }
 
 /// What has been judged so far.
@@ -102,20 +134,38 @@ fn judge(
 ) -> Result<(), Memory>
     requires there { id.0 < length resolved.now.contracts.items }
     requires whole { All (λ c. IsWhole (contract_parts c)) resolved.now.contracts.items }
+    ensures { OnOk result ((c : ContractSeen)
+        → slice_get (map contract_seen resolved.now.contracts.items) id.0 ≡ Some c
+        → Judges c judging.old judging.new) }
 {
     match Sound::new(alloc, edges(alloc, resolved, id)?) {
-        Ok(sound) => judging.sounds.push(sound)?,
-        Err(SoundFault::Found) => {
-            let mut more = faults(alloc, &edges(alloc, resolved, id)?)?;
-            judging.findings.append(&mut more)?;
+        Ok(sound) => {
+            judging.sounds.push(sound)?;
+            Ok(())
         }
-        Err(SoundFault::Memory) => return Err(Memory),
+        Err(SoundFault::Found) => {
+            let edges = edges(alloc, resolved, id)?;
+            add_faults(alloc, &edges, &mut judging.findings)
+        }
+        Err(SoundFault::Memory) => Err(Memory),
     }
+}
+
+/// Adds all that is wrong with a contract.
+fn add_faults(alloc: Global, edges: &Edges, findings: &mut Vec<Finding>) -> Result<(), Memory>
+    requires { IsWhole (parts_of edges.now) }
+    ensures { OnOk result (AddsAll (parts_of edges.now) findings.old.items findings.new.items) }
+{
+    let mut more = faults(alloc, edges)?;
+    findings.append(&mut more)?;
     Ok(())
 }
 
-fn found_one(alloc: Global, finding: Finding) -> Result<Staged, Memory> {
+/// A list of one finding.
+fn one(alloc: Global, finding: Finding) -> Result<Vec<Finding>, Memory>
+    ensures { IfOk result (λ found. map finding_parts found.items ≡ finding_parts finding ∷ []) }
+{
     let mut findings = Vec::new(alloc);
     findings.push(finding)?;
-    Ok(Staged::Found(findings))
+    Ok(findings)
 }

@@ -10,6 +10,7 @@ use crate::fault::RunFault;
 /// Writes all of the bytes, or a beginning of them.
 pub(crate) fn write_all<W: Sink>(bytes: &[u8], writer: &mut W) -> Result<(), RunFault>
     ensures all { OnOk result (Appends (W.contents writer.old) (W.contents writer.new) bytes.now) }
+    ensures same { OnOk result (W.failed writer.new ≡ W.failed writer.old) }
     ensures begun { OnErr result (Begins (W.contents writer.old) (W.contents writer.new) bytes.now) }
     ensures write { OnErr result (W.failed writer.new ≢ W.failed writer.old) }
     ensures only { OnErr result (IsErrOf result RunFault.Write) }

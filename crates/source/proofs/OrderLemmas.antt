@@ -6,6 +6,7 @@ use Rattle.source.specs.Marks.{mark_len, body_of}
 use Rattle.source.specs.Pieces.{kind_of}
 use Rattle.source.specs.Tokens.{tokens_of, token_of, AreTokens, AreInOrder}
 use Rattle.source.specs.declared.kind.Kind.{Kind}
+use Rattle.source.specs.declared.lexer.TheConstants.{MAX_TEXT}
 use Rattle.source.specs.declared.token.Token.{Token}
 
 -- what is in order from a byte on is so from an earlier one on
@@ -31,3 +32,18 @@ tokens_in_order text tokens within h =
     let size : mark_len text + 0 + length (body_of text) ≡ length text = omega (arith, length-drop (mark_len text) text, within) in
     subst (λ ts. AreInOrder 0 (length text) ts) (sym h.found)
     (order_earlier 0 (mark_len text + 0) (length text) (tokens_of (mark_len text) [] h.pieces) (omega arith) (order_from (mark_len text) (length text) [] (body_of text) h.pieces h.begins.cut size))
+
+many_between : (from to : ℕ) (ts : List Token) → AreInOrder from to ts → from + length ts ≤ to
+many_between from to [] h = omega (arith, h)
+many_between from to (t ∷ ts) h =
+    let rest = many_between t.span.end to ts h.2 in
+    let begins = h.0 in
+    let some = h.1 in
+    omega (arith, rest, begins, some)
+
+-- each token has a byte of its own
+pub tokens_few : (text : List ℕ) (tokens : List Token) → mark_len text ≤ length text → AreTokens text tokens → length tokens ≤ MAX_TEXT
+tokens_few text tokens within h =
+    let many = many_between 0 (length text) tokens (tokens_in_order text tokens within h) in
+    let short = h.short in
+    omega (arith, many, short)

@@ -89,6 +89,7 @@ pub fn lex(alloc: Global, text: &[u8]) -> Result<Tokens, TextFault>
     ensures tokens { IfOk result (λ found. AreTokens text.now found.list.items) }
     ensures spelled { IfOk result (λ found. All (IsSpelled text.now) found.list.items) }
     ensures ordered { IfOk result (λ found. AreInOrder 0 (length text.now) found.list.items) }
+    ensures few { IfOk result (λ found. length found.list.items ≤ MAX_TEXT) }
     ensures end { IfOk result (λ found. found.end ≡ place_of (body_of text.now)) }
     ensures fault { IfErr result (λ fault. fault ≢ TextFault.Memory → IsFault text.now fault) }
     ensures first { (fault : TextFault) → IsFault text.now fault

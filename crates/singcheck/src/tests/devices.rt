@@ -105,3 +105,48 @@ impl Sink for Page {
         self.failures
     }
 }
+
+/// What was taken, at most 128 bytes in all. It takes no memory.
+#[derive(Drop)]
+pub struct Card {
+    bytes: [u8; 128],
+    len: usize,
+    failures: u64,
+    ghost within: { len ≤ 128 },
+}
+
+impl Card {
+    pub fn new() -> Card {
+        Card {
+            bytes: [0; 128],
+            len: 0,
+            failures: 0,
+        }
+    }
+
+    pub fn taken(&self) -> &[u8] {
+        &self.bytes[..self.len]
+    }
+}
+
+impl Sink for Card {
+    ghost contents = { λ _. None };
+
+    ghost failed = { λ s. s.failures };
+
+    fn write(&mut self, bytes: &[u8]) -> Result<usize, Failed> {
+        let room = self.bytes.len() - self.len;
+        if bytes.len() > room {
+            self.failures = self.failures.wrapping_add(1);
+            return Err(Failed);
+        }
+        let end = self.len + bytes.len();
+        self.bytes[self.len..end].copy_from_slice(bytes);
+        self.len = end;
+        Ok(bytes.len())
+    }
+
+    fn failures(&self) -> u64 {
+        self.failures
+    }
+}

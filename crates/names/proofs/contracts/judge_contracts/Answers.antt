@@ -1,10 +1,10 @@
-use Rattle.std.proofs.Common.{◌∙◌, ap, map, sym, subst}
+use Rattle.std.proofs.Common.{◌∙◌, ap, sym, subst}
 use Rattle.std.specs.List.{flat_map}
 use Rattle.std.proofs.lemmas.Result.{on_ok_weaker}
 use Rattle.std.proofs.lemmas.Simd.{map-map}
 use Rattle.syntax.specs.Trees.{contract_tree}
 use Rattle.syntax.specs.declared.tree as tree
-use Rattle.names.specs.Declarations.{names_of_contracts, counted_states}
+use Rattle.names.specs.Declarations.{contracts_among, names_of_contracts, counted_states}
 use Rattle.names.specs.Findings.{twice_among, past_limit}
 use Rattle.names.specs.Found.{Adds}
 use Rattle.names.specs.Outlines.{outlined_states}
@@ -19,7 +19,7 @@ use Rattle.names.proofs.contracts.judge_contracts.Goals as goal
 pub returns : goal.returns
 returns c = λ text h.
     let here = c.args.scope.now.tokens.now.text.items in
-    let contracts = map (λ (i : tree.Item.Item). contract_tree i.contract) c.args.items.now in
+    let contracts = contracts_among c.args.items.now in
     let table = c.args.scope.now.contracts in
     let names = c.in_ok-names.ensures ∙ sym (map-map (λ k. k.name) (λ (i : tree.Item.Item). contract_tree i.contract) c.args.items.now) in
     let listed = c.deref.ensures.value ∙ names in

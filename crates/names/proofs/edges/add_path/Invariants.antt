@@ -1,7 +1,14 @@
-use Rattle.names.specs.Numbered.{AreListed, ids_of_states, ids_of_messages}
+use Rattle.std.proofs.Common.{◌≡◌, ◌+◌, ◌++◌, [], drop}
+use Rattle.syntax.specs.Trees.{path_tree}
+use Rattle.names.specs.Findings.{asked_name}
+use Rattle.names.specs.Meant.{meanings, message_names, text_of, path_left}
+use Rattle.names.specs.Resolution.{path_edges}
 use Rattle.names.proofs.edges.add_path.Given as goal
 
 abbrev pub invariant-loop-next : goal.invariant-loop-next
-invariant-loop-next l =
-    AreListed (ids_of_states l.meaning.states.now) (ids_of_messages l.meaning.messages.now) l.fn.edges.items
-    → AreListed (ids_of_states l.meaning.states.now) (ids_of_messages l.meaning.messages.now) l.edges.items
+invariant-loop-next l = record {
+  to : l.to ≡ l.unnamed + l.next-index;
+  declared : asked_name (text_of l.meaning) (message_names l.meaning) l.edge.message ≡ [];
+  edges : l.edges.items ++ path_left (meanings l.meaning) l.from l.to l.edge (drop l.next-index l.path.others.items) l.path.target
+      ≡ l.fn.edges.items ++ path_edges (meanings l.meaning) l.state l.unnamed (path_tree l.path);
+}

@@ -1,7 +1,13 @@
-use Rattle.names.specs.Numbered.{AreListed, ids_of_states, ids_of_messages}
+use Rattle.std.proofs.Common.{◌≡◌, ◌+◌, ◌++◌, length, map, take}
+use Rattle.std.specs.List.{flat_map}
+use Rattle.syntax.specs.Trees.{path_tree}
+use Rattle.names.specs.Declarations.{unnamed_of}
+use Rattle.names.specs.Meant.{meanings}
+use Rattle.names.specs.Resolution.{paths_edges}
 use Rattle.names.proofs.edges.add_paths.Given as goal
 
 abbrev pub invariant-loop-path : goal.invariant-loop-path
-invariant-loop-path l =
-    AreListed (ids_of_states l.meaning.states.now) (ids_of_messages l.meaning.messages.now) l.fn.edges.items
-    → AreListed (ids_of_states l.meaning.states.now) (ids_of_messages l.meaning.messages.now) l.edges.items
+invariant-loop-path l = record {
+  unnamed : l.unnamed ≡ l.state + 1 + length (flat_map unnamed_of (map path_tree (take l.path-index l.paths)));
+  edges : l.edges.items ≡ l.fn.edges.items ++ paths_edges (meanings l.meaning) l.state (map path_tree (take l.path-index l.paths));
+}

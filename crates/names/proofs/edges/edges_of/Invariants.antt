@@ -1,5 +1,8 @@
-use Rattle.names.specs.Numbered.{AreListed, ids_of_states, ids_of_messages}
+use Rattle.std.proofs.Common.{◌≡◌, map, take}
+use Rattle.syntax.specs.Trees.{state_tree}
+use Rattle.names.specs.Meant.{meanings}
+use Rattle.names.specs.Resolution.{edges_from}
 use Rattle.names.proofs.edges.edges_of.Given as goal
 
-abbrev pub invariant-loop-state : goal.invariant-loop-state
-invariant-loop-state l = AreListed (ids_of_states l.meaning.states.now) (ids_of_messages l.meaning.messages.now) l.edges.items
+abbrev pub invariant-loop-i : goal.invariant-loop-i
+invariant-loop-i l = l.edges.items ≡ edges_from (meanings l.meaning) l.meaning.states_before (map (λ s. state_tree s.now) (take l.i l.meaning.declared.now.outline.states.items))

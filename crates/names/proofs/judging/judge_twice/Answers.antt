@@ -1,9 +1,9 @@
-use Rattle.std.proofs.Common.{◌++◌, ◌∷◌, [], Some, codes, ap, ◌∙◌, sym, subst, get_or, true≢false}
+use Rattle.std.proofs.Common.{◌++◌, ◌∷◌, [], codes, ap, ◌∙◌, sym, subst, get_or, true≢false}
 use Rattle.std.specs.Str.Lossy.{utf8_lossy}
 use Rattle.source.specs.declared.finding.Code.TheVariants.{N01}
 use Rattle.source.specs.declared.token.Span.{Span}
 use Rattle.names.specs.Firsts.{first_of}
-use Rattle.names.specs.Found.{Adds, FindingParts}
+use Rattle.names.specs.Found.{Adds}
 use Rattle.names.specs.Words.{words_at}
 use Rattle.names.proofs.AddLemmas.{adds_one}
 use Rattle.names.proofs.TwiceLemmas.{twice_start, twice_end, twice_step, twice_here, first_adds, later_adds}

@@ -1,5 +1,8 @@
-use Rattle.names.specs.Numbered.{MessagesBelow}
+use Rattle.std.proofs.Common.{◌≡◌, map, take}
+use Rattle.syntax.specs.Trees.{message_tree}
+use Rattle.names.specs.Parts.{message_parts}
+use Rattle.names.specs.Resolution.{messages_from}
 use Rattle.names.proofs.numbering.number_messages.Given as goal
 
-abbrev pub invariant-loop-message : goal.invariant-loop-message
-invariant-loop-message l = MessagesBelow l.next.message l.numbered.items
+abbrev pub invariant-loop-i : goal.invariant-loop-i
+invariant-loop-i l = map message_parts l.numbered.items ≡ messages_from l.tokens.text.items l.before (map (λ m. message_tree m.now) (take l.i l.messages))

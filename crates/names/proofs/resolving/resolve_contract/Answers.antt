@@ -1,15 +1,33 @@
-use Rattle.std.proofs.Common.{ap, subst, sym, ◌∙◌}
-use Rattle.std.specs.Prelude.{Contains}
-use Rattle.names.specs.Numbered.{AreListed, ids_of_states, ids_of_messages}
-use Rattle.names.proofs.WholeLemmas.{whole_of}
+use Rattle.std.proofs.Common.{Bor, length, map, ap, refl, ◌∙◌, arith}
+use Rattle.std.specs.List.{flat_map}
+use Rattle.std.specs.Str.Lossy.{utf8_lossy}
+use Rattle.syntax.specs.Trees.{message_tree, state_tree}
+use Rattle.syntax.specs.declared.tree as tree
+use Rattle.names.specs.Numbered.{counted_as, names_in}
+use Rattle.names.specs.Outlines.{outlined_messages, outlined_states}
+use Rattle.names.specs.Resolution.{messages_from, numbered_states}
+use Rattle.names.proofs.MeantLemmas.{all_counted, names_counted}
+use Rattle.names.proofs.SeenLemmas.{seen_is}
 use Rattle.names.proofs.resolving.resolve_contract.Goals as goal
+
+pub number_states-requires : goal.number_states-requires
+number_states-requires c =
+    let names = c.deref-3.ensures.value ∙ c.in_ok-names.ensures.all ∙ ap (λ l. flat_map names_in (map (λ (s : Bor tree.State.State). state_tree s.now) l)) c.deref.ensures.value in
+    let size = ap length names in
+    let counted = names_counted (outlined_states c.args.declared.now.outline) in
+    omega (arith, size, counted, c.requires.states)
 
 pub returns : goal.returns
 returns c =
-    let states = ap ids_of_states c.deref-4.ensures.value in
-    let messages = ap ids_of_messages c.deref-3.ensures.value in
-    whole_of (record { name = c.in_ok-from_utf8_lossy.field-0; first = c.in-Some.first; states = c.in_ok-states.states.all; messages = c.in_ok-messages.messages; edges = c.in_ok-edges.edges })
-    (subst (λ l. Contains l c.in-Some.first) (ap ids_of_states c.deref-6.ensures.value) c.in-Some.ensures)
-    (subst (λ l. AreListed l (ids_of_messages c.in_ok-messages.messages.items) c.in_ok-edges.edges.items) states
-    (subst (λ l. AreListed (ids_of_states c.deref-4.result.now) l c.in_ok-edges.edges.items) messages c.in_ok-edges.ensures))
-    c.in_ok-states.ensures.once c.in_ok-messages.ensures.once
+    let text = c.args.tokens.now.text.items in
+    let outline = c.args.declared.now.outline in
+    let states = outlined_states outline in
+    let before = c.args.states_before in
+    let names = c.deref-3.ensures.value ∙ c.in_ok-names.ensures.all ∙ ap (λ l. flat_map names_in (map (λ (s : Bor tree.State.State). state_tree s.now) l)) c.deref.ensures.value in
+    seen_is text c.args.messages_before before outline.name (outlined_messages outline) states
+    (record { name = c.in_ok-from_utf8_lossy.field-0; first = record { 0 = before }; states = c.in_ok-states.states; messages = c.in_ok-messages.messages; edges = c.in_ok-edges.edges })
+    (c.in_ok-from_utf8_lossy.ensures.lossy ∙ ap utf8_lossy c.slice.ensures)
+    refl
+    (c.in_ok-states.ensures ∙ ap (λ l. numbered_states before (map (counted_as text) l)) names ∙ ap (numbered_states before) (all_counted text states))
+    (c.in_ok-messages.ensures ∙ ap (λ l. messages_from text c.args.messages_before (map (λ (m : Bor tree.Message.Message). message_tree m.now) l)) c.deref-2.ensures.value)
+    c.in_ok-edges.ensures

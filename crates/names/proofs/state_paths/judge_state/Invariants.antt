@@ -1,4 +1,4 @@
-use Rattle.std.proofs.Common.{map, take}
+use Rattle.std.proofs.Common.{take}
 use Rattle.std.specs.Prelude.{List}
 use Rattle.std.specs.List.{flat_map}
 use Rattle.source.specs.declared.token.Span.{Span}

@@ -3,7 +3,7 @@ use Rattle.std.proofs.lemmas.Result.{err_from_is_err_and}
 use Rattle.source.specs.Marks.{mark_len}
 use Rattle.source.specs.Tokens.{AreTokens}
 use Rattle.source.proofs.FaultLemmas.{answered, none_of_tokens, fault_of_body}
-use Rattle.source.proofs.OrderLemmas.{tokens_in_order}
+use Rattle.source.proofs.OrderLemmas.{tokens_few, tokens_in_order}
 use Rattle.source.proofs.SpelledLemmas.{tokens_of_lexed, tokens_spelled}
 use Rattle.source.proofs.lexer.lex.Goals as goal
 use Rattle.source.proofs.lexer.lex.Goals.{In_ok-list}
@@ -27,6 +27,11 @@ pub returns-clause-ordered : goal.returns-clause-ordered
 returns-clause-ordered c =
     let within : mark_len c.args.text.now ≤ length c.args.text.now = omega (arith, c.mark_len-mark.ensures.value, c.mark_len-mark.ensures.within) in
     tokens_in_order c.args.text.now c.in_ok-list.field-0.list.items within (tokens_are (goal.at.returns-clause-ordered c).In_ok-list)
+
+pub returns-clause-few : goal.returns-clause-few
+returns-clause-few c =
+    let within : mark_len c.args.text.now ≤ length c.args.text.now = omega (arith, c.mark_len-mark.ensures.value, c.mark_len-mark.ensures.within) in
+    tokens_few c.args.text.now c.in_ok-list.field-0.list.items within (tokens_are (goal.at.returns-clause-few c).In_ok-list)
 
 pub returns-clause-first : goal.returns-clause-first
 returns-clause-first c = λ fault is. absurd (none_of_tokens c.args.text.now c.in_ok-list.field-0.list.items fault (tokens_are (goal.at.returns-clause-first c).In_ok-list) is)

@@ -1,8 +1,9 @@
-use Rattle.std.proofs.Common.{◌++◌, ◌∷◌, [], map, take, ap, ◌∙◌, sym, subst, refl}
-use Rattle.std.proofs.lemmas.List.{take_all, take_more}
+use Rattle.std.proofs.Common.{◌∙◌, sym, subst, refl}
+use Rattle.std.proofs.lemmas.List.{take_all}
 use Rattle.std.proofs.lemmas.Simd.{map-map}
 use Rattle.syntax.specs.Trees.{contract_tree}
 use Rattle.syntax.specs.declared.tree as tree
+use Rattle.names.specs.Declarations.{contracts_among}
 use Rattle.names.specs.Scopes.{AreDeclared}
 use Rattle.names.specs.Tables.{IsTable}
 use Rattle.names.specs.Words.{words_at}
@@ -20,6 +21,6 @@ returns c = record {
   table = subst (λ names. IsTable (words_at c.args.tokens.now.text.items names) c.in_ok-contracts.contracts)
       (c.deref.ensures.value ∙ c.in_ok-names.ensures ∙ sym (map-map (λ k. k.name) (λ (i : tree.Item.Item). contract_tree i.contract) c.args.items.now))
       c.in_ok-contracts.ensures;
-  declared = subst (λ l. AreDeclared c.args.tokens.now.text.items (map (λ (i : tree.Item.Item). contract_tree i.contract) l) c.loop-item.declared.items)
+  declared = subst (λ l. AreDeclared c.args.tokens.now.text.items (contracts_among l) c.loop-item.declared.items)
       (take_all c.loop-item.item-index c.args.items.now c.loop-item-test.false) c.loop-item.invariant;
 }

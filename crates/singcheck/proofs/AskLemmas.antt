@@ -1,0 +1,28 @@
+-- What a parse found, as what the words ask for.
+use Rattle.std.proofs.Common.{◌≡◌, List, Option, Some, None, true, codes, option_map, refl, sym, ap, ◌∙◌}
+use Rattle.std.specs.Prelude.{Box}
+use Rattle.std.specs.Box.{box_value}
+use Rattle.clap.specs.Words.{App, HasMatchesOf, Row, Text, first_value, found_of, is_simple, rows_of, subcommand_of}
+use Rattle.clap.specs.Matches.{subcommand_name_of}
+use Rattle.clap.specs.Simple.{subcommand_rows}
+use Rattle.clap.specs.declared.parser.matches.ArgMatches.{ArgMatches}
+use Rattle.clap.specs.declared.parser.matches.ArgMatches.TheViews.{out-ArgMatches, out-SubCommand}
+use Rattle.clap.specs.declared.parser.matches.SubCommand.{SubCommand}
+use Rattle.clap.proofs.OnLiterals.{clap_on_literals}
+use Rattle.clap.proofs.WalkLemmas.{first_value-rows}
+use Rattle.singcheck.specs.Asking.{AsksBounds, whole_command}
+
+whole_is_simple : is_simple whole_command ≡ true
+unfolding clap_on_literals
+whole_is_simple = refl
+
+both_of : {Z : Type 0} (found : Option (Box SubCommand Z)) (name : Text) (rows : List Row) → option_map (λ b. (out-SubCommand (box_value b)).name.now) found ≡ Some name → option_map (λ p. p.1) (subcommand_rows found) ≡ Some rows → subcommand_rows found ≡ Some (name, rows)
+both_of None name rows e f = absurd (cc)
+both_of (Some b) name rows e f = cc
+
+pub asks_bounds : (words : List Text) (m inner : ArgMatches) (file : Text) (command : App) → command ≡ whole_command → HasMatchesOf command words m → subcommand_name_of m ≡ Some (codes "bounds") → option_map (λ p. p.1) (subcommand_rows (out-ArgMatches m).subcommand) ≡ Some (rows_of (found_of inner)) → first_value (found_of inner) (codes "FILE") ≡ Some file → AsksBounds words file
+asks_bounds words m inner file command is has name rows first = record {
+  rows = rows_of (found_of inner);
+  named = sym (ap (λ a. subcommand_of a words) is) ∙ sym (has (ap is_simple is ∙ whole_is_simple)).1 ∙ both_of (out-ArgMatches m).subcommand (codes "bounds") (rows_of (found_of inner)) name rows;
+  first = sym (first_value-rows (found_of inner) (codes "FILE")) ∙ first;
+}

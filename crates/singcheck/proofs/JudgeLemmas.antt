@@ -1,0 +1,107 @@
+-- Contracts that are judged one after another.
+use Rattle.std.proofs.Common.{◌≡◌, ℕ, zero, suc, ◌+◌, ◌<◌, List, [], ◌∷◌, ◌++◌, length, map, take, Some, refl, sym, ap, ◌∙◌, subst, add-one, arith, ⊎_elim}
+use Rattle.std.specs.Prelude.{All, Contains, slice_get, ◌≢◌}
+use Rattle.std.proofs.lemmas.List.{map-append}
+use Rattle.std.proofs.lemmas.List.Elements.{Contains-append_left, Contains-append_right, Contains-append_cases, Contains-get_or, Contains-push, Contains-push_cases}
+use Rattle.source.specs.Findings.{FindingParts, finding_parts}
+use Rattle.source.specs.declared.finding.Finding.{Finding}
+use Rattle.names.specs.Parts.{Parts, contract_parts}
+use Rattle.names.specs.Resolution.{ContractSeen, contract_seen}
+use Rattle.names.specs.declared.resolved.Contract.{Contract}
+use Rattle.contracts.specs.Conditions as conditions
+use Rattle.contracts.specs.Conditions.{AreExactly, IsSound}
+use Rattle.contracts.specs.Sounds.{sound_parts}
+use Rattle.contracts.specs.declared.sound.Sound.{Sound}
+use Rattle.singcheck.specs.Answers.{AreFindings, OfContracts, IsResolved, IsBroken}
+use Rattle.singcheck.specs.Stages.{Judges, Keeps, Adds, AddsAll, AreJudged}
+use Rattle.singcheck.specs.declared.stages.Judging.{Judging}
+
+-- the parts at a place are those of the contract there
+pub parts_at : (contracts : List Contract) (i : ℕ) (parts : Parts) (c : ContractSeen) → slice_get (map contract_parts contracts) i ≡ Some parts → slice_get (map contract_seen contracts) i ≡ Some c → c.parts ≡ parts
+parts_at [] i parts c e f = absurd (cc)
+parts_at (x ∷ xs) zero parts c e f =
+    let one : contract_parts x ≡ parts = cc in
+    let other : contract_seen x ≡ c = cc in
+    sym (ap (λ s. s.parts) other) ∙ one
+parts_at (x ∷ xs) (suc i) parts c e f = parts_at xs i parts c e f
+
+-- a sound contract's parts are those that it was made of
+pub keeps_is : (c : ContractSeen) (parts : Parts) (old new : Judging) (sound : Sound) → c.parts ≡ parts → IsSound parts → sound_parts sound ≡ parts → new.sounds.items ≡ old.sounds.items ++ sound ∷ [] → new.findings.items ≡ old.findings.items → Judges c old new
+keeps_is c parts old new sound same is its e f = Keeps (record {
+  sound = subst IsSound (sym same) is;
+  kept = ap (map sound_parts) e ∙ map-append sound_parts old.sounds.items (sound ∷ []) ∙ ap (λ p. map sound_parts old.sounds.items ++ p ∷ []) (its ∙ sym same);
+  same = f;
+})
+
+-- all that is wrong with a contract was added
+pub adds_is : (c : ContractSeen) (some parts : Parts) (old new : Judging) → c.parts ≡ some → c.parts ≡ parts → (f : FindingParts) × conditions.IsFault some f → AddsAll parts old.findings.items new.findings.items → Judges c old new
+adds_is c some parts old new first same broken all = Adds (record {
+  broken = (broken.0, subst (λ p. conditions.IsFault p broken.0) (sym first) broken.1);
+  all = subst (λ p. AddsAll p old.findings.items new.findings.items) (sym same) all;
+})
+
+none_of : (f : FindingParts) → Contains [] f → ⊥
+none_of f c = let below = c.1 in omega arith
+
+-- one more contract has been judged
+pub judged_more : (contracts : List ContractSeen) (c : ContractSeen) (old new : Judging) → AreJudged contracts old → Judges c old new → AreJudged (contracts ++ c ∷ []) new
+judged_more contracts c old new so_far (Keeps k) = record {
+  exactly = record {
+    right = λ f h.
+        let r = so_far.exactly.right f (subst (λ l. Contains (map finding_parts l) f) k.same h) in
+        (r.0, Contains-append_left contracts (c ∷ []) r.0 r.1, r.2);
+    all = λ f b. subst (λ l. Contains (map finding_parts l) f) (sym k.same) (⊎_elim
+        (λ h. so_far.exactly.all f (b.0, h, b.2))
+        (λ e. absurd (k.sound f (subst (λ x. conditions.IsFault x.parts f) (sym e) b.2)))
+        (Contains-push_cases contracts c b.0 b.1));
+  };
+  kept = λ e. k.kept ∙ ap (λ l. l ++ c.parts ∷ []) (so_far.kept (sym k.same ∙ e)) ∙ sym (map-append (λ (x : ContractSeen). x.parts) contracts (c ∷ []));
+}
+judged_more contracts c old new so_far (Adds a) =
+    let all : (f : FindingParts) → IsBroken (contracts ++ c ∷ []) f → Contains (map finding_parts new.findings.items) f
+    = λ f b. subst (λ l. Contains l f) (sym a.all.added) (⊎_elim
+    (λ h. Contains-append_left (map finding_parts old.findings.items) a.all.more f (so_far.exactly.all f (b.0, h, b.2)))
+    (λ e. Contains-append_right (map finding_parts old.findings.items) a.all.more f (a.all.exactly.all f (subst (λ x. conditions.IsFault x.parts f) (sym e) b.2)))
+    (Contains-push_cases contracts c b.0 b.1)) in
+    record {
+      exactly = record {
+        right = λ f h. ⊎_elim
+            (λ earlier. let r = so_far.exactly.right f earlier in (r.0, Contains-append_left contracts (c ∷ []) r.0 r.1, r.2))
+            (λ here. (c, Contains-push contracts c, a.all.exactly.right f here))
+            (Contains-append_cases (map finding_parts old.findings.items) a.all.more f (subst (λ l. Contains l f) a.all.added h));
+        all = all;
+      };
+      kept = λ e. absurd (none_of a.broken.0 (subst (λ l. Contains (map finding_parts l) a.broken.0) e (all a.broken.0 (c, Contains-push contracts c, a.broken.1))));
+    }
+
+-- what stands at a place, and the contracts up to it
+at_turn : (all : List ContractSeen) (n : ℕ) → n < length all → (c : ContractSeen) × (slice_get all n ≡ Some c) × (take (suc n) all ≡ take n all ++ c ∷ [])
+at_turn [] n lt = absurd (omega (arith, lt))
+at_turn (x ∷ xs) zero lt = (x, refl, refl)
+at_turn (x ∷ xs) (suc n) lt = let r = at_turn xs n (omega arith) in (r.0, r.1, ap (λ l. x ∷ l) r.2)
+
+pub judged_turn : (all : List ContractSeen) (n : ℕ) (old new : Judging) → n < length all → AreJudged (take n all) old → ((c : ContractSeen) → slice_get all n ≡ Some c → Judges c old new) → AreJudged (take (n + 1) all) new
+judged_turn all n old new lt so_far judges =
+    let r = at_turn all n lt in
+    rw add-one (subst (λ l. AreJudged l new) (sym r.2) (judged_more (take n all) r.0 old new so_far (judges r.0 r.1)))
+
+pub no_items : (found : List Finding) → length found ≡ 0 → found ≡ []
+no_items [] e = refl
+no_items (x ∷ xs) e = absurd (omega (arith, e))
+
+-- where something was found, that is the text's
+pub found_all : (text : List ℕ) (contracts : List ContractSeen) (judging : Judging) → AreJudged contracts judging → 0 < length judging.findings.items → IsResolved text contracts → AreFindings text (map finding_parts judging.findings.items)
+found_all text contracts judging judged some resolved = OfContracts (record {
+  contracts = contracts;
+  resolved = resolved;
+  some = none_mapped judging.findings.items some;
+  are = judged.exactly;
+})
+  where
+    none_mapped : (found : List Finding) → 0 < length found → map finding_parts found ≢ []
+    none_mapped [] h = λ _. absurd (omega (arith, h))
+    none_mapped (x ∷ xs) h = λ e. absurd (cc)
+
+-- where nothing was found, each is sound
+pub clean_all : (text : List ℕ) (contracts : List ContractSeen) (judging : Judging) → AreJudged contracts judging → judging.findings.items ≡ [] → All (λ c. IsSound c.parts) contracts
+clean_all text contracts judging judged none = λ k d lt f broken. none_of f (subst (λ l. Contains (map finding_parts l) f) none (judged.exactly.all f (_, Contains-get_or contracts k d lt, broken)))

@@ -1,0 +1,126 @@
+-- What is written for a text. The stages go in their order: the text, its tokens, its names, its contracts. Each has
+-- findings only where those before it have none.
+use Rattle.std.specs.Prelude.{◌≡◌, ◌≢◌, ℕ, List, [], ◌∷◌, ◌++◌, length, map, All, Contains, Option, Some, None, slice_get, codes}
+use Rattle.std.specs.List.{AllZip, concat}
+use Rattle.source.specs.Faults.{IsFault}
+use Rattle.source.specs.Findings.{FindingParts}
+use Rattle.source.specs.Marks.{body_of}
+use Rattle.source.specs.Places.{first_place, place_of}
+use Rattle.source.specs.Tokens.{AreTokens}
+use Rattle.source.specs.declared.fault.TextFault.{TextFault}
+use Rattle.source.specs.declared.fault.TextFault.TheVariants as faults
+use Rattle.source.specs.declared.finding.Code.TheVariants.{S01, S02, S03, S04, S05, S06}
+use Rattle.source.specs.declared.token.Token.{Token}
+use Rattle.syntax.specs.Grammar.{program}
+use Rattle.syntax.specs.Parsing.{Spells, IsFirstWrong}
+use Rattle.syntax.specs.Trees.{ContractTree, ItemTree}
+use Rattle.syntax.specs.declared.tree.Side.TheVariants.{Exp, Imp}
+use Rattle.names.specs.Findings.{program_findings}
+use Rattle.names.specs.Resolution.{ContractSeen, resolved_contracts}
+use Rattle.contracts.specs.Bounds.{IsBound, sign_to}
+use Rattle.contracts.specs.Conditions as conditions
+use Rattle.contracts.specs.Conditions.{AreExactly, IsSound}
+use Rattle.singcheck.specs.Lines.{bounds_line, ok_line}
+use Rattle.singcheck.specs.Reports.{IsReport}
+use Rattle.singcheck.specs.declared.fault.Status.{Status}
+use Rattle.singcheck.specs.declared.fault.Status.TheVariants.{Empty, Found}
+
+-- the finding that a fault of a text is; want of memory is none
+abbrev pub fault_findings : TextFault → List FindingParts
+fault_findings (faults.Stray place) = record { place = place; code = S01; text = codes "stray byte" } ∷ []
+fault_findings (faults.OpenComment place) = record { place = place; code = S02; text = codes "comment not closed" } ∷ []
+fault_findings faults.TooLong = record { place = first_place; code = S03; text = codes "text too long" } ∷ []
+fault_findings (faults.TooDeep place) = record { place = place; code = S04; text = codes "brackets too deep" } ∷ []
+fault_findings (faults.TooLarge place) = record { place = place; code = S06; text = codes "number too large" } ∷ []
+fault_findings faults.Memory = []
+
+-- the text has a fault: its finding
+pub record IsFaulty (text : List ℕ) (found : List FindingParts) : Type 0 where
+  pub fault : TextFault
+  pub first : IsFault text fault
+  pub are : found ≡ fault_findings fault
+
+-- the finding of a wrong token, or of the end where there is none
+abbrev pub wrong_token : List ℕ → Option Token → FindingParts
+wrong_token text (Some token) = record { place = token.span.place; code = S05; text = codes "unexpected token" }
+wrong_token text None = record { place = place_of (body_of text); code = S05; text = codes "unexpected end" }
+
+-- the tokens of the text are no program: the first wrong one, or the end
+pub record IsNoProgram (text : List ℕ) (found : List FindingParts) : Type 0 where
+  pub tokens : List Token
+  pub lexed : AreTokens text tokens
+  pub number : ℕ
+  pub wrong : IsFirstWrong program tokens number
+  pub are : found ≡ wrong_token text (slice_get tokens number) ∷ []
+
+-- the contracts of a program
+abbrev pub contracts_of : List ItemTree → List ContractTree
+contracts_of items = map (λ i. i.contract) items
+
+-- the text is a program of these contracts
+pub record IsProgram (text : List ℕ) (contracts : List ContractTree) : Type 0 where
+  pub tokens : List Token
+  pub lexed : AreTokens text tokens
+  pub items : List ItemTree
+  pub spelled : Spells program items tokens
+  pub are : contracts ≡ contracts_of items
+
+-- something is wrong with the names of the program: all of it
+pub record IsMisnamed (text : List ℕ) (found : List FindingParts) : Type 0 where
+  pub trees : List ContractTree
+  pub parsed : IsProgram text trees
+  pub some : found ≢ []
+  pub are : AreExactly (Contains (program_findings text trees)) found
+
+-- nothing is wrong with the names of the program, and these are its contracts with a number for each name
+pub record IsResolved (text : List ℕ) (contracts : List ContractSeen) : Type 0 where
+  pub trees : List ContractTree
+  pub parsed : IsProgram text trees
+  pub clean : program_findings text trees ≡ []
+  pub are : contracts ≡ resolved_contracts text trees
+
+-- a condition is broken in one of the contracts, which is this finding
+abbrev pub IsBroken : List ContractSeen → FindingParts → Type 0
+IsBroken contracts f = (c : ContractSeen) × Contains contracts c × conditions.IsFault c.parts f
+
+-- conditions are broken in contracts of the program: all that is so
+pub record IsUnsound (text : List ℕ) (found : List FindingParts) : Type 0 where
+  pub contracts : List ContractSeen
+  pub resolved : IsResolved text contracts
+  pub some : found ≢ []
+  pub are : AreExactly (IsBroken contracts) found
+
+-- these are the findings of the first stage of the text that has some
+pub data AreFindings (text : List ℕ) (found : List FindingParts) : Type 0 where
+  OfText : IsFaulty text found → AreFindings text found
+  OfSyntax : IsNoProgram text found → AreFindings text found
+  OfNames : IsMisnamed text found → AreFindings text found
+  OfContracts : IsUnsound text found → AreFindings text found
+
+-- the line of a contract, with the greatest length of each of its queues
+pub record IsBoundsLine (c : ContractSeen) (line : List ℕ) : Type 0 where
+  pub to_exp : ℕ
+  pub to_imp : ℕ
+  pub exp : ∥ IsBound c.parts.edges c.parts.first (sign_to Exp) to_exp ∥₁
+  pub imp : ∥ IsBound c.parts.edges c.parts.first (sign_to Imp) to_imp ∥₁
+  pub is : line ≡ bounds_line c.name to_exp to_imp
+
+-- these are the findings of the text, and the bytes their report
+pub record IsReported (text bytes : List ℕ) : Type 0 where
+  pub found : List FindingParts
+  pub are : AreFindings text found
+  pub told : IsReport found bytes
+
+-- the text has no findings, and the bytes are a line for each of its contracts in order, and then their number
+pub record AreBounds (text bytes : List ℕ) : Type 0 where
+  pub contracts : List ContractSeen
+  pub resolved : IsResolved text contracts
+  pub sound : All (λ c. IsSound c.parts) contracts
+  pub lines : List (List ℕ)
+  pub each : AllZip IsBoundsLine contracts lines
+  pub are : bytes ≡ concat lines ++ ok_line (length contracts)
+
+-- what is written for a text, and the status of the run
+abbrev pub Answers : List ℕ → List ℕ → Status → Type 0
+Answers text bytes Empty = AreBounds text bytes
+Answers text bytes Found = IsReported text bytes

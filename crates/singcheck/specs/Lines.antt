@@ -1,0 +1,20 @@
+-- The lines that are written, each with its end.
+use Rattle.std.specs.Prelude.{ℕ, List, ◌++◌, codes}
+use Rattle.std.specs.Fmt.{decimal}
+use Rattle.source.specs.Findings.{FindingParts, code_name}
+
+-- `LINE:COL CODE text`
+abbrev pub finding_line : FindingParts → List ℕ
+finding_line f = decimal f.place.line ++ codes ":" ++ decimal f.place.col ++ codes " " ++ code_name f.code ++ codes " " ++ f.text ++ codes "\n"
+
+-- `findings: N`
+abbrev pub count_line : ℕ → List ℕ
+count_line count = codes "findings: " ++ decimal count ++ codes "\n"
+
+-- `NAME: to Exp N, to Imp N`
+abbrev pub bounds_line : List ℕ → ℕ → ℕ → List ℕ
+bounds_line name to_exp to_imp = name ++ codes ": to Exp " ++ decimal to_exp ++ codes ", to Imp " ++ decimal to_imp ++ codes "\n"
+
+-- `ok: C contracts`
+abbrev pub ok_line : ℕ → List ℕ
+ok_line contracts = codes "ok: " ++ decimal contracts ++ codes " contracts\n"

@@ -1,0 +1,57 @@
+-- For proofs within the crate: what the stages answer each other.
+use Rattle.std.specs.Prelude.{◌≡◌, ℕ, List, [], ◌∷◌, ◌++◌, map, All}
+use Rattle.source.specs.Findings.{FindingParts, finding_parts}
+use Rattle.source.specs.declared.finding.Finding.{Finding}
+use Rattle.names.specs.Resolution.{ContractSeen, contract_seen}
+use Rattle.contracts.specs.Conditions as conditions
+use Rattle.contracts.specs.Conditions.{AreExactly, IsSound}
+use Rattle.contracts.specs.Parts.{Parts}
+use Rattle.contracts.specs.Sounds.{sound_parts}
+use Rattle.singcheck.specs.Answers.{AreFindings, IsBoundsLine, IsResolved, IsBroken}
+use Rattle.singcheck.specs.declared.stages.Clean.{Clean}
+use Rattle.singcheck.specs.declared.stages.Judging.{Judging}
+use Rattle.singcheck.specs.declared.stages.Staged.{Staged}
+use Rattle.singcheck.specs.declared.stages.Staged.TheVariants as staged
+
+-- the contracts of the text, and a sound one for each
+pub record IsClean (text : List ℕ) (clean : Clean) : Type 0 where
+  pub resolved : IsResolved text (map contract_seen clean.resolved.contracts.items)
+  pub sounds : map sound_parts clean.sounds.items ≡ map (λ c. c.parts) (map contract_seen clean.resolved.contracts.items)
+  pub sound : All (λ c. IsSound c.parts) (map contract_seen clean.resolved.contracts.items)
+
+-- the findings of the text, or its contracts where there are none
+abbrev pub IsStaged : List ℕ → Staged → Type 0
+IsStaged text (staged.Found findings) = AreFindings text (map finding_parts findings.items)
+IsStaged text (staged.Clean clean) = IsClean text clean
+
+-- a sound contract is kept
+pub record KeepsSound (c : ContractSeen) (old new : Judging) : Type 0 where
+  pub sound : IsSound c.parts
+  pub kept : map sound_parts new.sounds.items ≡ map sound_parts old.sounds.items ++ c.parts ∷ []
+  pub same : new.findings.items ≡ old.findings.items
+
+-- all that is wrong with a contract of these parts is added
+pub record AddsAll (parts : Parts) (old new : List Finding) : Type 0 where
+  pub more : List FindingParts
+  pub exactly : AreExactly (conditions.IsFault parts) more
+  pub added : map finding_parts new ≡ map finding_parts old ++ more
+
+-- something is wrong with a contract, and all of it is added
+pub record AddsFaults (c : ContractSeen) (old new : Judging) : Type 0 where
+  pub broken : (f : FindingParts) × conditions.IsFault c.parts f
+  pub all : AddsAll c.parts old.findings.items new.findings.items
+
+pub data Judges (c : ContractSeen) (old new : Judging) : Type 0 where
+  Keeps : KeepsSound c old new → Judges c old new
+  Adds : AddsFaults c old new → Judges c old new
+
+-- these contracts have been judged
+pub record AreJudged (contracts : List ContractSeen) (judging : Judging) : Type 0 where
+  pub exactly : AreExactly (IsBroken contracts) (map finding_parts judging.findings.items)
+  pub kept : judging.findings.items ≡ [] → map sound_parts judging.sounds.items ≡ map (λ c. c.parts) contracts
+
+-- the line of a contract is added
+pub record AddsLine (c : ContractSeen) (old new : List ℕ) : Type 0 where
+  pub line : List ℕ
+  pub its : IsBoundsLine c line
+  pub added : new ≡ old ++ line

@@ -1,0 +1,20 @@
+//! Laws of the answers: they hold of every text, whatever a run does.
+
+ghost use Rattle.std.specs.Prelude.{◌≡◌, ℕ, List};
+ghost use Rattle.singcheck.specs.Answers.{Answers};
+ghost use Rattle.singcheck.specs.declared.fault.Status.{Status};
+
+use source::laws::{one_cutting, one_fault};
+use syntax::one_tree_a_spelling;
+
+/// A text has one answer and one status.
+pub fn one_answer()
+    ensures bytes { (text a b : List ℕ) (s t : Status)
+        → Answers text a s → Answers text b t → a ≡ b }
+    ensures status { (text a b : List ℕ) (s t : Status)
+        → Answers text a s → Answers text b t → s ≡ t }
+{
+    one_cutting();
+    one_fault();
+    one_tree_a_spelling();
+}
