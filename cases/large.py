@@ -1,6 +1,8 @@
-"""Cases whose inputs are big, at the limits of a text and of a program's states."""
+"""Cases whose inputs are big: at the limits of a text, of a program's states, methods and variables, and brackets as deep
+as they may be."""
 
 TEXT = 4194304
+NOTHING = b'ok: 0 contracts\n'
 HEAD = b'contract B { out message A(); in message Z(); state S: '
 TAIL = b'T; state T: Z? -> S; }'
 
@@ -8,6 +10,22 @@ TAIL = b'T; state T: Z? -> S; }'
 def chain(states):
     """A contract with so many states, all but two of them unnamed, and a walk of sends through all but the last."""
     return HEAD + b'A!->' * (states - 1) + TAIL
+
+
+def methods(count):
+    """A class of so many methods."""
+    return b'class K {\n' + b''.join(b'static void M%d() { }\n' % k for k in range(count)) + b'}\n'
+
+
+def variables(count):
+    """A method with so many variables of the exchange heap."""
+    declared = b''.join(b'D* in ExHeap v%d;\n' % k for k in range(count))
+    return b'rep struct D { int n; }\nclass K { static void F() {\n' + declared + b'} }\n'
+
+
+def within(statement):
+    """A method with this statement, which stands behind two open brackets."""
+    return b'class K { static void F(bool b, int[] in ExHeap a) { ' + statement + b' } }\n'
 
 
 def cases(folder):
@@ -19,6 +37,15 @@ def cases(folder):
         ('states_500001', chain(500001), passed, 1),
         ('blanks_4194304', b' ' * TEXT, b'ok: 0 contracts\n', 0),
         ('blanks_4194305', b' ' * (TEXT + 1), b'1:1 S03 text too long\nfindings: 1\n', 1),
+        ('methods_4096', methods(4096), NOTHING, 0),
+        ('methods_4097', methods(4097), b'4098:13 N06 limit passed\nfindings: 1\n', 1),
+        ('variables_1000', variables(1000), NOTHING, 0),
+        ('variables_1001', variables(1001), b'1003:14 N06 limit passed\nfindings: 1\n', 1),
+        ('parentheses_100', within(b'int k = ' + b'(' * 98 + b'1' + b')' * 98 + b';'), NOTHING, 0),
+        ('indices_100', within(b'int k = ' + b'a[' * 98 + b'0' + b']' * 98 + b';'), NOTHING, 0),
+        ('blocks_100', within(b'{' * 98 + b'}' * 98), NOTHING, 0),
+        ('ifs_100', within(b'if (b) {' * 98 + b'}' * 98), NOTHING, 0),
+        ('whiles_100', within(b'while (b) {' * 98 + b'}' * 98), NOTHING, 0),
     ]
     made = []
     for name, text, stdout, status in inputs:

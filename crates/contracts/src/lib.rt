@@ -14,8 +14,6 @@ mod positions;
 mod ringing;
 mod sound;
 mod taking;
-#[cfg(test)]
-mod tests;
 mod wholeness;
 
 pub use conditions::faults;

@@ -10,16 +10,11 @@ pub mapped_more : {X Y : Type 0} (g : X → Y) (xs : List X) (i : ℕ) (x : X) �
 mapped_more g xs i x lt is =
     ap (map g) (take_more xs i x lt ∙ ap (λ y. take i xs ++ y ∷ []) (sym is)) ∙ map-append g (take i xs) (x ∷ [])
 
-behind_push : {X Y : Type 0} (f : List X → X → List Y) (before xs : List X) (x : X) → each_behind f before (xs ++ x ∷ []) ≡ each_behind f before xs ++ f (before ++ xs) x
+pub behind_push : {X Y : Type 0} (f : List X → X → List Y) (before xs : List X) (x : X) → each_behind f before (xs ++ x ∷ []) ≡ each_behind f before xs ++ f (before ++ xs) x
 behind_push f before [] x = append-nil (f before x) ∙ sym (ap (λ l. f l x) (append-nil before))
 behind_push f before (y ∷ ys) x =
     ap (λ l. f before y ++ l) (behind_push f (before ++ y ∷ []) ys x ∙ ap (λ l. each_behind f (before ++ y ∷ []) ys ++ f l x) (append_assoc before (y ∷ []) ys))
     ∙ sym (append_assoc (f before y) (each_behind f (before ++ y ∷ []) ys) (f (before ++ (y ∷ ys)) x))
-
-pub behind_taken : {X Y : Type 0} (f : List X → X → List Y) (xs : List X) (i : ℕ) (x : X) → i < length xs → x ≡ get_or xs i x
-    → each_behind f [] (take (i + 1) xs) ≡ each_behind f [] (take i xs) ++ f (take i xs) x
-behind_taken f xs i x lt is =
-    ap (each_behind f []) (take_more xs i x lt ∙ ap (λ y. take i xs ++ y ∷ []) (sym is)) ∙ behind_push f [] (take i xs) x
 
 pub behind_more : {X Y Z : Type 0} (f : List Y → Y → List Z) (g : X → Y) (xs : List X) (i : ℕ) (x : X) → i < length xs → x ≡ get_or xs i x
     → each_behind f [] (map g (take (i + 1) xs)) ≡ each_behind f [] (map g (take i xs)) ++ f (map g (take i xs)) (g x)

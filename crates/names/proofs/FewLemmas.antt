@@ -1,16 +1,18 @@
 -- A program has no more messages than tokens.
-use Rattle.std.proofs.Common.{◌≡◌, suc, ◌≤◌, List, [], ◌∷◌, ◌++◌, length, map, refl, ap, arith}
+use Rattle.std.proofs.Common.{◌≡◌, suc, ◌≤◌, List, [], ◌∷◌, ◌++◌, length, refl, ap, arith}
 use Rattle.std.specs.List.{flat_map}
 use Rattle.std.proofs.lemmas.List.{length-append}
 use Rattle.source.specs.declared.kind.Kind.TheVariants.{CloseBrace}
 use Rattle.source.specs.declared.token.Token.{Token}
 use Rattle.syntax.specs.Grammar as grammar
+use Rattle.syntax.specs.Programs as programs
 use Rattle.syntax.specs.Parsing.{Spells}
-use Rattle.syntax.specs.Spelling.{optional, word}
+use Rattle.syntax.specs.Spelling.{optional, placed, word}
 use Rattle.syntax.specs.Symbols.{End, symbols}
-use Rattle.syntax.specs.Trees.{ContractTree, MemberTree, Message, MessageTree, State, contract_tree, item_tree, program_tree}
+use Rattle.std.proofs.lemmas.Grind.{flat_map-append}
+use Rattle.syntax.specs.Trees.{ContractTree, DefinitionTree, Contract, Struct, Class, ItemTree, MemberTree, Message, MessageTree, State, contract_of, contracts_of, program_tree}
 use Rattle.syntax.specs.declared.tree as tree
-use Rattle.names.specs.Declarations.{contracts_among, message_among, messages_of}
+use Rattle.names.specs.Declarations.{message_among, messages_of}
 use Rattle.names.specs.Resolution.{message_count}
 
 listed_messages : (messages : List MessageTree) → length messages ≤ length (flat_map grammar.message messages)
@@ -33,7 +35,7 @@ among_members (State s ∷ members) =
 
 in_contract : (c : ContractTree) → length (messages_of c) ≤ length (grammar.contract c)
 in_contract c =
-    let close = word CloseBrace in
+    let close = placed CloseBrace c.close in
     let members = flat_map grammar.member c.members in
     let first = listed_messages c.messages in
     let rest = among_members c.members in
@@ -43,26 +45,34 @@ in_contract c =
     let d = length-append members close in
     omega (arith, first, rest, all, a, b, d)
 
-in_items : (items : List tree.Item.Item) → length (flat_map messages_of (contracts_among items)) ≤ length (flat_map grammar.item (map item_tree items))
+in_definition : (d : DefinitionTree) → length (flat_map messages_of (contract_of d)) ≤ length (programs.definition d)
+in_definition (Contract c) =
+    let here = in_contract c in
+    let end = length-append (messages_of c) [] in
+    omega (arith, here, end)
+in_definition (Struct s) = omega arith
+in_definition (Class c) = omega arith
+
+in_items : (items : List ItemTree) → length (flat_map messages_of (contracts_of items)) ≤ length (flat_map programs.item items)
 in_items [] = omega arith
 in_items (i ∷ items) =
-    let c = contract_tree i.contract in
-    let here = in_contract c in
+    let here = in_definition i.definition in
     let rest = in_items items in
-    let front = length-append (optional (λ a. word (grammar.access_word a)) i.access) (grammar.contract c) in
-    let messages = length-append (messages_of c) (flat_map messages_of (contracts_among items)) in
-    let spelled = length-append (grammar.item (item_tree i)) (flat_map grammar.item (map item_tree items)) in
-    omega (arith, here, rest, front, messages, spelled)
+    let front = length-append (optional (λ a. word (grammar.access_word a)) i.access) (programs.definition i.definition) in
+    let both = ap length (flat_map-append messages_of (contract_of i.definition) (contracts_of items)) in
+    let messages = length-append (flat_map messages_of (contract_of i.definition)) (flat_map messages_of (contracts_of items)) in
+    let spelled = length-append (programs.item i) (flat_map programs.item items) in
+    omega (arith, here, rest, front, both, messages, spelled)
 
 as_many_symbols : (tokens : List Token) → length (symbols tokens) ≡ suc (length tokens)
 as_many_symbols [] = refl
 as_many_symbols (t ∷ tokens) = ap suc (as_many_symbols tokens)
 
 -- each message has a symbol of its own
-pub few_messages : (t : tree.Tree.Tree) (tokens : List Token) → Spells grammar.program (program_tree t) tokens → message_count (contracts_among t.items.items) ≤ length tokens
+pub few_messages : (t : tree.Tree.Tree) (tokens : List Token) → Spells programs.program (program_tree t) tokens → message_count (contracts_of (program_tree t)) ≤ length tokens
 few_messages t tokens spelled =
-    let messages = in_items t.items.items in
+    let messages = in_items (program_tree t) in
     let size = ap length spelled in
-    let end = length-append (grammar.program (program_tree t)) (End ∷ []) in
+    let end = length-append (programs.program (program_tree t)) (End ∷ []) in
     let many = as_many_symbols tokens in
     omega (arith, messages, size, end, many)

@@ -9,37 +9,42 @@ use Rattle.std.proofs.lemmas.List.Elements.{All-nil, All-cons}
 use Rattle.std.proofs.lemmas.Option.{slice_get_cases}
 use Rattle.source.specs.declared.finding.Finding.{Finding}
 use Rattle.source.specs.declared.token.Span.{Span}
-use Rattle.syntax.specs.Trees.{ContractTree, MessageTree, StateTree}
+use Rattle.syntax.specs.Trees.{ContractTree, DefinitionTree, Contract, Struct, Class, ItemTree, MessageTree, StateTree, contract_of, contracts_of, item_tree}
 use Rattle.syntax.specs.declared.tree as tree
-use Rattle.names.specs.Declarations.{contracts_among, counted_states, messages_of, names_of_contracts, names_of_messages, names_of_states, states_of}
-use Rattle.names.specs.Findings.{contract_findings, message_findings, past_limit, program_findings, state_findings, twice_among}
-use Rattle.names.specs.Found.{Adds, finding_parts, limit_passed}
+use Rattle.names.specs.ContractFindings.{contract_findings, message_findings, state_findings}
+use Rattle.names.specs.Declarations.{counted_states, messages_of, names_of_contracts, names_of_messages, names_of_states, states_of}
+use Rattle.names.specs.Findings.{all_counted_states, counted_findings, definition_findings, program_findings}
+use Rattle.names.specs.Found.{Adds, limit_passed}
+use Rattle.names.specs.Listed.{past_limit, twice_among}
+use Rattle.names.specs.Methods.{items_findings}
 use Rattle.names.specs.Outlines.{outlined_messages, outlined_states}
-use Rattle.names.specs.Ready.{IsReady, all_resolved, declared_messages, declared_states, resolved_declared}
+use Rattle.names.specs.Program.{Program}
+use Rattle.names.specs.Ready.{IsReady, all_resolved, declared_in, declared_messages, declared_states, resolved_declared}
 use Rattle.names.specs.Resolution.{ContractSeen, each_behind, message_count, resolved_contract, resolved_contracts, state_count}
 use Rattle.names.specs.Scopes.{AreDeclared, IsDeclared, IsScope}
 use Rattle.names.specs.Tables.{IsTable}
 use Rattle.names.specs.Words.{words_at}
 use Rattle.names.specs.declared.limits.TheConstants.{MOST_CONTRACTS, MOST_STATES}
-use Rattle.names.specs.declared.scope.Declared.{Declared}
+use Rattle.names.specs.declared.members.Declared.{Declared}
 use Rattle.names.specs.declared.scope.Scope.{Scope}
+use Rattle.names.proofs.ContractLemmas.{all_declared}
+use Rattle.names.proofs.FoundLemmas.{nothing_found}
 use Rattle.names.proofs.MeantLemmas.{nil_left, nil_right}
-use Rattle.names.proofs.ScopeLemmas.{all_states, are_push}
 
-all_messages : (text : List ℕ) (cs : List ContractTree) (ds : List Declared) → AreDeclared text cs ds → flat_map (λ (d : Declared). outlined_messages d.outline) ds ≡ flat_map messages_of cs
-all_messages text [] [] all = refl
-all_messages text [] (e ∷ ds) all = absurd all
-all_messages text (c ∷ cs) [] all = absurd all
-all_messages text (c ∷ cs) (e ∷ ds) all =
-    ap (λ m. m ++ flat_map (λ (d : Declared). outlined_messages d.outline) ds) all.0.outline.messages
-    ∙ ap (λ l. messages_of c ++ l) (all_messages text cs ds all.1)
+-- what each declares is what its contract has, and so is what all declare
+all_are : {X : Type 0} (f : Declared → List X) (g : ContractTree → List X) (text : List ℕ) → ((c : ContractTree) (d : Declared) → IsDeclared text c d → f d ≡ g c)
+    → (cs : List ContractTree) (ds : List Declared) → AreDeclared text cs ds → flat_map f ds ≡ flat_map g cs
+all_are f g text same [] [] all = refl
+all_are f g text same [] (e ∷ ds) all = absurd all
+all_are f g text same (c ∷ cs) [] all = absurd all
+all_are f g text same (c ∷ cs) (e ∷ ds) all = ap (λ l. l ++ flat_map f ds) (same c e all.0) ∙ ap (λ l. g c ++ l) (all_are f g text same cs ds all.1)
 
 -- as many messages and states are in scope as the contracts have
-pub messages_are : (text : List ℕ) (cs : List ContractTree) (ds : List Declared) → AreDeclared text cs ds → declared_messages ds ≡ message_count cs
-messages_are text cs ds all = ap length (all_messages text cs ds all)
+messages_are : (text : List ℕ) (cs : List ContractTree) (ds : List Declared) → AreDeclared text cs ds → declared_messages ds ≡ message_count cs
+messages_are text cs ds all = ap length (all_are (λ d. outlined_messages d.outline) messages_of text (λ c d one. one.outline.messages) cs ds all)
 
-pub states_are : (text : List ℕ) (cs : List ContractTree) (ds : List Declared) → AreDeclared text cs ds → declared_states ds ≡ state_count cs
-states_are text cs ds all = ap length (all_states text cs ds all)
+states_are : (text : List ℕ) (cs : List ContractTree) (ds : List Declared) → AreDeclared text cs ds → declared_states ds ≡ state_count cs
+states_are text cs ds all = ap length (all_are (λ d. counted_states (outlined_states d.outline)) (λ c. counted_states (states_of c)) text (λ c d one. ap counted_states one.outline.states) cs ds all)
 
 -- one that is declared is resolved as its contract is
 one_resolved : (text : List ℕ) (bs : List ContractTree) (bd : List Declared) (c : ContractTree) (d : Declared) → AreDeclared text bs bd → IsDeclared text c d
@@ -53,6 +58,12 @@ one_resolved text bs bd c d before one =
     ∙ ap (λ l. resolved_contract text m s c.name l (outlined_states d.outline)) one.outline.messages
     ∙ ap (resolved_contract text m s c.name (messages_of c)) one.outline.states
 
+are_push : (text : List ℕ) (cs : List ContractTree) (ds : List Declared) (c : ContractTree) (d : Declared) → AreDeclared text cs ds → IsDeclared text c d → AreDeclared text (cs ++ c ∷ []) (ds ++ d ∷ [])
+are_push text [] [] c d all one = (one, tt)
+are_push text [] (e ∷ ds) c d all one = absurd all
+are_push text (b ∷ cs) [] c d all one = absurd all
+are_push text (b ∷ cs) (e ∷ ds) c d all one = (all.0, are_push text cs ds c d all.1 one)
+
 resolved_behind : (text : List ℕ) (bs : List ContractTree) (bd : List Declared) (cs : List ContractTree) (ds : List Declared) → AreDeclared text bs bd → AreDeclared text cs ds
     → each_behind (λ b d. resolved_declared text (declared_messages b) (declared_states b) d ∷ []) bd ds ≡ each_behind (λ b c. resolved_contract text (message_count b) (state_count b) c.name (messages_of c) (states_of c) ∷ []) bs cs
 resolved_behind text bs bd [] [] before all = refl
@@ -64,34 +75,46 @@ resolved_behind text bs bd (c ∷ cs) (d ∷ ds) before all =
     ∙ ap rest (resolved_behind text (bs ++ c ∷ []) (bd ++ d ∷ []) cs ds (are_push text bs bd c d before all.0) all.1)
 
 -- all are
-pub all_is : (text : List ℕ) (cs : List ContractTree) (ds : List Declared) → AreDeclared text cs ds → all_resolved text ds ≡ resolved_contracts text cs
+all_is : (text : List ℕ) (cs : List ContractTree) (ds : List Declared) → AreDeclared text cs ds → all_resolved text ds ≡ resolved_contracts text cs
 all_is text cs ds all = resolved_behind text [] [] cs ds tt all
 
 -- where nothing is wrong with a contract, nothing is with the names in its edges
-pub clean_edges : (text : List ℕ) (contracts : List ContractTree) (c : ContractTree) → contract_findings text contracts c ≡ [] → flat_map (state_findings text (names_of_messages (messages_of c)) (names_of_states (states_of c))) (states_of c) ≡ []
-clean_edges text contracts c none =
-    nil_right (flat_map (message_findings text contracts) (messages_of c)) _
-    (nil_right (twice_among text (names_of_states (states_of c))) _ (nil_right (twice_among text (names_of_messages (messages_of c))) _ none))
+pub clean_edges : (p : Program) (c : ContractTree) → contract_findings p c ≡ [] → flat_map (state_findings p.text (names_of_messages (messages_of c)) (names_of_states (states_of c))) (states_of c) ≡ []
+clean_edges p c none =
+    nil_right (flat_map (message_findings p) (messages_of c)) _
+    (nil_right (twice_among p.text (names_of_states (states_of c))) _ (nil_right (twice_among p.text (names_of_messages (messages_of c))) _ none))
 
-one_ready : (text : List ℕ) (contracts : List ContractTree) (c : ContractTree) (d : Declared) → IsDeclared text c d → contract_findings text contracts c ≡ [] → IsReady text d
-one_ready text contracts c d one none =
-    let findings = λ (ms : List MessageTree) (ss : List StateTree). flat_map (state_findings text (names_of_messages ms) (names_of_states ss)) ss in
+one_ready : (p : Program) (c : ContractTree) (d : Declared) → IsDeclared p.text c d → contract_findings p c ≡ [] → IsReady p.text d
+one_ready p c d one none =
+    let findings = λ (ms : List MessageTree) (ss : List StateTree). flat_map (state_findings p.text (names_of_messages ms) (names_of_states ss)) ss in
     record {
-      messages = subst (λ l. IsTable (words_at text (names_of_messages l)) d.messages) (sym one.outline.messages) one.messages;
-      states = subst (λ l. IsTable (words_at text (names_of_states l)) d.states) (sym one.outline.states) one.states;
-      clean = ap (λ l. findings l (outlined_states d.outline)) one.outline.messages ∙ ap (findings (messages_of c)) one.outline.states ∙ clean_edges text contracts c none;
+      messages = subst (λ l. IsTable (words_at p.text (names_of_messages l)) d.messages) (sym one.outline.messages) one.messages;
+      states = subst (λ l. IsTable (words_at p.text (names_of_states l)) d.states) (sym one.outline.states) one.states;
+      clean = ap (λ l. findings l (outlined_states d.outline)) one.outline.messages ∙ ap (findings (messages_of c)) one.outline.states ∙ clean_edges p c none;
     }
 
-pub all_ready : (text : List ℕ) (contracts cs : List ContractTree) (ds : List Declared) → AreDeclared text cs ds → flat_map (contract_findings text contracts) cs ≡ [] → All (IsReady text) ds
-all_ready text contracts [] [] all none = All-nil (IsReady text)
-all_ready text contracts [] (d ∷ ds) all none = absurd all
-all_ready text contracts (c ∷ cs) [] all none = absurd all
-all_ready text contracts (c ∷ cs) (d ∷ ds) all none =
-    All-cons (IsReady text) d ds (one_ready text contracts c d all.0 (nil_left (contract_findings text contracts c) _ none))
-    (all_ready text contracts cs ds all.1 (nil_right (contract_findings text contracts c) _ none))
+all_ready : (p : Program) (cs : List ContractTree) (ds : List Declared) → AreDeclared p.text cs ds → flat_map (contract_findings p) cs ≡ [] → All (IsReady p.text) ds
+all_ready p [] [] all none = All-nil (IsReady p.text)
+all_ready p [] (d ∷ ds) all none = absurd all
+all_ready p (c ∷ cs) [] all none = absurd all
+all_ready p (c ∷ cs) (d ∷ ds) all none =
+    All-cons (IsReady p.text) d ds (one_ready p c d all.0 (nil_left (contract_findings p c) _ none))
+    (all_ready p cs ds all.1 (nil_right (contract_findings p c) _ none))
+
+-- where nothing is wrong within the items, nothing is within the contracts among them
+one_clean : (p : Program) (d : DefinitionTree) (cs : List ContractTree) → definition_findings p d ≡ [] → flat_map (contract_findings p) cs ≡ [] → flat_map (contract_findings p) (contract_of d ++ cs) ≡ []
+one_clean p (Contract c) cs none rest = ap (λ l. l ++ flat_map (contract_findings p) cs) none ∙ rest
+one_clean p (Struct s) cs none rest = rest
+one_clean p (Class c) cs none rest = rest
+
+all_clean : (p : Program) (items : List ItemTree) → flat_map (λ i. definition_findings p i.definition) items ≡ [] → flat_map (contract_findings p) (contracts_of items) ≡ []
+all_clean p [] none = refl
+all_clean p (i ∷ items) none =
+    let here = definition_findings p i.definition in
+    one_clean p i.definition (contracts_of items) (nil_left here _ none) (all_clean p items (nil_right here _ none))
 
 -- where the limit is not passed, there are no more names
-pub not_past : (most : ℕ) (names : List Span) → past_limit most names ≡ [] → length names ≤ most
+not_past : (most : ℕ) (names : List Span) → past_limit most names ≡ [] → length names ≤ most
 not_past most names none =
     ⊎_elim
     (λ w. let past : limit_passed w.0 ∷ [] ≡ [] = sym (ap (λ o. option_map_or (λ name. limit_passed name ∷ []) o []) w.2) ∙ none in cc)
@@ -99,37 +122,38 @@ not_past most names none =
     (slice_get_cases names most).1
 
 -- what is known of a scope with whose names nothing is wrong
-pub record IsCleared (text : List ℕ) (contracts : List ContractTree) (scope : Scope) : Type 0 where
-  pub none : flat_map (contract_findings text contracts) contracts ≡ []
-  pub ready : All (IsReady scope.tokens.now.text.items) scope.declared.items
-  pub messages : declared_messages scope.declared.items ≡ message_count contracts
-  pub states : declared_states scope.declared.items ≤ MOST_STATES
-  pub resolved : all_resolved scope.tokens.now.text.items scope.declared.items ≡ resolved_contracts text contracts
+pub record IsCleared (p : Program) (scope : Scope) : Type 0 where
+  pub clean : program_findings p ≡ []
+  pub none : flat_map (contract_findings p) (contracts_of p.items) ≡ []
+  pub ready : All (IsReady p.text) (declared_in scope.members.items)
+  pub messages : declared_messages (declared_in scope.members.items) ≡ message_count (contracts_of p.items)
+  pub states : declared_states (declared_in scope.members.items) ≤ MOST_STATES
+  pub resolved : all_resolved p.text (declared_in scope.members.items) ≡ resolved_contracts p.text (contracts_of p.items)
 
-cleared : (text : List ℕ) (contracts : List ContractTree) (scope : Scope) → IsScope text contracts scope → program_findings text contracts ≡ [] → IsCleared text contracts scope
-cleared text contracts scope h none =
-    let ds = scope.declared.items in
-    let twice = nil_right (twice_among text (names_of_contracts contracts)) _ none in
-    let counted = flat_map (λ c. counted_states (states_of c)) contracts in
-    let limits = nil_right (past_limit MOST_CONTRACTS (names_of_contracts contracts)) _ twice in
-    let each = nil_right (past_limit MOST_STATES counted) _ limits in
+cleared : (p : Program) (scope : Scope) → IsScope p scope → program_findings p ≡ [] → IsCleared p scope
+cleared p scope h nothing =
+    let cs = contracts_of p.items in
+    let ds = declared_in scope.members.items in
+    let all : AreDeclared p.text cs ds = all_declared p.text p.items scope.members.items h.members in
+    let behind = nil_right (items_findings p) _ nothing in
+    let limits = nil_left (counted_findings p) _ behind in
+    let within = nil_right (counted_findings p) _ behind in
+    let each : flat_map (contract_findings p) cs ≡ [] = all_clean p p.items within in
     record {
+      clean = nothing;
       none = each;
-      ready = subst (λ t. All (IsReady t) ds) (sym h.text_is) (all_ready text contracts contracts ds h.declared each);
-      messages = messages_are text contracts ds h.declared;
-      states = let most = not_past MOST_STATES counted (nil_left (past_limit MOST_STATES counted) _ limits) in let many = states_are text contracts ds h.declared in omega (arith, most, many);
-      resolved = ap (λ t. all_resolved t ds) h.text_is ∙ all_is text contracts ds h.declared;
+      ready = all_ready p cs ds all each;
+      messages = messages_are p.text cs ds all;
+      states = let most = not_past MOST_STATES (all_counted_states cs) (nil_right (past_limit MOST_CONTRACTS (names_of_contracts cs)) _ limits) in let many = states_are p.text cs ds all in omega (arith, most, many);
+      resolved = all_is p.text cs ds all;
     }
 
 -- the same, where judging it has added nothing
-pub cleared_by : (text : List ℕ) (items shown judged : List tree.Item.Item) (scope : Scope) (old new : List Finding) (many : ℕ) → shown ≡ items → judged ≡ items → old ≡ [] → many ≡ length new → (many == 0) ≡ true
-    → IsScope text (contracts_among shown) scope → (IsScope text (contracts_among judged) scope → Adds old new (program_findings text (contracts_among judged)))
-    → IsCleared text (contracts_among items) scope
-cleared_by text items shown judged scope old new many shown-are judged-are none size empty h adds =
-    let view = λ (l : List tree.Item.Item). contracts_among l in
-    let here = subst (λ l. IsScope text (view l) scope) shown-are h in
+pub cleared_by : (text : List ℕ) (items shown : List tree.Item.Item) (scope : Scope) (old new : List Finding) (many : ℕ) → shown ≡ items → old ≡ [] → many ≡ length new → (many == 0) ≡ true
+    → IsScope (record { text = text; items = map item_tree shown }) scope → ((p : Program) → IsScope p scope → Adds old new (program_findings p))
+    → IsCleared (record { text = text; items = map item_tree items }) scope
+cleared_by text items shown scope old new many same none size empty h adds =
+    let p : Program = record { text = text; items = map item_tree items } in
+    let here : IsScope p scope = subst (λ l. IsScope (record { text = text; items = map item_tree l }) scope) same h in
     let zero = eqb-true many 0 empty in
-    let nothing = nil_from_length new (omega (arith, size, zero)) in
-    let all = (adds (subst (λ l. IsScope text (view l) scope) (sym judged-are) here)).all in
-    cleared text (view items) scope here
-    (sym (ap (λ l. program_findings text (view l)) judged-are) ∙ sym (all ∙ ap (λ l. map finding_parts l ++ program_findings text (view judged)) none) ∙ ap (map finding_parts) nothing)
+    cleared p scope here (nothing_found none (adds p here) (nil_from_length new (omega (arith, size, zero))))

@@ -1,82 +1,134 @@
--- What contracts declare, in a row.
-use Rattle.std.proofs.Common.{◌≡◌, ℕ, zero, suc, ◌+◌, ◌<◌, List, [], ◌∷◌, ◌++◌, length, map, take, get_or, Option, Some, None, sym, refl, ap, ◌∙◌, subst, arith}
-use Rattle.std.specs.List.{flat_map}
+-- What items declare within them, in a row.
+use Rattle.std.proofs.Common.{◌≡◌, ℕ, zero, suc, ◌+◌, ◌<◌, List, [], ◌∷◌, ◌++◌, length, map, take, get_or, Bor, Option, Some, None, sym, refl, ap, ◌∙◌, subst}
 use Rattle.std.proofs.lemmas.List.{take_more, map-append}
-use Rattle.std.specs.Prelude.{option_and_then, slice_get}
-use Rattle.source.specs.declared.token.Span.{Span}
-use Rattle.syntax.specs.Trees.{ContractTree}
-use Rattle.names.specs.Declarations.{contract_named, first_among, names_of_contracts, counted_states, states_of}
-use Rattle.names.specs.Outlines.{outlined_states}
-use Rattle.names.specs.Scopes.{AreDeclared, IsDeclared, IsAnswer}
-use Rattle.names.specs.declared.scope.Declared.{Declared}
+use Rattle.std.specs.Prelude.{option_map, option_and_then, slice_get}
+use Rattle.std.specs.Option.{option_copied}
+use Rattle.syntax.specs.Trees.{ItemTree, DefinitionTree, Contract, Struct, Class, ContractTree, StructTree, ClassTree, item_tree, definition_tree}
+use Rattle.syntax.specs.declared.tree as tree
+use Rattle.names.specs.Program.{Program, item_at, as_contract, as_struct, as_class}
+use Rattle.names.specs.Scopes.{AllMembers, AreMembers, IsDeclared, AreFields, IsContract, IsStruct, IsClass, as_declared, as_fields, as_methods}
+use Rattle.names.specs.declared.members.Declared.{Declared}
+use Rattle.names.specs.declared.members.Fields.{Fields}
+use Rattle.names.specs.declared.members.Methods.{Methods}
+use Rattle.names.specs.declared.members.Members.{Members}
+use Rattle.names.specs.declared.members.Members.TheVariants as members
 
-pub are_push : (text : List ℕ) (cs : List ContractTree) (ds : List Declared) (c : ContractTree) (d : Declared) → AreDeclared text cs ds → IsDeclared text c d → AreDeclared text (cs ++ c ∷ []) (ds ++ d ∷ [])
-are_push text [] [] c d all one = (one, tt)
-are_push text [] (e ∷ ds) c d all one = absurd all
-are_push text (b ∷ cs) [] c d all one = absurd all
-are_push text (b ∷ cs) (e ∷ ds) c d all one = (all.0, are_push text cs ds c d all.1 one)
+members_push : (text : List ℕ) (items : List ItemTree) (ms : List Members) (i : ItemTree) (m : Members) → AllMembers text items ms → AreMembers text i.definition m → AllMembers text (items ++ i ∷ []) (ms ++ m ∷ [])
+members_push text [] [] i m all one = (one, tt)
+members_push text [] (n ∷ ms) i m all one = absurd all
+members_push text (j ∷ items) [] i m all one = absurd all
+members_push text (j ∷ items) (n ∷ ms) i m all one = (all.0, members_push text items ms i m all.1 one)
 
-pub answer_at : (text : List ℕ) (cs : List ContractTree) (ds : List Declared) (k : ℕ) → AreDeclared text cs ds → IsAnswer text (slice_get cs k) (slice_get ds k)
-answer_at text [] [] k all = tt
-answer_at text [] (e ∷ ds) k all = absurd all
-answer_at text (b ∷ cs) [] k all = absurd all
-answer_at text (b ∷ cs) (e ∷ ds) zero all = all.0
-answer_at text (b ∷ cs) (e ∷ ds) (suc k) all = answer_at text cs ds k all.1
-
--- the contract that a table leads to
-pub named_at : (text : List ℕ) (contracts : List ContractTree) (ds : List Declared) (name : Span) (found : Option ℕ) → AreDeclared text contracts ds → found ≡ first_among text (names_of_contracts contracts) name → IsAnswer text (contract_named text contracts name) (option_and_then (slice_get ds) found)
-named_at text contracts ds name found all is = subst (λ o. IsAnswer text (option_and_then (slice_get contracts) o) (option_and_then (slice_get ds) found)) is (both found)
-  where
-    both : (o : Option ℕ) → IsAnswer text (option_and_then (slice_get contracts) o) (option_and_then (slice_get ds) o)
-    both None = tt
-    both (Some k) = answer_at text contracts ds k all
-
--- one more contract of those that stand before a place
-pub are_more : {X : Type 0} (text : List ℕ) (f : X → ContractTree) (items : List X) (i : ℕ) (x : X) (ds more : List Declared) (d : Declared) → i < length items → x ≡ get_or items i x → AreDeclared text (map f (take i items)) ds → IsDeclared text (f x) d → more ≡ ds ++ d ∷ [] → AreDeclared text (map f (take (i + 1) items)) more
-are_more text f items i x ds more d lt is all one new =
+-- one more item of those that stand before a place
+pub members_more : (text : List ℕ) (items : List tree.Item.Item) (i : ℕ) (x : tree.Item.Item) (ms more : List Members) (m : Members) → i < length items → x ≡ get_or items i x
+    → AllMembers text (map item_tree (take i items)) ms → AreMembers text (definition_tree x.definition) m → more ≡ ms ++ m ∷ [] → AllMembers text (map item_tree (take (i + 1) items)) more
+members_more text items i x ms more m lt is all one new =
     let taken = take_more items i x lt ∙ ap (λ y. take i items ++ y ∷ []) (sym is) in
-    subst (λ l. AreDeclared text (map f l) more) (sym taken)
-    (subst (λ l. AreDeclared text l more) (sym (map-append f (take i items) (x ∷ [])))
-    (subst (AreDeclared text (map f (take i items) ++ f x ∷ [])) (sym new)
-    (are_push text (map f (take i items)) ds (f x) d all one)))
+    subst (λ l. AllMembers text (map item_tree l) more) (sym taken)
+    (subst (λ l. AllMembers text l more) (sym (map-append item_tree (take i items) (x ∷ [])))
+    (subst (AllMembers text (map item_tree (take i items) ++ item_tree x ∷ [])) (sym new)
+    (members_push text (map item_tree (take i items)) ms (item_tree x) m all one)))
 
--- what was looked up is what its contract declares
-pub record Looked (text : List ℕ) (o : Option ContractTree) (d : Declared) : Type 0 where
+contract_is : (text : List ℕ) (k : ℕ) (d : DefinitionTree) (m : Members) → AreMembers text d m → IsContract text (option_map (λ c. (k, c)) (as_contract d)) (option_map (λ c. (k, c)) (as_declared m))
+contract_is text k (Contract c) (members.Contract d) h = (refl, h)
+contract_is text k (Contract c) (members.Struct f) h = absurd h
+contract_is text k (Contract c) (members.Class m) h = absurd h
+contract_is text k (Struct s) (members.Contract d) h = absurd h
+contract_is text k (Struct s) (members.Struct f) h = tt
+contract_is text k (Struct s) (members.Class m) h = absurd h
+contract_is text k (Class c) (members.Contract d) h = absurd h
+contract_is text k (Class c) (members.Struct f) h = absurd h
+contract_is text k (Class c) (members.Class m) h = tt
+
+struct_is : (text : List ℕ) (k : ℕ) (d : DefinitionTree) (m : Members) → AreMembers text d m → IsStruct text (option_map (λ c. (k, c)) (as_struct d)) (option_map (λ c. (k, c)) (as_fields m))
+struct_is text k (Contract c) (members.Contract d) h = tt
+struct_is text k (Contract c) (members.Struct f) h = absurd h
+struct_is text k (Contract c) (members.Class m) h = absurd h
+struct_is text k (Struct s) (members.Contract d) h = absurd h
+struct_is text k (Struct s) (members.Struct f) h = (refl, h)
+struct_is text k (Struct s) (members.Class m) h = absurd h
+struct_is text k (Class c) (members.Contract d) h = absurd h
+struct_is text k (Class c) (members.Struct f) h = absurd h
+struct_is text k (Class c) (members.Class m) h = tt
+
+class_is : (text : List ℕ) (k : ℕ) (d : DefinitionTree) (m : Members) → AreMembers text d m → IsClass text (option_map (λ c. (k, c)) (as_class d)) (as_methods m)
+class_is text k (Contract c) (members.Contract d) h = tt
+class_is text k (Contract c) (members.Struct f) h = absurd h
+class_is text k (Contract c) (members.Class m) h = absurd h
+class_is text k (Struct s) (members.Contract d) h = absurd h
+class_is text k (Struct s) (members.Struct f) h = tt
+class_is text k (Struct s) (members.Class m) h = absurd h
+class_is text k (Class c) (members.Contract d) h = absurd h
+class_is text k (Class c) (members.Struct f) h = absurd h
+class_is text k (Class c) (members.Class m) h = h
+
+-- what stands at a place of the items, and at the same place of their members
+pub contract_at : (text : List ℕ) (items : List ItemTree) (ms : List Members) (k n : ℕ) → AllMembers text items ms
+    → IsContract text (option_and_then (λ i. option_map (λ c. (k, c)) (as_contract i.definition)) (slice_get items n)) (option_map (λ c. (k, c)) (option_and_then as_declared (slice_get ms n)))
+contract_at text [] [] k n all = tt
+contract_at text [] (m ∷ ms) k n all = absurd all
+contract_at text (i ∷ items) [] k n all = absurd all
+contract_at text (i ∷ items) (m ∷ ms) k zero all = contract_is text k i.definition m all.0
+contract_at text (i ∷ items) (m ∷ ms) k (suc n) all = contract_at text items ms k n all.1
+
+pub struct_at : (text : List ℕ) (items : List ItemTree) (ms : List Members) (k n : ℕ) → AllMembers text items ms
+    → IsStruct text (option_and_then (λ i. option_map (λ c. (k, c)) (as_struct i.definition)) (slice_get items n)) (option_map (λ c. (k, c)) (option_and_then as_fields (slice_get ms n)))
+struct_at text [] [] k n all = tt
+struct_at text [] (m ∷ ms) k n all = absurd all
+struct_at text (i ∷ items) [] k n all = absurd all
+struct_at text (i ∷ items) (m ∷ ms) k zero all = struct_is text k i.definition m all.0
+struct_at text (i ∷ items) (m ∷ ms) k (suc n) all = struct_at text items ms k n all.1
+
+pub class_at : (text : List ℕ) (items : List ItemTree) (ms : List Members) (k n : ℕ) → AllMembers text items ms
+    → IsClass text (option_and_then (λ i. option_map (λ c. (k, c)) (as_class i.definition)) (slice_get items n)) (option_and_then as_methods (slice_get ms n))
+class_at text [] [] k n all = tt
+class_at text [] (m ∷ ms) k n all = absurd all
+class_at text (i ∷ items) [] k n all = absurd all
+class_at text (i ∷ items) (m ∷ ms) k zero all = class_is text k i.definition m all.0
+class_at text (i ∷ items) (m ∷ ms) k (suc n) all = class_at text items ms k n all.1
+
+-- what was looked up is what its item declares
+pub record LookedContract (text : List ℕ) (o : Option (ℕ × ContractTree)) (k : ℕ) (d : Declared) : Type 0 where
   pub contract : ContractTree
-  pub is : o ≡ Some contract
+  pub is : o ≡ Some (k, contract)
   pub declared : IsDeclared text contract d
 
-pub looked_up : (text : List ℕ) (o : Option ContractTree) (d : Declared) → IsAnswer text o (Some d) → Looked text o d
-looked_up text None d h = absurd h
-looked_up text (Some c) d h = record { contract = c; is = refl; declared = h }
+pub looked_contract : (text : List ℕ) (o : Option (ℕ × ContractTree)) (k : ℕ) (d : Declared) → IsContract text o (Some (k, d)) → LookedContract text o k d
+looked_contract text None k d h = absurd h
+looked_contract text (Some c) k d h = record { contract = c.1; is = ap (λ n. Some (n, c.1)) h.0; declared = h.1 }
 
--- the contract that stands where these are declared
-pub record Placed (text : List ℕ) (cs : List ContractTree) (i : ℕ) (d : Declared) : Type 0 where
-  pub contract : ContractTree
-  pub within : i < length cs
-  pub is : contract ≡ get_or cs i contract
-  pub declared : IsDeclared text contract d
+pub no_contract : (text : List ℕ) (o : Option (ℕ × ContractTree)) → IsContract text o None → o ≡ None
+no_contract text None h = refl
+no_contract text (Some c) h = absurd h
 
-pub placed : (text : List ℕ) (cs : List ContractTree) (ds : List Declared) (i : ℕ) (d : Declared) → AreDeclared text cs ds → i < length ds → d ≡ get_or ds i d → Placed text cs i d
-placed text [] [] i d all lt is = absurd (omega (arith, lt))
-placed text [] (e ∷ ds) i d all lt is = absurd all
-placed text (c ∷ cs) [] i d all lt is = absurd all
-placed text (c ∷ cs) (e ∷ ds) zero d all lt is = record { contract = c; within = omega arith; is = refl; declared = subst (IsDeclared text c) (sym is) all.0 }
-placed text (c ∷ cs) (e ∷ ds) (suc i) d all lt is =
-    let rest = placed text cs ds i d all.1 (omega (arith, lt)) is in
-    record { contract = rest.contract; within = let less = rest.within in omega (arith, less); is = rest.is; declared = rest.declared }
+pub record LookedStruct (text : List ℕ) (o : Option (ℕ × StructTree)) (k : ℕ) (f : Fields) : Type 0 where
+  pub structure : StructTree
+  pub is : o ≡ Some (k, structure)
+  pub fields : AreFields text structure f
 
-pub as_many : (text : List ℕ) (cs : List ContractTree) (ds : List Declared) → AreDeclared text cs ds → length cs ≡ length ds
-as_many text [] [] all = refl
-as_many text [] (e ∷ ds) all = absurd all
-as_many text (c ∷ cs) [] all = absurd all
-as_many text (c ∷ cs) (e ∷ ds) all = let rest = as_many text cs ds all.1 in omega (arith, rest)
+pub looked_struct : (text : List ℕ) (o : Option (ℕ × StructTree)) (k : ℕ) (f : Fields) → IsStruct text o (Some (k, f)) → LookedStruct text o k f
+looked_struct text None k f h = absurd h
+looked_struct text (Some s) k f h = record { structure = s.1; is = ap (λ n. Some (n, s.1)) h.0; fields = h.1 }
 
--- what they declare is what the contracts declare
-pub all_states : (text : List ℕ) (cs : List ContractTree) (ds : List Declared) → AreDeclared text cs ds → flat_map (λ (d : Declared). counted_states (outlined_states d.outline)) ds ≡ flat_map (λ c. counted_states (states_of c)) cs
-all_states text [] [] all = refl
-all_states text [] (e ∷ ds) all = absurd all
-all_states text (c ∷ cs) [] all = absurd all
-all_states text (c ∷ cs) (e ∷ ds) all =
-    ap (λ s. counted_states s ++ flat_map (λ (d : Declared). counted_states (outlined_states d.outline)) ds) all.0.outline.states
-    ∙ ap (λ l. counted_states (states_of c) ++ l) (all_states text cs ds all.1)
+pub no_struct : (text : List ℕ) (o : Option (ℕ × StructTree)) → IsStruct text o None → o ≡ None
+no_struct text None h = refl
+no_struct text (Some s) h = absurd h
+
+-- the same of what the code answers
+pub contract_seen : (text : List ℕ) (o : Option (ℕ × ContractTree)) (k : ℕ) (found : Option (Bor Declared)) → IsContract text o (option_map (λ c. (k, c)) (option_copied found)) → IsContract text o (option_map (λ d. (k, d.now)) found)
+contract_seen text o k None h = h
+contract_seen text o k (Some d) h = h
+
+pub class_seen : (text : List ℕ) (o : Option (ℕ × ClassTree)) (found : Option (Bor Methods)) → IsClass text o (option_copied found) → IsClass text o (option_map (λ m. m.now) found)
+class_seen text o None h = h
+class_seen text o (Some m) h = h
+
+pub struct_missing : (p : Program) (ms : List Members) (n : ℕ) → AllMembers p.text p.items ms → None ≡ option_and_then as_fields (slice_get ms n) → item_at as_struct p n ≡ None
+struct_missing p ms n all is =
+    no_struct p.text (item_at as_struct p n)
+    (subst (λ o. IsStruct p.text (item_at as_struct p n) (option_map (λ f. (n, f)) o)) (sym is) (struct_at p.text p.items ms n n all))
+
+pub struct_here : (p : Program) (ms : List Members) (n : ℕ) (f : Fields) → AllMembers p.text p.items ms → Some f ≡ option_and_then as_fields (slice_get ms n) → LookedStruct p.text (item_at as_struct p n) n f
+struct_here p ms n f all is =
+    looked_struct p.text (item_at as_struct p n) n f
+    (subst (λ o. IsStruct p.text (item_at as_struct p n) (option_map (λ f. (n, f)) o)) (sym is) (struct_at p.text p.items ms n n all))

@@ -1,21 +1,19 @@
 -- Resolved contracts, part by part.
-use Rattle.std.proofs.Common.{◌≡◌, ℕ, ◌+◌, ◌<◌, ◌≤◌, List, length, map, take, get_or, string_bytes, ap, sym, ◌∙◌, arith}
+use Rattle.std.proofs.Common.{◌≡◌, ℕ, List, length, map, string_bytes, ap, sym, ◌∙◌}
 use Rattle.std.specs.List.{enumerate_from, flat_map}
-use Rattle.std.proofs.lemmas.List.{length-append, length-map}
-use Rattle.std.proofs.lemmas.List.Folds.{length-flat_map-take}
+use Rattle.std.proofs.lemmas.List.{length-map}
 use Rattle.std.proofs.lemmas.List.FromFn.{length-enumerate_from}
 use Rattle.source.specs.declared.token.Span.{Span}
 use Rattle.syntax.specs.Trees.{MessageTree, StateTree}
 use Rattle.names.specs.Declarations.{counted_states}
 use Rattle.names.specs.Outlines.{outlined_messages, outlined_states}
 use Rattle.names.specs.Parts.{MessageParts, StateParts, message_parts, state_parts}
-use Rattle.names.specs.Ready.{declared_messages, declared_states, resolved_declared}
+use Rattle.names.specs.Ready.{resolved_declared}
 use Rattle.names.specs.Resolution.{ContractSeen, contract_seen, counted_in, edges_from, message_meant, messages_from, numbered_message, numbered_state, printed, resolved_contract, state_meant, states_from}
+use Rattle.names.specs.declared.members.Declared.{Declared}
 use Rattle.names.specs.declared.resolved.Contract.{Contract}
 use Rattle.names.specs.declared.resolved.Edge.{Edge}
 use Rattle.names.specs.declared.resolved.StateId.{StateId}
-use Rattle.names.specs.declared.scope.Declared.{Declared}
-use Rattle.names.proofs.AddLemmas.{flat_map_taken}
 use Rattle.names.proofs.MeantLemmas.{as_counted}
 
 pub seen_is : (text : List ℕ) (message state : ℕ) (name : Span) (messages : List MessageTree) (states : List StateTree) (c : Contract) → string_bytes c.name ≡ printed text name → c.first ≡ record { 0 = state }
@@ -31,35 +29,25 @@ seen_is text message state name messages states c name-is first-is states-are me
     ∙ ap (seen (printed text name) (record { 0 = state }) (states_from text state states) (messages_from text message messages)) edges-are
 
 -- a resolved contract has as many messages and states as are declared and counted
-pub seen_messages : (text : List ℕ) (message state : ℕ) (name : Span) (messages : List MessageTree) (states : List StateTree) (c : Contract) → contract_seen c ≡ resolved_contract text message state name messages states → length c.messages.items ≡ length messages
+seen_messages : (text : List ℕ) (message state : ℕ) (name : Span) (messages : List MessageTree) (states : List StateTree) (c : Contract) → contract_seen c ≡ resolved_contract text message state name messages states → length c.messages.items ≡ length messages
 seen_messages text message state name messages states c is =
     sym (length-map c.messages.items message_parts) ∙ ap (λ s. length s.parts.messages) is
     ∙ length-map (enumerate_from message messages) (λ p. numbered_message text p.0 p.1) ∙ length-enumerate_from message messages
 
-pub seen_states : (text : List ℕ) (message state : ℕ) (name : Span) (messages : List MessageTree) (states : List StateTree) (c : Contract) → contract_seen c ≡ resolved_contract text message state name messages states → length c.states.items ≡ length (counted_states states)
+seen_states : (text : List ℕ) (message state : ℕ) (name : Span) (messages : List MessageTree) (states : List StateTree) (c : Contract) → contract_seen c ≡ resolved_contract text message state name messages states → length c.states.items ≡ length (counted_states states)
 seen_states text message state name messages states c is =
     let counted = flat_map (counted_in text) states in
     sym (length-map c.states.items state_parts) ∙ ap (λ s. length s.parts.states) is
     ∙ length-map (enumerate_from state counted) (λ p. numbered_state p.0 p.1) ∙ length-enumerate_from state counted
     ∙ as_counted text states
 
--- how the counts grow by a contract that is resolved
-pub record Counts (ds : List Declared) (i : ℕ) (c : Contract) : Type 0 where
-  pub messages : declared_messages (take (i + 1) ds) ≡ declared_messages (take i ds) + length c.messages.items
-  pub states : declared_states (take (i + 1) ds) ≡ declared_states (take i ds) + length c.states.items
-  pub message_room : declared_messages (take i ds) + length c.messages.items ≤ declared_messages ds
-  pub state_room : declared_states (take i ds) + length c.states.items ≤ declared_states ds
+-- a contract that is resolved has as many messages and states as what it declares
+pub record AsMany (d : Declared) (c : Contract) : Type 0 where
+  pub messages : length c.messages.items ≡ length (outlined_messages d.outline)
+  pub states : length c.states.items ≡ length (counted_states (outlined_states d.outline))
 
-pub counts : (text : List ℕ) (message state : ℕ) (ds : List Declared) (i : ℕ) (d : Declared) (c : Contract) → i < length ds → d ≡ get_or ds i d → contract_seen c ≡ resolved_declared text message state d → Counts ds i c
-counts text message state ds i d c lt is seen =
-    let messages : Declared → List MessageTree = λ k. outlined_messages k.outline in
-    let states : Declared → List Span = λ k. counted_states (outlined_states k.outline) in
-    let m = seen_messages text message state d.outline.name (messages d) (outlined_states d.outline) c seen in
-    let s = seen_states text message state d.outline.name (messages d) (outlined_states d.outline) c seen in
-    let front = take i ds in
-    record {
-      messages = let more = ap length (flat_map_taken messages ds i d lt is) in let both = length-append (flat_map messages front) (messages d) in omega (arith, more, both, m);
-      states = let more = ap length (flat_map_taken states ds i d lt is) in let both = length-append (flat_map states front) (states d) in omega (arith, more, both, s);
-      message_room = let room = length-flat_map-take messages ds i d lt in let here = ap (λ k. length (messages k)) is in omega (arith, room, here, m);
-      state_room = let room = length-flat_map-take states ds i d lt in let here = ap (λ k. length (states k)) is in omega (arith, room, here, s);
-    }
+pub as_many : (text : List ℕ) (message state : ℕ) (d : Declared) (c : Contract) → contract_seen c ≡ resolved_declared text message state d → AsMany d c
+as_many text message state d c seen = record {
+  messages = seen_messages text message state d.outline.name (outlined_messages d.outline) (outlined_states d.outline) c seen;
+  states = seen_states text message state d.outline.name (outlined_messages d.outline) (outlined_states d.outline) c seen;
+}

@@ -18,7 +18,7 @@ first_mapped p f (x ∷ xs) = ap (λ n. cond (not (p (f x))) (1 + n) 0) (first_m
 abbrev within : ℕ → ℕ → Option ℕ
 within i n = cond (ltb i n) (Some i) None
 
-position_mapped : {X Y : Type 0} (p : Y → Bool) (f : X → Y) (xs : List X) → position p (map f xs) ≡ position (λ x. p (f x)) xs
+pub position_mapped : {X Y : Type 0} (p : Y → Bool) (f : X → Y) (xs : List X) → position p (map f xs) ≡ position (λ x. p (f x)) xs
 position_mapped p f xs = ap (λ i. within i (length (map f xs))) (first_mapped p f xs) ∙ ap (within (position_or_len (λ x. p (f x)) xs)) (length-map xs f)
 
 -- a map from references to positions is a table of what they refer to

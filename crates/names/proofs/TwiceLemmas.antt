@@ -10,7 +10,7 @@ use Rattle.std.proofs.Math.ListN.{length-append}
 use Rattle.source.specs.declared.finding.Finding.{Finding}
 use Rattle.source.specs.declared.token.Span.{Span}
 use Rattle.names.specs.Declarations.{is_declared}
-use Rattle.names.specs.Findings.{twice_behind, twice_among}
+use Rattle.names.specs.Listed.{twice_behind, twice_among}
 use Rattle.names.specs.Firsts.{first_of}
 use Rattle.names.specs.Found.{Adds, FindingParts, declared_twice}
 use Rattle.names.specs.Words.{word_at, words_at, same_word}

@@ -12,10 +12,12 @@ use Rattle.source.specs.declared.token.Span.{Span}
 use Rattle.syntax.specs.Trees.{ContractTree, Empty, MessageTree, PathTree, StateTree}
 use Rattle.syntax.specs.declared.tree as tree
 use Rattle.names.specs.Declarations.{counted_in_state, counted_states, first_among, is_declared, messages_of, names_of_messages, names_of_states, paths_of, states_of, unnamed_of}
-use Rattle.names.specs.Findings.{asked_name, contract_findings, path_findings, state_findings}
+use Rattle.names.specs.ContractFindings.{contract_findings, path_findings, state_findings}
 use Rattle.names.specs.Found.{unknown}
+use Rattle.names.specs.Listed.{asked_name}
 use Rattle.names.specs.Meant.{path_left}
 use Rattle.names.specs.Parts.{IsWhole, contract_parts}
+use Rattle.names.specs.Program.{Program}
 use Rattle.names.specs.Resolution.{ContractSeen, Meanings, contract_seen, counted_in, edges_from, message_count, message_meant, numbered_message, numbered_state, path_edges, paths_edges, resolved_contract, resolved_contracts, state_count, state_meant}
 use Rattle.names.specs.Words.{same_word, word_at, words_at}
 use Rattle.names.specs.declared.resolved.Contract.{Contract}
@@ -150,19 +152,20 @@ whole_of text m s name messages states some none =
       messages_once = once_numbered (numbered_message text) (λ t. t.id) message_id (λ i. i.0) (λ k y. refl) (λ k. refl) m messages;
     }
 
-all_whole : (text : List ℕ) (contracts : List ContractTree) → flat_map (contract_findings text contracts) contracts ≡ [] → All (λ s. IsWhole s.parts) (resolved_contracts text contracts)
-all_whole text contracts none =
+all_whole : (p : Program) (contracts : List ContractTree) → flat_map (contract_findings p) contracts ≡ [] → All (λ s. IsWhole s.parts) (resolved_contracts p.text contracts)
+all_whole p contracts none =
+    let text = p.text in
     let whole = λ (s : ContractSeen). IsWhole s.parts in
     let seen = λ (before : List ContractTree) (c : ContractTree). resolved_contract text (message_count before) (state_count before) c.name (messages_of c) (states_of c) in
     all_behind whole (λ before c. seen before c ∷ []) [] contracts
     (λ i c lt is. let before = take i contracts in
     All-cons whole (seen before c) [] (whole_of text (message_count before) (state_count before) c.name (messages_of c) (states_of c) (omega arith)
-    (clean_edges text contracts c (ap (contract_findings text contracts) is ∙ nothing_in (contract_findings text contracts) contracts i c lt none))) (All-nil whole))
+    (clean_edges p c (ap (contract_findings p) is ∙ nothing_in (contract_findings p) contracts i c lt none))) (All-nil whole))
 
 -- the same of contracts that are seen so
-pub seen_whole : (text : List ℕ) (contracts : List ContractTree) (resolved : List Contract) → map contract_seen resolved ≡ resolved_contracts text contracts → flat_map (contract_findings text contracts) contracts ≡ []
+pub seen_whole : (p : Program) (contracts : List ContractTree) (resolved : List Contract) → map contract_seen resolved ≡ resolved_contracts p.text contracts → flat_map (contract_findings p) contracts ≡ []
     → All (λ c. IsWhole (contract_parts c)) resolved
-seen_whole text contracts resolved are none = λ k d lt.
+seen_whole p contracts resolved are none = λ k d lt.
     let size = length-map resolved contract_seen in
-    let all = subst (All (λ s. IsWhole s.parts)) (sym are) (all_whole text contracts none) in
+    let all = subst (All (λ s. IsWhole s.parts)) (sym are) (all_whole p contracts none) in
     subst (λ s. IsWhole s.parts) (get_or-map contract_seen resolved k d (contract_seen d) lt) (all k (contract_seen d) (omega (arith, lt, size)))

@@ -1,9 +1,8 @@
 -- What a program declares.
-use Rattle.std.specs.Prelude.{ℕ, Bool, List, [], ◌∷◌, ◌++◌, map, Option, is_some, option_and_then, slice_get}
+use Rattle.std.specs.Prelude.{ℕ, Bool, List, [], ◌∷◌, ◌++◌, map, Option, is_some}
 use Rattle.std.specs.List.{flat_map}
 use Rattle.source.specs.declared.token.Span.{Span}
-use Rattle.syntax.specs.Trees.{ContractTree, MessageTree, StateTree, BodyTree, Empty, Path, One, MemberTree, Message, State, PathTree, contract_tree}
-use Rattle.syntax.specs.declared.tree.Item.{Item}
+use Rattle.syntax.specs.Trees.{ContractTree, MessageTree, StateTree, BodyTree, Empty, Path, One, MemberTree, Message, State, PathTree}
 use Rattle.names.specs.Firsts.{first_of}
 use Rattle.names.specs.Words.{word_at, words_at}
 
@@ -28,7 +27,7 @@ states_of c = c.state ∷ flat_map state_among c.members
 abbrev pub paths_of : BodyTree → List PathTree
 paths_of Empty = []
 paths_of (Path p) = p ∷ []
-paths_of (One paths semicolon) = paths
+paths_of (One paths close semicolon) = paths
 
 -- the names that messages and states are declared by
 abbrev pub names_of_messages : List MessageTree → List Span
@@ -48,10 +47,6 @@ counted_in_state s = s.name ∷ flat_map unnamed_of (paths_of s.body)
 abbrev pub counted_states : List StateTree → List Span
 counted_states states = flat_map counted_in_state states
 
--- the contracts among the items of a program, in order
-abbrev pub contracts_among : List Item → List ContractTree
-contracts_among items = map (λ i. contract_tree i.contract) items
-
 -- the names that contracts are declared by
 abbrev pub names_of_contracts : List ContractTree → List Span
 names_of_contracts contracts = map (λ c. c.name) contracts
@@ -63,7 +58,3 @@ first_among text names name = first_of (words_at text names) (word_at text name)
 -- whether one of these names is written so
 abbrev pub is_declared : List ℕ → List Span → Span → Bool
 is_declared text names name = is_some (first_among text names name)
-
--- the first contract of a name
-abbrev pub contract_named : List ℕ → List ContractTree → Span → Option ContractTree
-contract_named text contracts name = option_and_then (slice_get contracts) (first_among text (names_of_contracts contracts) name)

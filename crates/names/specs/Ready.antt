@@ -2,18 +2,24 @@
 use Rattle.std.specs.Prelude.{◌≡◌, ℕ, List, [], ◌∷◌, length}
 use Rattle.std.specs.List.{flat_map}
 use Rattle.names.specs.Declarations.{names_of_messages, names_of_states, counted_states}
-use Rattle.names.specs.Findings.{state_findings}
+use Rattle.names.specs.ContractFindings.{state_findings}
 use Rattle.names.specs.Outlines.{outlined_messages, outlined_states}
 use Rattle.names.specs.Resolution.{ContractSeen, each_behind, resolved_contract}
 use Rattle.names.specs.Tables.{IsTable}
 use Rattle.names.specs.Words.{words_at}
-use Rattle.names.specs.declared.scope.Declared.{Declared}
+use Rattle.names.specs.Scopes.{declared_among}
+use Rattle.names.specs.declared.members.Declared.{Declared}
+use Rattle.names.specs.declared.members.Members.{Members}
 
 -- the tables are those of what is declared, and nothing is wrong with the names in its edges
 pub record IsReady (text : List ℕ) (d : Declared) : Type 0 where
   pub messages : IsTable (words_at text (names_of_messages (outlined_messages d.outline))) d.messages
   pub states : IsTable (words_at text (names_of_states (outlined_states d.outline))) d.states
   pub clean : flat_map (state_findings text (names_of_messages (outlined_messages d.outline)) (names_of_states (outlined_states d.outline))) (outlined_states d.outline) ≡ []
+
+-- what the contracts among the items declare, in order
+abbrev pub declared_in : List Members → List Declared
+declared_in items = flat_map declared_among items
 
 -- how many messages and how many states these have
 abbrev pub declared_messages : List Declared → ℕ

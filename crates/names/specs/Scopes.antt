@@ -1,11 +1,16 @@
--- The names in scope, as the code has them.
-use Rattle.std.specs.Prelude.{◌≡◌, ℕ, List, [], ◌∷◌, Option, None, Some}
-use Rattle.syntax.specs.Trees.{ContractTree}
-use Rattle.names.specs.Declarations.{names_of_contracts, names_of_messages, names_of_states, messages_of, states_of}
+-- The names of a program, as the code has them.
+use Rattle.std.specs.Prelude.{◌≡◌, ℕ, List, [], ◌∷◌, map, Option, None, Some}
+use Rattle.syntax.specs.Trees.{ItemTree, DefinitionTree, Contract, Struct, Class, ContractTree, StructTree, ClassTree, item_tree, method_tree}
+use Rattle.names.specs.Declarations.{names_of_messages, names_of_states, messages_of, states_of}
 use Rattle.names.specs.Outlines.{IsOutline}
+use Rattle.names.specs.Program.{Program, item_names}
 use Rattle.names.specs.Tables.{IsTable}
 use Rattle.names.specs.Words.{words_at}
-use Rattle.names.specs.declared.scope.Declared.{Declared}
+use Rattle.names.specs.declared.members.Declared.{Declared}
+use Rattle.names.specs.declared.members.Fields.{Fields}
+use Rattle.names.specs.declared.members.Methods.{Methods}
+use Rattle.names.specs.declared.members.Members.{Members}
+use Rattle.names.specs.declared.members.Members.TheVariants as members
 use Rattle.names.specs.declared.scope.Scope.{Scope}
 
 -- what a contract declares, and the tables of it
@@ -14,22 +19,80 @@ pub record IsDeclared (text : List ℕ) (c : ContractTree) (d : Declared) : Type
   pub messages : IsTable (words_at text (names_of_messages (messages_of c))) d.messages
   pub states : IsTable (words_at text (names_of_states (states_of c))) d.states
 
--- the same of contracts in a row
+-- the fields of a struct, and the table of them
+pub record AreFields (text : List ℕ) (s : StructTree) (f : Fields) : Type 0 where
+  pub list : f.list.now ≡ s.fields
+  pub table : IsTable (words_at text (map (λ x. x.name) s.fields)) f.table
+
+-- the methods of a class, and the table of them
+pub record AreMethods (text : List ℕ) (c : ClassTree) (m : Methods) : Type 0 where
+  pub list : map method_tree m.list.now ≡ c.methods
+  pub table : IsTable (words_at text (map (λ x. x.name) c.methods)) m.table
+
+-- what a definition declares within it
+abbrev pub AreMembers : List ℕ → DefinitionTree → Members → Type 0
+AreMembers text (Contract c) (members.Contract d) = IsDeclared text c d
+AreMembers text (Struct s) (members.Struct f) = AreFields text s f
+AreMembers text (Class c) (members.Class m) = AreMethods text c m
+AreMembers text _ _ = ⊥
+
+-- members that are a contract's, a struct's, a class's
+abbrev pub as_declared : Members → Option Declared
+as_declared (members.Contract d) = Some d
+as_declared (members.Struct f) = None
+as_declared (members.Class m) = None
+
+abbrev pub as_fields : Members → Option Fields
+as_fields (members.Contract d) = None
+as_fields (members.Struct f) = Some f
+as_fields (members.Class m) = None
+
+abbrev pub as_methods : Members → Option Methods
+as_methods (members.Contract d) = None
+as_methods (members.Struct f) = None
+as_methods (members.Class m) = Some m
+
+-- what items in a row declare within them
+abbrev pub AllMembers : List ℕ → List ItemTree → List Members → Type 0
+AllMembers text [] [] = Unit {0}
+AllMembers text [] (m ∷ ms) = ⊥
+AllMembers text (i ∷ items) [] = ⊥
+AllMembers text (i ∷ items) (m ∷ ms) = AreMembers text i.definition m × AllMembers text items ms
+
+-- what the contracts among these declare
+abbrev pub declared_among : Members → List Declared
+declared_among (members.Contract d) = d ∷ []
+declared_among (members.Struct f) = []
+declared_among (members.Class m) = []
+
+-- what contracts in a row declare
 abbrev pub AreDeclared : List ℕ → List ContractTree → List Declared → Type 0
 AreDeclared text [] [] = Unit {0}
 AreDeclared text [] (d ∷ ds) = ⊥
 AreDeclared text (c ∷ cs) [] = ⊥
 AreDeclared text (c ∷ cs) (d ∷ ds) = IsDeclared text c d × AreDeclared text cs ds
 
--- what these contracts declare is in scope
-pub record IsScope (text : List ℕ) (contracts : List ContractTree) (scope : Scope) : Type 0 where
-  pub text_is : scope.tokens.now.text.items ≡ text
-  pub table : IsTable (words_at text (names_of_contracts contracts)) scope.contracts
-  pub declared : AreDeclared text contracts scope.declared.items
+-- what these items declare is in scope
+pub record IsScope (p : Program) (scope : Scope) : Type 0 where
+  pub text_is : scope.tokens.now.text.items ≡ p.text
+  pub items_are : map item_tree scope.items.now ≡ p.items
+  pub names : IsTable (words_at p.text (item_names p)) scope.names
+  pub members : AllMembers p.text p.items scope.members.items
 
--- what a look-up of a contract answers
-abbrev pub IsAnswer : List ℕ → Option ContractTree → Option Declared → Type 0
-IsAnswer text None None = Unit {0}
-IsAnswer text None (Some d) = ⊥
-IsAnswer text (Some c) None = ⊥
-IsAnswer text (Some c) (Some d) = IsDeclared text c d
+-- what a look-up of a contract answers: how many items stand before it, and what it declares
+abbrev pub IsContract : List ℕ → Option (ℕ × ContractTree) → Option (ℕ × Declared) → Type 0
+IsContract text None None = Unit {0}
+IsContract text (Some c) (Some d) = (c.0 ≡ d.0) × IsDeclared text c.1 d.1
+IsContract text _ _ = ⊥
+
+-- what a look-up of a struct answers
+abbrev pub IsStruct : List ℕ → Option (ℕ × StructTree) → Option (ℕ × Fields) → Type 0
+IsStruct text None None = Unit {0}
+IsStruct text (Some s) (Some f) = (s.0 ≡ f.0) × AreFields text s.1 f.1
+IsStruct text _ _ = ⊥
+
+-- what a look-up of a class answers
+abbrev pub IsClass : List ℕ → Option (ℕ × ClassTree) → Option Methods → Type 0
+IsClass text None None = Unit {0}
+IsClass text (Some c) (Some m) = AreMethods text c.1 m
+IsClass text _ _ = ⊥

@@ -1,31 +1,32 @@
 //! What is wrong with the names of contracts.
 
-ghost use Rattle.std.specs.Prelude.{◌≡◌, ℕ, List, map, OnOk};
+ghost use Rattle.std.specs.Prelude.{◌≡◌, ◌++◌, map, IfOk, OnOk};
 ghost use Rattle.std.specs.List.{flat_map};
 ghost use Rattle.syntax.specs.Trees.{ContractTree};
-ghost use Rattle.names.specs.Declarations.{contracts_among};
-ghost use Rattle.names.specs.Findings.{contract_findings, program_findings};
+ghost use Rattle.names.specs.ContractFindings.{contract_findings};
+ghost use Rattle.names.specs.Findings.{counted_findings};
 ghost use Rattle.names.specs.Found.{Adds};
-ghost use Rattle.names.specs.Scopes.{IsScope, IsDeclared};
+ghost use Rattle.names.specs.Program.{Program};
+ghost use Rattle.names.specs.Scopes.{IsScope, IsDeclared, declared_among};
 
 use crate::counted::all_counted;
 use crate::judging::{judge_limit, judge_twice};
 use crate::limits::{MOST_CONTRACTS, MOST_STATES};
+use crate::members::{Declared, Members};
 use crate::message_types::judge_messages;
-use crate::scope::{Declared, Scope, contract_names};
+use crate::scope::Scope;
 use crate::state_paths::judge_states;
-use source::{Finding, Memory};
-use std::alloc::Global;
-use syntax::Item;
+use source::{Finding, Memory, Span};
+use std::alloc::{AllocError, Global};
 
 /// Adds what is wrong with the names of a contract.
-fn judge_contract(
+pub(crate) fn judge_contract(
     alloc: Global,
     scope: &Scope<'_>,
     declared: &Declared<'_>,
     found: &mut Vec<Finding>,
 ) -> Result<(), Memory>
-    ensures { (text : List ℕ) (contracts : List ContractTree) (contract : ContractTree) → IsScope text contracts scope.now → IsDeclared text contract declared.now → OnOk result (Adds found.old.items found.new.items (contract_findings text contracts contract)) }
+    ensures { (p : Program) (contract : ContractTree) → IsScope p scope.now → IsDeclared p.text contract declared.now → OnOk result (Adds found.old.items found.new.items (contract_findings p contract)) }
 {
     let messages = declared.outline.message_names(alloc)?;
     judge_twice(alloc, scope.tokens, &declared.messages, &messages, found)?;
@@ -35,29 +36,36 @@ fn judge_contract(
     judge_states(alloc, scope.tokens, declared, found)
 }
 
-/// Adds what is wrong with the names of each contract.
-fn judge_each(alloc: Global, scope: &Scope<'_>, found: &mut Vec<Finding>) -> Result<(), Memory>
-    ensures { (text : List ℕ) (contracts : List ContractTree) → IsScope text contracts scope.now → OnOk result (Adds found.old.items found.new.items (flat_map (contract_findings text contracts) contracts)) }
-{
-    for declared in &scope.declared {
-        judge_contract(alloc, scope, declared, found)?;
-    }
-    Ok(())
-}
-
-/// Adds all that is wrong with the names of these contracts.
-pub(crate) fn judge_contracts(
+/// Adds the contract, and the state, one past the limit.
+pub(crate) fn judge_counted(
     alloc: Global,
     scope: &Scope<'_>,
-    items: &[Item],
     found: &mut Vec<Finding>,
 ) -> Result<(), Memory>
-    ensures { (text : List ℕ) → IsScope text (contracts_among items.now) scope.now → OnOk result (Adds found.old.items found.new.items (program_findings text (contracts_among items.now))) }
+    ensures { (p : Program) → IsScope p scope.now → OnOk result (Adds found.old.items found.new.items (counted_findings p)) }
 {
-    let names = contract_names(alloc, items)?;
-    judge_twice(alloc, scope.tokens, &scope.contracts, &names, found)?;
+    let names = contract_names(alloc, &scope.members)?;
     judge_limit(alloc, MOST_CONTRACTS, &names, found)?;
-    let counted = all_counted(alloc, &scope.declared)?;
-    judge_limit(alloc, MOST_STATES, &counted, found)?;
-    judge_each(alloc, scope, found)
+    let counted = all_counted(alloc, &scope.members)?;
+    judge_limit(alloc, MOST_STATES, &counted, found)
+}
+
+/// The names of the contracts among these, in order.
+fn contract_names(alloc: Global, items: &[Members<'_>]) -> Result<Vec<Span>, AllocError>
+    ensures { IfOk result (λ names. names.items ≡ flat_map (λ m. map (λ d. d.outline.name) (declared_among m)) items.now) }
+{
+    let mut names = Vec::new(alloc);
+    for item in items {
+        add_name(&mut names, item)?;
+    }
+    Ok(names)
+}
+
+fn add_name(names: &mut Vec<Span>, item: &Members<'_>) -> Result<(), AllocError>
+    ensures { OnOk result (names.new.items ≡ names.old.items ++ map (λ d. d.outline.name) (declared_among item.now)) }
+{
+    match item {
+        Members::Contract(declared) => Ok(names.push(declared.outline.name)?),
+        _ => Ok(()),
+    }
 }

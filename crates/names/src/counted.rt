@@ -5,23 +5,33 @@ ghost use Rattle.std.specs.List.{flat_map};
 ghost use Rattle.syntax.specs.Trees.{path_tree, state_tree};
 ghost use Rattle.names.specs.Declarations.{unnamed_of, counted_states};
 ghost use Rattle.names.specs.Outlines.{outlined_states};
+ghost use Rattle.names.specs.Scopes.{declared_among};
 
+use crate::members::Members;
 use crate::outline::paths;
-use crate::scope::Declared;
 use source::Span;
 use std::alloc::{AllocError, Global};
 use syntax::{Edge, Path, State};
 
-/// The names at which the states of these contracts are counted: its own for a named state, and the message behind
-/// it for an unnamed one.
-pub(crate) fn all_counted(alloc: Global, declared: &[Declared<'_>]) -> Result<Vec<Span>, AllocError>
-    ensures { IfOk result (λ names. names.items ≡ flat_map (λ d. counted_states (outlined_states d.outline)) declared.now) }
+/// The names at which the states of the contracts among these are counted: its own for a named state, and the message
+/// behind it for an unnamed one.
+pub(crate) fn all_counted(alloc: Global, items: &[Members<'_>]) -> Result<Vec<Span>, AllocError>
+    ensures { IfOk result (λ names. names.items ≡ flat_map (λ m. flat_map (λ d. counted_states (outlined_states d.outline)) (declared_among m)) items.now) }
 {
     let mut names = Vec::new(alloc);
-    for contract in declared {
-        add_states(&mut names, &contract.outline.states)?;
+    for item in items {
+        add_counted(&mut names, item)?;
     }
     Ok(names)
+}
+
+fn add_counted(names: &mut Vec<Span>, item: &Members<'_>) -> Result<(), AllocError>
+    ensures { OnOk result (names.new.items ≡ names.old.items ++ flat_map (λ d. counted_states (outlined_states d.outline)) (declared_among item.now)) }
+{
+    match item {
+        Members::Contract(declared) => add_states(names, &declared.outline.states),
+        _ => Ok(()),
+    }
 }
 
 fn add_states(names: &mut Vec<Span>, states: &[&State]) -> Result<(), AllocError>

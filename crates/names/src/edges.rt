@@ -4,7 +4,7 @@ ghost use Rattle.std.specs.Prelude.{◌≡◌, ◌++◌, ◌+◌, ◌^◌, ◌<�
 ghost use Rattle.std.specs.List.{flat_map};
 ghost use Rattle.syntax.specs.Trees.{path_tree};
 ghost use Rattle.names.specs.Declarations.{unnamed_of};
-ghost use Rattle.names.specs.Findings.{path_findings, state_findings};
+ghost use Rattle.names.specs.ContractFindings.{path_findings, state_findings};
 ghost use Rattle.names.specs.Meant.{IsMeaning, meanings, message_names, state_names, text_of, states_in};
 ghost use Rattle.names.specs.Resolution.{path_edges, paths_edges, edges_from};
 

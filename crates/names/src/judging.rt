@@ -2,8 +2,8 @@
 
 ghost use Rattle.std.specs.Prelude.{◌≡◌, List, ◌∷◌, [], OnOk, slice_get};
 ghost use Rattle.source.specs.declared.token.Span.{Span};
-ghost use Rattle.names.specs.Findings.{twice_among, past_limit, asked_name};
-ghost use Rattle.names.specs.Found.{Adds, unknown};
+ghost use Rattle.names.specs.Listed.{twice_among, past_limit, asked_name};
+ghost use Rattle.names.specs.Found.{Adds, declared_twice, unknown};
 ghost use Rattle.names.specs.Tables.{IsTable};
 ghost use Rattle.names.specs.Words.{words_at};
 
@@ -21,6 +21,19 @@ pub(crate) fn add_unknown(
     ensures { OnOk result (Adds found.old.items found.new.items (unknown tokens.now.text.items name ∷ [])) }
 {
     found.push(texts::unknown(alloc, name.place, tokens.slice(name))?)?;
+    Ok(())
+}
+
+/// Adds a name that an earlier one has.
+pub(crate) fn add_twice(
+    alloc: Global,
+    tokens: &Tokens,
+    name: Span,
+    found: &mut Vec<Finding>,
+) -> Result<(), Memory>
+    ensures { OnOk result (Adds found.old.items found.new.items (declared_twice tokens.now.text.items name ∷ [])) }
+{
+    found.push(texts::declared_twice(alloc, name.place, tokens.slice(name))?)?;
     Ok(())
 }
 

@@ -1,11 +1,11 @@
 //! What the names in the edges of a contract mean.
 
 ghost use Rattle.std.specs.Prelude.{◌≡◌, []};
-ghost use Rattle.names.specs.Findings.{asked_name};
+ghost use Rattle.names.specs.Listed.{asked_name};
 ghost use Rattle.names.specs.Resolution.{edge_between};
 
+use crate::members::Declared;
 use crate::resolved::{Edge, MessageId, StateId};
-use crate::scope::Declared;
 use source::{Span, Tokens};
 
 /// What a contract declares, and how its messages and states are numbered.

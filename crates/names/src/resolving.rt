@@ -1,24 +1,27 @@
 //! From a tree to numbers.
 
-ghost use Rattle.std.specs.Prelude.{◌≡◌, [], ◌+◌, ◌^◌, ◌<◌, All, length, map, IfErr, IfOk, OnOk};
-ghost use Rattle.syntax.specs.Trees.{program_tree};
-ghost use Rattle.syntax.specs.Grammar.{program};
+ghost use Rattle.std.specs.Prelude.{◌≡◌, [], ◌∷◌, ◌++◌, ◌+◌, ◌^◌, ◌<◌, All, length, map, IfErr, IfOk, OnOk};
+ghost use Rattle.syntax.specs.Trees.{contracts_of, program_tree};
+ghost use Rattle.syntax.specs.Programs.{program};
 ghost use Rattle.syntax.specs.Parsing.{Spells};
-ghost use Rattle.names.specs.Declarations.{contracts_among, counted_states};
+ghost use Rattle.names.specs.Declarations.{counted_states};
 ghost use Rattle.names.specs.Findings.{program_findings};
 ghost use Rattle.names.specs.Outlines.{outlined_messages, outlined_states};
 ghost use Rattle.names.specs.Parts.{AreApart, IsWhole, contract_parts};
-ghost use Rattle.names.specs.Ready.{IsReady, declared_messages, declared_states, resolved_declared, all_resolved};
+ghost use Rattle.names.specs.Program.{program_of};
+ghost use Rattle.names.specs.Ready.{IsReady, declared_in, declared_messages, declared_states, resolved_declared, all_resolved};
 ghost use Rattle.names.specs.Resolution.{contract_seen, resolved_contracts};
 ghost use Rattle.names.specs.Resolving.{Explains};
+ghost use Rattle.names.specs.Scopes.{declared_among};
 
-use crate::contracts::judge_contracts;
 use crate::edges::edges_of;
 use crate::fault::NameFaults;
+use crate::items::judge_program;
 use crate::meaning::Meaning;
+use crate::members::{Declared, Members};
 use crate::numbering::{number_messages, number_states};
 use crate::resolved::{Contract, Resolved, StateId};
-use crate::scope::{Declared, Scope};
+use crate::scope::Scope;
 use crate::state_names::state_names;
 use source::{Memory, Tokens};
 use std::alloc::Global;
@@ -30,46 +33,99 @@ use syntax::Tree;
 /// whole program, each from 0, so no two of them share a number; a named state is counted at its name, and behind it the
 /// unnamed ones of its paths. A name in an edge means the first declaration of that name in its contract.
 ///
-/// `Found` has all that is wrong with the names of the program, and comes exactly where something is; `Memory` is answered
-/// where a growth was refused.
+/// `Found` has all that is wrong with the names and kinds of the program, and comes exactly where something is; `Memory`
+/// is answered where a growth was refused.
 pub fn resolve(alloc: Global, tree: &Tree, tokens: &Tokens) -> Result<Resolved, NameFaults>
     requires spelled { Spells program (program_tree tree.now) tokens.now.list.items }
     requires few { length tokens.now.list.items < 2 ^ 32 }
-    ensures found { IfErr result (Explains tokens.now.text.items (contracts_among tree.now.items.items)) }
-    ensures clean { OnOk result (program_findings tokens.now.text.items (contracts_among tree.now.items.items) ≡ []) }
-    ensures resolved { IfOk result (λ r. map contract_seen r.contracts.items ≡ resolved_contracts tokens.now.text.items (contracts_among tree.now.items.items)) }
+    ensures found { IfErr result (Explains (program_of tokens.now.text.items tree.now)) }
+    ensures clean { OnOk result (program_findings (program_of tokens.now.text.items tree.now) ≡ []) }
+    ensures resolved { IfOk result (λ r. map contract_seen r.contracts.items ≡ resolved_contracts tokens.now.text.items (contracts_of (program_tree tree.now))) }
     ensures apart { IfOk result (λ r. AreApart (map contract_parts r.contracts.items)) }
     ensures whole { IfOk result (λ r. All (λ c. IsWhole (contract_parts c)) r.contracts.items) }
 {
     let scope = Scope::of(alloc, tokens, &tree.items)?;
     let mut found = Vec::new(alloc);
-    judge_contracts(alloc, &scope, &tree.items, &mut found)?;
+    judge_program(alloc, &scope, &mut found)?;
     if found.is_empty() {
         Ok(Resolved {
-            contracts: resolve_contracts(alloc, &scope)?,
+            contracts: resolve_contracts(alloc, tokens, &scope.members)?,
         })
     } else {
         Err(NameFaults::Found(found))
     }
 }
 
-/// The contracts, in order. The numbers of each begin behind those of the contracts before it.
-fn resolve_contracts(alloc: Global, scope: &Scope<'_>) -> Result<Vec<Contract>, Memory>
-    requires ready { All (IsReady scope.now.tokens.now.text.items) scope.now.declared.items }
-    requires messages { declared_messages scope.now.declared.items < 2 ^ 32 }
-    requires states { declared_states scope.now.declared.items < 2 ^ 32 }
-    ensures { IfOk result (λ contracts. map contract_seen contracts.items ≡ all_resolved scope.now.tokens.now.text.items scope.now.declared.items) }
+/// How many messages and how many states stand before something in the text.
+#[derive(Clone, Copy, Debug)]
+struct Before {
+    messages: u32,
+    states: u32,
+}
+
+/// The contracts among these, in order. The numbers of each begin behind those of the contracts before it.
+fn resolve_contracts(
+    alloc: Global,
+    tokens: &Tokens,
+    items: &[Members<'_>],
+) -> Result<Vec<Contract>, Memory>
+    requires ready { All (IsReady tokens.now.text.items) (declared_in items.now) }
+    requires messages { declared_messages (declared_in items.now) < 2 ^ 32 }
+    requires states { declared_states (declared_in items.now) < 2 ^ 32 }
+    ensures { IfOk result (λ contracts. map contract_seen contracts.items ≡ all_resolved tokens.now.text.items (declared_in items.now)) }
 {
     let mut contracts = Vec::new(alloc);
-    let mut messages = 0;
-    let mut states = 0;
-    for declared in &scope.declared {
-        let contract = resolve_contract(alloc, scope.tokens, declared, messages, states)?;
-        messages += contract.messages.len() as u32;
-        states += contract.states.len() as u32;
-        contracts.push(contract)?;
+    let mut before = Before {
+        messages: 0,
+        states: 0,
+    };
+    for item in items {
+        add_item(alloc, tokens, item, &mut before, &mut contracts)?;
     }
     Ok(contracts)
+}
+
+/// Adds the contract that an item is, if it is one.
+fn add_item(
+    alloc: Global,
+    tokens: &Tokens,
+    item: &Members<'_>,
+    before: &mut Before,
+    contracts: &mut Vec<Contract>,
+) -> Result<(), Memory>
+    requires ready { All (IsReady tokens.now.text.items) (declared_among item.now) }
+    requires messages { before.old.messages + declared_messages (declared_among item.now) < 2 ^ 32 }
+    requires states { before.old.states + declared_states (declared_among item.now) < 2 ^ 32 }
+    ensures messages { OnOk result (before.new.messages ≡ before.old.messages + declared_messages (declared_among item.now)) }
+    ensures states { OnOk result (before.new.states ≡ before.old.states + declared_states (declared_among item.now)) }
+    ensures contracts { OnOk result (map contract_seen contracts.new.items ≡ map contract_seen contracts.old.items ++ map (resolved_declared tokens.now.text.items before.old.messages before.old.states) (declared_among item.now)) }
+{
+    match item {
+        Members::Contract(declared) => add_contract(alloc, tokens, declared, before, contracts),
+        _ => Ok(()),
+    }
+}
+
+/// Adds the contract, and counts its messages and states.
+fn add_contract(
+    alloc: Global,
+    tokens: &Tokens,
+    declared: &Declared<'_>,
+    before: &mut Before,
+    contracts: &mut Vec<Contract>,
+) -> Result<(), Memory>
+    requires ready { IsReady tokens.now.text.items declared.now }
+    requires messages { before.old.messages + length (outlined_messages declared.now.outline) < 2 ^ 32 }
+    requires states { before.old.states + length (counted_states (outlined_states declared.now.outline)) < 2 ^ 32 }
+    ensures messages { OnOk result (before.new.messages ≡ before.old.messages + length (outlined_messages declared.now.outline)) }
+    ensures states { OnOk result (before.new.states ≡ before.old.states + length (counted_states (outlined_states declared.now.outline))) }
+    ensures contracts { OnOk result (map contract_seen contracts.new.items ≡ map contract_seen contracts.old.items ++ resolved_declared tokens.now.text.items before.old.messages before.old.states declared.now ∷ []) }
+{
+    let contract = resolve_contract(alloc, tokens, declared, before.messages, before.states)?;
+    before.messages += contract.messages.len() as u32;
+    before.states += contract.states.len() as u32;
+    contracts.push(contract)?;
+    Ok(())
 }
 
 /// The contract. So many messages and so many states stand before its own in the text.

@@ -1,130 +1,149 @@
-//! The names in scope.
+//! The items of a program by their names.
 
-ghost use Rattle.std.specs.Prelude.{◌≡◌, List, map, IfOk, slice_get};
+ghost use Rattle.std.specs.Prelude.{◌≡◌, IfOk, map, Option, option_map, option_and_then, slice_get};
 ghost use Rattle.std.specs.Option.{option_copied};
-ghost use Rattle.syntax.specs.Trees.{ContractTree, contract_tree};
-ghost use Rattle.names.specs.Declarations.{contracts_among, names_of_messages, names_of_states, contract_named};
-ghost use Rattle.names.specs.Outlines.{outlined_messages, outlined_states};
+ghost use Rattle.syntax.specs.Trees.{item_tree, definition_tree};
+ghost use Rattle.names.specs.Declarations.{first_among};
+ghost use Rattle.names.specs.Program.{Program, contract_named, struct_named, class_named, item_at, item_names, as_contract, as_struct, defined_name};
+ghost use Rattle.names.specs.Expressions.{field_named};
+ghost use Rattle.names.specs.Scopes.{AllMembers};
 
-use crate::outline::Outline;
+use crate::members::{Declared, Fields, Members, Methods};
 use crate::tables::Table;
 use source::{Span, Tokens};
 use std::alloc::{AllocError, Global};
-use syntax::{Contract, Item};
+use syntax::{Definition, Field, Item};
 
-/// What a contract declares, and where each of its names is declared first.
-#[derive(Debug, Drop)]
-pub(crate) struct Declared<'a> {
-    pub(crate) outline: Outline<'a>,
-    pub(crate) messages: Table<'a>,
-    pub(crate) states: Table<'a>,
-}
-
-/// What the contracts of a text declare, in order, and where each name of a contract is declared first.
+/// What the items of a text declare, in order, and where each of their names is declared first.
 #[derive(Debug, Drop)]
 pub(crate) struct Scope<'a> {
     pub(crate) tokens: &'a Tokens,
-    pub(crate) contracts: Table<'a>,
-    pub(crate) declared: Vec<Declared<'a>>,
-}
-
-impl<'a> Outline<'a> {
-    /// The names of the messages, in order.
-    pub(crate) fn message_names(&self, alloc: Global) -> Result<Vec<Span>, AllocError>
-        ensures { IfOk result (λ names. names.items ≡ names_of_messages (outlined_messages self.now)) }
-    {
-        let mut names = Vec::new(alloc);
-        for message in &self.messages {
-            names.push(message.name)?;
-        }
-        Ok(names)
-    }
-
-    /// The names of the states, in order.
-    pub(crate) fn state_names(&self, alloc: Global) -> Result<Vec<Span>, AllocError>
-        ensures { IfOk result (λ names. names.items ≡ names_of_states (outlined_states self.now)) }
-    {
-        let mut names = Vec::new(alloc);
-        for state in &self.states {
-            names.push(state.name)?;
-        }
-        Ok(names)
-    }
-}
-
-impl<'a> Declared<'a> {
-    ghost use Rattle.names.specs.Scopes.{IsDeclared};
-
-    /// What a contract declares.
-    pub(crate) fn of(
-        alloc: Global,
-        tokens: &'a Tokens,
-        contract: &'a Contract,
-    ) -> Result<Declared<'a>, AllocError>
-        ensures { IfOk result (IsDeclared tokens.now.text.items (contract_tree contract.now)) }
-    {
-        let outline = Outline::of(alloc, contract)?;
-        let messages = outline.message_names(alloc)?;
-        let states = outline.state_names(alloc)?;
-        let messages = Table::of(alloc, tokens, &messages)?;
-        let states = Table::of(alloc, tokens, &states)?;
-        Ok(Declared {
-            outline,
-            messages,
-            states,
-        })
-    }
+    pub(crate) items: &'a [Item],
+    pub(crate) names: Table<'a>,
+    pub(crate) members: Vec<Members<'a>>,
 }
 
 impl<'a> Scope<'a> {
-    ghost use Rattle.names.specs.Scopes.{IsScope, IsAnswer, AreDeclared};
+    ghost use Rattle.names.specs.Scopes.{IsScope, IsContract, IsClass, as_declared, as_fields, as_methods};
 
-    /// What the contracts among these items declare.
+    /// What these items declare.
     pub(crate) fn of(
         alloc: Global,
         tokens: &'a Tokens,
         items: &'a [Item],
     ) -> Result<Scope<'a>, AllocError>
-        ensures { IfOk result (IsScope tokens.now.text.items (contracts_among items.now)) }
+        ensures { IfOk result (IsScope (record { text = tokens.now.text.items; items = map item_tree items.now })) }
     {
-        let names = contract_names(alloc, items)?;
-        let contracts = Table::of(alloc, tokens, &names)?;
-        let mut declared = Vec::new(alloc);
-        for item in items {
-            declared.push(Declared::of(alloc, tokens, &item.contract)?)?;
-        }
+        let names = names_of_items(alloc, items)?;
+        let names = Table::of(alloc, tokens, &names)?;
+        let members = members_of_items(alloc, tokens, items)?;
         Ok(Scope {
             tokens,
-            contracts,
-            declared,
+            items,
+            names,
+            members,
         })
     }
 
-    /// The first contract of this name.
-    pub(crate) fn contract(&self, name: Span) -> Option<&Declared<'a>>
-        ensures { (text : _) (contracts : List ContractTree) → IsScope text contracts self.now → IsAnswer text (contract_named text contracts name) (option_copied result) }
+    /// The first item of this name, if it is a contract: how many items stand before it, and what it declares.
+    pub(crate) fn contract(&self, name: Span) -> Option<(usize, &Declared<'a>)>
+        ensures { (p : Program) → IsScope p self.now → IsContract p.text (contract_named p name) (option_map (λ c. (c.0, c.1.now)) result) }
     {
-        match self.contracts.find(self.tokens.slice(name)) {
-            Some(place) => declared_at(&self.declared, place),
-            None => None,
-        }
+        let place = self.place(name)?;
+        let declared = self.contract_at(place)?;
+        Some((place, declared))
+    }
+
+    /// What the item at this place declares, if it is a contract.
+    pub(crate) fn contract_at(&self, place: usize) -> Option<&Declared<'a>>
+        ensures { (p : Program) → IsScope p self.now → IsContract p.text (item_at as_contract p place) (option_map (λ d. (place, d.now)) result) }
+    {
+        self.declared_at(place)
+    }
+
+    /// How many items stand before the first item of this name, if it is a struct.
+    pub(crate) fn structure(&self, name: Span) -> Option<usize>
+        ensures { (p : Program) → IsScope p self.now → result ≡ option_map (λ s. s.0) (struct_named p name) }
+    {
+        let place = self.place(name)?;
+        let _fields = self.fields_at(place)?;
+        Some(place)
+    }
+
+    /// The first field of this name in the struct that is the item at this place.
+    pub(crate) fn field(&self, place: usize, name: Span) -> Option<Field>
+        ensures { (p : Program) → IsScope p self.now → result ≡ option_and_then (λ s. field_named p.text s.1 name) (item_at as_struct p place) }
+    {
+        let fields = self.fields_at(place)?;
+        fields.find(self.tokens, name)
+    }
+
+    /// The first item of this name, if it is a class.
+    pub(crate) fn class(&self, name: Span) -> Option<&Methods<'a>>
+        ensures { (p : Program) → IsScope p self.now → IsClass p.text (class_named p name) (option_map (λ m. m.now) result) }
+    {
+        let place = self.place(name)?;
+        self.methods_at(place)
+    }
+
+    /// How many items stand before the first item of this name.
+    fn place(&self, name: Span) -> Option<usize>
+        ensures { (p : Program) → IsScope p self.now → result ≡ first_among p.text (item_names p) name }
+    {
+        self.names.find(self.tokens.slice(name))
+    }
+
+    fn declared_at(&self, place: usize) -> Option<&Declared<'a>>
+        ensures { option_copied result ≡ option_and_then as_declared (slice_get self.now.members.items place) }
+    {
+        self.members.get(place)?.declared()
+    }
+
+    fn fields_at(&self, place: usize) -> Option<&Fields<'a>>
+        ensures { option_copied result ≡ option_and_then as_fields (slice_get self.now.members.items place) }
+    {
+        self.members.get(place)?.fields()
+    }
+
+    fn methods_at(&self, place: usize) -> Option<&Methods<'a>>
+        ensures { option_copied result ≡ option_and_then as_methods (slice_get self.now.members.items place) }
+    {
+        self.members.get(place)?.methods()
     }
 }
 
-/// What the contract at this place declares.
-fn declared_at<'s, 'a>(declared: &'s [Declared<'a>], place: usize) -> Option<&'s Declared<'a>>
-    ensures { option_copied result ≡ slice_get declared.now place }
-{
-    declared.get(place)
-}
-
-/// The names of the contracts among these items, in order.
-pub(crate) fn contract_names(alloc: Global, items: &[Item]) -> Result<Vec<Span>, AllocError>
-    ensures { IfOk result (λ names. names.items ≡ map (λ i. i.contract.name) items.now) }
+/// The names of these items, in order.
+pub(crate) fn names_of_items(alloc: Global, items: &[Item]) -> Result<Vec<Span>, AllocError>
+    ensures { IfOk result (λ names. names.items ≡ map (λ i. defined_name (definition_tree i.definition)) items.now) }
 {
     let mut names = Vec::new(alloc);
     for item in items {
-        names.push(item.contract.name)?;
+        names.push(name_of(&item.definition))?;
     }
     Ok(names)
+}
+
+fn name_of(definition: &Definition) -> Span
+    ensures { result ≡ defined_name (definition_tree definition.now) }
+{
+    match definition {
+        Definition::Contract(contract) => contract.name,
+        Definition::Struct(structure) => structure.name,
+        Definition::Class(class) => class.name,
+    }
+}
+
+/// What these items declare within them, in order.
+fn members_of_items<'a>(
+    alloc: Global,
+    tokens: &'a Tokens,
+    items: &'a [Item],
+) -> Result<Vec<Members<'a>>, AllocError>
+    ensures { IfOk result (λ members. AllMembers tokens.now.text.items (map item_tree items.now) members.items) }
+{
+    let mut members = Vec::new(alloc);
+    for item in items {
+        members.push(Members::of(alloc, tokens, &item.definition)?)?;
+    }
+    Ok(members)
 }

@@ -4,15 +4,16 @@ ghost use Rattle.std.specs.Prelude.{List, OnOk};
 ghost use Rattle.std.specs.List.{flat_map};
 ghost use Rattle.source.specs.declared.token.Span.{Span};
 ghost use Rattle.syntax.specs.Trees.{path_tree, state_tree};
-ghost use Rattle.names.specs.Findings.{asked_name, path_findings, state_findings};
+ghost use Rattle.names.specs.ContractFindings.{path_findings, state_findings};
 ghost use Rattle.names.specs.Found.{Adds};
+ghost use Rattle.names.specs.Listed.{asked_name};
 ghost use Rattle.names.specs.Outlines.{outlined_states};
 ghost use Rattle.names.specs.Tables.{IsTable};
 ghost use Rattle.names.specs.Words.{words_at};
 
 use crate::judging::judge_name;
+use crate::members::Declared;
 use crate::outline::paths;
-use crate::scope::Declared;
 use crate::tables::Table;
 use source::{Finding, Memory, Tokens};
 use std::alloc::Global;

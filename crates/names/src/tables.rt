@@ -1,6 +1,6 @@
 //! Tables of first declarations.
 
-ghost use Rattle.std.specs.Prelude.{◌≡◌, ◌↔◌, List, ℕ, map, IfOk, IsTrue, Some};
+ghost use Rattle.std.specs.Prelude.{◌≡◌, ◌↔◌, ◌++◌, List, [], ◌∷◌, ℕ, length, map, IfOk, OnOk, IsTrue, Some, None};
 ghost use Rattle.names.specs.Firsts.{first_of};
 ghost use Rattle.names.specs.Tables.{IsTable};
 ghost use Rattle.names.specs.Words.{words_at};
@@ -43,6 +43,30 @@ impl<'a> Table<'a> {
         let words = words(alloc, tokens, names)?;
         let first = first_positions(alloc, &words)?;
         Ok(Table { first })
+    }
+
+    /// The table of no names.
+    pub(crate) fn new(alloc: Global) -> Table<'a>
+        ensures { IsTable [] result }
+    {
+        Table {
+            first: BTreeMap::new(alloc),
+        }
+    }
+
+    /// Adds a name that it lacks, behind the others.
+    pub(crate) fn add(&mut self, name: &'a [u8], place: usize) -> Result<(), AllocError>
+        ensures { (words : List (List ℕ)) → IsTable words self.old → first_of words name.now ≡ None → place ≡ length words → OnOk result (IsTable (words ++ name.now ∷ []) self.new) }
+    {
+        self.first.insert(name, place)?;
+        Ok(())
+    }
+
+    /// Takes the last name away, which no other is.
+    pub(crate) fn remove(&mut self, name: &[u8])
+        ensures { (words : List (List ℕ)) → IsTable (words ++ name.now ∷ []) self.old → first_of words name.now ≡ None → IsTable words self.new }
+    {
+        self.first.remove(name);
     }
 
     /// Where the name is declared first, if it is.

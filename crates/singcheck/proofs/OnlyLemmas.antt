@@ -12,10 +12,10 @@ use Rattle.source.specs.Findings.{FindingParts}
 use Rattle.source.specs.Tokens.{AreTokens}
 use Rattle.source.specs.declared.fault.TextFault.{TextFault}
 use Rattle.source.specs.declared.token.Token.{Token}
-use Rattle.syntax.specs.Grammar.{program}
 use Rattle.syntax.specs.Parsing.{Spells, IsFirstWrong, Viable, whole}
+use Rattle.syntax.specs.Programs.{program}
 use Rattle.syntax.specs.Symbols.{Symbol, End, symbols}
-use Rattle.syntax.specs.Trees.{ContractTree, ItemTree}
+use Rattle.syntax.specs.Trees.{ItemTree, contracts_of}
 use Rattle.syntax.specs.declared.tree.Sign.{Sign}
 use Rattle.names.specs.Findings.{program_findings}
 use Rattle.names.specs.Resolution.{ContractSeen, resolved_contracts}
@@ -23,7 +23,7 @@ use Rattle.names.specs.declared.resolved.Edge.{Edge}
 use Rattle.names.specs.declared.resolved.StateId.{StateId}
 use Rattle.contracts.specs.Bounds.{IsBound}
 use Rattle.contracts.specs.Conditions.{AreExactly, IsSound}
-use Rattle.singcheck.specs.Answers.{AreBounds, AreFindings, IsBoundsLine, IsBroken, IsFaulty, IsMisnamed, IsNoProgram, IsProgram, IsResolved, OfText, OfSyntax, OfNames, OfContracts, contracts_of, fault_findings, wrong_token}
+use Rattle.singcheck.specs.Answers.{AreBounds, AreFindings, IsBoundsLine, IsBroken, IsFaulty, IsMisnamed, IsNoProgram, IsProgram, IsResolved, OfText, OfSyntax, OfNames, OfContracts, fault_findings, wrong_token}
 use Rattle.singcheck.specs.Lines.{bounds_line, ok_line}
 use Rattle.singcheck.proofs.SameLemmas.{AreAlike, alike_exactly, alike_same}
 
@@ -34,15 +34,16 @@ pub record Laws : Type 0 where
   pub none : (text : List ℕ) (tokens : List Token) (f : TextFault) → AreTokens text tokens → IsFault text f → ⊥
   pub trees : (s t : List ItemTree) → program s ≡ program t → s ≡ t
 
-one_program : Laws → (text : List ℕ) (a b : List ContractTree) → IsProgram text a → IsProgram text b → a ≡ b
+one_program : Laws → (text : List ℕ) (a b : List ItemTree) → IsProgram text a → IsProgram text b → a ≡ b
 one_program laws text a b one other =
     let tokens : one.tokens ≡ other.tokens = laws.tokens text one.tokens other.tokens one.lexed other.lexed in
-    let spelled : whole program one.items ≡ whole program other.items = one.spelled ∙ ap symbols tokens ∙ sym other.spelled in
-    let items : one.items ≡ other.items = laws.trees one.items other.items (append_cancel_right (program one.items) (program other.items) (End ∷ []) spelled) in
-    one.are ∙ ap contracts_of items ∙ sym other.are
+    let spelled : whole program a ≡ whole program b = one.spelled ∙ ap symbols tokens ∙ sym other.spelled in
+    laws.trees a b (append_cancel_right (program a) (program b) (End ∷ []) spelled)
 
 one_resolved : Laws → (text : List ℕ) (a b : List ContractSeen) → IsResolved text a → IsResolved text b → a ≡ b
-one_resolved laws text a b one other = one.are ∙ ap (resolved_contracts text) (one_program laws text one.trees other.trees one.parsed other.parsed) ∙ sym other.are
+one_resolved laws text a b one other =
+    let items = one_program laws text one.items other.items one.parsed other.parsed in
+    one.are ∙ ap (λ l. resolved_contracts text (contracts_of l)) items ∙ sym other.are
 
 -- a shorter front of what begins a spelling does too
 shorter : (ss : List Symbol) (k j : ℕ) → k ≤ j → Viable (whole program) (take j ss) → Viable (whole program) (take k ss)
@@ -72,11 +73,11 @@ none_wrong tokens items k spelled wrong = wrong.bad (record {
   begins = spelled ∙ sym (take-append-drop (k + 1) (symbols tokens));
 })
 
-text_or_program : Laws → (text : List ℕ) (found : List FindingParts) (trees : List ContractTree) → IsFaulty text found → IsProgram text trees → ⊥
-text_or_program laws text found trees faulty parsed = laws.none text parsed.tokens faulty.fault parsed.lexed faulty.first
+text_or_program : Laws → (text : List ℕ) (found : List FindingParts) (items : List ItemTree) → IsFaulty text found → IsProgram text items → ⊥
+text_or_program laws text found items faulty parsed = laws.none text parsed.tokens faulty.fault parsed.lexed faulty.first
 
-syntax_or_program : Laws → (text : List ℕ) (found : List FindingParts) (trees : List ContractTree) → IsNoProgram text found → IsProgram text trees → ⊥
-syntax_or_program laws text found trees wrong parsed = none_wrong wrong.tokens parsed.items wrong.number (parsed.spelled ∙ ap symbols (laws.tokens text parsed.tokens wrong.tokens parsed.lexed wrong.lexed)) wrong.wrong
+syntax_or_program : Laws → (text : List ℕ) (found : List FindingParts) (items : List ItemTree) → IsNoProgram text found → IsProgram text items → ⊥
+syntax_or_program laws text found items wrong parsed = none_wrong wrong.tokens items wrong.number (parsed.spelled ∙ ap symbols (laws.tokens text parsed.tokens wrong.tokens parsed.lexed wrong.lexed)) wrong.wrong
 
 some_in : (found : List FindingParts) → found ≢ [] → (f : FindingParts) × Contains found f
 some_in [] some = absurd (some refl)
@@ -88,16 +89,16 @@ nothing_in f c = let below = c.1 in omega arith
 names_or_clean : Laws → (text : List ℕ) (found : List FindingParts) (contracts : List ContractSeen) → IsMisnamed text found → IsResolved text contracts → ⊥
 names_or_clean laws text found contracts wrong resolved =
     let first = some_in found wrong.some in
-    let same = one_program laws text wrong.trees resolved.trees wrong.parsed resolved.parsed in
-    nothing_in first.0 (subst (λ l. Contains l first.0) (ap (program_findings text) same ∙ resolved.clean) (wrong.are.right first.0 first.1))
+    let same = one_program laws text wrong.items resolved.items wrong.parsed resolved.parsed in
+    nothing_in first.0 (subst (λ l. Contains l first.0) (ap (λ l. program_findings (record { text = text; items = l })) same ∙ resolved.clean) (wrong.are.right first.0 first.1))
 
 broken_or_sound : (contracts : List ContractSeen) (f : FindingParts) → All (λ c. IsSound c.parts) contracts → IsBroken contracts f → ⊥
 broken_or_sound contracts f sound broken = All-contains (λ c. IsSound c.parts) contracts broken.0 sound broken.1 f broken.2
 
 -- a text with findings has no bounds
 pub found_or_bounds : Laws → (text bytes : List ℕ) (found : List FindingParts) → AreFindings text found → AreBounds text bytes → ⊥
-found_or_bounds laws text bytes found (OfText h) are = text_or_program laws text found are.resolved.trees h are.resolved.parsed
-found_or_bounds laws text bytes found (OfSyntax h) are = syntax_or_program laws text found are.resolved.trees h are.resolved.parsed
+found_or_bounds laws text bytes found (OfText h) are = text_or_program laws text found are.resolved.items h are.resolved.parsed
+found_or_bounds laws text bytes found (OfSyntax h) are = syntax_or_program laws text found are.resolved.items h are.resolved.parsed
 found_or_bounds laws text bytes found (OfNames h) are = names_or_clean laws text found are.contracts h are.resolved
 found_or_bounds laws text bytes found (OfContracts h) are =
     let first = some_in found h.some in
@@ -108,23 +109,23 @@ found_or_bounds laws text bytes found (OfContracts h) are =
 pub one_findings : Laws → (text : List ℕ) (a b : List FindingParts) → AreFindings text a → AreFindings text b → AreAlike a b
 one_findings laws text a b (OfText x) (OfText y) = alike_same a b (x.are ∙ ap fault_findings (laws.fault text x.fault y.fault x.first y.first) ∙ sym y.are)
 one_findings laws text a b (OfText x) (OfSyntax y) = absurd (laws.none text y.tokens x.fault y.lexed x.first)
-one_findings laws text a b (OfText x) (OfNames y) = absurd (text_or_program laws text a y.trees x y.parsed)
-one_findings laws text a b (OfText x) (OfContracts y) = absurd (text_or_program laws text a y.resolved.trees x y.resolved.parsed)
+one_findings laws text a b (OfText x) (OfNames y) = absurd (text_or_program laws text a y.items x y.parsed)
+one_findings laws text a b (OfText x) (OfContracts y) = absurd (text_or_program laws text a y.resolved.items x y.resolved.parsed)
 one_findings laws text a b (OfSyntax x) (OfText y) = absurd (laws.none text x.tokens y.fault x.lexed y.first)
 one_findings laws text a b (OfSyntax x) (OfSyntax y) =
     let tokens = laws.tokens text x.tokens y.tokens x.lexed y.lexed in
     let number = one_number y.tokens x.number y.number (subst (λ l. IsFirstWrong program l x.number) tokens x.wrong) y.wrong in
     alike_same a b (x.are ∙ ap (λ l. wrong_token text (slice_get l x.number) ∷ []) tokens ∙ ap (λ k. wrong_token text (slice_get y.tokens k) ∷ []) number ∙ sym y.are)
-one_findings laws text a b (OfSyntax x) (OfNames y) = absurd (syntax_or_program laws text a y.trees x y.parsed)
-one_findings laws text a b (OfSyntax x) (OfContracts y) = absurd (syntax_or_program laws text a y.resolved.trees x y.resolved.parsed)
-one_findings laws text a b (OfNames x) (OfText y) = absurd (text_or_program laws text b x.trees y x.parsed)
-one_findings laws text a b (OfNames x) (OfSyntax y) = absurd (syntax_or_program laws text b x.trees y x.parsed)
+one_findings laws text a b (OfSyntax x) (OfNames y) = absurd (syntax_or_program laws text a y.items x y.parsed)
+one_findings laws text a b (OfSyntax x) (OfContracts y) = absurd (syntax_or_program laws text a y.resolved.items x y.resolved.parsed)
+one_findings laws text a b (OfNames x) (OfText y) = absurd (text_or_program laws text b x.items y x.parsed)
+one_findings laws text a b (OfNames x) (OfSyntax y) = absurd (syntax_or_program laws text b x.items y x.parsed)
 one_findings laws text a b (OfNames x) (OfNames y) =
-    let same = one_program laws text x.trees y.trees x.parsed y.parsed in
-    alike_exactly (Contains (program_findings text y.trees)) a b (subst (λ l. AreExactly (Contains (program_findings text l)) a) same x.are) y.are
+    let same = one_program laws text x.items y.items x.parsed y.parsed in
+    alike_exactly (Contains (program_findings (record { text = text; items = y.items }))) a b (subst (λ l. AreExactly (Contains (program_findings (record { text = text; items = l }))) a) same x.are) y.are
 one_findings laws text a b (OfNames x) (OfContracts y) = absurd (names_or_clean laws text a y.contracts x y.resolved)
-one_findings laws text a b (OfContracts x) (OfText y) = absurd (text_or_program laws text b x.resolved.trees y x.resolved.parsed)
-one_findings laws text a b (OfContracts x) (OfSyntax y) = absurd (syntax_or_program laws text b x.resolved.trees y x.resolved.parsed)
+one_findings laws text a b (OfContracts x) (OfText y) = absurd (text_or_program laws text b x.resolved.items y x.resolved.parsed)
+one_findings laws text a b (OfContracts x) (OfSyntax y) = absurd (syntax_or_program laws text b x.resolved.items y x.resolved.parsed)
 one_findings laws text a b (OfContracts x) (OfNames y) = absurd (names_or_clean laws text b x.contracts y x.resolved)
 one_findings laws text a b (OfContracts x) (OfContracts y) =
     let same = one_resolved laws text x.contracts y.contracts x.resolved y.resolved in

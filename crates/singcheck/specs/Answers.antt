@@ -1,6 +1,6 @@
 -- What is written for a text. The stages go in their order: the text, its tokens, its names, its contracts. Each has
 -- findings only where those before it have none.
-use Rattle.std.specs.Prelude.{◌≡◌, ◌≢◌, ℕ, List, [], ◌∷◌, ◌++◌, length, map, All, Contains, Option, Some, None, slice_get, codes}
+use Rattle.std.specs.Prelude.{◌≡◌, ◌≢◌, ℕ, List, [], ◌∷◌, ◌++◌, length, All, Contains, Option, Some, None, slice_get, codes}
 use Rattle.std.specs.List.{AllZip, concat}
 use Rattle.source.specs.Faults.{IsFault}
 use Rattle.source.specs.Findings.{FindingParts}
@@ -11,9 +11,9 @@ use Rattle.source.specs.declared.fault.TextFault.{TextFault}
 use Rattle.source.specs.declared.fault.TextFault.TheVariants as faults
 use Rattle.source.specs.declared.finding.Code.TheVariants.{S01, S02, S03, S04, S05, S06}
 use Rattle.source.specs.declared.token.Token.{Token}
-use Rattle.syntax.specs.Grammar.{program}
 use Rattle.syntax.specs.Parsing.{Spells, IsFirstWrong}
-use Rattle.syntax.specs.Trees.{ContractTree, ItemTree}
+use Rattle.syntax.specs.Programs.{program}
+use Rattle.syntax.specs.Trees.{ItemTree, contracts_of}
 use Rattle.syntax.specs.declared.tree.Side.TheVariants.{Exp, Imp}
 use Rattle.names.specs.Findings.{program_findings}
 use Rattle.names.specs.Resolution.{ContractSeen, resolved_contracts}
@@ -53,31 +53,25 @@ pub record IsNoProgram (text : List ℕ) (found : List FindingParts) : Type 0 wh
   pub wrong : IsFirstWrong program tokens number
   pub are : found ≡ wrong_token text (slice_get tokens number) ∷ []
 
--- the contracts of a program
-abbrev pub contracts_of : List ItemTree → List ContractTree
-contracts_of items = map (λ i. i.contract) items
-
--- the text is a program of these contracts
-pub record IsProgram (text : List ℕ) (contracts : List ContractTree) : Type 0 where
+-- the text is a program of these items
+pub record IsProgram (text : List ℕ) (items : List ItemTree) : Type 0 where
   pub tokens : List Token
   pub lexed : AreTokens text tokens
-  pub items : List ItemTree
   pub spelled : Spells program items tokens
-  pub are : contracts ≡ contracts_of items
 
 -- something is wrong with the names of the program: all of it
 pub record IsMisnamed (text : List ℕ) (found : List FindingParts) : Type 0 where
-  pub trees : List ContractTree
-  pub parsed : IsProgram text trees
+  pub items : List ItemTree
+  pub parsed : IsProgram text items
   pub some : found ≢ []
-  pub are : AreExactly (Contains (program_findings text trees)) found
+  pub are : AreExactly (Contains (program_findings (record { text = text; items = items }))) found
 
 -- nothing is wrong with the names of the program, and these are its contracts with a number for each name
 pub record IsResolved (text : List ℕ) (contracts : List ContractSeen) : Type 0 where
-  pub trees : List ContractTree
-  pub parsed : IsProgram text trees
-  pub clean : program_findings text trees ≡ []
-  pub are : contracts ≡ resolved_contracts text trees
+  pub items : List ItemTree
+  pub parsed : IsProgram text items
+  pub clean : program_findings (record { text = text; items = items }) ≡ []
+  pub are : contracts ≡ resolved_contracts text (contracts_of items)
 
 -- a condition is broken in one of the contracts, which is this finding
 abbrev pub IsBroken : List ContractSeen → FindingParts → Type 0

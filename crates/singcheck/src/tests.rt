@@ -1,5 +1,9 @@
 mod answers;
+mod conditions;
 mod devices;
+mod lexing;
+mod parsing;
+mod resolving;
 
 use crate::{Ask, Input, RunFault, ask, ending};
 use devices::Page;

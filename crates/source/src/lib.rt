@@ -23,6 +23,3 @@ pub use lexer::{MAX_TEXT, lex};
 pub use place::Place;
 pub use texts::finding_of;
 pub use token::{Span, Token, Tokens};
-
-#[cfg(test)]
-mod tests;

@@ -115,11 +115,74 @@ pub fn unknown(alloc: Global, place: Place, name: &[u8]) -> Result<Finding, Memo
     named(alloc, place, Code::N02, name, " unknown")
 }
 
+/// An expression, a variable or a message of another kind than is asked for.
+pub fn wrong_type(alloc: Global, place: Place) -> Result<Finding, Memory>
+    ensures { IfOk result (IsFinding place Code.N03 (codes "wrong type")) }
+{
+    plain(alloc, place, Code::N03, "wrong type")
+}
+
+/// More arguments than there are parameters, or fewer.
+pub fn wrong_number_of_arguments(alloc: Global, place: Place) -> Result<Finding, Memory>
+    ensures { IfOk result (IsFinding place Code.N04 (codes "wrong number of arguments")) }
+{
+    plain(alloc, place, Code::N04, "wrong number of arguments")
+}
+
+/// A `break` with nothing to break off.
+pub fn break_outside(alloc: Global, place: Place) -> Result<Finding, Memory>
+    ensures { IfOk result (IsFinding place Code.N05 (codes "break outside")) }
+{
+    plain(alloc, place, Code::N05, "break outside")
+}
+
+/// A `continue` with nothing to turn back to.
+pub fn continue_outside(alloc: Global, place: Place) -> Result<Finding, Memory>
+    ensures { IfOk result (IsFinding place Code.N05 (codes "continue outside")) }
+{
+    plain(alloc, place, Code::N05, "continue outside")
+}
+
 /// One more of something than there may be.
 pub fn limit_passed(alloc: Global, place: Place) -> Result<Finding, Memory>
     ensures { IfOk result (IsFinding place Code.N06 (codes "limit passed")) }
 {
     plain(alloc, place, Code::N06, "limit passed")
+}
+
+/// A method that cannot be started.
+pub fn cannot_be_started(alloc: Global, place: Place, method: &[u8]) -> Result<Finding, Memory>
+    ensures { IfOk result (IsFinding place Code.N07 (utf8_lossy method.now ++ codes " cannot be started")) }
+{
+    named(alloc, place, Code::N07, method, " cannot be started")
+}
+
+/// A case on an endpoint and a message that an earlier case of the switch has.
+pub fn case_twice(
+    alloc: Global,
+    place: Place,
+    endpoint: &[u8],
+    message: &[u8],
+) -> Result<Finding, Memory>
+    ensures { IfOk result (IsFinding place Code.N08 (codes "case " ++ (utf8_lossy endpoint.now ++ (codes "." ++ (utf8_lossy message.now ++ codes " twice"))))) }
+{
+    let mut text = String::from_str(alloc, "case ")?;
+    text.push_str(String::from_utf8_lossy(alloc, endpoint)?.as_str())?;
+    text.push_str(".")?;
+    text.push_str(String::from_utf8_lossy(alloc, message)?.as_str())?;
+    text.push_str(" twice")?;
+    Ok(Finding {
+        place,
+        code: Code::N08,
+        text,
+    })
+}
+
+/// An endpoint of a switch that has no case for the close of its channel.
+pub fn lacks_closed(alloc: Global, place: Place, endpoint: &[u8]) -> Result<Finding, Memory>
+    ensures { IfOk result (IsFinding place Code.N09 (utf8_lossy endpoint.now ++ codes " lacks ChannelClosed")) }
+{
+    named(alloc, place, Code::N09, endpoint, " lacks ChannelClosed")
 }
 
 /// An edge whose sign is against the direction of its message.

@@ -17,7 +17,7 @@ use Rattle.syntax.proofs.Beginnings.{Begins, Starts, splits_self}
 use Rattle.syntax.proofs.Repeats.{many_piece}
 use Rattle.syntax.proofs.Options.{when_piece}
 use Rattle.syntax.proofs.Choices.{Form, Same, Other, form_way}
-use Rattle.syntax.proofs.Enclosed.{Enclosed, within_piece}
+use Rattle.syntax.proofs.Enclosed.{InBraces, braced_piece}
 use Rattle.syntax.proofs.KindLemmas.{fixed_starts}
 use Rattle.syntax.proofs.CursorLemmas.{fixed, fixed_piece, named_piece}
 use Rattle.syntax.proofs.StateRules.{path_piece}
@@ -47,21 +47,21 @@ line_starts = record { each = line_begins }
 
 -- lines = "{" { line } "}" .
 
-pub lines_inside : Enclosed (flat_map line) (is_kind kind.Name) (λ _. is_kind kind.Name) kind.OpenBrace kind.CloseBrace
-lines_inside = record { on = refl; here = λ _. refl }
+pub lines_inside : InBraces {X = List PathTree} (flat_map line) (is_kind kind.Name) (λ _. is_kind kind.Name)
+lines_inside = record { on = λ _. refl; here = λ _ _. refl }
 
 pub line_row_piece : Piece (flat_map line) (is_kind kind.Name) (λ _. is_kind kind.Name)
 line_row_piece = many_piece line_starts splits_self line_piece
 
 pub lines_piece : Piece lines never (λ _. never)
-lines_piece = within_piece lines_inside line_row_piece
+lines_piece = braced_piece lines_inside line_row_piece
 
 -- one = "one" lines [ ";" ] .
 
-abbrev pub one_to : List PathTree × Bool → Unit {0} × (List PathTree × Bool)
+abbrev pub one_to : (List PathTree × Span) × Bool → Unit {0} × ((List PathTree × Span) × Bool)
 one_to p = (tt, (p.0, p.1))
 
-abbrev pub one_from : Unit {0} × (List PathTree × Bool) → List PathTree × Bool
+abbrev pub one_from : Unit {0} × ((List PathTree × Span) × Bool) → (List PathTree × Span) × Bool
 one_from p = (p.1.0, p.1.1)
 
 pub semicolon_piece : Piece (when (word kind.Semicolon)) state_on (when_at state_on)
@@ -72,8 +72,8 @@ one_piece = via_piece one_to one_from (λ _. refl) (next (fixed_piece kind.One) 
 
 -- body = one | line | ";" .
 
-abbrev pub of_one : List PathTree × Bool → BodyTree
-of_one p = One p.0 p.1
+abbrev pub of_one : (List PathTree × Span) × Bool → BodyTree
+of_one p = One p.0.0 p.0.1 p.1
 
 abbrev pub of_empty : Unit {0} → BodyTree
 of_empty u = Empty
@@ -89,7 +89,7 @@ one_form = record {
   each = elim [
     | Empty ↦ Other (record { head = Fixed kind.Semicolon; tail = []; is = refl; first = refl })
     | Path p ↦ Other (record { head = Named p.first.message; tail = _; is = refl; first = refl })
-    | One paths semicolon ↦ Same (paths, semicolon) refl
+    | One paths close semicolon ↦ Same ((paths, close), semicolon) refl
   ];
 }
 
@@ -100,7 +100,7 @@ line_form = record {
   each = elim [
     | Empty ↦ Other (record { head = Fixed kind.Semicolon; tail = []; is = refl; first = refl })
     | Path p ↦ Same p refl
-    | One paths semicolon ↦ Other (record { head = Fixed kind.One; tail = _; is = refl; first = refl })
+    | One paths close semicolon ↦ Other (record { head = Fixed kind.One; tail = _; is = refl; first = refl })
   ];
 }
 
@@ -111,7 +111,7 @@ empty_form = record {
   each = elim [
     | Empty ↦ Same tt refl
     | Path p ↦ Other (record { head = Named p.first.message; tail = _; is = refl; first = refl })
-    | One paths semicolon ↦ Other (record { head = Fixed kind.One; tail = _; is = refl; first = refl })
+    | One paths close semicolon ↦ Other (record { head = Fixed kind.One; tail = _; is = refl; first = refl })
   ];
 }
 
@@ -121,7 +121,7 @@ body_piece = record { some = Empty; each = way }
     way : (b : BodyTree) → ReadsOneWay body state_on body_at b
     way Empty = form_way empty_form (λ _ r h. h) (wide_way (λ y h. refl) ((fixed_piece kind.Semicolon).each tt))
     way (Path p) = form_way line_form (λ _ r h. h) (wide_way (λ y h. refl) (line_piece.each p))
-    way (One paths semicolon) = form_way one_form (λ _ r h. h) (one_piece.each (paths, semicolon))
+    way (One paths close semicolon) = form_way one_form (λ _ r h. h) (one_piece.each ((paths, close), semicolon))
 
 -- state = "state" ID ":" body .
 

@@ -1,56 +1,28 @@
 -- Contracts as pieces.
-use Rattle.std.proofs.Common.{◌≡◌, true, false, List, [], ◌∷◌, ◌++◌, Option, Some, None, refl, ap, ◌∙◌, append_assoc, sym, subst, map}
+use Rattle.std.proofs.Common.{◌≡◌, true, false, List, [], ◌∷◌, ◌++◌, Some, refl, ap, ◌∙◌, append_assoc, sym, subst, map}
 use Rattle.std.specs.Prelude.{not}
 use Rattle.std.specs.List.{flat_map}
 use Rattle.std.proofs.lemmas.List.{map-append}
-use Rattle.source.specs.declared.kind.Kind.{Kind}
 use Rattle.source.specs.declared.kind.Kind.TheVariants as kind
 use Rattle.source.specs.declared.token.Span.{Span}
-use Rattle.syntax.specs.Symbols.{Symbol, Fixed, by_kind}
-use Rattle.syntax.specs.Spelling.{word, optional}
-use Rattle.syntax.specs.Reading.{never, Stops, optional_at, last_at, many_at}
-use Rattle.syntax.specs.Trees.{member_tree, MessageTree, BodyTree, Empty, Path, One, StateTree, MemberTree, Message, State, ContractTree, ItemTree}
-use Rattle.syntax.specs.Grammar.{access_word, direction_word, message, state, member, contract, item, program}
-use Rattle.syntax.specs.Firsts.{access_of, opens_access, opens_message, opens_member, opens_item}
+use Rattle.syntax.specs.Symbols.{Symbol, Fixed, Placed, by_kind}
+use Rattle.syntax.specs.Spelling.{placed}
+use Rattle.syntax.specs.Reading.{never, Stops, last_at, many_at}
+use Rattle.syntax.specs.Trees.{member_tree, MessageTree, BodyTree, Empty, Path, One, StateTree, MemberTree, Message, State, ContractTree}
+use Rattle.syntax.specs.Grammar.{direction_word, message, state, member, contract}
+use Rattle.syntax.specs.Firsts.{opens_message, opens_member}
 use Rattle.syntax.specs.States.{state_on, body_at, state_at, member_at, members_on}
 use Rattle.syntax.specs.declared.tree as tree
 use Rattle.syntax.specs.declared.tree.Member.{Member}
-use Rattle.syntax.specs.declared.tree.Access.TheVariants as access
 use Rattle.syntax.specs.declared.tree.Direction.TheVariants as direction
 use Rattle.syntax.proofs.Pieces.{Piece, Follows, Meets, ReadsOneWay, both, both_piece, next, via_piece, wide_way, or_left, or_right}
-use Rattle.syntax.proofs.Beginnings.{Begins, Starts, Splits, Leaves, splits_self}
+use Rattle.syntax.proofs.Beginnings.{Starts, Splits, Leaves, splits_self}
 use Rattle.syntax.proofs.Repeats.{many_piece, many_open_piece, many_stops, row_stops, last_more}
-use Rattle.syntax.proofs.Options.{opt_piece}
 use Rattle.syntax.proofs.Choices.{Form, Same, Other, form_way}
-use Rattle.syntax.proofs.Words.{Words, words_piece, words_starts, one_some, none_some}
 use Rattle.syntax.proofs.KindLemmas.{kinds_apart}
-use Rattle.syntax.proofs.CursorLemmas.{fixed, fixed_piece, named_piece}
+use Rattle.syntax.proofs.CursorLemmas.{fixed_piece, placed_piece, named_piece}
 use Rattle.syntax.proofs.MessageRules.{message_piece, message_starts}
 use Rattle.syntax.proofs.BodyRules.{state_piece}
-
--- [ "public" | "private" | "internal" ]
-
-pub accesses : Words access_word access_of
-accesses = record { some = access.Public; known = known; blank = refl; only = only; plain = plain }
-  where
-    known : (a : tree.Access.Access) → access_of (Some (access_word a)) ≡ Some a
-    known access.Public = refl
-    known access.Private = refl
-    known access.Internal = refl
-
-    only : (k : Kind) (a : tree.Access.Access) → access_of (Some k) ≡ Some a → k ≡ access_word a
-    only kind.Public a e = ap access_word (one_some e)
-    only kind.Private a e = ap access_word (one_some e)
-    only kind.Internal a e = ap access_word (one_some e)
-    only k a e = absurd (none_some e)
-
-    plain : (a : tree.Access.Access) → access_word a ≡ kind.Name → ⊥
-    plain access.Public e = cc
-    plain access.Private e = cc
-    plain access.Internal e = cc
-
-pub access_piece : Piece (optional (λ a. word (access_word a))) (by_kind opens_access) (optional_at (by_kind opens_access) (λ _. never))
-access_piece = opt_piece (words_piece accesses) (words_starts accesses) splits_self
 
 -- { message }
 
@@ -106,8 +78,8 @@ member_splits = record { none = λ y h. or_right (state_on y) (by_kind opens_mem
 state_apart : (b : BodyTree) (y : Symbol) → state_on y ≡ false → body_at b y ≡ false
 state_apart Empty y h = refl
 state_apart (Path p) y h = refl
-state_apart (One paths true) y h = refl
-state_apart (One paths false) y h = h
+state_apart (One paths close true) y h = refl
+state_apart (One paths close false) y h = h
 
 member_apart : (m : MemberTree) (y : Symbol) → state_on y ≡ false → member_at m y ≡ false
 member_apart (Message m) y h = refl
@@ -128,22 +100,22 @@ members_end_at m ms all r is h =
 
 -- { member } "}"
 
-abbrev pub members_end : List MemberTree × Unit {0} → List Symbol
-members_end = both (flat_map member) (fixed kind.CloseBrace)
+abbrev pub members_end : List MemberTree × Span → List Symbol
+members_end = both (flat_map member) (placed kind.CloseBrace)
 
-pub members_follow : Follows members_on (fixed kind.CloseBrace) never
+pub members_follow : Follows members_on (placed kind.CloseBrace) never
 members_follow = record { each = λ u r h. refl }
 
-members_meet : Meets {Y = Unit {0}} (many_at (by_kind opens_member) member_at) (fixed kind.CloseBrace) (λ _. never)
-members_meet = record { here = λ ms u r h. row_stops (by_kind opens_member) member_at (Fixed kind.CloseBrace) refl (λ m. member_apart m (Fixed kind.CloseBrace) refl) ms }
+members_meet : Meets (many_at (by_kind opens_member) member_at) (placed kind.CloseBrace) (λ _. never)
+members_meet = record { here = λ ms span r h. row_stops (by_kind opens_member) member_at (Placed kind.CloseBrace span) refl (λ m. member_apart m (Placed kind.CloseBrace span) refl) ms }
 
 pub members_end_piece : Piece members_end never (λ _. never)
-members_end_piece = both_piece members_piece (fixed_piece kind.CloseBrace) members_follow members_meet
+members_end_piece = both_piece members_piece (placed_piece kind.CloseBrace) members_follow members_meet
 
 -- state { member } "}"
 
-members_stop : (p : List MemberTree × Unit {0}) (r : List Symbol) → Stops state_on (members_end p ++ r)
-members_stop p r = subst (Stops state_on) (sym (append_assoc (flat_map member p.0) (fixed kind.CloseBrace p.1) r)) (many_stops member_starts member_splits member_leaves p.0 (fixed kind.CloseBrace p.1 ++ r) refl)
+members_stop : (p : List MemberTree × Span) (r : List Symbol) → Stops state_on (members_end p ++ r)
+members_stop p r = subst (Stops state_on) (sym (append_assoc (flat_map member p.0) (placed kind.CloseBrace p.1) r)) (many_stops member_starts member_splits member_leaves p.0 (placed kind.CloseBrace p.1 ++ r) refl)
 
 state_stops : (s : StateTree) (ys : List Symbol) → Stops state_on ys → Stops (state_at s) ys
 state_stops s [] h = tt
@@ -155,7 +127,7 @@ state_follows = record { each = λ p r h. members_stop p r }
 state_meets : Meets state_at members_end (λ _. never)
 state_meets = record { here = λ s p r h. state_stops s (members_end p ++ r) (members_stop p r) }
 
-abbrev pub states_end : StateTree × (List MemberTree × Unit {0}) → List Symbol
+abbrev pub states_end : StateTree × (List MemberTree × Span) → List Symbol
 states_end = both state members_end
 
 pub states_end_piece : Piece states_end never (λ _. never)
@@ -174,45 +146,11 @@ inside_piece = both_piece messages_piece states_end_piece messages_follow messag
 
 -- contract = "contract" ID "{" { message } state { member } "}" .
 
-abbrev pub contract_to : ContractTree → Unit {0} × (Span × (Unit {0} × (List MessageTree × (StateTree × (List MemberTree × Unit {0})))))
-contract_to c = (tt, (c.name, (tt, (c.messages, (c.state, (c.members, tt))))))
+abbrev pub contract_to : ContractTree → Unit {0} × (Span × (Unit {0} × (List MessageTree × (StateTree × (List MemberTree × Span)))))
+contract_to c = (tt, (c.name, (tt, (c.messages, (c.state, (c.members, c.close))))))
 
-abbrev pub contract_from : Unit {0} × (Span × (Unit {0} × (List MessageTree × (StateTree × (List MemberTree × Unit {0}))))) → ContractTree
-contract_from p = record { name = p.1.0; messages = p.1.1.1.0; state = p.1.1.1.1.0; members = p.1.1.1.1.1.0 }
+abbrev pub contract_from : Unit {0} × (Span × (Unit {0} × (List MessageTree × (StateTree × (List MemberTree × Span))))) → ContractTree
+contract_from p = record { name = p.1.0; messages = p.1.1.1.0; state = p.1.1.1.1.0; members = p.1.1.1.1.1.0; close = p.1.1.1.1.1.1 }
 
 pub contract_piece : Piece contract never (λ _. never)
 contract_piece = via_piece contract_to contract_from (λ _. refl) (next (fixed_piece kind.Contract) (next named_piece (next (fixed_piece kind.OpenBrace) inside_piece)))
-
--- item = [ access ] contract .
-
-abbrev pub item_to : ItemTree → Option tree.Access.Access × ContractTree
-item_to i = (i.access, i.contract)
-
-abbrev pub item_from : Option tree.Access.Access × ContractTree → ItemTree
-item_from p = record { access = p.0; contract = p.1 }
-
-pub access_follows : Follows (by_kind opens_access) contract never
-access_follows = record { each = λ c r h. refl }
-
-access_meets : Meets {X = Option tree.Access.Access} (optional_at (by_kind opens_access) (λ _. never)) contract (λ _. never)
-access_meets = record { here = elim [ None ↦ λ c r h. refl | Some a ↦ λ c r h. refl ] }
-
-pub item_piece : Piece item never (λ _. never)
-item_piece = via_piece item_to item_from (λ _. refl) (both_piece access_piece contract_piece access_follows access_meets)
-
-pub item_starts : Starts item (by_kind opens_item)
-item_starts = record { each = λ i. begins i.access i.contract }
-  where
-    opens : (a : tree.Access.Access) → opens_item (Some (access_word a)) ≡ true
-    opens access.Public = refl
-    opens access.Private = refl
-    opens access.Internal = refl
-
-    begins : (o : Option tree.Access.Access) (c : ContractTree) → Begins item (by_kind opens_item) (record { access = o; contract = c })
-    begins None c = record { head = Fixed kind.Contract; tail = _; is = refl; first = refl }
-    begins (Some a) c = record { head = Fixed (access_word a); tail = contract c; is = refl; first = opens a }
-
--- program = { item } .
-
-pub program_piece : Piece program (by_kind opens_item) (λ _. by_kind opens_item)
-program_piece = many_piece item_starts splits_self item_piece

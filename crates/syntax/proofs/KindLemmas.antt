@@ -5,7 +5,8 @@ use Rattle.std.proofs.lemmas.Bool.{true≢false}
 use Rattle.source.specs.declared.kind.Kind.{Kind}
 use Rattle.source.specs.contracts.kind.Kind.{the_type}
 use denote.Enum.Bare.{same_true, true_same}
-use Rattle.syntax.specs.Symbols.{Symbol, Fixed, kind_at, kind_is, by_kind, is_kind}
+use Rattle.syntax.specs.Symbols.{Symbol, Fixed, Placed, kind_at, kind_is, by_kind, is_kind}
+use Rattle.syntax.specs.Spelling.{placed}
 use Rattle.syntax.specs.Reading.{Stops, leads}
 use Rattle.syntax.proofs.Beginnings.{Starts, leads_stops}
 use Rattle.syntax.proofs.CursorLemmas.{fixed, leads_of, leads_by}
@@ -17,7 +18,7 @@ pub kind_only : (kind : Kind) (k : Option Kind) → kind_is kind k ≡ true → 
 kind_only kind None h = absurd (true≢false (sym h))
 kind_only kind (Some other) h = ap (λ k. Some k) (same_true the_type (search rules) other kind h)
 
-kind_other : (kind : Kind) (k : Option Kind) → (k ≡ Some kind → ⊥) → kind_is kind k ≡ false
+pub kind_other : (kind : Kind) (k : Option Kind) → (k ≡ Some kind → ⊥) → kind_is kind k ≡ false
 kind_other kind k f = cases (kind_is kind k) (kind_only kind k)
   where
     cases : (b : Bool) → (b ≡ true → k ≡ Some kind) → b ≡ false
@@ -52,6 +53,9 @@ other_leads p (y ∷ ys) some none h = ap not (leads_by p (y ∷ ys) none ∙ h)
 
 pub fixed_starts : (kind : Kind) → Starts (fixed kind) (is_kind kind)
 fixed_starts kind = record { each = λ u. record { head = Fixed kind; tail = []; is = refl; first = kind_self kind } }
+
+pub placed_starts : (kind : Kind) → Starts (placed kind) (is_kind kind)
+placed_starts kind = record { each = λ span. record { head = Placed kind span; tail = []; is = refl; first = kind_self kind } }
 
 -- a token of another kind is next
 pub not_leads : (kind : Kind) (ys : List Symbol) → (ys ≡ [] → ⊥) → (kind_at ys ≡ Some kind → ⊥) → leads (λ y. not (is_kind kind y)) ys ≡ true

@@ -4,7 +4,7 @@ use Rattle.source.specs.declared.kind.Kind.{Kind}
 use Rattle.source.specs.declared.kind.Kind.TheVariants as kind
 use Rattle.source.specs.declared.token.Span.{Span}
 use Rattle.syntax.specs.Symbols.{by_kind}
-use Rattle.syntax.specs.Spelling.{listed, within}
+use Rattle.syntax.specs.Spelling.{listed, parens}
 use Rattle.syntax.specs.Reading.{never, listed_on, listed_at}
 use Rattle.syntax.specs.Trees.{MessageTree}
 use Rattle.syntax.specs.Grammar.{direction_word, param, message}
@@ -13,7 +13,7 @@ use Rattle.syntax.specs.declared.tree as tree
 use Rattle.syntax.specs.declared.tree.Direction.TheVariants as direction
 use Rattle.syntax.proofs.Pieces.{Piece, next, via_piece}
 use Rattle.syntax.proofs.Beginnings.{Starts, row_starts}
-use Rattle.syntax.proofs.Enclosed.{Enclosed, within_piece}
+use Rattle.syntax.proofs.Enclosed.{InParens, parens_piece}
 use Rattle.syntax.proofs.Listed.{listed_piece}
 use Rattle.syntax.proofs.Words.{Words, words_piece, words_starts, one_some, none_some}
 use Rattle.syntax.proofs.CursorLemmas.{fixed_piece, named_piece}
@@ -39,22 +39,22 @@ directions = record { some = direction.In; known = known; blank = refl; only = o
 
 -- params = "(" [ param { "," param } ] ")" .
 
-pub params_inside : Enclosed (listed param) (listed_on (by_kind opens_type)) (listed_at (by_kind opens_type)) kind.OpenParen kind.CloseParen
+pub params_inside : InParens (listed param) (listed_on (by_kind opens_type)) (listed_at (by_kind opens_type))
 params_inside = record { on = refl; here = elim [ [] ↦ refl | p ∷ ps ↦ refl ] }
 
 pub param_list_piece : Piece (listed param) (listed_on (by_kind opens_type)) (listed_at (by_kind opens_type))
 param_list_piece = listed_piece param_item
 
-pub params_piece : Piece (within kind.OpenParen (listed param) kind.CloseParen) never (λ _. never)
-params_piece = within_piece params_inside param_list_piece
+pub params_piece : Piece (parens (listed param)) never (λ _. never)
+params_piece = parens_piece params_inside param_list_piece
 
 -- message = direction "message" ID params ";" .
 
-abbrev pub message_to : MessageTree → tree.Direction.Direction × (Unit {0} × (Span × (List tree.Param.Param × Unit {0})))
-message_to m = (m.direction, (tt, (m.name, (m.params, tt))))
+abbrev pub message_to : MessageTree → tree.Direction.Direction × (Unit {0} × (Span × ((Span × List tree.Param.Param) × Unit {0})))
+message_to m = (m.direction, (tt, (m.name, ((m.open_paren, m.params), tt))))
 
-abbrev pub message_from : tree.Direction.Direction × (Unit {0} × (Span × (List tree.Param.Param × Unit {0}))) → MessageTree
-message_from p = record { direction = p.0; name = p.1.1.0; params = p.1.1.1.0 }
+abbrev pub message_from : tree.Direction.Direction × (Unit {0} × (Span × ((Span × List tree.Param.Param) × Unit {0}))) → MessageTree
+message_from p = record { direction = p.0; name = p.1.1.0; open_paren = p.1.1.1.0.0; params = p.1.1.1.0.1 }
 
 pub message_piece : Piece message never (λ _. never)
 message_piece = via_piece message_to message_from (λ _. refl) (next (words_piece directions) (next (fixed_piece kind.Message) (next named_piece (next params_piece (fixed_piece kind.Semicolon)))))

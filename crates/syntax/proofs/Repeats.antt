@@ -16,24 +16,24 @@ module _ {X : Type 0} {a : X → List Symbol} {f starts on : Symbol → Bool} {a
       subst (Stops f) (ap (λ t. (t ++ flat_map a xs) ++ r) (sym b.is)) (splits.apart b.head b.first)
 
   -- what follows one of them doesn't go on with it
-  at_stops : (x : X) (xs : List X) (r : List Symbol) → Stops (many_at starts at (x ∷ xs)) r → Stops (at x) (flat_map a xs ++ r)
+  pub at_stops : (x : X) (xs : List X) (r : List Symbol) → Stops (many_at starts at (x ∷ xs)) r → Stops (at x) (flat_map a xs ++ r)
   at_stops x [] r h = stops_left (at x) starts r h
   at_stops x (y ∷ ys) r h =
       let b = begin.each y in
       subst (Stops (at x)) (ap (λ t. (t ++ flat_map a ys) ++ r) (sym b.is)) (leaves.apart x b.head b.first)
 
-  tail_stops : (x : X) (xs : List X) (r : List Symbol) → Stops (many_at starts at (x ∷ xs)) r → Stops (many_at starts at xs) r
+  pub tail_stops : (x : X) (xs : List X) (r : List Symbol) → Stops (many_at starts at (x ∷ xs)) r → Stops (many_at starts at xs) r
   tail_stops x [] r h = stops_right (at x) starts r h
   tail_stops x (y ∷ ys) r h = h
 
-  nil_open_way : ReadsOneWay (flat_map a) on (many_at starts at) []
+  pub nil_open_way : ReadsOneWay (flat_map a) on (many_at starts at) []
   nil_open_way = record { only = none_only }
     where
       none_only : (ys : List X) (r s : List Symbol) → Stops on r → Stops (many_at starts at ys) s → flat_map a [] ++ r ≡ flat_map a ys ++ s → ([] ≡ ys) × (r ≡ s)
       none_only [] r s hr hs e = (refl, e)
       none_only (y ∷ ys) r s hr hs e = absurd (starts_not a starts y (flat_map a ys ++ s) r (begin.each y) (sym (append_assoc (a y) (flat_map a ys) s) ∙ sym e) (stops_with on starts splits.none r hr))
 
-  cons_open_way : {x : X} {xs : List X} → ReadsOneWay a f at x → ReadsOneWay (flat_map a) on (many_at starts at) xs → ReadsOneWay (flat_map a) on (many_at starts at) (x ∷ xs)
+  pub cons_open_way : {x : X} {xs : List X} → ReadsOneWay a f at x → ReadsOneWay (flat_map a) on (many_at starts at) xs → ReadsOneWay (flat_map a) on (many_at starts at) (x ∷ xs)
   cons_open_way {x} {xs} first others = record { only = more_only }
     where
       more_only : (ys : List X) (r s : List Symbol) → Stops on r → Stops (many_at starts at ys) s → flat_map a (x ∷ xs) ++ r ≡ flat_map a ys ++ s → (x ∷ xs ≡ ys) × (r ≡ s)
@@ -48,7 +48,7 @@ module _ {X : Type 0} {a : X → List Symbol} {f starts on : Symbol → Bool} {a
   front_stops x [] h = tt
   front_stops x (y ∷ t) h = leaves.apart x y h
 
-  rest_stops : (x : X) (xs : List X) (t : List Symbol) → leads starts t ≡ true → Stops (at x) (flat_map a xs ++ t)
+  pub rest_stops : (x : X) (xs : List X) (t : List Symbol) → leads starts t ≡ true → Stops (at x) (flat_map a xs ++ t)
   rest_stops x [] t h = front_stops x t h
   rest_stops x (y ∷ ys) t h =
       let b = begin.each y in

@@ -5,7 +5,7 @@ use Rattle.source.specs.declared.kind.Kind.{Kind}
 use Rattle.source.specs.declared.kind.Kind.TheVariants as kind
 use Rattle.source.specs.declared.token.Span.{Span}
 use Rattle.syntax.specs.Symbols.{Symbol, by_kind}
-use Rattle.syntax.specs.Spelling.{word, name}
+use Rattle.syntax.specs.Spelling.{word, placed, name}
 use Rattle.syntax.specs.Reading.{never, Stops, leads, Fails}
 use Rattle.syntax.specs.Trees.{PathTree}
 use Rattle.syntax.specs.Grammar.{sign_word, edge, path}
@@ -17,7 +17,7 @@ use Rattle.syntax.specs.declared.states.Hop.{Hop}
 use Rattle.syntax.proofs.Pieces.{Piece, both, next, fails_here, fails_after, via_piece, via_fails, same_piece, same_fails, stops_never}
 use Rattle.syntax.proofs.Beginnings.{Starts, splits_self, row_starts}
 use Rattle.syntax.proofs.Repeats.{many_piece, many_fails, ended_leaves}
-use Rattle.syntax.proofs.Words.{Words, words_piece, words_starts, one_some, none_some}
+use Rattle.syntax.proofs.Words.{Words, marks_piece, marks_starts, one_some, none_some}
 use Rattle.syntax.proofs.CursorLemmas.{fixed_piece, named_piece}
 
 -- "!" | "?"
@@ -40,17 +40,17 @@ signs = record { some = sign.Send; known = known; blank = refl; only = only; pla
 
 -- hop = sign "->" ID .
 
-abbrev pub hop_to : Hop → tree.Sign.Sign × (Unit {0} × Span)
-hop_to h = (h.sign, (tt, h.target))
+abbrev pub hop_to : Hop → (tree.Sign.Sign × Span) × (Unit {0} × Span)
+hop_to h = ((h.sign, h.mark), (tt, h.target))
 
-abbrev pub hop_from : tree.Sign.Sign × (Unit {0} × Span) → Hop
-hop_from p = record { sign = p.0; target = p.1.1 }
+abbrev pub hop_from : (tree.Sign.Sign × Span) × (Unit {0} × Span) → Hop
+hop_from p = record { sign = p.0.0; mark = p.0.1; target = p.1.1 }
 
 pub hop_piece : Piece hop never (λ _. never)
-hop_piece = via_piece hop_to hop_from (λ _. refl) (next (words_piece signs) (next (fixed_piece kind.Arrow) named_piece))
+hop_piece = via_piece hop_to hop_from (λ _. refl) (next (marks_piece signs) (next (fixed_piece kind.Arrow) named_piece))
 
 pub hop_starts : Starts hop (by_kind opens_sign)
-hop_starts = row_starts (λ h. h.sign) _ (words_starts signs)
+hop_starts = row_starts (λ h. (h.sign, h.mark)) _ (marks_starts signs)
 
 -- path = ID hop { hop } .
 
@@ -61,32 +61,36 @@ abbrev trail : Trail → List Symbol
 trail = both name (both hop (flat_map hop))
 
 -- an edge's sign, and what follows it
-abbrev behind : tree.Sign.Sign → List tree.Edge.Edge → Span → Hop × List Hop
-behind sign [] target = (record { sign = sign; target = target }, [])
-behind sign (e ∷ es) target = (record { sign = sign; target = e.message }, (behind e.sign es target).0 ∷ (behind e.sign es target).1)
+abbrev behind : tree.Sign.Sign → Span → List tree.Edge.Edge → Span → Hop × List Hop
+behind sign mark [] target = (record { sign = sign; mark = mark; target = target }, [])
+behind sign mark (e ∷ es) target = (record { sign = sign; mark = mark; target = e.message }, (behind e.sign e.mark es target).0 ∷ (behind e.sign e.mark es target).1)
 
 abbrev trail_of : PathTree → Trail
-trail_of p = (p.first.message, behind p.first.sign p.others p.target)
+trail_of p = (p.first.message, behind p.first.sign p.first.mark p.others p.target)
 
 -- a name, and the edges that begin with it
 abbrev edges_from : Span → List Hop → List tree.Edge.Edge × Span
 edges_from span [] = ([], span)
-edges_from span (h ∷ hs) = (record { message = span; sign = h.sign } ∷ (edges_from h.target hs).0, (edges_from h.target hs).1)
+edges_from span (h ∷ hs) = (record { message = span; sign = h.sign; mark = h.mark } ∷ (edges_from h.target hs).0, (edges_from h.target hs).1)
 
 abbrev path_of : Trail → PathTree
-path_of t = record { first = record { message = t.0; sign = t.1.0.sign }; others = (edges_from t.1.0.target t.1.1).0; target = (edges_from t.1.0.target t.1.1).1 }
+path_of t = record { first = record { message = t.0; sign = t.1.0.sign; mark = t.1.0.mark }; others = (edges_from t.1.0.target t.1.1).0; target = (edges_from t.1.0.target t.1.1).1 }
 
-behind_sign : (s : tree.Sign.Sign) (es : List tree.Edge.Edge) (target : Span) → (behind s es target).0.sign ≡ s
-behind_sign s [] target = refl
-behind_sign s (e ∷ es) target = refl
+behind_sign : (s : tree.Sign.Sign) (m : Span) (es : List tree.Edge.Edge) (target : Span) → (behind s m es target).0.sign ≡ s
+behind_sign s m [] target = refl
+behind_sign s m (e ∷ es) target = refl
 
-edges_back : (s : tree.Sign.Sign) (es : List tree.Edge.Edge) (target : Span) → edges_from (behind s es target).0.target (behind s es target).1 ≡ (es, target)
-edges_back s [] target = refl
-edges_back s (e ∷ es) target =
-    let h = edges_back e.sign es target in
-    λ i. (record { message = e.message; sign = behind_sign e.sign es target i } ∷ (h i).0, (h i).1)
+behind_mark : (s : tree.Sign.Sign) (m : Span) (es : List tree.Edge.Edge) (target : Span) → (behind s m es target).0.mark ≡ m
+behind_mark s m [] target = refl
+behind_mark s m (e ∷ es) target = refl
 
-behind_back : (h : Hop) (hs : List Hop) → behind h.sign (edges_from h.target hs).0 (edges_from h.target hs).1 ≡ (h, hs)
+edges_back : (s : tree.Sign.Sign) (m : Span) (es : List tree.Edge.Edge) (target : Span) → edges_from (behind s m es target).0.target (behind s m es target).1 ≡ (es, target)
+edges_back s m [] target = refl
+edges_back s m (e ∷ es) target =
+    let h = edges_back e.sign e.mark es target in
+    λ i. (record { message = e.message; sign = behind_sign e.sign e.mark es target i; mark = behind_mark e.sign e.mark es target i } ∷ (h i).0, (h i).1)
+
+behind_back : (h : Hop) (hs : List Hop) → behind h.sign h.mark (edges_from h.target hs).0 (edges_from h.target hs).1 ≡ (h, hs)
 behind_back h [] = refl
 behind_back h (g ∷ gs) =
     let e = behind_back g gs in
@@ -94,18 +98,18 @@ behind_back h (g ∷ gs) =
 
 trail_back : (p : PathTree) → path_of (trail_of p) ≡ p
 trail_back p =
-    let e = edges_back p.first.sign p.others p.target in
-    λ i. record { first = record { message = p.first.message; sign = behind_sign p.first.sign p.others p.target i }; others = (e i).0; target = (e i).1 }
+    let e = edges_back p.first.sign p.first.mark p.others p.target in
+    λ i. record { first = record { message = p.first.message; sign = behind_sign p.first.sign p.first.mark p.others p.target i; mark = behind_mark p.first.sign p.first.mark p.others p.target i }; others = (e i).0; target = (e i).1 }
 
 path_back : (t : Trail) → trail_of (path_of t) ≡ t
 path_back t = λ i. (t.0, behind_back t.1.0 t.1.1 i)
 
-behind_spelled : (s : tree.Sign.Sign) (es : List tree.Edge.Edge) (target : Span) → hop (behind s es target).0 ++ flat_map hop (behind s es target).1 ≡ word (sign_word s) ++ (word kind.Arrow ++ (flat_map edge es ++ name target))
-behind_spelled s [] target = refl
-behind_spelled s (e ∷ es) target = ap (λ t. word (sign_word s) ++ (word kind.Arrow ++ (name e.message ++ t))) (behind_spelled e.sign es target)
+behind_spelled : (s : tree.Sign.Sign) (m : Span) (es : List tree.Edge.Edge) (target : Span) → hop (behind s m es target).0 ++ flat_map hop (behind s m es target).1 ≡ placed (sign_word s) m ++ (word kind.Arrow ++ (flat_map edge es ++ name target))
+behind_spelled s m [] target = refl
+behind_spelled s m (e ∷ es) target = ap (λ t. placed (sign_word s) m ++ (word kind.Arrow ++ (name e.message ++ t))) (behind_spelled e.sign e.mark es target)
 
 trail_spelled : (p : PathTree) → trail (trail_of p) ≡ path p
-trail_spelled p = ap (λ t. name p.first.message ++ t) (behind_spelled p.first.sign p.others p.target)
+trail_spelled p = ap (λ t. name p.first.message ++ t) (behind_spelled p.first.sign p.first.mark p.others p.target)
 
 hops_piece : Piece (flat_map hop) (by_kind opens_sign) (λ _. by_kind opens_sign)
 hops_piece = many_piece hop_starts splits_self hop_piece

@@ -25,7 +25,7 @@ use Rattle.syntax.proofs.EndpointRules.{endpoint_piece}
 
 -- named_tail = pointer_tail | endpoint_tail .
 
-star : (b : Bool) → Begins pointer_tail (is_kind kind.Star) b
+star : (b : Option Span) → Begins pointer_tail (is_kind kind.Star) b
 star b = record { head = Fixed kind.Star; tail = bang_in_heap b; is = refl; first = refl }
 
 dot : (e : parts.EndpointTail.EndpointTail) → Begins endpoint_tail (λ y. not (is_kind kind.Star y)) e
@@ -46,7 +46,7 @@ endpoint_form = record {
 }
 
 pub named_tail_piece : Piece named_tail endpoint_on tail_at
-named_tail_piece = record { some = tail.Pointer true; each = way }
+named_tail_piece = record { some = tail.Pointer None; each = way }
   where
     way : (t : parts.NamedTail.NamedTail) → ReadsOneWay named_tail endpoint_on tail_at t
     way (tail.Pointer b) = form_way pointer_form (λ _ r h. h) (wide_way (λ y h. refl) (pointer_piece.each b))
@@ -97,7 +97,7 @@ scalar_form = record {
   each = each;
 }
   where
-    same : (s : tree.Scalar.Scalar) (o : Option Bool) → value_type (of_array s o) ≡ scalar_type (record { scalar = s; array = o })
+    same : (s : tree.Scalar.Scalar) (o : Option (Option Span)) → value_type (of_array s o) ≡ scalar_type (record { scalar = s; array = o })
     same s None = refl
     same s (Some b) = refl
 
@@ -132,7 +132,7 @@ stops_named n = stops n.name n.tail
 pub scalar_stops : (s : parts.ScalarType.ScalarType) (r : List Symbol) → Stops (type_at (of_scalar s)) r → Stops (scalar_at s) r
 scalar_stops s = stops s.scalar s.array
   where
-    stops : (s : tree.Scalar.Scalar) (o : Option Bool) (r : List Symbol) → Stops (type_at (of_array s o)) r → Stops (optional_at (is_kind kind.OpenBracket) (λ _. never) o) r
+    stops : (s : tree.Scalar.Scalar) (o : Option (Option Span)) (r : List Symbol) → Stops (type_at (of_array s o)) r → Stops (optional_at (is_kind kind.OpenBracket) (λ _. never) o) r
     stops s None r h = h
     stops s (Some b) r h = h
 
@@ -165,11 +165,11 @@ type_follows = record { each = λ span r h. refl }
 pub type_meets : Meets type_at name (λ _. never)
 type_meets = record { here = λ t span r h. apart t span }
   where
-    ends_apart : (end : tree.Side.Side) (state : Option Span) (bang in_heap : Bool) (span : Span) → endpoint_at (record { side = end; state = state; bang = bang; in_heap = in_heap }) (Named span) ≡ false
+    ends_apart : (end : tree.Side.Side) (state : Option Span) (bang : Option Span) (in_heap : Bool) (span : Span) → endpoint_at (record { side = end; state = state; bang = bang; in_heap = in_heap }) (Named span) ≡ false
     ends_apart end state bang true span = refl
-    ends_apart end state true false span = refl
-    ends_apart end None false false span = refl
-    ends_apart end (Some other) false false span = refl
+    ends_apart end state (Some mark) false span = refl
+    ends_apart end None None false span = refl
+    ends_apart end (Some other) None false span = refl
 
     apart : (t : tree.Type.Type) (span : Span) → type_at t (Named span) ≡ false
     apart (type.Scalar s) span = refl

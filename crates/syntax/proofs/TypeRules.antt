@@ -1,10 +1,11 @@
 -- Types as pieces.
-use Rattle.std.proofs.Common.{◌≡◌, Bool, true, false, ◌∷◌, Option, Some, refl, ap}
+use Rattle.std.proofs.Common.{◌≡◌, ◌∷◌, Option, Some, None, refl, ap}
 use Rattle.source.specs.declared.kind.Kind.{Kind}
 use Rattle.source.specs.declared.kind.Kind.TheVariants as kind
+use Rattle.source.specs.declared.token.Span.{Span}
 use Rattle.syntax.specs.Symbols.{Fixed, is_kind}
-use Rattle.syntax.specs.Spelling.{word, optional, when}
-use Rattle.syntax.specs.Reading.{never, optional_at, when_at}
+use Rattle.syntax.specs.Spelling.{word, optional}
+use Rattle.syntax.specs.Reading.{never, optional_at}
 use Rattle.syntax.specs.Grammar.{scalar_word, side_word, bang_word, in_heap_words}
 use Rattle.syntax.specs.Firsts.{scalar_of, side_of}
 use Rattle.syntax.specs.Types.{bang_in_heap, array_tail, scalar_type, scalar_at, pointer_tail}
@@ -14,10 +15,10 @@ use Rattle.syntax.specs.declared.tree.Side.TheVariants as side
 use Rattle.syntax.specs.declared.fronts as parts
 use Rattle.syntax.proofs.Pieces.{Piece, Follows, Meets, both_piece, next, via_piece}
 use Rattle.syntax.proofs.Beginnings.{Starts, splits_self}
-use Rattle.syntax.proofs.Options.{opt_piece, when_piece}
+use Rattle.syntax.proofs.Options.{opt_piece}
 use Rattle.syntax.proofs.Words.{Words, words_piece, one_some, none_some}
-use Rattle.syntax.proofs.KindLemmas.{fixed_starts}
-use Rattle.syntax.proofs.CursorLemmas.{fixed_piece}
+use Rattle.syntax.proofs.KindLemmas.{placed_starts}
+use Rattle.syntax.proofs.CursorLemmas.{fixed_piece, placed_piece}
 
 -- "int" | "bool" | "byte"
 
@@ -74,30 +75,30 @@ in_heap_starts = record { each = λ u. record { head = Fixed kind.In; tail = wor
 
 -- bang_in_heap = [ "!" ] in_heap .
 
-abbrev pub bang_to : Bool → Bool × Unit {0}
+abbrev pub bang_to : Option Span → Option Span × Unit {0}
 bang_to b = (b, tt)
 
-abbrev pub bang_from : Bool × Unit {0} → Bool
+abbrev pub bang_from : Option Span × Unit {0} → Option Span
 bang_from p = p.0
 
-pub bang_piece : Piece (when bang_word) (is_kind kind.Bang) (when_at (is_kind kind.Bang))
-bang_piece = when_piece bang_word (fixed_piece kind.Bang) (fixed_starts kind.Bang) splits_self
+pub bang_piece : Piece (optional bang_word) (is_kind kind.Bang) (optional_at (is_kind kind.Bang) (λ _. never))
+bang_piece = opt_piece (placed_piece kind.Bang) (placed_starts kind.Bang) splits_self
 
 pub bang_follows : Follows {Y = Unit {0}} (is_kind kind.Bang) (λ _. in_heap_words) never
 bang_follows = record { each = λ u r h. refl }
 
-bang_meets : Meets {Y = Unit {0}} (when_at (is_kind kind.Bang)) (λ _. in_heap_words) (λ _. never)
-bang_meets = record { here = elim [ true ↦ λ u r h. refl | false ↦ λ u r h. refl ] }
+bang_meets : Meets {X = Option Span} {Y = Unit {0}} (optional_at (is_kind kind.Bang) (λ _. never)) (λ _. in_heap_words) (λ _. never)
+bang_meets = record { here = elim [ Some span ↦ λ u r h. refl | None ↦ λ u r h. refl ] }
 
 pub bang_in_heap_piece : Piece bang_in_heap never (λ _. never)
 bang_in_heap_piece = via_piece bang_to bang_from (λ _. refl) (both_piece bang_piece in_heap_piece bang_follows bang_meets)
 
 -- array_tail = "[" "]" bang_in_heap .
 
-abbrev pub array_to : Bool → Unit {0} × (Unit {0} × Bool)
+abbrev pub array_to : Option Span → Unit {0} × (Unit {0} × Option Span)
 array_to b = (tt, (tt, b))
 
-abbrev pub array_from : Unit {0} × (Unit {0} × Bool) → Bool
+abbrev pub array_from : Unit {0} × (Unit {0} × Option Span) → Option Span
 array_from p = p.1.1
 
 pub array_piece : Piece array_tail never (λ _. never)
@@ -111,10 +112,10 @@ maybe_array_piece = opt_piece array_piece array_starts splits_self
 
 -- scalar_type = scalar [ array_tail ] .
 
-abbrev pub scalar_to : parts.ScalarType.ScalarType → tree.Scalar.Scalar × Option Bool
+abbrev pub scalar_to : parts.ScalarType.ScalarType → tree.Scalar.Scalar × Option (Option Span)
 scalar_to s = (s.scalar, s.array)
 
-abbrev pub scalar_from : tree.Scalar.Scalar × Option Bool → parts.ScalarType.ScalarType
+abbrev pub scalar_from : tree.Scalar.Scalar × Option (Option Span) → parts.ScalarType.ScalarType
 scalar_from p = record { scalar = p.0; array = p.1 }
 
 pub scalar_type_piece : Piece scalar_type (is_kind kind.OpenBracket) scalar_at
@@ -122,10 +123,10 @@ scalar_type_piece = via_piece scalar_to scalar_from (λ _. refl) (next (words_pi
 
 -- pointer_tail = "*" bang_in_heap .
 
-abbrev pub pointer_to : Bool → Unit {0} × Bool
+abbrev pub pointer_to : Option Span → Unit {0} × Option Span
 pointer_to b = (tt, b)
 
-abbrev pub pointer_from : Unit {0} × Bool → Bool
+abbrev pub pointer_from : Unit {0} × Option Span → Option Span
 pointer_from p = p.1
 
 pub pointer_piece : Piece pointer_tail never (λ _. never)

@@ -50,6 +50,10 @@ opens_message k = is_some (direction_of k)
 abbrev pub opens_sign : Option Kind → Bool
 opens_sign k = is_some (sign_of k)
 
+-- whether it is an end of a channel
+abbrev pub opens_side : Option Kind → Bool
+opens_side k = is_some (side_of k)
+
 -- whether a type begins with it
 abbrev pub opens_type : Option Kind → Bool
 opens_type k = is_some (scalar_of k) || kind_is kind.Name k
@@ -62,6 +66,18 @@ opens_member k = opens_message k || kind_is kind.State k
 abbrev pub opens_access : Option Kind → Bool
 opens_access k = is_some (access_of k)
 
--- whether an item begins with it
+-- whether a field does
+abbrev pub opens_field : Option Kind → Bool
+opens_field k = opens_access k || is_some (scalar_of k)
+
+-- whether a parameter of a method does
+abbrev pub opens_parameter : Option Kind → Bool
+opens_parameter k = kind_is kind.OpenBracket k || opens_type k
+
+-- whether a method does
+abbrev pub opens_method : Option Kind → Bool
+opens_method k = opens_access k || kind_is kind.Static k
+
+-- whether an item does
 abbrev pub opens_item : Option Kind → Bool
-opens_item k = opens_access k || kind_is kind.Contract k
+opens_item k = opens_access k || ((kind_is kind.Contract k || kind_is kind.Rep k) || kind_is kind.Class k)

@@ -5,8 +5,8 @@ use Rattle.source.specs.declared.kind.Kind.{Kind}
 use Rattle.source.specs.declared.kind.Kind.TheVariants as kind
 use Rattle.source.specs.declared.token.Span.{Span}
 use Rattle.syntax.specs.Symbols.{Symbol}
-use Rattle.syntax.specs.Spelling.{word, name, row, optional, when, listed, within}
-use Rattle.syntax.specs.Trees.{MessageTree, PathTree, BodyTree, Empty, Path, One, StateTree, MemberTree, Message, State, ContractTree, ItemTree}
+use Rattle.syntax.specs.Spelling.{word, placed, name, row, optional, when, listed, braced, parens}
+use Rattle.syntax.specs.ContractTrees.{MessageTree, PathTree, BodyTree, Empty, Path, One, StateTree, MemberTree, Message, State, ContractTree}
 use Rattle.syntax.specs.declared.tree as tree
 use Rattle.syntax.specs.declared.tree.Access.TheVariants as access
 use Rattle.syntax.specs.declared.tree.Direction.TheVariants as direction
@@ -44,8 +44,8 @@ side_word side.Imp = kind.Imp
 side_word side.Exp = kind.Exp
 
 -- bang = "!" .
-abbrev pub bang_word : List Symbol
-bang_word = word kind.Bang
+abbrev pub bang_word : Span → List Symbol
+bang_word = placed kind.Bang
 
 -- in_heap = "in" "ExHeap" .
 abbrev pub in_heap_words : List Symbol
@@ -57,9 +57,9 @@ colon_name span = row (word kind.Colon ∷ name span ∷ [])
 
 -- heap = ID "*" [ bang ] in_heap | scalar "[" "]" [ bang ] in_heap | ID "." side [ colon_name ] [ bang ] [ in_heap ] .
 abbrev pub heap_type : tree.Heap.Heap → List Symbol
-heap_type (heap.Pointer span bang) = row (name span ∷ word kind.Star ∷ when bang_word bang ∷ in_heap_words ∷ [])
-heap_type (heap.Array element bang) = row (word (scalar_word element) ∷ word kind.OpenBracket ∷ word kind.CloseBracket ∷ when bang_word bang ∷ in_heap_words ∷ [])
-heap_type (heap.Endpoint contract end state bang in_heap) = row (name contract ∷ word kind.Dot ∷ word (side_word end) ∷ optional colon_name state ∷ when bang_word bang ∷ when in_heap_words in_heap ∷ [])
+heap_type (heap.Pointer span bang) = row (name span ∷ word kind.Star ∷ optional bang_word bang ∷ in_heap_words ∷ [])
+heap_type (heap.Array element bang) = row (word (scalar_word element) ∷ word kind.OpenBracket ∷ word kind.CloseBracket ∷ optional bang_word bang ∷ in_heap_words ∷ [])
+heap_type (heap.Endpoint contract end state bang in_heap) = row (name contract ∷ word kind.Dot ∷ word (side_word end) ∷ optional colon_name state ∷ optional bang_word bang ∷ when in_heap_words in_heap ∷ [])
 
 -- type = scalar | heap .
 abbrev pub value_type : tree.Type.Type → List Symbol
@@ -72,11 +72,11 @@ param p = row (value_type p.kind ∷ name p.name ∷ [])
 
 -- message = direction "message" ID "(" [ param { "," param } ] ")" ";" .
 abbrev pub message : MessageTree → List Symbol
-message m = row (word (direction_word m.direction) ∷ word kind.Message ∷ name m.name ∷ within kind.OpenParen (listed param) kind.CloseParen m.params ∷ word kind.Semicolon ∷ [])
+message m = row (word (direction_word m.direction) ∷ word kind.Message ∷ name m.name ∷ parens (listed param) (m.open_paren, m.params) ∷ word kind.Semicolon ∷ [])
 
 -- edge = ID sign "->" .
 abbrev pub edge : tree.Edge.Edge → List Symbol
-edge e = row (name e.message ∷ word (sign_word e.sign) ∷ word kind.Arrow ∷ [])
+edge e = row (name e.message ∷ placed (sign_word e.sign) e.mark ∷ word kind.Arrow ∷ [])
 
 -- path = edge { edge } ID .
 abbrev pub path : PathTree → List Symbol
@@ -90,7 +90,7 @@ line p = row (path p ∷ word kind.Semicolon ∷ [])
 abbrev pub body : BodyTree → List Symbol
 body Empty = word kind.Semicolon
 body (Path p) = line p
-body (One paths semicolon) = row (word kind.One ∷ within kind.OpenBrace (flat_map line) kind.CloseBrace paths ∷ when (word kind.Semicolon) semicolon ∷ [])
+body (One paths close semicolon) = row (word kind.One ∷ braced (flat_map line) (paths, close) ∷ when (word kind.Semicolon) semicolon ∷ [])
 
 -- state = "state" ID ":" body .
 abbrev pub state : StateTree → List Symbol
@@ -103,12 +103,4 @@ member (State s) = state s
 
 -- contract = "contract" ID "{" { message } state { member } "}" .
 abbrev pub contract : ContractTree → List Symbol
-contract c = row (word kind.Contract ∷ name c.name ∷ word kind.OpenBrace ∷ flat_map message c.messages ∷ state c.state ∷ flat_map member c.members ∷ word kind.CloseBrace ∷ [])
-
--- item = [ access ] contract .
-abbrev pub item : ItemTree → List Symbol
-item i = row (optional (λ a. word (access_word a)) i.access ∷ contract i.contract ∷ [])
-
--- program = { item } .
-abbrev pub program : List ItemTree → List Symbol
-program = flat_map item
+contract c = row (word kind.Contract ∷ name c.name ∷ word kind.OpenBrace ∷ flat_map message c.messages ∷ state c.state ∷ flat_map member c.members ∷ placed kind.CloseBrace c.close ∷ [])

@@ -5,7 +5,8 @@ use Rattle.std.specs.Global.{Global}
 use Rattle.source.specs.declared.kind.Kind.{Kind}
 use Rattle.source.specs.declared.kind.Kind.TheVariants.{Comma}
 use Rattle.syntax.specs.Symbols.{Symbol, is_kind, by_kind}
-use Rattle.syntax.specs.Spelling.{word, optional}
+use Rattle.source.specs.declared.token.Span.{Span}
+use Rattle.syntax.specs.Spelling.{word, placed, optional}
 use Rattle.syntax.specs.declared.cursor.Stuck.{Stuck}
 use Rattle.syntax.specs.declared.cursor.Stuck.TheVariants.{Unexpected, Memory}
 
@@ -73,6 +74,15 @@ abbrev pub listed_at : {X : Type 0} → (Symbol → Bool) → List X → Symbol 
 listed_at starts [] = starts
 listed_at starts (x ∷ xs) = is_kind Comma
 
+-- the same of a list whose pieces could go on themselves
+abbrev pub listed_open_on : (Symbol → Bool) → (Symbol → Bool) → Symbol → Bool
+listed_open_on starts f y = starts y || (f y || is_kind Comma y)
+
+-- by what this list could
+abbrev pub listed_open_at : {X : Type 0} → (Symbol → Bool) → (X → Symbol → Bool) → List X → Symbol → Bool
+listed_open_at starts at [] = starts
+listed_open_at starts at (x ∷ xs) = many_at (is_kind Comma) at (x ∷ xs)
+
 -- by what an option could go on, or what stands before it where it isn't there
 abbrev pub open_at : (Symbol → Bool) → (Symbol → Bool) → Bool → Symbol → Bool
 open_at before starts true = never
@@ -95,6 +105,10 @@ ReadsEnded view spell old new result = Reads view spell never (λ _. never) old 
 -- What a function returns that reads one word of several.
 abbrev pub ReadsWord : {X : Type 0} → (X → Kind) → List Symbol → List Symbol → Result X Stuck → Type 0
 ReadsWord word_of old new result = ReadsEnded (λ x. x) (λ x. word (word_of x)) old new result
+
+-- the same of a word that keeps its place
+abbrev pub ReadsMark : {X : Type 0} → (X → Kind) → List Symbol → List Symbol → Result (X × Span) Stuck → Type 0
+ReadsMark word_of old new result = ReadsEnded (λ p. p) (λ p. placed (word_of p.0) p.1) old new result
 
 -- What a function returns that reads a piece, or nothing where it does not begin with such a token.
 abbrev pub ReadsOption : {X : Type 0} → (X → List Symbol) → (Option Kind → Bool) → List Symbol → List Symbol → Result (Option X) Stuck → Type 0

@@ -2,13 +2,17 @@
 use Rattle.std.specs.Prelude.{Bool, true, false, List, [], ◌∷◌, ◌++◌, Option, Some, None}
 use Rattle.std.specs.List.{flat_map}
 use Rattle.source.specs.declared.kind.Kind.{Kind}
-use Rattle.source.specs.declared.kind.Kind.TheVariants.{Comma}
+use Rattle.source.specs.declared.kind.Kind.TheVariants.{Comma, OpenBrace, CloseBrace, OpenParen, CloseParen}
 use Rattle.source.specs.declared.token.Span.{Span}
-use Rattle.syntax.specs.Symbols.{Symbol, Fixed, Named}
+use Rattle.syntax.specs.Symbols.{Symbol, Fixed, Placed, Named}
 
--- a token that is no name
+-- a token that keeps no place
 abbrev pub word : Kind → List Symbol
 word kind = Fixed kind ∷ []
+
+-- a token that keeps its place
+abbrev pub placed : Kind → Span → List Symbol
+placed kind span = Placed kind span ∷ []
 
 -- ID
 abbrev pub name : Span → List Symbol
@@ -42,3 +46,11 @@ listed a (x ∷ xs) = a x ++ flat_map (comma a) xs
 -- a between two words
 abbrev pub within : {X : Type 0} → Kind → (X → List Symbol) → Kind → X → List Symbol
 within left a right x = row (word left ∷ a x ∷ word right ∷ [])
+
+-- "{" a "}"
+abbrev pub braced : {X : Type 0} → (X → List Symbol) → X × Span → List Symbol
+braced a p = row (word OpenBrace ∷ a p.0 ∷ placed CloseBrace p.1 ∷ [])
+
+-- "(" a ")"
+abbrev pub parens : {X : Type 0} → (X → List Symbol) → Span × X → List Symbol
+parens a p = row (placed OpenParen p.0 ∷ a p.1 ∷ word CloseParen ∷ [])

@@ -3,27 +3,28 @@ use Rattle.std.specs.Prelude.{Bool, ◌||◌, List, [], ◌∷◌}
 use Rattle.std.specs.List.{flat_map}
 use Rattle.source.specs.declared.kind.Kind.TheVariants as kind
 use Rattle.syntax.specs.Symbols.{Symbol, is_kind, by_kind}
-use Rattle.syntax.specs.Spelling.{word, name, row, when, within}
+use Rattle.source.specs.declared.token.Span.{Span}
+use Rattle.syntax.specs.Spelling.{word, placed, name, row, when, braced}
 use Rattle.syntax.specs.Reading.{never, when_at}
-use Rattle.syntax.specs.Trees.{PathTree, BodyTree, Empty, Path, One, StateTree, MemberTree, Message, State}
+use Rattle.syntax.specs.ContractTrees.{PathTree, BodyTree, Empty, Path, One, StateTree, MemberTree, Message, State}
 use Rattle.syntax.specs.Grammar.{line, sign_word}
 use Rattle.syntax.specs.Firsts.{opens_member}
 use Rattle.syntax.specs.declared.states.Hop.{Hop}
 
 -- hop = sign "->" ID .
 abbrev pub hop : Hop → List Symbol
-hop h = row (word (sign_word h.sign) ∷ word kind.Arrow ∷ name h.target ∷ [])
+hop h = row (placed (sign_word h.sign) h.mark ∷ word kind.Arrow ∷ name h.target ∷ [])
 
 -- lines = "{" { line } "}" .
-abbrev pub lines : List PathTree → List Symbol
-lines = within kind.OpenBrace (flat_map line) kind.CloseBrace
+abbrev pub lines : List PathTree × Span → List Symbol
+lines = braced (flat_map line)
 
 -- one = "one" lines [ ";" ] .
-abbrev pub one : List PathTree × Bool → List Symbol
+abbrev pub one : (List PathTree × Span) × Bool → List Symbol
 one p = row (word kind.One ∷ lines p.0 ∷ when (word kind.Semicolon) p.1 ∷ [])
 
 -- by what such a body could go on
-abbrev pub one_at : List PathTree × Bool → Symbol → Bool
+abbrev pub one_at : (List PathTree × Span) × Bool → Symbol → Bool
 one_at p = when_at (is_kind kind.Semicolon) p.1
 
 -- by what some state could go on: a semicolon behind the brace
@@ -34,7 +35,7 @@ state_on = is_kind kind.Semicolon
 abbrev pub body_at : BodyTree → Symbol → Bool
 body_at Empty = never
 body_at (Path p) = never
-body_at (One paths semicolon) = when_at state_on semicolon
+body_at (One paths close semicolon) = when_at state_on semicolon
 
 -- by what this state could
 abbrev pub state_at : StateTree → Symbol → Bool

@@ -1,86 +1,76 @@
 -- Trees without where they lie in memory.
-use Rattle.std.specs.Prelude.{Bool, List, map, Option}
+use Rattle.std.specs.Prelude.{List, [], ◌∷◌, map, Option}
+use Rattle.std.specs.List.{flat_map}
 use Rattle.source.specs.declared.token.Span.{Span}
+pub use Rattle.syntax.specs.ContractTrees.{MessageTree, PathTree, BodyTree, Empty, Path, One, StateTree, MemberTree, Message, State, ContractTree, message_tree, path_tree, body_tree, state_tree, member_tree, contract_tree}
+use Rattle.syntax.specs.StatementTrees.{BlockTree, block_tree}
 use Rattle.syntax.specs.declared.tree.Access.{Access}
-use Rattle.syntax.specs.declared.tree.Direction.{Direction}
-use Rattle.syntax.specs.declared.tree.Edge.{Edge}
-use Rattle.syntax.specs.declared.tree.Param.{Param}
-use Rattle.syntax.specs.declared.tree.StateBody.{StateBody}
-use Rattle.syntax.specs.declared.tree.StateBody.TheVariants as body
-use Rattle.syntax.specs.declared.tree.Member.{Member}
-use Rattle.syntax.specs.declared.tree.Member.TheVariants as member
+use Rattle.syntax.specs.declared.tree.Definition.TheVariants as definition
 use Rattle.syntax.specs.declared.tree as tree
+use Rattle.syntax.specs.declared.class as made
 
--- a message
-pub record MessageTree : Type 0 where
-  pub direction : Direction
+-- a struct
+pub record StructTree : Type 0 where
   pub name : Span
-  pub params : List Param
+  pub fields : List made.Field.Field
+  pub close : Span
 
--- a path of edges to a state
-pub record PathTree : Type 0 where
-  pub first : Edge
-  pub others : List Edge
-  pub target : Span
-
--- what a state is declared as
-pub data BodyTree : Type 0 where
-  Empty : BodyTree
-  Path : PathTree → BodyTree
-  One : List PathTree → Bool → BodyTree
-
--- a state
-pub record StateTree : Type 0 where
+-- a method
+pub record MethodTree : Type 0 where
+  pub access : Option Access
+  pub result : Option tree.Type.Type
   pub name : Span
-  pub body : BodyTree
+  pub open_paren : Span
+  pub params : List made.Parameter.Parameter
+  pub body : BlockTree
 
--- what may stand behind the first state
-pub data MemberTree : Type 0 where
-  Message : MessageTree → MemberTree
-  State : StateTree → MemberTree
-
--- a contract
-pub record ContractTree : Type 0 where
+-- a class
+pub record ClassTree : Type 0 where
   pub name : Span
-  pub messages : List MessageTree
-  pub state : StateTree
-  pub members : List MemberTree
+  pub methods : List MethodTree
+  pub close : Span
 
--- a contract and the access word before it
+-- what an item declares
+pub data DefinitionTree : Type 0 where
+  Contract : ContractTree → DefinitionTree
+  Struct : StructTree → DefinitionTree
+  Class : ClassTree → DefinitionTree
+
+-- what it declares, and the access word before it
 pub record ItemTree : Type 0 where
   pub access : Option Access
-  pub contract : ContractTree
+  pub definition : DefinitionTree
 
--- a message in memory, as a tree
-abbrev pub message_tree : tree.Message.Message → MessageTree
-message_tree m = record { direction = m.direction; name = m.name; params = m.params.items }
+-- the contract, where it is one
+abbrev pub contract_of : DefinitionTree → List ContractTree
+contract_of (Contract c) = c ∷ []
+contract_of _ = []
 
--- a path in memory, as a tree
-abbrev pub path_tree : tree.Path.Path → PathTree
-path_tree p = record { first = p.first; others = p.others.items; target = p.target }
+-- the contracts among items, in order
+abbrev pub contracts_of : List ItemTree → List ContractTree
+contracts_of = flat_map (λ i. contract_of i.definition)
 
--- a state's body in memory, as a tree
-abbrev pub body_tree : StateBody → BodyTree
-body_tree body.Empty = Empty
-body_tree (body.Path p) = Path (path_tree p)
-body_tree (body.One paths semicolon) = One (map path_tree paths.items) semicolon
+-- a struct in memory, as a tree
+abbrev pub struct_tree : made.Struct.Struct → StructTree
+struct_tree s = record { name = s.name; fields = s.fields.items; close = s.close }
 
--- a state in memory, as a tree
-abbrev pub state_tree : tree.State.State → StateTree
-state_tree s = record { name = s.name; body = body_tree s.body }
+-- a method in memory, as a tree
+abbrev pub method_tree : made.Method.Method → MethodTree
+method_tree m = record { access = m.access; result = m.result; name = m.name; open_paren = m.open; params = m.params.items; body = block_tree m.body }
 
--- a member in memory, as a tree
-abbrev pub member_tree : Member → MemberTree
-member_tree (member.Message m) = Message (message_tree m)
-member_tree (member.State s) = State (state_tree s)
+-- a class in memory, as a tree
+abbrev pub class_tree : made.Class.Class → ClassTree
+class_tree c = record { name = c.name; methods = map method_tree c.methods.items; close = c.close }
 
--- a contract in memory, as a tree
-abbrev pub contract_tree : tree.Contract.Contract → ContractTree
-contract_tree c = record { name = c.name; messages = map message_tree c.messages.items; state = state_tree c.state; members = map member_tree c.members.items }
+-- what an item declares, in memory, as a tree
+abbrev pub definition_tree : tree.Definition.Definition → DefinitionTree
+definition_tree (definition.Contract c) = Contract (contract_tree c)
+definition_tree (definition.Struct s) = Struct (struct_tree s)
+definition_tree (definition.Class c) = Class (class_tree c)
 
 -- an item in memory, as a tree
 abbrev pub item_tree : tree.Item.Item → ItemTree
-item_tree i = record { access = i.access; contract = contract_tree i.contract }
+item_tree i = record { access = i.access; definition = definition_tree i.definition }
 
 -- a program in memory, as the trees of its items
 abbrev pub program_tree : tree.Tree.Tree → List ItemTree

@@ -1,5 +1,5 @@
 -- Types by their fronts: one that begins with a name, one that begins with a scalar.
-use Rattle.std.specs.Prelude.{Bool, ◌||◌, List, [], ◌∷◌, Option, Some, None}
+use Rattle.std.specs.Prelude.{Bool, ◌||◌, List, [], ◌∷◌, Option, Some, None, is_some}
 use Rattle.source.specs.declared.kind.Kind.TheVariants as kind
 use Rattle.syntax.specs.Symbols.{Symbol, is_kind}
 use Rattle.syntax.specs.Spelling.{word, name, row, optional, when}
@@ -14,11 +14,11 @@ use Rattle.syntax.specs.declared.fronts as parts
 use Rattle.syntax.specs.declared.fronts.NamedTail.TheVariants as tail
 
 -- bang_in_heap = [ bang ] in_heap .
-abbrev pub bang_in_heap : Bool → List Symbol
-bang_in_heap bang = row (when bang_word bang ∷ in_heap_words ∷ [])
+abbrev pub bang_in_heap : Option Span → List Symbol
+bang_in_heap bang = row (optional bang_word bang ∷ in_heap_words ∷ [])
 
 -- array_tail = "[" "]" bang_in_heap .
-abbrev pub array_tail : Bool → List Symbol
+abbrev pub array_tail : Option Span → List Symbol
 array_tail bang = row (word kind.OpenBracket ∷ word kind.CloseBracket ∷ bang_in_heap bang ∷ [])
 
 -- scalar_type = scalar [ array_tail ] .
@@ -26,12 +26,16 @@ abbrev pub scalar_type : parts.ScalarType.ScalarType → List Symbol
 scalar_type s = row (word (scalar_word s.scalar) ∷ optional array_tail s.array ∷ [])
 
 -- pointer_tail = "*" bang_in_heap .
-abbrev pub pointer_tail : Bool → List Symbol
+abbrev pub pointer_tail : Option Span → List Symbol
 pointer_tail bang = row (word kind.Star ∷ bang_in_heap bang ∷ [])
 
--- endpoint_tail = "." side [ colon_name ] [ bang ] [ in_heap ] .
+-- endpoint_end = side [ colon_name ] [ bang ] [ in_heap ] .
+abbrev pub endpoint_end : parts.EndpointTail.EndpointTail → List Symbol
+endpoint_end e = row (word (side_word e.side) ∷ optional colon_name e.state ∷ optional bang_word e.bang ∷ when in_heap_words e.in_heap ∷ [])
+
+-- endpoint_tail = "." endpoint_end .
 abbrev pub endpoint_tail : parts.EndpointTail.EndpointTail → List Symbol
-endpoint_tail e = row (word kind.Dot ∷ word (side_word e.side) ∷ optional colon_name e.state ∷ when bang_word e.bang ∷ when in_heap_words e.in_heap ∷ [])
+endpoint_tail e = row (word kind.Dot ∷ endpoint_end e ∷ [])
 
 -- named_tail = pointer_tail | endpoint_tail .
 abbrev pub named_tail : parts.NamedTail.NamedTail → List Symbol
@@ -43,7 +47,7 @@ abbrev pub named_type : parts.NamedType.NamedType → List Symbol
 named_type n = row (name n.name ∷ named_tail n.tail ∷ [])
 
 -- a scalar, or an array of it
-abbrev pub of_array : Scalar → Option Bool → tree.Type.Type
+abbrev pub of_array : Scalar → Option (Option Span) → tree.Type.Type
 of_array scalar None = type.Scalar scalar
 of_array scalar (Some bang) = type.Heap (heap.Array scalar bang)
 
@@ -66,7 +70,7 @@ endpoint_on y = (is_kind kind.Colon y || is_kind kind.Bang y) || is_kind kind.In
 
 -- by what the type of this one could
 abbrev pub endpoint_at : parts.EndpointTail.EndpointTail → Symbol → Bool
-endpoint_at e = open_at (open_at (optional_at (is_kind kind.Colon) (λ _. never) e.state) (is_kind kind.Bang) e.bang) (is_kind kind.In) e.in_heap
+endpoint_at e = open_at (open_at (optional_at (is_kind kind.Colon) (λ _. never) e.state) (is_kind kind.Bang) (is_some e.bang)) (is_kind kind.In) e.in_heap
 
 -- by what this could go on that follows a name
 abbrev pub tail_at : parts.NamedTail.NamedTail → Symbol → Bool

@@ -1,10 +1,10 @@
 //! A place among tokens.
 
-ghost use Rattle.std.specs.Prelude.{◌≡◌, ◌≢◌, ◌+◌, length, ◌↔◌, ◌∷◌, [], List, IsTrue, IsSome};
+ghost use Rattle.std.specs.Prelude.{◌≡◌, ◌≢◌, ◌+◌, length, ◌↔◌, ◌∷◌, [], List, true, false, IsTrue, IsSome};
 ghost use Rattle.source.specs.declared.kind.Kind.{Kind};
-ghost use Rattle.syntax.specs.Symbols.{Symbol, Fixed, Named, kind_at, is_kind, symbols};
-ghost use Rattle.syntax.specs.Spelling.{word, name, when};
-ghost use Rattle.syntax.specs.Reading.{Takes, ReadsEnded, when_at};
+ghost use Rattle.syntax.specs.Symbols.{Symbol, Fixed, Placed, Named, is_placed, kind_at, is_kind, symbols};
+ghost use Rattle.syntax.specs.Spelling.{word, placed, name, optional, when};
+ghost use Rattle.syntax.specs.Reading.{Takes, ReadsEnded, never, optional_at, when_at};
 
 use source::{Kind, Span, Token};
 use std::alloc::{AllocError, AllocFailed};
@@ -98,9 +98,10 @@ impl Cursor<'_> {
         }
     }
 
-    /// Takes a token of this kind, which is no name.
+    /// Takes a token of this kind, which is no name and keeps no place.
     pub fn expect(&mut self, kind: Kind) -> Result<(), Stuck>
-        requires { kind ≢ Kind.Name }
+        requires no_name { kind ≢ Kind.Name }
+        requires no_place { is_placed kind ≡ false }
         ensures { ReadsEnded (λ x. x) (λ _. word kind) self.old self.new result }
     {
         if self.is_next(kind) {
@@ -111,9 +112,10 @@ impl Cursor<'_> {
         }
     }
 
-    /// Takes a token of this kind, which is no name, if it is next.
+    /// Takes a token of this kind, which is no name and keeps no place, if it is next.
     pub fn take_if(&mut self, kind: Kind) -> bool
-        requires { kind ≢ Kind.Name }
+        requires no_name { kind ≢ Kind.Name }
+        requires no_place { is_placed kind ≡ false }
         ensures { Takes (when (word kind)) (when_at (is_kind kind)) self.old self.new result }
     {
         if self.is_next(kind) {
@@ -121,6 +123,30 @@ impl Cursor<'_> {
             true
         } else {
             false
+        }
+    }
+
+    /// Takes a token of this kind, and answers where it lies.
+    pub fn placed(&mut self, kind: Kind) -> Result<Span, Stuck>
+        requires { is_placed kind ≡ true }
+        ensures { ReadsEnded (λ x. x) (placed kind) self.old self.new result }
+    {
+        if self.is_next(kind) {
+            Ok(self.skip())
+        } else {
+            Err(Stuck::Unexpected)
+        }
+    }
+
+    /// Takes a token of this kind, if it is next, and answers where it lies.
+    pub fn placed_if(&mut self, kind: Kind) -> Option<Span>
+        requires { is_placed kind ≡ true }
+        ensures { Takes (optional (placed kind)) (optional_at (is_kind kind) (λ _. never)) self.old self.new result }
+    {
+        if self.is_next(kind) {
+            Some(self.skip())
+        } else {
+            None
         }
     }
 
@@ -138,7 +164,8 @@ impl Cursor<'_> {
     /// Passes over a token, and answers where it lies.
     pub fn skip(&mut self) -> Span
         requires { IsSome (kind_at self.old) }
-        ensures fixed { (kind : Kind) → kind ≢ Kind.Name → kind_at self.old ≡ Some kind → self.old ≡ Fixed kind ∷ self.new }
+        ensures fixed { (kind : Kind) → kind ≢ Kind.Name → is_placed kind ≡ false → kind_at self.old ≡ Some kind → self.old ≡ Fixed kind ∷ self.new }
+        ensures placed { (kind : Kind) → is_placed kind ≡ true → kind_at self.old ≡ Some kind → self.old ≡ Placed kind result ∷ self.new }
         ensures named { kind_at self.old ≡ Some Kind.Name → self.old ≡ Named result ∷ self.new }
     {
         let span = self.tokens[self.next].span;

@@ -3,11 +3,11 @@
 use crate::tree::{Heap, Scalar, Side, Type};
 use source::Span;
 
-/// A type that begins with a scalar; of an array, whether `!` stands behind its brackets.
+/// A type that begins with a scalar; of an array, the `!` behind its brackets.
 #[derive(Clone, Copy, Debug)]
 pub struct ScalarType {
     pub scalar: Scalar,
-    pub array: Option<bool>,
+    pub array: Option<Option<Span>>,
 }
 
 /// A type that begins with a name.
@@ -17,10 +17,10 @@ pub struct NamedType {
     pub tail: NamedTail,
 }
 
-/// What follows that name; of a pointer, whether `!` stands behind the star.
+/// What follows that name; of a pointer, the `!` behind the star.
 #[derive(Clone, Copy, Debug)]
 pub enum NamedTail {
-    Pointer(bool),
+    Pointer(Option<Span>),
     Endpoint(EndpointTail),
 }
 
@@ -29,7 +29,7 @@ pub enum NamedTail {
 pub struct EndpointTail {
     pub side: Side,
     pub state: Option<Span>,
-    pub bang: bool,
+    pub bang: Option<Span>,
     pub in_heap: bool,
 }
 

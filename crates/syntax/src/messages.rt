@@ -2,7 +2,7 @@
 
 ghost use Rattle.std.specs.Prelude.{◌≡◌};
 ghost use Rattle.syntax.specs.Symbols.{kind_is, by_kind};
-ghost use Rattle.syntax.specs.Spelling.{word, comma, listed, within};
+ghost use Rattle.syntax.specs.Spelling.{word, comma, listed, parens};
 ghost use Rattle.syntax.specs.Reading.{ReadsWord, ReadsOption, ReadsRow, Reads, ReadsEnded, listed_on, listed_at};
 ghost use Rattle.syntax.specs.Grammar.{direction_word, param, message};
 ghost use Rattle.syntax.specs.Firsts.{direction_of, opens_message, opens_type};
@@ -11,7 +11,7 @@ ghost use Rattle.syntax.specs.Trees.{message_tree};
 use crate::cursor::{Cursor, Stuck};
 use crate::tree::{Direction, Message, Param};
 use crate::types::{is_type, value_type};
-use source::Kind;
+use source::{Kind, Span};
 use std::alloc::Global;
 
 /// Whether a message begins with this token.
@@ -50,24 +50,24 @@ pub fn message(alloc: Global, cursor: &mut Cursor<'_>) -> Result<Message, Stuck>
     let direction = direction(cursor)?;
     cursor.expect(Kind::Message)?;
     let name = cursor.name()?;
-    let params = params(alloc, cursor)?;
+    let (open, params) = params(alloc, cursor)?;
     cursor.expect(Kind::Semicolon)?;
     Ok(Message {
         direction,
         name,
+        open,
         params,
     })
 }
 
 /// params = "(" [ param { "," param } ] ")" .
-fn params(alloc: Global, cursor: &mut Cursor<'_>) -> Result<Vec<Param>, Stuck>
-    ensures { ReadsEnded (λ v. v.items) (within Kind.OpenParen (listed param) Kind.CloseParen)
-        cursor.old cursor.new result }
+fn params(alloc: Global, cursor: &mut Cursor<'_>) -> Result<(Span, Vec<Param>), Stuck>
+    ensures { ReadsEnded (λ p. (p.0, p.1.items)) (parens (listed param)) cursor.old cursor.new result }
 {
-    cursor.expect(Kind::OpenParen)?;
+    let left = cursor.placed(Kind::OpenParen)?;
     let all = param_list(alloc, cursor)?;
     cursor.expect(Kind::CloseParen)?;
-    Ok(all)
+    Ok((left, all))
 }
 
 /// [ param { "," param } ]

@@ -2,12 +2,12 @@
 
 ghost use Rattle.std.specs.Prelude.{ℕ, IfOk, IsErrOf};
 ghost use Rattle.syntax.specs.Trees.{program_tree};
-ghost use Rattle.syntax.specs.Grammar.{program};
+ghost use Rattle.syntax.specs.Programs.{program};
 ghost use Rattle.syntax.specs.Parsing.{Spells, IsFirstWrong, FindsTree};
 
-use crate::contracts::items;
 use crate::cursor::{Cursor, Stuck};
 use crate::fault::SyntaxFault;
+use crate::items::items;
 use crate::tree::Tree;
 use source::Tokens;
 use std::alloc::Global;

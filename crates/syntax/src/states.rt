@@ -4,7 +4,7 @@ ghost use Rattle.std.specs.Prelude.{◌≡◌, map};
 ghost use Rattle.std.specs.List.{flat_map};
 ghost use Rattle.syntax.specs.Symbols.{kind_is, by_kind, is_kind};
 ghost use Rattle.syntax.specs.Spelling.{word};
-ghost use Rattle.syntax.specs.Reading.{ReadsWord, ReadsOption, ReadsRow, Reads, ReadsEnded};
+ghost use Rattle.syntax.specs.Reading.{ReadsMark, ReadsOption, ReadsRow, Reads, ReadsEnded};
 ghost use Rattle.syntax.specs.Grammar.{sign_word, path, line, body, state};
 ghost use Rattle.syntax.specs.Firsts.{sign_of, opens_sign};
 ghost use Rattle.syntax.specs.States.{hop, lines, one, one_at, state_on, body_at, state_at};
@@ -31,8 +31,12 @@ fn body(alloc: Global, cursor: &mut Cursor<'_>) -> Result<StateBody, Stuck>
     ensures { Reads body_tree body state_on body_at cursor.old cursor.new result }
 {
     if cursor.is_next(Kind::One) {
-        let (paths, semicolon) = one(alloc, cursor)?;
-        Ok(StateBody::One { paths, semicolon })
+        let ((paths, close), semicolon) = one(alloc, cursor)?;
+        Ok(StateBody::One {
+            paths,
+            close,
+            semicolon,
+        })
     } else if cursor.is_next(Kind::Name) {
         Ok(StateBody::Path(line(alloc, cursor)?))
     } else {
@@ -42,8 +46,8 @@ fn body(alloc: Global, cursor: &mut Cursor<'_>) -> Result<StateBody, Stuck>
 }
 
 /// one = "one" lines [ ";" ] .
-fn one(alloc: Global, cursor: &mut Cursor<'_>) -> Result<(Vec<Path>, bool), Stuck>
-    ensures { Reads (λ p. (map path_tree p.0.items, p.1)) one state_on one_at cursor.old cursor.new result }
+fn one(alloc: Global, cursor: &mut Cursor<'_>) -> Result<((Vec<Path>, Span), bool), Stuck>
+    ensures { Reads (λ p. ((map path_tree p.0.0.items, p.0.1), p.1)) one state_on one_at cursor.old cursor.new result }
 {
     cursor.expect(Kind::One)?;
     let paths = lines(alloc, cursor)?;
@@ -52,13 +56,13 @@ fn one(alloc: Global, cursor: &mut Cursor<'_>) -> Result<(Vec<Path>, bool), Stuc
 }
 
 /// lines = "{" { line } "}" .
-fn lines(alloc: Global, cursor: &mut Cursor<'_>) -> Result<Vec<Path>, Stuck>
-    ensures { ReadsEnded (λ v. map path_tree v.items) lines cursor.old cursor.new result }
+fn lines(alloc: Global, cursor: &mut Cursor<'_>) -> Result<(Vec<Path>, Span), Stuck>
+    ensures { ReadsEnded (λ p. (map path_tree p.0.items, p.1)) lines cursor.old cursor.new result }
 {
     cursor.expect(Kind::OpenBrace)?;
     let paths = line_row(alloc, cursor)?;
-    cursor.expect(Kind::CloseBrace)?;
-    Ok(paths)
+    let close = cursor.placed(Kind::CloseBrace)?;
+    Ok((paths, close))
 }
 
 /// { line }
@@ -81,10 +85,11 @@ fn line(alloc: Global, cursor: &mut Cursor<'_>) -> Result<Path, Stuck>
     Ok(path)
 }
 
-/// The sign of an edge, and the name behind it.
+/// The sign of an edge, where it lies, and the name behind it.
 #[derive(Clone, Copy, Debug)]
 pub struct Hop {
     pub sign: Sign,
+    pub mark: Span,
     pub target: Span,
 }
 
@@ -97,6 +102,7 @@ fn path(alloc: Global, cursor: &mut Cursor<'_>) -> Result<Path, Stuck>
     let first = Edge {
         message,
         sign: hop.sign,
+        mark: hop.mark,
     };
     let mut others = Vec::new(alloc);
     let mut target = hop.target;
@@ -105,6 +111,7 @@ fn path(alloc: Global, cursor: &mut Cursor<'_>) -> Result<Path, Stuck>
         others.push(Edge {
             message: target,
             sign: next.sign,
+            mark: next.mark,
         })?;
         target = next.target;
     }
@@ -137,19 +144,19 @@ fn sign_of(kind: Option<Kind>) -> Option<Sign>
 fn read_hop(cursor: &mut Cursor<'_>) -> Result<Hop, Stuck>
     ensures { ReadsEnded (λ x. x) hop cursor.old cursor.new result }
 {
-    let sign = sign(cursor)?;
+    let (sign, mark) = sign(cursor)?;
     cursor.expect(Kind::Arrow)?;
     let target = cursor.name()?;
-    Ok(Hop { sign, target })
+    Ok(Hop { sign, mark, target })
 }
 
 /// sign = "!" | "?" .
-fn sign(cursor: &mut Cursor<'_>) -> Result<Sign, Stuck>
-    ensures { ReadsWord sign_word cursor.old cursor.new result }
+fn sign(cursor: &mut Cursor<'_>) -> Result<(Sign, Span), Stuck>
+    ensures { ReadsMark sign_word cursor.old cursor.new result }
 {
     let Some(sign) = sign_of(cursor.peek()) else {
         return Err(Stuck::Unexpected);
     };
-    cursor.skip();
-    Ok(sign)
+    let mark = cursor.skip();
+    Ok((sign, mark))
 }

@@ -1,5 +1,6 @@
 //! Syntax trees: one node a rule of the grammar, every optional piece a field.
 
+use crate::class::{Class, Struct};
 use source::Span;
 
 /// program = { item } .
@@ -8,11 +9,19 @@ pub struct Tree {
     pub items: Vec<Item>,
 }
 
-/// item = [ access ] contract .
+/// item = [ access ] ( contract | struct | class ) .
 #[derive(Debug, Drop)]
 pub struct Item {
     pub access: Option<Access>,
-    pub contract: Contract,
+    pub definition: Definition,
+}
+
+/// What an item declares.
+#[derive(Debug, Drop)]
+pub enum Definition {
+    Contract(Contract),
+    Struct(Struct),
+    Class(Class),
 }
 
 /// access = "public" | "private" | "internal" .
@@ -30,6 +39,7 @@ pub struct Contract {
     pub messages: Vec<Message>,
     pub state: State,
     pub members: Vec<Member>,
+    pub close: Span,
 }
 
 /// What may stand behind the first state.
@@ -51,6 +61,7 @@ pub enum Direction {
 pub struct Message {
     pub direction: Direction,
     pub name: Span,
+    pub open: Span,
     pub params: Vec<Param>,
 }
 
@@ -73,7 +84,11 @@ pub struct State {
 pub enum StateBody {
     Empty,
     Path(Path),
-    One { paths: Vec<Path>, semicolon: bool },
+    One {
+        paths: Vec<Path>,
+        close: Span,
+        semicolon: bool,
+    },
 }
 
 /// path = edge { edge } ID .
@@ -89,6 +104,7 @@ pub struct Path {
 pub struct Edge {
     pub message: Span,
     pub sign: Sign,
+    pub mark: Span,
 }
 
 /// Whether the exporter sends (`!`) or receives (`?`).
@@ -119,17 +135,17 @@ pub enum Scalar {
 pub enum Heap {
     Pointer {
         name: Span,
-        bang: bool,
+        bang: Option<Span>,
     },
     Array {
         element: Scalar,
-        bang: bool,
+        bang: Option<Span>,
     },
     Endpoint {
         contract: Span,
         side: Side,
         state: Option<Span>,
-        bang: bool,
+        bang: Option<Span>,
         in_heap: bool,
     },
 }

@@ -5,8 +5,8 @@ ghost use Rattle.syntax.specs.Symbols.{kind_is, is_kind};
 ghost use Rattle.syntax.specs.Spelling.{word, optional, when};
 ghost use Rattle.syntax.specs.Reading.{ReadsWord, ReadsOption, ReadsRow, never, Reads, ReadsEnded, optional_at, when_at};
 ghost use Rattle.syntax.specs.Grammar.{scalar_word, side_word, in_heap_words, colon_name, value_type};
-ghost use Rattle.syntax.specs.Firsts.{scalar_of, side_of, opens_type};
-ghost use Rattle.syntax.specs.Types.{bang_in_heap, array_tail, scalar_type, scalar_at, pointer_tail, endpoint_tail, endpoint_on, endpoint_at, named_tail, tail_at, named_type, named_at, type_on, type_at};
+ghost use Rattle.syntax.specs.Firsts.{scalar_of, side_of, opens_side, opens_type};
+ghost use Rattle.syntax.specs.Types.{bang_in_heap, array_tail, scalar_type, scalar_at, pointer_tail, endpoint_end, endpoint_tail, endpoint_on, endpoint_at, named_tail, tail_at, named_type, named_at, type_on, type_at};
 
 use crate::cursor::{Cursor, Stuck};
 use crate::fronts::{EndpointTail, NamedTail, NamedType, ScalarType};
@@ -32,7 +32,7 @@ pub fn value_type(cursor: &mut Cursor<'_>) -> Result<Type, Stuck>
 }
 
 /// scalar_type = scalar [ array_tail ] .
-fn scalar_type(cursor: &mut Cursor<'_>) -> Result<ScalarType, Stuck>
+pub fn scalar_type(cursor: &mut Cursor<'_>) -> Result<ScalarType, Stuck>
     ensures { Reads (λ x. x) scalar_type (is_kind Kind.OpenBracket) scalar_at cursor.old cursor.new result }
 {
     let scalar = scalar(cursor)?;
@@ -53,7 +53,7 @@ fn scalar_of(kind: Option<Kind>) -> Option<Scalar>
 }
 
 /// scalar = "int" | "bool" | "byte" .
-fn scalar(cursor: &mut Cursor<'_>) -> Result<Scalar, Stuck>
+pub fn scalar(cursor: &mut Cursor<'_>) -> Result<Scalar, Stuck>
     ensures { ReadsWord scalar_word cursor.old cursor.new result }
 {
     let Some(scalar) = scalar_of(cursor.peek()) else {
@@ -64,7 +64,7 @@ fn scalar(cursor: &mut Cursor<'_>) -> Result<Scalar, Stuck>
 }
 
 /// [ array_tail ]
-fn maybe_array(cursor: &mut Cursor<'_>) -> Result<Option<bool>, Stuck>
+fn maybe_array(cursor: &mut Cursor<'_>) -> Result<Option<Option<Span>>, Stuck>
     ensures { ReadsOption array_tail (kind_is Kind.OpenBracket) cursor.old cursor.new result }
 {
     if cursor.is_next(Kind::OpenBracket) {
@@ -75,7 +75,7 @@ fn maybe_array(cursor: &mut Cursor<'_>) -> Result<Option<bool>, Stuck>
 }
 
 /// array_tail = "[" "]" bang_in_heap .
-fn array_tail(cursor: &mut Cursor<'_>) -> Result<bool, Stuck>
+fn array_tail(cursor: &mut Cursor<'_>) -> Result<Option<Span>, Stuck>
     ensures { ReadsEnded (λ x. x) array_tail cursor.old cursor.new result }
 {
     cursor.expect(Kind::OpenBracket)?;
@@ -94,7 +94,7 @@ fn named_type(cursor: &mut Cursor<'_>) -> Result<NamedType, Stuck>
 }
 
 /// named_tail = pointer_tail | endpoint_tail .
-fn named_tail(cursor: &mut Cursor<'_>) -> Result<NamedTail, Stuck>
+pub fn named_tail(cursor: &mut Cursor<'_>) -> Result<NamedTail, Stuck>
     ensures { Reads (λ x. x) named_tail endpoint_on tail_at cursor.old cursor.new result }
 {
     if cursor.is_next(Kind::Star) {
@@ -105,7 +105,7 @@ fn named_tail(cursor: &mut Cursor<'_>) -> Result<NamedTail, Stuck>
 }
 
 /// pointer_tail = "*" bang_in_heap .
-fn pointer_tail(cursor: &mut Cursor<'_>) -> Result<bool, Stuck>
+pub fn pointer_tail(cursor: &mut Cursor<'_>) -> Result<Option<Span>, Stuck>
     ensures { ReadsEnded (λ x. x) pointer_tail cursor.old cursor.new result }
 {
     cursor.expect(Kind::Star)?;
@@ -114,22 +114,29 @@ fn pointer_tail(cursor: &mut Cursor<'_>) -> Result<bool, Stuck>
 }
 
 /// bang_in_heap = [ "!" ] in_heap .
-fn bang_in_heap(cursor: &mut Cursor<'_>) -> Result<bool, Stuck>
+fn bang_in_heap(cursor: &mut Cursor<'_>) -> Result<Option<Span>, Stuck>
     ensures { ReadsEnded (λ x. x) bang_in_heap cursor.old cursor.new result }
 {
-    let bang = cursor.take_if(Kind::Bang);
+    let bang = cursor.placed_if(Kind::Bang);
     in_heap(cursor)?;
     Ok(bang)
 }
 
-/// endpoint_tail = "." side [ colon_name ] [ "!" ] [ in_heap ] .
+/// endpoint_tail = "." endpoint_end .
 fn endpoint_tail(cursor: &mut Cursor<'_>) -> Result<EndpointTail, Stuck>
     ensures { Reads (λ x. x) endpoint_tail endpoint_on endpoint_at cursor.old cursor.new result }
 {
     cursor.expect(Kind::Dot)?;
+    Ok(endpoint_end(cursor)?)
+}
+
+/// endpoint_end = side [ colon_name ] [ "!" ] [ in_heap ] .
+pub fn endpoint_end(cursor: &mut Cursor<'_>) -> Result<EndpointTail, Stuck>
+    ensures { Reads (λ x. x) endpoint_end endpoint_on endpoint_at cursor.old cursor.new result }
+{
     let side = side(cursor)?;
     let state = maybe_colon_name(cursor)?;
-    let bang = cursor.take_if(Kind::Bang);
+    let bang = cursor.placed_if(Kind::Bang);
     let in_heap = maybe_in_heap(cursor)?;
     Ok(EndpointTail {
         side,
@@ -148,6 +155,13 @@ fn side_of(kind: Option<Kind>) -> Option<Side>
         Some(Kind::Exp) => Some(Side::Exp),
         _ => None,
     }
+}
+
+/// Whether this token is the end of a channel.
+pub fn is_side(kind: Option<Kind>) -> bool
+    ensures { result ≡ opens_side kind }
+{
+    side_of(kind).is_some()
 }
 
 /// side = "Imp" | "Exp" .

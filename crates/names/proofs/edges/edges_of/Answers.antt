@@ -3,7 +3,7 @@ use Rattle.std.specs.List.{flat_map}
 use Rattle.syntax.specs.Trees.{path_tree, state_tree}
 use Rattle.syntax.specs.declared.tree as tree
 use Rattle.names.specs.Declarations.{counted_in_state, counted_states, paths_of, unnamed_of}
-use Rattle.names.specs.Findings.{path_findings, state_findings}
+use Rattle.names.specs.ContractFindings.{path_findings, state_findings}
 use Rattle.names.specs.Meant.{meanings, message_names, state_names, text_of}
 use Rattle.names.specs.Resolution.{edges_from, paths_edges}
 use Rattle.names.proofs.BehindLemmas.{behind_more, flat_room, nothing_at}

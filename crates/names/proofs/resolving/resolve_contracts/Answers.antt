@@ -1,87 +1,38 @@
-use Rattle.std.proofs.Common.{◌<◌, ◌∷◌, ◌++◌, [], ◌∙◌, ap, sym, subst, arith, get_or, length, map, take}
-use Rattle.std.proofs.lemmas.List.{map-append}
-use Rattle.std.proofs.lemmas.List.Folds.{length-flat_map-take}
-use Rattle.names.specs.Declarations.{counted_states}
-use Rattle.names.specs.Outlines.{outlined_messages, outlined_states}
-use Rattle.names.specs.Ready.{all_resolved, declared_messages, declared_states, resolved_declared}
-use Rattle.names.specs.Resolution.{contract_seen}
-use Rattle.names.specs.declared.scope.Declared.{Declared}
-use Rattle.names.proofs.BehindLemmas.{behind_taken}
-use Rattle.names.proofs.SeenLemmas.{counts}
+use Rattle.std.proofs.Common.{◌++◌, ◌∙◌, ap, sym, arith, map, take}
+use Rattle.names.specs.Ready.{IsReady, all_resolved, declared_in, declared_messages, resolved_declared}
+use Rattle.names.specs.Scopes.{declared_among}
+use Rattle.names.proofs.MemberLemmas.{all_at, counts, resolved_more}
 use Rattle.names.proofs.resolving.resolve_contracts.Goals as goal
 
-pub resolve_contract-requires-clause-messages : goal.resolve_contract-requires-clause-messages
-resolve_contract-requires-clause-messages c =
-    let items = c.args.scope.now.declared.items in
-    let d = c.declared-item.result in
-    let i = c.loop-declared.declared-index in
-    let value = c.deref-declared-items.ensures.value in
-    let lt = subst (λ l. i < length l) value c.loop-declared-test.true in
-    let room = length-flat_map-take (λ (k : Declared). outlined_messages k.outline) items i d lt in
-    let here = ap (λ (k : Declared). length (outlined_messages k.outline)) (c.declared-item.is ∙ ap (λ l. get_or l i d) value) in
-    omega (arith, room, here, c.requires.messages, c.loop-declared.invariant.messages)
+pub add_item-requires-clause-ready : goal.add_item-requires-clause-ready
+add_item-requires-clause-ready c = all_at (IsReady c.args.tokens.now.text.items) c.args.items.now c.loop-item.item-index c.item-item.result c.loop-item-test.true c.item-item.is c.requires.ready
 
-pub resolve_contract-requires-clause-states : goal.resolve_contract-requires-clause-states
-resolve_contract-requires-clause-states c =
-    let items = c.args.scope.now.declared.items in
-    let d = c.declared-item.result in
-    let i = c.loop-declared.declared-index in
-    let value = c.deref-declared-items.ensures.value in
-    let lt = subst (λ l. i < length l) value c.loop-declared-test.true in
-    let room = length-flat_map-take (λ (k : Declared). counted_states (outlined_states k.outline)) items i d lt in
-    let here = ap (λ (k : Declared). length (counted_states (outlined_states k.outline))) (c.declared-item.is ∙ ap (λ l. get_or l i d) value) in
-    omega (arith, room, here, c.requires.states, c.loop-declared.invariant.states)
+pub add_item-requires-clause-messages : goal.add_item-requires-clause-messages
+add_item-requires-clause-messages c =
+    let grown = counts c.args.items.now c.loop-item.item-index c.item-item.result c.loop-item-test.true c.item-item.is in
+    omega (arith, grown.message_room, c.requires.messages, c.loop-item.invariant.messages)
 
-pub overflow_cast-messages : goal.overflow_cast-messages
-overflow_cast-messages c =
-    let value = c.deref-declared-items.ensures.value in
-    let i = c.loop-declared.declared-index in
-    let grown = counts c.args.scope.now.tokens.now.text.items c.loop-declared.messages c.loop-declared.states c.args.scope.now.declared.items i c.declared-item.result c.in_ok-contract.contract
-    (subst (λ l. i < length l) value c.loop-declared-test.true) (c.declared-item.is ∙ ap (λ l. get_or l i c.declared-item.result) value) c.in_ok-contract.ensures in
-    omega (arith, grown.message_room, c.requires.messages, c.loop-declared.invariant.messages, c.len.ensures, c.in_ok-contract.contract.messages.ok.0)
+pub add_item-requires-clause-states : goal.add_item-requires-clause-states
+add_item-requires-clause-states c =
+    let grown = counts c.args.items.now c.loop-item.item-index c.item-item.result c.loop-item-test.true c.item-item.is in
+    omega (arith, grown.state_room, c.requires.states, c.loop-item.invariant.states)
 
-pub overflow_add-messages : goal.overflow_add-messages
-overflow_add-messages c =
-    let value = c.deref-declared-items.ensures.value in
-    let i = c.loop-declared.declared-index in
-    let grown = counts c.args.scope.now.tokens.now.text.items c.loop-declared.messages c.loop-declared.states c.args.scope.now.declared.items i c.declared-item.result c.in_ok-contract.contract
-    (subst (λ l. i < length l) value c.loop-declared-test.true) (c.declared-item.is ∙ ap (λ l. get_or l i c.declared-item.result) value) c.in_ok-contract.ensures in
-    omega (arith, grown.message_room, c.requires.messages, c.loop-declared.invariant.messages, c.len.ensures, c.in_ok-contract.contract.messages.ok.0)
-
-pub overflow_cast-states : goal.overflow_cast-states
-overflow_cast-states c =
-    let value = c.deref-declared-items.ensures.value in
-    let i = c.loop-declared.declared-index in
-    let grown = counts c.args.scope.now.tokens.now.text.items c.loop-declared.messages c.loop-declared.states c.args.scope.now.declared.items i c.declared-item.result c.in_ok-contract.contract
-    (subst (λ l. i < length l) value c.loop-declared-test.true) (c.declared-item.is ∙ ap (λ l. get_or l i c.declared-item.result) value) c.in_ok-contract.ensures in
-    omega (arith, grown.state_room, c.requires.states, c.loop-declared.invariant.states, c.len-in-loop-declared.ensures, c.in_ok-contract.contract.states.ok.0)
-
-pub overflow_add-states : goal.overflow_add-states
-overflow_add-states c =
-    let value = c.deref-declared-items.ensures.value in
-    let i = c.loop-declared.declared-index in
-    let grown = counts c.args.scope.now.tokens.now.text.items c.loop-declared.messages c.loop-declared.states c.args.scope.now.declared.items i c.declared-item.result c.in_ok-contract.contract
-    (subst (λ l. i < length l) value c.loop-declared-test.true) (c.declared-item.is ∙ ap (λ l. get_or l i c.declared-item.result) value) c.in_ok-contract.ensures in
-    omega (arith, grown.state_room, c.requires.states, c.loop-declared.invariant.states, c.len-in-loop-declared.ensures, c.in_ok-contract.contract.states.ok.0)
-
-pub loop-declared-preserved : goal.loop-declared-preserved
-loop-declared-preserved c =
-    let text = c.args.scope.now.tokens.now.text.items in
-    let items = c.args.scope.now.declared.items in
-    let d = c.declared-item.result in
-    let contract = c.in_ok-contract.contract in
-    let before = c.loop-declared.invariant in
-    let value = c.deref-declared-items.ensures.value in
-    let i = c.loop-declared.declared-index in
-    let lt = subst (λ l. i < length l) value c.loop-declared-test.true in
-    let is = c.declared-item.is ∙ ap (λ l. get_or l i d) value in
-    let front = take i items in
-    let grown = counts text c.loop-declared.messages c.loop-declared.states items i d contract lt is c.in_ok-contract.ensures in
+pub loop-item-preserved : goal.loop-item-preserved
+loop-item-preserved c =
+    let text = c.args.tokens.now.text.items in
+    let items = c.args.items.now in
+    let i = c.loop-item.item-index in
+    let item = c.item-item.result in
+    let before = c.loop-item.invariant in
+    let front = declared_in (take i items) in
+    let here = declared_among item in
+    let grown = counts items i item c.loop-item-test.true c.item-item.is in
     record {
-      messages = omega (arith, grown.messages, before.messages, c.len.ensures, contract.messages.ok.0);
-      states = omega (arith, grown.states, before.states, c.len-in-loop-declared.ensures, contract.states.ok.0);
-      contracts = ap (map contract_seen) c.in_ok-push.ensures.items ∙ map-append contract_seen c.loop-declared.contracts.items (contract ∷ [])
-          ∙ ap (λ l. l ++ contract_seen contract ∷ []) before.contracts
-          ∙ ap (λ s. all_resolved text front ++ s ∷ []) (c.in_ok-contract.ensures ∙ ap (λ n. resolved_declared text n c.loop-declared.states d) before.messages ∙ ap (λ n. resolved_declared text (declared_messages front) n d) before.states)
-          ∙ sym (behind_taken (λ b k. resolved_declared text (declared_messages b) (declared_states b) k ∷ []) items i d lt is);
+      messages = omega (arith, grown.messages, before.messages, c.in_ok-add_item.ensures.messages);
+      states = omega (arith, grown.states, before.states, c.in_ok-add_item.ensures.states);
+      contracts = c.in_ok-add_item.ensures.contracts
+          ∙ ap (λ l. l ++ map (resolved_declared text c.loop-item.before.messages c.loop-item.before.states) here) before.contracts
+          ∙ ap (λ n. all_resolved text front ++ map (resolved_declared text n c.loop-item.before.states) here) before.messages
+          ∙ ap (λ n. all_resolved text front ++ map (resolved_declared text (declared_messages front) n) here) before.states
+          ∙ sym (resolved_more text items i item c.loop-item-test.true c.item-item.is);
     }

@@ -1,11 +1,11 @@
 use Rattle.std.proofs.Common.{◌≡◌, map, take}
-use Rattle.names.specs.Ready.{declared_messages, declared_states, all_resolved}
+use Rattle.names.specs.Ready.{all_resolved, declared_in, declared_messages, declared_states}
 use Rattle.names.specs.Resolution.{contract_seen}
 use Rattle.names.proofs.resolving.resolve_contracts.Given as goal
 
-abbrev pub invariant-loop-declared : goal.invariant-loop-declared
-invariant-loop-declared l = record {
-  messages : l.messages ≡ declared_messages (take l.declared-index l.scope.declared.items);
-  states : l.states ≡ declared_states (take l.declared-index l.scope.declared.items);
-  contracts : map contract_seen l.contracts.items ≡ all_resolved l.scope.tokens.now.text.items (take l.declared-index l.scope.declared.items);
+abbrev pub invariant-loop-item : goal.invariant-loop-item
+invariant-loop-item l = record {
+  messages : l.before.messages ≡ declared_messages (declared_in (take l.item-index l.items));
+  states : l.before.states ≡ declared_states (declared_in (take l.item-index l.items));
+  contracts : map contract_seen l.contracts.items ≡ all_resolved l.tokens.text.items (declared_in (take l.item-index l.items));
 }

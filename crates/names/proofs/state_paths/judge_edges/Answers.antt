@@ -1,4 +1,4 @@
-use Rattle.names.specs.Findings.{asked_name}
+use Rattle.names.specs.Listed.{asked_name}
 use Rattle.names.proofs.AddLemmas.{adds_at}
 use Rattle.names.proofs.state_paths.judge_edges.Goals as goal
 

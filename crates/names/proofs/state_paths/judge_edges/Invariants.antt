@@ -2,7 +2,7 @@ use Rattle.std.proofs.Common.{take}
 use Rattle.std.specs.Prelude.{List}
 use Rattle.std.specs.List.{flat_map}
 use Rattle.source.specs.declared.token.Span.{Span}
-use Rattle.names.specs.Findings.{asked_name}
+use Rattle.names.specs.Listed.{asked_name}
 use Rattle.names.specs.Found.{Adds}
 use Rattle.names.specs.Tables.{IsTable}
 use Rattle.names.specs.Words.{words_at}

@@ -1,7 +1,7 @@
 use Rattle.std.proofs.Common.{subst}
 use Rattle.std.specs.List.{flat_map}
 use Rattle.std.proofs.lemmas.Result.{on_ok_weaker}
-use Rattle.names.specs.Findings.{asked_name}
+use Rattle.names.specs.Listed.{asked_name}
 use Rattle.names.specs.Found.{Adds}
 use Rattle.names.proofs.AddLemmas.{adds_then}
 use Rattle.names.proofs.state_paths.judge_path.Goals as goal

@@ -4,7 +4,7 @@ use Rattle.std.proofs.lemmas.List.{take_all}
 use Rattle.std.proofs.lemmas.List.Folds.{flat_map-map}
 use Rattle.syntax.specs.Trees.{path_tree}
 use Rattle.syntax.specs.declared.tree as tree
-use Rattle.names.specs.Findings.{path_findings}
+use Rattle.names.specs.ContractFindings.{path_findings}
 use Rattle.names.specs.Found.{Adds}
 use Rattle.names.proofs.AddLemmas.{adds_more}
 use Rattle.names.proofs.state_paths.judge_state.Goals as goal

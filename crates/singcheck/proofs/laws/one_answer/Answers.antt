@@ -19,7 +19,7 @@ one_status laws text a b Found Empty one other = absurd (found_or_bounds laws te
 one_status laws text a b Found Found one other = refl
 
 pub returns-clause-bytes : goal.returns-clause-bytes
-returns-clause-bytes c = one_text (record { tokens = c.one_cutting.ensures.tokens; fault = c.one_fault.ensures.one; none = c.one_fault.ensures.none; trees = c.one_tree_a_spelling.ensures.programs })
+returns-clause-bytes c = one_text (record { tokens = c.one_cutting.ensures.tokens; fault = c.one_fault.ensures.one; none = c.one_fault.ensures.none; trees = c.one_tree_a_spelling.ensures })
 
 pub returns-clause-status : goal.returns-clause-status
-returns-clause-status c = one_status (record { tokens = c.one_cutting.ensures.tokens; fault = c.one_fault.ensures.one; none = c.one_fault.ensures.none; trees = c.one_tree_a_spelling.ensures.programs })
+returns-clause-status c = one_status (record { tokens = c.one_cutting.ensures.tokens; fault = c.one_fault.ensures.one; none = c.one_fault.ensures.none; trees = c.one_tree_a_spelling.ensures })

@@ -1,28 +1,30 @@
-use Rattle.std.proofs.Common.{map, sym, subst, Vec}
+use Rattle.std.proofs.Common.{map, sym, subst, Vec, arith}
 use Rattle.std.specs.Global.{Global}
 use Rattle.std.proofs.lemmas.Result.{IfOk-weaker}
 use Rattle.source.specs.Findings.{finding_parts}
 use Rattle.source.specs.declared.finding.Finding.{Finding}
-use Rattle.syntax.specs.Trees.{contract_tree}
+use Rattle.syntax.specs.Trees.{program_tree}
+use Rattle.names.specs.Program.{program_of}
 use Rattle.names.specs.Resolution.{contract_seen}
-use Rattle.singcheck.specs.Answers.{AreFindings, IsResolved}
-use Rattle.singcheck.proofs.StageLemmas.{few_contracts, program_of, explained, misnamed}
+use Rattle.singcheck.specs.Answers.{AreFindings, IsProgram, IsResolved}
+use Rattle.singcheck.proofs.FewLemmas.{few_contracts}
+use Rattle.singcheck.proofs.StageLemmas.{explained, misnamed}
 use Rattle.singcheck.proofs.stages.named.Goals as goal
 
 pub judged-requires : goal.judged-requires
 judged-requires c =
-    let trees = map (λ i. contract_tree i.contract) c.args.tree.now.items.items in
+    let few = few_contracts c.args.tokens.now.text.items (program_tree c.args.tree.now) c.args.tokens.now.list.items c.in-Ok.resolved.contracts.items contract_seen c.requires.spelled c.in-Ok.ensures.resolved in
     record {
       whole = c.in-Ok.ensures.whole;
-      few = few_contracts c.args.tokens.now.text.items trees _ contract_seen c.in-Ok.ensures.clean c.in-Ok.ensures.resolved;
+      few = omega (arith, few, c.requires.few);
     }
 
 pub returns-in-Ok : goal.returns-in-Ok
 returns-in-Ok c =
     let text = c.args.tokens.now.text.items in
     let resolved : IsResolved text (map contract_seen c.in-Ok.resolved.contracts.items) = record {
-      trees = map (λ i. contract_tree i.contract) c.args.tree.now.items.items;
-      parsed = program_of text c.args.tokens.now.list.items c.args.tree.now.items.items c.requires.lexed c.requires.spelled;
+      items = program_tree c.args.tree.now;
+      parsed = record { tokens = c.args.tokens.now.list.items; lexed = c.requires.lexed; spelled = c.requires.spelled };
       clean = c.in-Ok.ensures.clean;
       are = c.in-Ok.ensures.resolved;
     } in
@@ -31,7 +33,7 @@ returns-in-Ok c =
 pub returns-in-Err-Found : goal.returns-in-Err-Found
 returns-in-Err-Found c =
     let text = c.args.tokens.now.text.items in
-    let trees = map (λ i. contract_tree i.contract) c.args.tree.now.items.items in
-    let parsed = program_of text c.args.tokens.now.list.items c.args.tree.now.items.items c.requires.lexed c.requires.spelled in
-    let told = explained text trees c.in-Err-Found.field-0 c.in-Err-Found.findings c.in-Err-Found.field-0-is c.in-Err-Found.ensures.found in
-    subst (λ (v : Vec Finding Global). AreFindings text (map finding_parts v.items)) (sym c.in-Err-Found.findings-is) (misnamed text trees c.in-Err-Found.findings.items parsed told)
+    let items = program_tree c.args.tree.now in
+    let parsed : IsProgram text items = record { tokens = c.args.tokens.now.list.items; lexed = c.requires.lexed; spelled = c.requires.spelled } in
+    let told = explained (program_of text c.args.tree.now) c.in-Err-Found.field-0 c.in-Err-Found.findings c.in-Err-Found.field-0-is c.in-Err-Found.ensures.found in
+    subst (λ (v : Vec Finding Global). AreFindings text (map finding_parts v.items)) (sym c.in-Err-Found.findings-is) (misnamed text items c.in-Err-Found.findings.items parsed told)

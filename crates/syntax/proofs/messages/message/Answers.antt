@@ -22,10 +22,10 @@ pub returns-in_err-name : goal.returns-in_err-name
 returns-in_err-name c = exits message_tree message never (λ _. never) _ _ _ _ _ c.from_residual-in_err-name.ensures.1 c.in_err-name.ensures
     (λ h. via_fails message_to message_from (λ _. refl) (fails_after c.in_ok-direction.direction (words_piece directions) c.in_ok-direction.ensures (fails_after tt (fixed_piece kind.Message) c.in_ok-expect.ensures (fails_here h (next params_piece (fixed_piece kind.Semicolon))))))
 
-pub returns-in_err-params : goal.returns-in_err-params
-returns-in_err-params c = exits message_tree message never (λ _. never) _ _ _ _ _ c.from_residual-in_err-params.ensures.1 c.in_err-params.ensures
+pub returns-in_err-open : goal.returns-in_err-open
+returns-in_err-open c = exits message_tree message never (λ _. never) _ _ _ _ _ c.from_residual-in_err-open.ensures.1 c.in_err-open.ensures
     (λ h. via_fails message_to message_from (λ _. refl) (fails_after c.in_ok-direction.direction (words_piece directions) c.in_ok-direction.ensures (fails_after tt (fixed_piece kind.Message) c.in_ok-expect.ensures (fails_after c.in_ok-name.name named_piece c.in_ok-name.ensures (fails_here h (fixed_piece kind.Semicolon))))))
 
 pub returns-in_err-expect-2 : goal.returns-in_err-expect-2
 returns-in_err-expect-2 c = exits message_tree message never (λ _. never) _ _ _ _ _ c.from_residual-in_err-expect-2.ensures.1 c.in_err-expect-2.ensures
-    (λ h. via_fails message_to message_from (λ _. refl) (fails_after c.in_ok-direction.direction (words_piece directions) c.in_ok-direction.ensures (fails_after tt (fixed_piece kind.Message) c.in_ok-expect.ensures (fails_after c.in_ok-name.name named_piece c.in_ok-name.ensures (fails_after c.in_ok-params.params.items params_piece c.in_ok-params.ensures h)))))
+    (λ h. via_fails message_to message_from (λ _. refl) (fails_after c.in_ok-direction.direction (words_piece directions) c.in_ok-direction.ensures (fails_after tt (fixed_piece kind.Message) c.in_ok-expect.ensures (fails_after c.in_ok-name.name named_piece c.in_ok-name.ensures (fails_after (c.in_ok-open.open, c.in_ok-open.params.items) params_piece c.in_ok-open.ensures h)))))

@@ -2,12 +2,12 @@ use Rattle.std.proofs.Common.{◌≡◌, ℕ, map, sym, refl, subst, Err}
 use Rattle.std.specs.Result.{IsErrOf}
 use Rattle.syntax.specs.Reading.{AtFault}
 use Rattle.syntax.specs.Parsing.{Spells, IsFirstWrong}
-use Rattle.syntax.specs.Grammar.{program}
+use Rattle.syntax.specs.Programs.{program}
 use Rattle.syntax.specs.Trees.{item_tree}
 use Rattle.syntax.specs.declared.cursor.Stuck.{Stuck}
 use Rattle.syntax.specs.declared.cursor.Stuck.TheVariants.{Unexpected}
 use Rattle.syntax.specs.declared.fault.SyntaxFault.TheVariants.{At}
-use Rattle.syntax.proofs.ContractRules.{program_piece}
+use Rattle.syntax.proofs.ItemRules.{program_piece}
 use Rattle.syntax.proofs.Tops.{left_ok, left_err, parsed, wrong_rest, wrong_piece, one_tree, not_wrong}
 use Rattle.syntax.proofs.parsing.parse.Goals as goal
 

@@ -18,7 +18,7 @@ returns-in_err-hop c = exits path_tree path (by_kind opens_sign) (λ _. by_kind 
 
 pub returns-in_err-next : goal.returns-in_err-next
 returns-in_err-next c =
-    let so_far : PathTree = record { first = record { message = c.in_ok-message.message; sign = c.in_ok-hop.hop.sign }; others = c.each.others.items; target = c.each.target } in
+    let so_far : PathTree = record { first = record { message = c.in_ok-message.message; sign = c.in_ok-hop.hop.sign; mark = c.in_ok-hop.hop.mark }; others = c.each.others.items; target = c.each.target } in
     let read : c.args.cursor.now ≡ path so_far ++ c.each.cursor = c.each.invariant in
     exits path_tree path (by_kind opens_sign) (λ _. by_kind opens_sign) _ _ _ _ _ c.from_residual-in_err-next.ensures.1 c.in_err-next.ensures
     (λ h. path_more_fails so_far read (test_leads opens_sign _ refl (ap opens_sign (sym c.peek.ensures.kind) ∙ sym c.is_sign.ensures ∙ c.each-test.true)) h)

@@ -5,7 +5,7 @@ use Rattle.syntax.specs.States.{hop}
 use Rattle.syntax.proofs.Exits.{exits}
 use Rattle.syntax.proofs.Pieces.{next, fails_here, fails_after, via_fails}
 use Rattle.syntax.proofs.CursorLemmas.{fixed_piece, named_piece}
-use Rattle.syntax.proofs.Words.{words_piece}
+use Rattle.syntax.proofs.Words.{marks_piece}
 use Rattle.syntax.proofs.StateRules.{signs, hop_to, hop_from}
 use Rattle.syntax.proofs.states.read_hop.Goals as goal
 
@@ -15,8 +15,8 @@ returns-in_err-sign c = exits (λ x. x) hop never (λ _. never) _ _ _ _ _ c.from
 
 pub returns-in_err-expect : goal.returns-in_err-expect
 returns-in_err-expect c = exits (λ x. x) hop never (λ _. never) _ _ _ _ _ c.from_residual-in_err-expect.ensures.1 c.in_err-expect.ensures
-    (λ h. via_fails hop_to hop_from (λ _. refl) (fails_after c.in_ok-sign.sign (words_piece signs) c.in_ok-sign.ensures (fails_here h named_piece)))
+    (λ h. via_fails hop_to hop_from (λ _. refl) (fails_after (c.in_ok-sign.sign, c.in_ok-sign.mark) (marks_piece signs) c.in_ok-sign.ensures (fails_here h named_piece)))
 
 pub returns-in_err-target : goal.returns-in_err-target
 returns-in_err-target c = exits (λ x. x) hop never (λ _. never) _ _ _ _ _ c.from_residual-in_err-target.ensures.1 c.in_err-target.ensures
-    (λ h. via_fails hop_to hop_from (λ _. refl) (fails_after c.in_ok-sign.sign (words_piece signs) c.in_ok-sign.ensures (fails_after tt (fixed_piece kind.Arrow) c.in_ok-expect.ensures h)))
+    (λ h. via_fails hop_to hop_from (λ _. refl) (fails_after (c.in_ok-sign.sign, c.in_ok-sign.mark) (marks_piece signs) c.in_ok-sign.ensures (fails_after tt (fixed_piece kind.Arrow) c.in_ok-expect.ensures h)))

@@ -1,8 +1,20 @@
-use Rattle.std.proofs.Common.{sym, ap, ◌∙◌}
+use Rattle.std.proofs.Common.{◌≡◌, true, refl, sym, ap, ◌∙◌}
+use Rattle.syntax.specs.Symbols.{is_placed}
+use Rattle.syntax.specs.Grammar.{sign_word}
+use Rattle.syntax.specs.declared.tree.Sign.{Sign}
+use Rattle.syntax.specs.declared.tree.Sign.TheVariants as sign
+use Rattle.syntax.proofs.Pieces.{stops_never}
 use Rattle.syntax.specs.Firsts.{sign_of}
-use Rattle.syntax.proofs.Words.{words_fails}
+use Rattle.syntax.proofs.Words.{marks_fails, marks_taken}
 use Rattle.syntax.proofs.StateRules.{signs}
 use Rattle.syntax.proofs.states.sign.Goals as goal
 
 pub returns-in_default : goal.returns-in_default
-returns-in_default c = words_fails signs _ c.peek.ensures.some (ap sign_of (sym c.peek.ensures.kind) ∙ sym c.sign_of.ensures ∙ c.in_default.is)
+returns-in_default c = marks_fails signs _ c.peek.ensures.some (ap sign_of (sym c.peek.ensures.kind) ∙ sym c.sign_of.ensures ∙ c.in_default.is)
+
+pub returns : goal.returns
+returns c = (marks_taken signs c.in-Some.sign c.skip-mark.result _ _ (ap sign_of (sym c.peek.ensures.kind) ∙ sym c.sign_of.ensures ∙ c.in-Some.is) (high c.in-Some.sign) c.skip-mark.ensures.placed, stops_never _)
+  where
+    high : (s : Sign) → is_placed (sign_word s) ≡ true
+    high sign.Send = refl
+    high sign.Receive = refl

@@ -8,4 +8,4 @@ use Rattle.syntax.proofs.types.bang_in_heap.Goals as goal
 
 pub returns-in_err-in_heap : goal.returns-in_err-in_heap
 returns-in_err-in_heap c = exits (λ x. x) bang_in_heap never (λ _. never) _ _ _ _ _ c.from_residual.ensures.1 c.in_err-in_heap.ensures
-    (λ h. via_fails bang_to bang_from (λ _. refl) (fails_second c.take_if-bang.result bang_piece c.take_if-bang.ensures bang_follows h))
+    (λ h. via_fails bang_to bang_from (λ _. refl) (fails_second c.placed_if-bang.result bang_piece c.placed_if-bang.ensures bang_follows h))

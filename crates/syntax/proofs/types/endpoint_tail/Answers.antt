@@ -1,20 +1,16 @@
 use Rattle.syntax.specs.Types.{endpoint_tail, endpoint_on, endpoint_at}
+use Rattle.source.specs.declared.kind.Kind.TheVariants as kind
+use Rattle.std.proofs.Common.{refl}
 use Rattle.syntax.proofs.Exits.{exits}
-use Rattle.syntax.proofs.EndpointRules.{dot_fails, side_fails, colon_fails, in_heap_fails}
+use Rattle.syntax.proofs.Pieces.{fails_here, fails_after, via_fails}
+use Rattle.syntax.proofs.CursorLemmas.{fixed_piece}
+use Rattle.syntax.proofs.EndpointRules.{dot_to, dot_from, endpoint_end_piece}
 use Rattle.syntax.proofs.types.endpoint_tail.Goals as goal
 
 pub returns-in_err-expect : goal.returns-in_err-expect
 returns-in_err-expect c = exits (λ x. x) endpoint_tail endpoint_on endpoint_at _ _ _ _ _ c.from_residual.ensures.1 c.in_err-expect.ensures
-    (λ h. dot_fails h)
+    (λ h. via_fails dot_to dot_from (λ _. refl) (fails_here h endpoint_end_piece))
 
-pub returns-in_err-side : goal.returns-in_err-side
-returns-in_err-side c = exits (λ x. x) endpoint_tail endpoint_on endpoint_at _ _ _ _ _ c.from_residual-in_err-side.ensures.1 c.in_err-side.ensures
-    (λ h. side_fails c.in_ok-expect.ensures h)
-
-pub returns-in_err-state : goal.returns-in_err-state
-returns-in_err-state c = exits (λ x. x) endpoint_tail endpoint_on endpoint_at _ _ _ _ _ c.from_residual-in_err-state.ensures.1 c.in_err-state.ensures
-    (λ h. colon_fails c.in_ok-side.side c.in_ok-expect.ensures c.in_ok-side.ensures h)
-
-pub returns-in_err-in_heap : goal.returns-in_err-in_heap
-returns-in_err-in_heap c = exits (λ x. x) endpoint_tail endpoint_on endpoint_at _ _ _ _ _ c.from_residual-in_err-in_heap.ensures.1 c.in_err-in_heap.ensures
-    (λ h. in_heap_fails c.in_ok-side.side c.in_ok-state.state c.take_if-bang.result c.in_ok-expect.ensures c.in_ok-side.ensures c.in_ok-state.ensures c.take_if-bang.ensures h)
+pub returns-in_err-endpoint_end : goal.returns-in_err-endpoint_end
+returns-in_err-endpoint_end c = exits (λ x. x) endpoint_tail endpoint_on endpoint_at _ _ _ _ _ c.from_residual-in_err-endpoint_end.ensures.1 c.in_err-endpoint_end.ensures
+    (λ h. via_fails dot_to dot_from (λ _. refl) (fails_after tt (fixed_piece kind.Dot) c.in_ok-expect.ensures h))

@@ -1,0 +1,64 @@
+-- The last branch of an `if`, and the cases of a switch one after another.
+use Rattle.std.proofs.Common.{◌≡◌, ℕ, zero, suc, ◌+◌, ◌<◌, ◌≤◌, List, [], ◌∷◌, ◌++◌, length, map, take, drop, get_or, Option, Some, sym, ap, ◌∙◌, subst, arith, add-one}
+use Rattle.std.specs.Prelude.{slice_get}
+use Rattle.std.specs.Option.{option_map}
+use Rattle.std.proofs.Math.ListN.{get_or-map}
+use Rattle.std.proofs.Math.Seq.{drop-cons}
+use Rattle.std.proofs.lemmas.List.{drop_all}
+use Rattle.source.specs.declared.finding.Finding.{Finding}
+use Rattle.syntax.specs.StatementTrees as trees
+use Rattle.syntax.specs.StatementTrees.{CaseTree, CaseTrees, BlockTree, TestTree, SwitchTree, block_tree, test_tree, case_tree, case_row, other_row, switch_tree}
+use Rattle.syntax.specs.declared.statement as made
+use Rattle.names.specs.Bodies.{Surroundings, block_turn, others_turn, case_turn, cases_turn, head_of, heads_of}
+use Rattle.names.specs.Cases.{Head}
+use Rattle.names.specs.Variables.{Frame, Turn, turn, follow}
+use Rattle.names.specs.declared.variables.Variables.{Variables}
+use Rattle.names.proofs.TurnLemmas.{Ongoing}
+
+-- behind the last test of an `if` its last block is left
+pub last_branch : {text : List ℕ} {old mid : List Finding} {v : Variables} {whole : Turn} (m : Surroundings) (ts : List made.Test.Test) (i : ℕ) (otherwise : Option made.Block.Block) (block : made.Block.Block) → length ts ≤ i → otherwise ≡ Some block
+    → Ongoing text old mid v whole (others_turn m (other_row (map test_tree (drop i ts)) (option_map block_tree otherwise))) → Ongoing text old mid v whole (block_turn m (block_tree block))
+last_branch {text = text} {old = old} {mid = mid} {v = v} {whole = whole} m ts i otherwise block past is o =
+    subst (λ last. Ongoing text old mid v whole (others_turn m (other_row [] (option_map block_tree last)))) is
+    (subst (λ rest. Ongoing text old mid v whole (others_turn m (other_row (map test_tree rest) (option_map block_tree otherwise)))) (drop_all i ts past) o)
+
+-- the head of a case
+head_found : (cases : List CaseTree) (i : ℕ) (x : CaseTree) → i < length cases → x ≡ get_or cases i x → slice_get (heads_of (case_row cases)) i ≡ Some (head_of x)
+head_found [] i x lt is = absurd (omega (arith, lt))
+head_found (c ∷ cases) zero x lt is = ap (λ k. Some (head_of k)) (sym is)
+head_found (c ∷ cases) (suc i) x lt is = head_found cases i x (omega (arith, lt)) is
+
+-- those up to a case, and the case
+heads_taken : (h : Head) (cases : List CaseTree) (i : ℕ) (x : CaseTree) → i < length cases → x ≡ get_or cases i x → take (suc i) (h ∷ heads_of (case_row cases)) ++ head_of x ∷ [] ≡ take (suc (suc i)) (h ∷ heads_of (case_row cases))
+heads_taken h [] i x lt is = absurd (omega (arith, lt))
+heads_taken h (c ∷ cases) zero x lt is = ap (λ k. h ∷ head_of k ∷ []) is
+heads_taken h (c ∷ cases) (suc i) x lt is = ap (λ l. h ∷ l) (heads_taken (head_of c) cases i x (omega (arith, lt)) is)
+
+-- a case of a switch behind the first
+pub record Next (m : Surroundings) (h : Head) (cases : List CaseTree) (i : ℕ) (x : CaseTree) : Type 0 where
+  pub head : slice_get (h ∷ heads_of (case_row cases)) (i + 1) ≡ Some (head_of x)
+  pub rest : cases_turn m (h ∷ heads_of (case_row cases)) (take (i + 1) (h ∷ heads_of (case_row cases))) (case_row (drop i cases))
+      ≡ (λ f. follow (case_turn m (h ∷ heads_of (case_row cases)) (take (i + 1) (h ∷ heads_of (case_row cases))) x f) (cases_turn m (h ∷ heads_of (case_row cases)) (take (i + 1 + 1) (h ∷ heads_of (case_row cases))) (case_row (drop (i + 1) cases))))
+
+pub next_case : (m : Surroundings) (h : Head) (cases : List CaseTree) (i : ℕ) (x : CaseTree) → i < length cases → x ≡ get_or cases i x → Next m h cases i x
+next_case m h cases i x lt is =
+    let all : List Head = h ∷ heads_of (case_row cases) in
+    let go : ℕ → ℕ → Frame → Turn = λ k n f. follow (case_turn m all (take (i + 1) all) x f) (cases_turn m all (take k all) (case_row (drop n cases))) in
+    let left : case_row (drop i cases) ≡ trees.MoreCases x (case_row (drop (suc i) cases)) = ap case_row (drop-cons cases i x lt ∙ ap (λ k. k ∷ drop (suc i) cases) (sym is)) in
+    let taken : take (i + 1) all ++ head_of x ∷ [] ≡ take (suc (suc i)) all = ap (λ n. take n all ++ head_of x ∷ []) (add-one i) ∙ heads_taken h cases i x lt is in
+    let behind : List Head → Frame → Turn = λ earlier f. follow (case_turn m all (take (i + 1) all) x f) (cases_turn m all earlier (case_row (drop (suc i) cases))) in
+    record {
+      head = ap (slice_get all) (add-one i) ∙ head_found cases i x lt is;
+      rest = ap (cases_turn m all (take (i + 1) all)) left
+          ∙ ap behind taken
+          ∙ ap (λ k. go k (suc i)) (sym (ap (λ n. n + 1) (add-one i) ∙ add-one (suc i)))
+          ∙ ap (λ n. go (i + 1 + 1) n) (sym (add-one i));
+    }
+
+-- the case in memory at a place is the one there
+pub case_there : (s : made.Switch.Switch) (i : ℕ) (x : made.Case.Case) → (switch_tree s).others ≡ map case_tree (made.Switch.out-Switch s).others.items → x ≡ get_or (made.Switch.out-Switch s).others.items i x → case_tree x ≡ get_or (switch_tree s).others i (case_tree x)
+case_there s i x others is = ap case_tree is ∙ sym (get_or-map case_tree (made.Switch.out-Switch s).others.items i x) ∙ ap (λ l. get_or l i (case_tree x)) (sym others)
+
+-- behind the last case nothing is left
+pub last_case : (m : Surroundings) (all earlier : List Head) (cases : List CaseTree) (i : ℕ) → length cases ≤ i → cases_turn m all earlier (case_row (drop i cases)) ≡ turn []
+last_case m all earlier cases i past = ap (λ l. cases_turn m all earlier (case_row l)) (drop_all i cases past)

@@ -1,0 +1,92 @@
+-- Parts of an expression that are judged one after another.
+use Rattle.std.proofs.Common.{◌≡◌, ℕ, ◌+◌, ◌<◌, ◌≤◌, List, [], ◌∷◌, ◌++◌, length, map, take, get_or, sym, refl, ap, ◌∙◌, subst, if◌then◌else◌}
+use Rattle.std.specs.Prelude.{◌||◌, IfOk, Result, Ok, Err}
+use Rattle.std.proofs.lemmas.List.{take_more, take_all, map-append}
+use Rattle.source.specs.declared.finding.Finding.{Finding}
+use Rattle.source.specs.declared.fault.Memory.{Memory}
+use Rattle.source.specs.declared.place.Place.{Place}
+use Rattle.syntax.specs.Operators as levels
+use Rattle.syntax.specs.Operators.{Operators, below}
+use Rattle.syntax.specs.Expressions.{LevelTree, AtomTree, StepOf, Chain, Unary}
+use Rattle.syntax.specs.ExpressionTrees.{step_row}
+use Rattle.syntax.specs.declared.expression.Prefix.{Prefix}
+use Rattle.names.specs.Expressions.{InScope, kind_of, place_of, joined_kind, left_asked, right_asked, signed_kind, sign_asked}
+use Rattle.names.specs.Found.{Adds}
+use Rattle.names.specs.Kinds.{is_unknown}
+use Rattle.names.specs.Operands.{IsJudged, Judges, IsJoined, IsSigned}
+use Rattle.names.specs.Shapes.{Shape, Joined, Joint, Signed, joint_of, sign_of, signed, shape, joined, atom_shape}
+use Rattle.names.specs.declared.kinds.Kind.{Kind}
+use Rattle.names.specs.declared.kinds.Kind.TheVariants as kind
+use Rattle.names.specs.declared.operands.Operand.{Operand}
+use Rattle.names.specs.declared.scope.Scope.{Scope}
+use Rattle.names.specs.declared.variables.Variables.{Variables}
+use Rattle.names.proofs.AddLemmas.{adds_then}
+
+judged_joined : (s : InScope) (joint : Joint) (l r : Shape) {old mid more new : List Finding} {left right o : Operand} → IsJudged s l old mid left → IsJudged s r mid more right → IsJoined joint left right more new o → IsJudged s (Joined joint l r) old new o
+judged_joined s joint l r {more = more} {new = new} {left = left} {right = right} first second both =
+    let unknown : Kind → Kind → Kind = λ a b. if is_unknown a || is_unknown b then kind.Unknown else joined_kind joint in
+    let asked = λ (a : Kind) (p : Place) (b : Kind) (q : Place). left_asked joint a p ++ right_asked joint a b q in
+    record {
+      kind = both.kind ∙ ap (λ k. unknown k right.kind) first.kind ∙ ap (unknown (kind_of s l)) second.kind;
+      place = both.place ∙ first.place;
+      found = adds_then first.found (adds_then second.found
+          (subst (Adds more new) (ap (λ k. asked k left.place right.kind right.place) first.kind ∙ ap (λ p. asked (kind_of s l) p right.kind right.place) first.place
+          ∙ ap (λ k. asked (kind_of s l) (place_of l) k right.place) second.kind ∙ ap (asked (kind_of s l) (place_of l) (kind_of s r)) second.place) both.found));
+    }
+
+judged_signed : (s : InScope) (p : Prefix) (e : Shape) {old mid new : List Finding} {inner o : Operand} → IsJudged s e old mid inner → IsSigned (sign_of p.operator) p.place.place inner mid new o → IsJudged s (Signed (sign_of p.operator) p.place.place e) old new o
+judged_signed s p e {mid = mid} {new = new} {inner = inner} first sign =
+    let unknown : Kind → Kind = λ k. if is_unknown k then kind.Unknown else signed_kind (sign_of p.operator) in
+    record {
+      kind = sign.kind ∙ ap unknown first.kind;
+      place = sign.at;
+      found = adds_then first.found
+          (subst (Adds mid new) (ap (λ k. sign_asked (sign_of p.operator) k inner.place) first.kind ∙ ap (sign_asked (sign_of p.operator) (kind_of s e)) first.place) sign.found);
+    }
+
+-- one more part of a chain
+joined_more : (l : Operators) (e : Shape) (ps : List (StepOf l)) (p : StepOf l) → joined e (step_row l (ps ++ p ∷ [])) ≡ Joined (joint_of l) (joined e (step_row l ps)) (shape p.1)
+joined_more l e [] p = refl
+joined_more l e (q ∷ ps) p = joined_more l (Joined (joint_of l) e (shape q.1)) ps p
+
+-- a chain as far as it was judged
+abbrev pub chain_to : (l : Operators) → {X : Type 0} → (X → StepOf l) → Shape → List X → ℕ → Shape
+chain_to l f e xs i = joined e (step_row l (map f (take i xs)))
+
+chain_more : (l : Operators) {X : Type 0} (f : X → StepOf l) (e : Shape) (xs : List X) (i : ℕ) (x : X) → i < length xs → x ≡ get_or xs i x → chain_to l f e xs (i + 1) ≡ Joined (joint_of l) (chain_to l f e xs i) (shape (f x).1)
+chain_more l f e xs i x lt is =
+    ap (λ ys. joined e (step_row l (map f ys))) (take_more xs i x lt ∙ ap (λ y. take i xs ++ y ∷ []) (sym is))
+    ∙ ap (λ ps. joined e (step_row l ps)) (map-append f (take i xs) (x ∷ []))
+    ∙ joined_more l e (map f (take i xs)) (f x)
+
+pub judges_more : (l : Operators) {X : Type 0} (f : X → StepOf l) (e : Shape) (xs : List X) (i : ℕ) (x : X) {scope : Scope} {variables : Variables} {old mid more new : List Finding} {left right o : Operand}
+    → i < length xs → x ≡ get_or xs i x → Judges scope variables (chain_to l f e xs i) old mid left → Judges scope variables (shape (f x).1) mid more right → IsJoined (joint_of l) left right more new o
+    → Judges scope variables (chain_to l f e xs (i + 1)) old new o
+judges_more l f e xs i x {scope = scope} {variables = variables} {old = old} {new = new} {o = o} lt is first second both =
+    subst (λ c. Judges scope variables c old new o) (sym (chain_more l f e xs i x lt is))
+    (record { all = λ p g is_scope is_frame. judged_joined _ (joint_of l) (chain_to l f e xs i) (shape (f x).1) (first.all p g is_scope is_frame) (second.all p g is_scope is_frame) both })
+
+pub judges_all : (l : Operators) {X : Type 0} (f : X → StepOf l) (first : LevelTree (below l)) (xs ys : List X) (i : ℕ) (tree : LevelTree (levels.Joined l)) {scope : Scope} {variables : Variables} {old new : List Finding} {o : Operand}
+    → length xs ≤ i → xs ≡ ys → tree ≡ Chain l first (step_row l (map f ys)) → Judges scope variables (chain_to l f (shape first) xs i) old new o → Judges scope variables (shape tree) old new o
+judges_all l f first xs ys i tree {scope = scope} {variables = variables} {old = old} {new = new} {o = o} le same seen h =
+    subst (λ t. Judges scope variables (shape t) old new o) (sym seen)
+    (subst (λ zs. Judges scope variables (joined (shape first) (step_row l (map f zs))) old new o) (take_all i xs le ∙ same) h)
+
+-- the part behind an operator
+pub judges_step : (l : Operators) (p q : StepOf l) {scope : Scope} {variables : Variables} {old new : List Finding} {o : Operand} → p ≡ q → Judges scope variables (shape q.1) old new o → Judges scope variables (shape p.1) old new o
+judges_step l p q {scope = scope} {variables = variables} {old = old} {new = new} {o = o} seen h = subst (λ (r : StepOf l). Judges scope variables (shape r.1) old new o) (sym seen) h
+
+-- an atom, with signs before it
+pub judges_signed : (ps qs : List Prefix) (a : AtomTree) (tree : LevelTree levels.Single) (r : Result Operand Memory) (new : List Finding) {scope : Scope} {variables : Variables} {old mid : List Finding} {inner : Operand}
+    → ps ≡ qs → tree ≡ Unary qs a → Judges scope variables (atom_shape a) old mid inner
+    → IfOk r (λ o. (s : InScope) (e : Shape) (start : List Finding) → IsJudged s e start mid inner → IsJudged s (signed ps e) start new o)
+    → IfOk r (Judges scope variables (shape tree) old new)
+judges_signed ps qs a tree (Err e) new same seen first all = tt
+judges_signed ps qs a tree (Ok o) new {scope = scope} {variables = variables} {old = old} same seen first all =
+    subst (λ t. Judges scope variables (shape t) old new o) (sym seen)
+    (subst (λ rs. Judges scope variables (signed rs (atom_shape a)) old new o) same
+    (record { all = λ p f is_scope is_frame. all _ (atom_shape a) old (first.all p f is_scope is_frame) }))
+
+-- one more sign, from behind
+pub judged_more : (s : InScope) (e : Shape) (ps : List Prefix) (p : Prefix) {old mid new : List Finding} {inner o : Operand} → IsJudged s (signed ps e) old mid inner → IsSigned (sign_of p.operator) p.place.place inner mid new o → IsJudged s (signed (p ∷ ps) e) old new o
+judged_more s e ps p = judged_signed s p (signed ps e)

@@ -1,0 +1,155 @@
+-- What is written at the heads of a switch, and which of them are written alike.
+use Rattle.std.proofs.Common.{◌≡◌, ℕ, List, [], ◌∷◌, map, take, Option, Some, None, Bool, true, false, not, Bor, sym, refl, ap, ◌∙◌, subst}
+use Rattle.std.specs.Prelude.{is_some, position, ◌&&◌, ◌||◌, if◌then◌else◌, Result, OnOk}
+use Rattle.std.specs.Cmp.{tied_then}
+use Rattle.std.specs.Cmp.Lexicographic.{slice_cmp}
+use Rattle.std.specs.Option.{option_cmp}
+use Rattle.std.specs.declared.cmp.Ordering.{Ordering}
+use Rattle.std.specs.Ordering.{is_eq, nat_cmp, ordering_then}
+use Rattle.std.proofs.lemmas.Cmp.{nat_list_eq_equiv}
+use Rattle.std.proofs.lemmas.Map.Text.{is_eq-slice_cmp}
+use Rattle.source.specs.declared.token.Span.{Span}
+use Rattle.syntax.specs.StatementTrees.{CaseTree, SwitchTree, case_row, case_tree, switch_tree}
+use Rattle.syntax.specs.declared.statement as made
+use Rattle.syntax.specs.declared.statement.Awaited.{Awaited}
+use Rattle.syntax.specs.declared.statement.Awaited.TheVariants.{Message, Closed}
+use Rattle.names.specs.Bodies.{head_of, heads_of}
+use Rattle.names.specs.Cases.{Head, same_name, same_awaited, is_closed, case_twice, twice_findings, kind_head_findings, other_head_findings, awaits_too, names_endpoint, awaits_closed}
+use Rattle.names.specs.Expressions.{InScope}
+use Rattle.source.specs.declared.finding.Finding.{Finding}
+use Rattle.names.specs.Found.{Adds}
+use Rattle.names.specs.Kinds.{is_silent}
+use Rattle.names.specs.declared.kinds.Kind.{Kind}
+use Rattle.names.specs.declared.kinds.Kind.TheVariants as kind
+use Rattle.syntax.specs.declared.tree.Side.{Side}
+use Rattle.names.specs.Heads.{awaiting_of, awaited_word, key_words, head_words, same_message, same_key, key_at, is_before, switch_heads}
+use Rattle.names.specs.Positions.{first_position}
+use Rattle.names.specs.Words.{word_at, words_at, same_word}
+use Rattle.names.proofs.HeadLemmas.{some_of, first_before, first_of_some}
+use Rattle.names.proofs.PositionLemmas.{same_position}
+use Rattle.names.proofs.StatementTwins.{switch_is}
+use Rattle.names.proofs.TableLemmas.{position_mapped}
+
+abbrev pub Key : Type 0
+Key = Bor (List ℕ) × Option (Bor (List ℕ))
+
+abbrev word_cmp : Bor (List ℕ) → Bor (List ℕ) → Ordering
+word_cmp a b = slice_cmp nat_cmp a.now b.now
+
+abbrev pub key_cmp : Key → Key → Ordering
+key_cmp x y = ordering_then (word_cmp x.0 y.0) (option_cmp word_cmp x.1 y.1)
+
+same_option : (a b : Option (Bor (List ℕ))) → is_eq (option_cmp word_cmp a b) ≡ same_message (key_words (record { ref_ptr = (0, 0); now = [] }, a)).1 (key_words (record { ref_ptr = (0, 0); now = [] }, b)).1
+same_option None None = refl
+same_option None (Some b) = refl
+same_option (Some a) None = refl
+same_option (Some a) (Some b) = is_eq-slice_cmp a.now b.now
+
+key_same : (x y : Key) → is_eq (key_cmp x y) ≡ same_key (key_words x) (key_words y)
+key_same x y = sym (tied_then (word_cmp x.0 y.0) (option_cmp word_cmp x.1 y.1))
+    ∙ ap (λ b. b && is_eq (option_cmp word_cmp x.1 y.1)) (is_eq-slice_cmp x.0.now y.0.now)
+    ∙ ap (λ b. same_word x.0.now y.0.now && b) (same_option x.1 y.1)
+
+mapped : {X Y Z : Type 0} (f : Y → Z) (g : X → Y) (xs : List X) → map f (map g xs) ≡ map (λ x. f (g x)) xs
+mapped f g [] = refl
+mapped f g (x ∷ xs) = ap (λ l. f (g x) ∷ l) (mapped f g xs)
+
+-- where a key stands first among those of heads
+pub key_first : (text : List ℕ) (all : List Head) (keys : List Key) (key : Key) → map key_words keys ≡ map (head_words text) all → first_position key_cmp keys key ≡ key_at text (key_words key) all
+key_first text all keys key are =
+    same_position (λ x. is_eq (key_cmp key x)) (λ x. same_key (key_words key) (key_words x)) (key_same key) keys
+    ∙ sym (position_mapped (same_key (key_words key)) key_words keys)
+    ∙ ap (position (same_key (key_words key))) are
+    ∙ position_mapped (same_key (key_words key)) (head_words text) all
+
+-- the words of heads, and their endpoints
+pub words_of_heads : (text : List ℕ) (all : List Head) → map (λ a. (word_at text a.endpoint, awaited_word text a.awaited)) (map awaiting_of all) ≡ map (head_words text) all
+words_of_heads text all = mapped (λ a. (word_at text a.endpoint, awaited_word text a.awaited)) awaiting_of all
+
+pub endpoints_of_heads : (all : List Head) → map (λ a. a.endpoint) (map awaiting_of all) ≡ map (λ h. h.endpoint) all
+endpoints_of_heads all = mapped (λ a. a.endpoint) awaiting_of all
+
+turned : (a b : List ℕ) → same_word a b ≡ same_word b a
+turned a b = nat_list_eq_equiv.symm a b
+
+turned_message : (text : List ℕ) (a b : Awaited) → same_message (awaited_word text a) (awaited_word text b) ≡ same_awaited text b a
+turned_message text (Message a) (Message b) = turned (word_at text a) (word_at text b)
+turned_message text (Message a) (Closed b) = refl
+turned_message text (Closed a) (Message b) = refl
+turned_message text (Closed a) (Closed b) = refl
+
+-- the heads before a place that await the same
+pub awaiting_too : (text : List ℕ) (h : Head) (before : List Head) → some_of (λ x. same_key (head_words text h) (head_words text x)) before ≡ awaits_too text h before
+awaiting_too text h [] = refl
+awaiting_too text h (x ∷ xs) =
+    ap (λ b. (b && same_message (awaited_word text h.awaited) (awaited_word text x.awaited)) || some_of (λ x. same_key (head_words text h) (head_words text x)) xs) (turned (word_at text h.endpoint) (word_at text x.endpoint))
+    ∙ ap (λ b. (same_name text x.endpoint h.endpoint && b) || some_of (λ x. same_key (head_words text h) (head_words text x)) xs) (turned_message text h.awaited x.awaited)
+    ∙ ap (λ b. (same_name text x.endpoint h.endpoint && same_awaited text x.awaited h.awaited) || b) (awaiting_too text h xs)
+
+-- those that name an endpoint
+pub naming : (text : List ℕ) (name : Span) (before : List Head) → some_of (λ x. same_word (word_at text name) (word_at text x.endpoint)) before ≡ names_endpoint text name before
+naming text name [] = refl
+naming text name (x ∷ xs) =
+    ap (λ b. b || some_of (λ x. same_word (word_at text name) (word_at text x.endpoint)) xs) (turned (word_at text name) (word_at text x.endpoint))
+    ∙ ap (λ b. same_name text x.endpoint name || b) (naming text name xs)
+
+closed_message : (text : List ℕ) (a : Awaited) → same_message None (awaited_word text a) ≡ is_closed a
+closed_message text (Message m) = refl
+closed_message text (Closed word) = refl
+
+-- those that await its close
+pub awaiting_close : (text : List ℕ) (name : Span) (all : List Head) → some_of (λ x. same_key (word_at text name, None) (head_words text x)) all ≡ awaits_closed text name all
+awaiting_close text name [] = refl
+awaiting_close text name (x ∷ xs) =
+    ap (λ b. (b && same_message None (awaited_word text x.awaited)) || some_of (λ x. same_key (word_at text name, None) (head_words text x)) xs) (turned (word_at text name) (word_at text x.endpoint))
+    ∙ ap (λ b. (same_name text x.endpoint name && b) || some_of (λ x. same_key (word_at text name, None) (head_words text x)) xs) (closed_message text x.awaited)
+    ∙ ap (λ b. (same_name text x.endpoint name && is_closed x.awaited) || b) (awaiting_close text name xs)
+
+-- a head that an earlier one is like
+pub found_twice : (text : List ℕ) (all : List Head) (h : Head) (place : ℕ) → is_before place (key_at text (head_words text h) all) ≡ awaits_too text h (take place all)
+found_twice text all h place = first_before (λ x. same_key (head_words text h) (head_words text x)) all place ∙ awaiting_too text h (take place all)
+
+-- an endpoint that an earlier head names
+pub found_named : (text : List ℕ) (all : List Head) (name : Span) (place : ℕ) → is_before place (position (same_word (word_at text name)) (words_at text (map (λ h. h.endpoint) all))) ≡ names_endpoint text name (take place all)
+found_named text all name place =
+    ap (λ l. is_before place (position (same_word (word_at text name)) l)) (mapped (word_at text) (λ h. h.endpoint) all)
+    ∙ ap (is_before place) (position_mapped (same_word (word_at text name)) (λ h. word_at text h.endpoint) all)
+    ∙ first_before (λ h. same_word (word_at text name) (word_at text h.endpoint)) all place
+    ∙ naming text name (take place all)
+
+-- an endpoint whose close a head awaits
+pub found_closed : (text : List ℕ) (all : List Head) (name : Span) → is_some (key_at text (word_at text name, None) all) ≡ awaits_closed text name all
+found_closed text all name = first_of_some (λ x. same_key (word_at text name, None) (head_words text x)) all ∙ awaiting_close text name all
+
+heads_in : (cases : List CaseTree) → heads_of (case_row cases) ≡ map head_of cases
+heads_in [] = refl
+heads_in (c ∷ cases) = ap (λ l. head_of c ∷ l) (heads_in cases)
+
+-- the heads of a switch in memory
+pub switch_heads_are : (s : made.Switch.Switch) → switch_heads (switch_tree s) ≡ head_of (switch_tree s).first ∷ map (λ c. head_of (case_tree c)) (made.Switch.out-Switch s).others.items
+switch_heads_are s =
+    ap (λ l. head_of (switch_tree s).first ∷ l)
+    (heads_in (switch_tree s).others
+    ∙ ap (λ (t : SwitchTree). map head_of t.others) (switch_is s)
+    ∙ mapped head_of case_tree (made.Switch.out-Switch s).others.items)
+
+-- a case on what is no endpoint
+pub no_endpoint : (s : InScope) (all earlier : List Head) (k : Kind) (h : Head) → ((n : ℕ) (end : Side) → k ≡ kind.Endpoint n end → ⊥) → kind_head_findings s all earlier k h ≡ (if is_silent k then [] else other_head_findings h)
+no_endpoint s all earlier (kind.Scalar t) h other = refl
+no_endpoint s all earlier (kind.Pointer n) h other = refl
+no_endpoint s all earlier (kind.Array t) h other = refl
+no_endpoint s all earlier (kind.Endpoint n end) h other = absurd (other n end refl)
+no_endpoint s all earlier kind.Missing h other = refl
+no_endpoint s all earlier kind.Unknown h other = refl
+
+-- what is told unless it is so
+pub told_unless : {X : Type 0} (b : Bool) (xs : List X) → (if not b then xs else []) ≡ (if b then [] else xs)
+told_unless true xs = refl
+told_unless false xs = refl
+
+-- that a case stands twice, where the text of the tokens is the program's
+pub told_twice : {T E : Type 0} {tokens : List ℕ} (r : Result T E) (mid new : List Finding) (s : InScope) (earlier : List Head) (h : Head) (twice : Bool) → tokens ≡ s.program.text → twice ≡ awaits_too s.program.text h earlier
+    → OnOk r (Adds mid new (if twice then case_twice tokens h ∷ [] else [])) → OnOk r (Adds mid new (twice_findings s earlier h))
+told_twice r mid new s earlier h twice text is told =
+    subst (λ b. OnOk r (Adds mid new (if b then case_twice s.program.text h ∷ [] else []))) is
+    (subst (λ t. OnOk r (Adds mid new (if twice then case_twice t h ∷ [] else []))) text told)

@@ -1,0 +1,38 @@
+-- Items, and what they declare within them, place by place.
+use Rattle.std.proofs.Common.{◌≡◌, ℕ, zero, suc, ◌<◌, List, [], ◌∷◌, ◌++◌, length, map, get_or, sym, refl, ap, ◌∙◌, subst, arith}
+use Rattle.std.specs.List.{flat_map}
+use Rattle.std.proofs.lemmas.List.{map-append}
+use Rattle.syntax.specs.Trees.{ItemTree, MethodTree, item_tree, definition_tree}
+use Rattle.syntax.specs.declared.tree as tree
+use Rattle.names.specs.Methods.{methods_in}
+use Rattle.names.specs.Scopes.{AllMembers, AreMembers}
+use Rattle.names.specs.declared.members.Members.{Members}
+
+-- the item that stands where these are declared
+pub record Placed (text : List ℕ) (items : List ItemTree) (i : ℕ) (m : Members) : Type 0 where
+  pub item : ItemTree
+  pub within : i < length items
+  pub is : item ≡ get_or items i item
+  pub members : AreMembers text item.definition m
+
+pub placed : (text : List ℕ) (items : List ItemTree) (ms : List Members) (i : ℕ) (m : Members) → AllMembers text items ms → i < length ms → m ≡ get_or ms i m → Placed text items i m
+placed text [] [] i m all lt is = absurd (omega (arith, lt))
+placed text [] (n ∷ ms) i m all lt is = absurd all
+placed text (j ∷ items) [] i m all lt is = absurd all
+placed text (j ∷ items) (n ∷ ms) zero m all lt is = record { item = j; within = omega arith; is = refl; members = subst (AreMembers text j.definition) (sym is) all.0 }
+placed text (j ∷ items) (n ∷ ms) (suc i) m all lt is =
+    let rest = placed text items ms i m all.1 (omega (arith, lt)) is in
+    record { item = rest.item; within = let less = rest.within in omega (arith, less); is = rest.is; members = rest.members }
+
+pub as_many : (text : List ℕ) (items : List ItemTree) (ms : List Members) → AllMembers text items ms → length items ≡ length ms
+as_many text [] [] all = refl
+as_many text [] (n ∷ ms) all = absurd all
+as_many text (j ∷ items) [] all = absurd all
+as_many text (j ∷ items) (n ∷ ms) all = let rest = as_many text items ms all.1 in omega (arith, rest)
+
+-- the names of all methods
+pub names_within : (items : List tree.Item.Item) → flat_map (λ i. map (λ (m : MethodTree). m.name) (methods_in (definition_tree i.definition))) items ≡ map (λ (m : MethodTree). m.name) (flat_map (λ (i : ItemTree). methods_in i.definition) (map item_tree items))
+names_within [] = refl
+names_within (i ∷ items) =
+    ap (λ l. map (λ (m : MethodTree). m.name) (methods_in (definition_tree i.definition)) ++ l) (names_within items)
+    ∙ sym (map-append (λ (m : MethodTree). m.name) (methods_in (definition_tree i.definition)) (flat_map (λ (j : ItemTree). methods_in j.definition) (map item_tree items)))

@@ -1,0 +1,93 @@
+-- What stood in scope before a statement stands in front behind it.
+use Rattle.std.proofs.Common.{◌≡◌, ℕ, Bool, true, false, List, [], ◌∷◌, ◌++◌, length, take, if◌then◌else◌, Option, Some, None, sym, refl, ap, ◌∙◌, append_assoc, append-nil}
+use Rattle.std.specs.Prelude.{is_some}
+use Rattle.source.specs.declared.token.Span.{Span}
+use Rattle.syntax.specs.StatementTrees as trees
+use Rattle.syntax.specs.StatementTrees.{StatementTree, StatementTrees, BlockTree, TestTree, OtherTrees, CaseTree, CaseTrees}
+use Rattle.syntax.specs.declared.statement as made
+use Rattle.syntax.specs.declared.tree as tree
+use Rattle.names.specs.Bodies.{Surroundings, statement_turn, statements_turn, block_turn, test_turn, others_turn, case_turn, cases_turn, in_loop, in_switch, head_of, heads_of}
+use Rattle.names.specs.Cases.{Head, typed_turn, bind_turn, binds_turn}
+use Rattle.names.specs.Program.{Program}
+use Rattle.names.specs.Variables.{Variable, Frame, variable_named, declared_variable}
+use Rattle.names.specs.declared.kinds.Kind.{Kind}
+
+pub record Extends (f g : Frame) : Type 0 where
+  pub more : List Variable
+  pub is : g.variables ≡ f.variables ++ more
+
+same_extends : (f g : Frame) → g.variables ≡ f.variables → Extends f g
+same_extends f g same = record { more = []; is = same ∙ sym (append-nil f.variables) }
+
+extends_then : (f g h : Frame) → Extends f g → Extends g h → Extends f h
+extends_then f g h first second = record { more = first.more ++ second.more; is = second.is ∙ ap (λ l. l ++ second.more) first.is ∙ append_assoc f.variables first.more second.more }
+
+take_front : {X : Type 0} (xs ys : List X) → take (length xs) (xs ++ ys) ≡ xs
+take_front [] ys = refl
+take_front (x ∷ xs) ys = ap (λ l. x ∷ l) (take_front xs ys)
+
+pub kept : (f g : Frame) → Extends f g → take (length f.variables) g.variables ≡ f.variables
+kept f g extends = ap (take (length f.variables)) extends.is ∙ take_front f.variables extends.more
+
+one_more : (b : Bool) (vs : List Variable) (v : Variable) → (if b then vs else vs ++ v ∷ []) ≡ vs ++ (if b then [] else v ∷ [])
+one_more true vs v = sym (append-nil vs)
+one_more false vs v = refl
+
+declared_extends : (text : List ℕ) (name : Span) (kind : Kind) (heap : Bool) (f : Frame) → Extends f (declared_variable text name kind heap f).frame
+declared_extends text name kind heap f = record {
+  more = if is_some (variable_named text f.variables name) then [] else record { name = name; kind = kind } ∷ [];
+  is = one_more (is_some (variable_named text f.variables name)) f.variables (record { name = name; kind = kind });
+}
+
+block_same : (m : Surroundings) (b : BlockTree) (f : Frame) → (block_turn m b f).frame.variables ≡ f.variables
+block_same m (trees.Braces statements close) f = refl
+
+test_same : (m : Surroundings) (t : TestTree) (f : Frame) → (test_turn m t f).frame.variables ≡ f.variables
+test_same m (trees.Test word left test body) f = block_same m body f
+
+others_same : (m : Surroundings) (others : OtherTrees) (f : Frame) → (others_turn m others f).frame.variables ≡ f.variables
+others_same m trees.NoOther f = refl
+others_same m (trees.Else b) f = block_same m b f
+others_same m (trees.ElseIf t others) f = others_same m others (test_turn m t f).frame ∙ test_same m t f
+
+case_same : (m : Surroundings) (all earlier : List Head) (c : CaseTree) (f : Frame) → (case_turn m all earlier c f).frame.variables ≡ f.variables
+case_same m all earlier (trees.Case word endpoint awaited left binds statements) f = refl
+
+cases_same : (m : Surroundings) (all earlier : List Head) (cases : CaseTrees) (f : Frame) → (cases_turn m all earlier cases f).frame.variables ≡ f.variables
+cases_same m all earlier trees.NoCase f = refl
+cases_same m all earlier (trees.MoreCases c cases) f = cases_same m all (earlier ++ head_of c ∷ []) cases (case_turn m all earlier c f).frame ∙ case_same m all earlier c f
+
+statement_extends : (m : Surroundings) (x : StatementTree) (f : Frame) → Extends f (statement_turn m x f).frame
+statement_extends m (trees.Block b) f = same_extends f _ (block_same m b f)
+statement_extends m (trees.Declare d) f = declared_extends _ _ _ _ f
+statement_extends m (trees.Assign a) f = same_extends f _ refl
+statement_extends m (trees.Call c) f = same_extends f _ refl
+statement_extends m (trees.Start word c) f = same_extends f _ refl
+statement_extends m (trees.Delete name) f = same_extends f _ refl
+statement_extends m (trees.NewChannel n) f = same_extends f _ refl
+statement_extends m (trees.If first others) f = same_extends f _ (others_same m others (test_turn m first f).frame ∙ test_same m first f)
+statement_extends m (trees.While test) f = same_extends f _ (test_same (in_loop m) test f)
+statement_extends m (trees.Break word) f = same_extends f _ refl
+statement_extends m (trees.Continue word) f = same_extends f _ refl
+statement_extends m (trees.Return word value) f = same_extends f _ refl
+statement_extends m (trees.Switch word first cases close) f =
+    let all : List Head = head_of first ∷ heads_of cases in
+    let behind : Frame = (case_turn (in_switch m) all [] first f).frame in
+    same_extends f _ (cases_same (in_switch m) all (head_of first ∷ []) cases behind ∙ case_same (in_switch m) all [] first f)
+
+pub statements_extend : (m : Surroundings) (xs : StatementTrees) (f : Frame) → Extends f (statements_turn m xs f).frame
+statements_extend m trees.NoStatement f = same_extends f f refl
+statements_extend m (trees.MoreStatements x xs) f = extends_then f _ _ (statement_extends m x f) (statements_extend m xs (statement_turn m x f).frame)
+
+typed_extends : (p : Program) (param : Option tree.Param.Param) (name : Span) (t : Option tree.Type.Type) (f : Frame) → Extends f (typed_turn p param name t f).frame
+typed_extends p param name (Some t) f = declared_extends _ _ _ _ f
+typed_extends p param name None f = declared_extends _ _ _ _ f
+
+binds_extend : (p : Program) (params : List tree.Param.Param) (binds : List made.Bind.Bind) (f : Frame) → Extends f (binds_turn p params binds f).frame
+binds_extend p params [] f = same_extends f f refl
+binds_extend p [] (b ∷ binds) f = extends_then f _ _ (typed_extends p None b.name b.kind f) (binds_extend p [] binds (bind_turn p None b f).frame)
+binds_extend p (x ∷ params) (b ∷ binds) f = extends_then f _ _ (typed_extends p (Some x) b.name b.kind f) (binds_extend p params binds (bind_turn p (Some x) b f).frame)
+
+-- what stood before a case stands in front behind what it binds and what it does
+pub case_extends : (m : Surroundings) (params : List tree.Param.Param) (binds : List made.Bind.Bind) (xs : StatementTrees) (f : Frame) → Extends f (statements_turn m xs (binds_turn m.program params binds f).frame).frame
+case_extends m params binds xs f = extends_then f _ _ (binds_extend m.program params binds f) (statements_extend m xs (binds_turn m.program params binds f).frame)

@@ -1,0 +1,188 @@
+-- Variables that come into scope and go out of it.
+use Rattle.std.proofs.Common.{◌≡◌, ℕ, zero, suc, if◌then◌else◌, ◌+◌, ◌-◌, ◌<◌, ◌≤◌, List, [], ◌∷◌, ◌++◌, length, map, take, cond, Bool, true, false, sym, refl, ap, ◌∙◌, subst, arith, append_assoc, append-nil, ⊎_elim}
+use Rattle.std.specs.Prelude.{Result, Ok, Err, OnOk, Option, None, Some, is_some, option_map, option_and_then, slice_get}
+use Rattle.std.proofs.lemmas.Bool.{cases_Bool, cond-true, cond-false}
+use Rattle.std.proofs.lemmas.Cmp.{nat_list_eq_equiv}
+use Rattle.std.proofs.Math.ListN.{length-append}
+use Rattle.std.proofs.Math.Seq.{take-append_seam}
+use Rattle.std.proofs.lemmas.List.{map-append, length-map}
+use Rattle.std.proofs.lemmas.List.Quantifiers.{position-Some}
+use Rattle.std.proofs.lemmas.Option.{slice_get-map, slice_get-get_or}
+use Rattle.std.proofs.lemmas.Slice.Eq.{bytes_eq-Decides}
+use Rattle.source.specs.declared.fault.Memory.{Memory}
+use Rattle.source.specs.declared.finding.Finding.{Finding}
+use Rattle.source.specs.declared.token.Span.{Span}
+use Rattle.names.specs.Firsts.{first_of}
+use Rattle.names.specs.Found.{Adds, declared_twice}
+use Rattle.names.specs.Frames.{AreApart, IsFrame, Turned, variable_seen, words_in}
+use Rattle.names.specs.Tables.{IsTable, entry_of}
+use Rattle.names.specs.Variables as model
+use Rattle.names.specs.Variables.{Frame, Turn, turn, variable_named, entered_variable, past_heap, declared_variable}
+use Rattle.names.specs.Words.{word_at, words_at, same_word}
+use Rattle.names.specs.declared.kinds.Kind.{Kind}
+use Rattle.names.specs.declared.kinds.Kind.TheVariants as kind
+use Rattle.names.specs.declared.tables.Table.{Table}
+use Rattle.names.specs.declared.variables.Variable.{Variable}
+use Rattle.names.specs.declared.variables.Variables.{Variables}
+use Rattle.names.proofs.AddLemmas.{adds_none, adds_then}
+use Rattle.names.proofs.PositionLemmas.{position_added}
+
+pub apart_push : (before words : List (List ℕ)) (w : List ℕ) → AreApart before words → first_of (before ++ words) w ≡ None → AreApart before (words ++ w ∷ [])
+apart_push before [] w h new = (subst (λ l. first_of l w ≡ None) (append-nil before) new, tt)
+apart_push before (v ∷ words) w h new = (h.0, apart_push (before ++ v ∷ []) words w h.1 (subst (λ l. first_of l w ≡ None) (sym (append_assoc before (v ∷ []) words)) new))
+
+-- what holds without the last word
+pub record Popped (before words : List (List ℕ)) (w : List ℕ) : Type 0 where
+  pub rest : AreApart before words
+  pub last : first_of (before ++ words) w ≡ None
+
+pub apart_pop : (before words : List (List ℕ)) (w : List ℕ) → AreApart before (words ++ w ∷ []) → Popped before words w
+apart_pop before [] w h = record { rest = tt; last = subst (λ l. first_of l w ≡ None) (sym (append-nil before)) h.0 }
+apart_pop before (v ∷ words) w h =
+    let r = apart_pop (before ++ v ∷ []) words w h.1 in
+    record { rest = (h.0, r.rest); last = subst (λ l. first_of l w ≡ None) (append_assoc before (v ∷ []) words) r.last }
+
+-- where a word stands first among these and one more
+added : (words : List (List ℕ)) (word q : List ℕ) → first_of words word ≡ None → first_of (words ++ word ∷ []) q ≡ cond (same_word word q) (Some (length words)) (first_of words q)
+added words word q none = position_added same_word nat_list_eq_equiv words word q (ap is_some none)
+
+pub table_added : (words : List (List ℕ)) (word : List ℕ) (old new : Table) (place : ℕ) → IsTable words old → first_of words word ≡ None → place ≡ length words
+    → ((q : List ℕ) → entry_of new q ≡ cond (same_word word q) (Some place) (entry_of old q)) → IsTable (words ++ word ∷ []) new
+table_added words word old new place h none at updates = record {
+  held = λ q. updates q ∙ ap (cond (same_word word q) (Some place)) (h.held q) ∙ ap (λ k. cond (same_word word q) (Some k) (first_of words q)) at ∙ sym (added words word q none);
+}
+
+pub table_removed : (words : List (List ℕ)) (word : List ℕ) (old new : Table) → IsTable (words ++ word ∷ []) old → first_of words word ≡ None
+    → ((q : List ℕ) → entry_of new q ≡ cond (same_word word q) None (entry_of old q)) → IsTable words new
+table_removed words word old new h none updates = record {
+  held = λ q. ⊎_elim
+      (λ same. let e : word ≡ q = (bytes_eq-Decides word q).0 same in
+      updates q ∙ cond-true (same_word word q) None (entry_of old q) same ∙ sym none ∙ ap (first_of words) e)
+      (λ other. updates q ∙ cond-false (same_word word q) None (entry_of old q) other ∙ h.held q ∙ added words word q none
+      ∙ cond-false (same_word word q) (Some (length words)) (first_of words q) other)
+      (cases_Bool (same_word word q));
+}
+
+-- the words of the variables and one more
+pub words_push : (text : List ℕ) (variables : List model.Variable) (v : model.Variable) → words_in text (variables ++ v ∷ []) ≡ words_in text variables ++ word_at text v.name ∷ []
+words_push text variables v =
+    ap (words_at text) (map-append (λ (x : model.Variable). x.name) variables (v ∷ []))
+    ∙ map-append (word_at text) (map (λ (x : model.Variable). x.name) variables) (v.name ∷ [])
+
+named_at : (text : List ℕ) (f : Frame) (v : Variables) → IsFrame text f v → (place : Option ℕ) → option_map variable_seen (option_and_then (slice_get v.list.items) place) ≡ option_and_then (slice_get f.variables) place
+named_at text f v h None = refl
+named_at text f v h (Some k) = sym (slice_get-map variable_seen v.list.items k) ∙ ap (λ l. slice_get l k) h.list
+
+-- the variable that a table of names leads to
+pub variable_found : (text : List ℕ) (f : Frame) (v : Variables) (name : Span) (place : Option ℕ) → IsFrame text f v → place ≡ first_of (words_in text f.variables) (word_at text name)
+    → option_map variable_seen (option_and_then (slice_get v.list.items) place) ≡ variable_named text f.variables name
+variable_found text f v name place h is = named_at text f v h place ∙ ap (option_and_then (slice_get f.variables)) is
+
+here : Span → Kind → model.Variable
+here name k = record { name = name; kind = k }
+
+some_there : (text : List ℕ) (variables : List model.Variable) (name : Span) (o : Option ℕ) → first_of (words_in text variables) (word_at text name) ≡ o → is_some (option_and_then (slice_get variables) o) ≡ is_some o
+some_there text variables name None is = refl
+some_there text variables name (Some k) is =
+    let at = position-Some (same_word (word_at text name)) (words_in text variables) k [] is in
+    let many = length-map (map (λ (x : model.Variable). x.name) variables) (word_at text) ∙ length-map variables (λ (x : model.Variable). x.name) in
+    let lt : k < length variables = omega (arith, at.0, many) in
+    ap is_some (slice_get-get_or variables k (here name kind.Unknown) lt)
+
+-- a variable of a name is in scope where the name is among theirs
+pub is_named : (text : List ℕ) (variables : List model.Variable) (name : Span) → is_some (variable_named text variables name) ≡ is_some (first_of (words_in text variables) (word_at text name))
+is_named text variables name = some_there text variables name (first_of (words_in text variables) (word_at text name)) refl
+
+none_is : (o : Option ℕ) → is_some o ≡ false → o ≡ None
+none_is None h = refl
+none_is (Some n) h = cc
+
+abbrev entered_if : Bool → List ℕ → Span → Kind → Frame → Turn
+entered_if taken text name k f = turn (if taken then declared_twice text name ∷ [] else [])
+    (record { variables = if taken then f.variables else f.variables ++ record { name = name; kind = k } ∷ []; heap = f.heap })
+
+-- a name that is taken already
+pub entered_taken : (text : List ℕ) (f : Frame) (v : Variables) (name : Span) (k : Kind) (word : List ℕ) (found : Option ℕ) (old new : List Finding) → IsFrame text f v → word ≡ word_at text name
+    → ((words : List (List ℕ)) → IsTable words v.names → found ≡ first_of words word) → is_some found ≡ true → Adds old new (declared_twice text name ∷ []) → Turned text old new v (entered_variable text name k f)
+entered_taken text f v name k word found old new h at is taken adds =
+    let there = is_named text f.variables name ∙ ap (λ w. is_some (first_of (words_in text f.variables) w)) (sym at) ∙ sym (ap is_some (is (words_in text f.variables) h.names)) ∙ taken in
+    subst (λ b. Turned text old new v (entered_if b text name k f)) (sym there) (record { found = adds; frame = h })
+
+-- a new name
+pub entered_new : (text : List ℕ) (f : Frame) (v w : Variables) (name : Span) (k : Kind) (word : List ℕ) (found : Option ℕ) (old : List Finding) → IsFrame text f v → word ≡ word_at text name
+    → ((words : List (List ℕ)) → IsTable words v.names → found ≡ first_of words word) → is_some found ≡ false
+    → ((words : List (List ℕ)) → IsTable words v.names → first_of words word ≡ None → length v.list.items ≡ length words → IsTable (words ++ word ∷ []) w.names)
+    → w.list.items ≡ v.list.items ++ record { name = name; kind = k } ∷ [] → w.heap ≡ v.heap → Turned text old old w (entered_variable text name k f)
+entered_new text f v w name k word found old h at is taken table list heap =
+    let words = words_in text f.variables in
+    let found_none : first_of words word ≡ None = sym (is words h.names) ∙ none_is found taken in
+    let none : first_of words (word_at text name) ≡ None = subst (λ x. first_of words x ≡ None) at found_none in
+    let there = is_named text f.variables name ∙ ap is_some none in
+    let many = length-map (map (λ (x : model.Variable). x.name) f.variables) (word_at text) ∙ length-map f.variables (λ (x : model.Variable). x.name) in
+    let size = ap length (sym h.list) ∙ length-map v.list.items variable_seen in
+    let more = words_push text f.variables (record { name = name; kind = k }) in
+    subst (λ b. Turned text old old w (entered_if b text name k f)) (sym there) (record {
+      found = adds_none old;
+      frame = record {
+        list = ap (map variable_seen) list ∙ map-append variable_seen v.list.items (record { name = name; kind = k } ∷ []) ∙ ap (λ l. l ++ record { name = name; kind = k } ∷ []) h.list;
+        names = subst (λ l. IsTable l w.names) (sym more) (subst (λ x. IsTable (words ++ x ∷ []) w.names) at (table words h.names found_none (sym (many ∙ size))));
+        apart = subst (AreApart []) (sym more) (apart_push [] words (word_at text name) h.apart none);
+        heap = heap ∙ h.heap;
+      };
+    })
+
+-- one of the exchange heap is counted, and comes into scope
+pub declared_counted : (text : List ℕ) (f : Frame) (v : Variables) (name : Span) (k : Kind) (heap : Bool) (old mid new : List Finding) (r : Result (Unit {0}) Memory) → heap ≡ true → Adds old mid (past_heap name f.heap)
+    → OnOk r (Turned text mid new v (entered_variable text name k (record { variables = f.variables; heap = f.heap + 1 }))) → OnOk r (Turned text old new v (declared_variable text name k heap f))
+declared_counted text f v name k heap old mid new (Err e) is first second = tt
+declared_counted text f v name k heap old mid new (Ok u) is first second =
+    subst (λ b. Turned text old new v (declared_variable text name k b f)) (sym is) (record { found = adds_then first second.found; frame = second.frame })
+
+-- the last variable goes out of scope
+popped_to : (text : List ℕ) (f : Frame) (v w : Variables) (front : List model.Variable) (x : model.Variable) → IsFrame text f v → f.variables ≡ front ++ x ∷ [] → map variable_seen w.list.items ≡ front → w.heap ≡ v.heap
+    → ((words : List (List ℕ)) → IsTable (words ++ word_at text x.name ∷ []) v.names → first_of words (word_at text x.name) ≡ None → IsTable words w.names)
+    → IsFrame text (record { variables = front; heap = f.heap }) w
+popped_to text f v w front x h is list heap table =
+    let words = ap (words_in text) is ∙ words_push text front x in
+    let apart = apart_pop [] (words_in text front) (word_at text x.name) (subst (AreApart []) words h.apart) in
+    record {
+      list = list;
+      names = table (words_in text front) (subst (λ l. IsTable l v.names) words h.names) apart.last;
+      apart = apart.rest;
+      heap = heap ∙ h.heap;
+    }
+
+front_of : {X : Type 0} (xs front : List X) (x : X) → xs ≡ front ++ x ∷ [] → take (length xs - 1) xs ≡ front
+front_of xs front x is =
+    let size = ap length is ∙ length-append front (x ∷ []) in
+    let n : length xs - 1 ≡ length front = omega (arith, size) in
+    ap (λ k. take k xs) n ∙ ap (take (length front)) is ∙ take-append_seam front (x ∷ [])
+
+pub frame_popped : (text : List ℕ) (f : Frame) (v w : Variables) (items : List Variable) (x : Variable) (word : List ℕ) → IsFrame text f v → v.list.items ≡ items ++ x ∷ [] → w.list.items ≡ items → w.heap ≡ v.heap → word ≡ word_at text x.name
+    → ((words : List (List ℕ)) → IsTable (words ++ word ∷ []) v.names → first_of words word ≡ None → IsTable words w.names)
+    → IsFrame text (record { variables = take (length f.variables - 1) f.variables; heap = f.heap }) w
+frame_popped text f v w items x word h is list heap at table =
+    let split = sym h.list ∙ ap (map variable_seen) is ∙ map-append variable_seen items (x ∷ []) in
+    subst (λ l. IsFrame text (record { variables = l; heap = f.heap }) w) (sym (front_of f.variables (map variable_seen items) (variable_seen x) split))
+    (popped_to text f v w (map variable_seen items) (variable_seen x) h split (ap (map variable_seen) list) heap
+    (subst (λ q. (words : List (List ℕ)) → IsTable (words ++ q ∷ []) v.names → first_of words q ≡ None → IsTable words w.names) at table))
+
+-- the first so many of the first so many
+pub take_fewer : {X : Type 0} (m n : ℕ) (xs : List X) → m ≤ n → take m (take n xs) ≡ take m xs
+take_fewer zero n xs le = refl
+take_fewer (suc m) zero xs le = absurd (omega (arith, le))
+take_fewer (suc m) (suc n) [] le = refl
+take_fewer (suc m) (suc n) (x ∷ xs) le = ap (λ l. x ∷ l) (take_fewer m n xs (omega (arith, le)))
+
+-- one variable fewer
+pub left_more : (text : List ℕ) (f : Frame) (v w : Variables) (k outer : ℕ) → (let n = length v.list.items in
+    IsFrame text (record { variables = take n f.variables; heap = f.heap }) v → k ≡ n - 1 → outer < n
+    → IsFrame text (record { variables = take (length (take n f.variables) - 1) (take n f.variables); heap = f.heap }) w
+    → IsFrame text (record { variables = take k f.variables; heap = f.heap }) w × (take outer (take k f.variables) ≡ take outer f.variables))
+left_more text f v w k outer before fewer more h =
+    let n = length v.list.items in
+    let many = ap length (sym before.list) ∙ length-map v.list.items variable_seen in
+    let last : length (take n f.variables) - 1 ≡ k = omega (arith, many, fewer) in (
+      subst (λ l. IsFrame text (record { variables = l; heap = f.heap }) w) (ap (λ i. take i (take n f.variables)) last ∙ take_fewer k n f.variables (omega (arith, fewer))) h,
+      take_fewer outer k f.variables (omega (arith, fewer, more)),
+    )

@@ -1,0 +1,8 @@
+use Rattle.std.proofs.Common.{◌≡◌, map, take}
+use Rattle.names.specs.Kinds.{type_kind}
+use Rattle.names.specs.Program.{Program}
+use Rattle.names.specs.Scopes.{IsScope}
+use Rattle.names.proofs.arguments.parameter_kinds.Given as goal
+
+abbrev pub invariant-loop-parameter : goal.invariant-loop-parameter
+invariant-loop-parameter l = (p : Program) → IsScope p l.scope → l.kinds.items ≡ map (λ x. type_kind p x.kind) (take l.parameter-index l.parameter-items)

@@ -1,0 +1,41 @@
+use Rattle.std.proofs.Common.{Bor, ◌++◌, sym, subst}
+use Rattle.std.specs.Prelude.{OnOk, option_map}
+use Rattle.syntax.specs.declared.tree.Param.{Param}
+use Rattle.names.specs.Cases.{typed_turn, brought_kind, brings_heap}
+use Rattle.names.specs.Found.{Adds}
+use Rattle.names.specs.Frames.{Turned}
+use Rattle.names.specs.Kinds.{agree, is_heap, type_kind, type_unknown, unless}
+use Rattle.names.specs.Variables.{declared_variable}
+use Rattle.names.proofs.TurnLemmas.{on_before}
+use Rattle.names.proofs.binds.judge_bind.Goals as goal
+
+pub returns-in_ok-judge_bound_type-in-Some : goal.returns-in_ok-judge_bound_type-in-Some
+returns-in_ok-judge_bound_type-in-Some c = λ p f scope frame.
+    let text = p.text in
+    let kind = c.in-Some.kind in
+    let name = c.args.bind.name in
+    let param = option_map (λ (x : Bor Param). x.now) c.args.parameter in
+    let old = c.args.found.now.items in
+    let mid = c.judge_bound_type.new.found.items in
+    let new = c.declare_in.new.found.items in
+    let w = c.declare_in.new.variables in
+    let result = c.declare_in.result in
+    let bound = type_kind p kind in
+    subst (λ o. OnOk result (Turned text old new w (typed_turn p param name o f))) (sym c.in-Some.is)
+    (on_before result text old mid new w (type_unknown p kind ++ unless (agree bound (brought_kind p param)) name.place) (declared_variable text name bound (is_heap kind) f)
+    (subst (λ k. Adds old mid (type_unknown p kind ++ unless (agree bound k) name.place)) (c.brought_kind-brought.ensures p scope) (c.in_ok-judge_bound_type-in-Some.ensures p scope))
+    (subst (λ k. OnOk result (Turned text mid new w (declared_variable text name k (is_heap kind) f))) (c.kind_of_type-bound.ensures p scope)
+    (subst (λ b. OnOk result (Turned text mid new w (declared_variable text name c.kind_of_type-bound.result b f))) c.is_heap.ensures (c.declare_in.ensures p f scope frame))))
+
+pub returns-in-None : goal.returns-in-None
+returns-in-None c = λ p f scope frame.
+    let text = p.text in
+    let name = c.args.bind.name in
+    let param = option_map (λ (x : Bor Param). x.now) c.args.parameter in
+    let old = c.args.found.now.items in
+    let new = c.declare_in-in-None.new.found.items in
+    let w = c.declare_in-in-None.new.variables in
+    let result = c.declare_in-in-None.result in
+    subst (λ o. OnOk result (Turned text old new w (typed_turn p param name o f))) (sym c.in-None.is)
+    (subst (λ k. OnOk result (Turned text old new w (declared_variable text name k (brings_heap param) f))) (c.brought_kind-brought.ensures p scope)
+    (subst (λ b. OnOk result (Turned text old new w (declared_variable text name c.brought_kind-brought.result b f))) c.brings_heap-heap.ensures (c.declare_in-in-None.ensures p f scope frame)))

@@ -1,0 +1,37 @@
+use Rattle.std.proofs.Common.{◌++◌, map, subst, arith}
+use Rattle.std.specs.Prelude.{OnOk}
+use Rattle.syntax.specs.ExpressionTrees.{expression_tree}
+use Rattle.syntax.specs.Trees.{method_tree}
+use Rattle.names.specs.Expressions.{InScope}
+use Rattle.names.specs.Found.{Adds}
+use Rattle.names.specs.Kinds.{type_kind, unless}
+use Rattle.names.specs.Shapes.{shape}
+use Rattle.names.specs.Values.{argument_findings, number_of_arguments, parameter_kinds, start_findings, result_fits}
+use Rattle.names.proofs.PassLemmas.{on_adds}
+use Rattle.names.proofs.PendingLemmas.{numbered}
+use Rattle.names.proofs.calls.judge_known_method.Goals as goal
+
+pub returns : goal.returns
+returns c = λ p f scope frame.
+    let s : InScope = record { program = p; variables = f.variables } in
+    let method = c.args.method.now in
+    let params = method.params.items in
+    let args = c.args.arguments.now in
+    let es = map shape (map expression_tree args) in
+    let place = c.args.name.place in
+    let result = c.ask.result in
+    let old = c.args.found.now.items in
+    let counted = c.judge_number.new.found.items in
+    let given = c.judge_parameter_arguments.new.found.items in
+    let started = c.judge_start.new.found.items in
+    let new = c.ask.new.found.items in
+    let count = number_of_arguments params es place in
+    let each = argument_findings s (parameter_kinds p params) es in
+    let start = start_findings p.text (method_tree method) c.args.role c.args.name in
+    let fits = unless (result_fits p method.result c.args.role) place in
+    on_adds result old counted new count (each ++ (start ++ fits))
+    (numbered expression_tree params c.len-asked.result args place (omega (arith, c.len-asked.ensures, method.params.ok.0)) c.in_ok-judge_number.ensures)
+    (on_adds result counted given new each (start ++ fits)
+    (subst (λ ps. Adds counted given (argument_findings s (map (λ x. type_kind p x.kind) ps) es)) c.deref.ensures.value (c.in_ok-judge_parameter_arguments.ensures p f scope frame))
+    (on_adds result given started new start fits (c.in_ok-judge_start.ensures p scope)
+    (subst (λ b. OnOk result (Adds started new (unless b place))) (c.result_fits-fits.ensures p scope) c.ask.ensures)))

@@ -1,0 +1,27 @@
+use Rattle.std.proofs.Common.{◌∙◌, ap, map, subst}
+use Rattle.std.specs.Prelude.{OnOk}
+use Rattle.std.specs.List.{flat_map}
+use Rattle.std.proofs.lemmas.Result.{on_ok_weaker}
+use Rattle.names.specs.Declarations.{counted_states}
+use Rattle.names.specs.Found.{Adds}
+use Rattle.names.specs.Listed.{past_limit}
+use Rattle.names.specs.Outlines.{outlined_states}
+use Rattle.names.specs.Scopes.{declared_among}
+use Rattle.names.specs.declared.limits.TheConstants.{MOST_CONTRACTS, MOST_STATES}
+use Rattle.names.specs.declared.members.Declared.{Declared}
+use Rattle.names.specs.declared.members.Members.{Members}
+use Rattle.names.proofs.AddLemmas.{adds_then}
+use Rattle.names.proofs.ContractLemmas.{all_names, all_states}
+use Rattle.names.proofs.contracts.judge_counted.Goals as goal
+
+pub returns : goal.returns
+returns c = λ p h.
+    let members = c.args.scope.now.members.items in
+    let names = c.deref-2.ensures.value ∙ c.in_ok-names.ensures ∙ ap (flat_map (λ (m : Members). map (λ (d : Declared). d.outline.name) (declared_among m))) c.deref.ensures.value
+    ∙ all_names p.text p.items members h.members in
+    let states = c.deref-4.ensures.value ∙ c.in_ok-counted.ensures
+    ∙ ap (flat_map (λ (m : Members). flat_map (λ (d : Declared). counted_states (outlined_states d.outline)) (declared_among m))) c.deref-3.ensures.value
+    ∙ all_states p.text p.items members h.members in
+    let first = subst (λ n. Adds c.args.found.now.items c.judge_limit.new.found.items (past_limit MOST_CONTRACTS n)) names c.in_ok-judge_limit.ensures in
+    let second = subst (λ n. OnOk c.judge_limit-2.result (Adds c.judge_limit.new.found.items c.judge_limit-2.new.found.items (past_limit MOST_STATES n))) states c.judge_limit-2.ensures in
+    on_ok_weaker c.judge_limit-2.result (λ last. adds_then first last) second

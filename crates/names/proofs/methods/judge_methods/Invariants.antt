@@ -1,0 +1,11 @@
+use Rattle.std.proofs.Common.{take}
+use Rattle.std.specs.List.{flat_map}
+use Rattle.syntax.specs.Trees.{ClassTree, method_tree}
+use Rattle.names.specs.Found.{Adds}
+use Rattle.names.specs.Methods.{method_turn}
+use Rattle.names.specs.Program.{Program}
+use Rattle.names.specs.Scopes.{IsScope, AreMethods}
+use Rattle.names.proofs.methods.judge_methods.Given as goal
+
+abbrev pub invariant-loop-method : goal.invariant-loop-method
+invariant-loop-method l = (p : Program) (c : ClassTree) → IsScope p l.scope → AreMethods p.text c l.methods → Adds l.fn.found.items l.found.items (flat_map (λ m. (method_turn p c (method_tree m)).found) (take l.method-index l.method-items))

@@ -1,0 +1,20 @@
+use Rattle.std.proofs.Common.{subst}
+use Rattle.std.specs.Prelude.{OnOk}
+use Rattle.syntax.specs.StatementTrees.{assign_tree}
+use Rattle.names.specs.Bodies.{scope_in, inside_of}
+use Rattle.names.specs.Found.{Adds}
+use Rattle.names.specs.Values.{target_findings, target_kind, value_findings}
+use Rattle.names.proofs.PassLemmas.{on_adds}
+use Rattle.names.proofs.simple_statements.judge_assign.Goals as goal
+
+pub returns : goal.returns
+returns c = λ m f around frame.
+    let target = (assign_tree c.args.assign.now).target in
+    let value = (assign_tree c.args.assign.now).value in
+    let s = scope_in m f in
+    let mid = c.judge_target.new.found.items in
+    let new = c.judge_value.new.found.items in
+    on_adds c.judge_value.result c.args.found.now.items mid new (target_findings s target) (value_findings (inside_of m f) (target_kind s target) value)
+    (c.in_ok-asked.ensures.all m.program f around.scope frame).found
+    (subst (λ k. OnOk c.judge_value.result (Adds mid new (value_findings (inside_of m f) k value))) (c.in_ok-asked.ensures.all m.program f around.scope frame).kind
+    (c.judge_value.ensures m f around frame))

@@ -1,0 +1,214 @@
+use Rattle.std.proofs.Common.{◌≡◌, ◌++◌, ◌∷◌, [], ◌+◌, Some, codes, map, take, drop, List, length, get_or, sym, ap, ◌∙◌, subst, arith}
+use Rattle.std.specs.Prelude.{OnOk}
+use Rattle.std.specs.Option.{option_map}
+use Rattle.std.proofs.lemmas.List.{length-map}
+use Rattle.syntax.specs.ExpressionTrees.{expression_tree}
+use Rattle.syntax.specs.StatementTrees.{statement_tree, statement_row, block_tree, if_tree, case_tree, assign_tree, case_row, switch_tree, CaseTree, SwitchTree}
+use Rattle.syntax.specs.Values.{call_tree}
+use Rattle.syntax.specs.declared.statement as made
+use Rattle.names.specs.Bodies.{inside_of, scope_in, statement_turn, statements_turn, block_turn, test_turn, others_turn, case_turn, cases_turn, head_of, outside, delete_findings, channel_findings, return_findings}
+use Rattle.names.specs.Cases.{binds_turn, awaited_message, bound_params}
+use Rattle.names.specs.Expressions.{meant, held, truth_findings}
+use Rattle.names.specs.Found.{Adds}
+use Rattle.names.specs.Frames.{Turned}
+use Rattle.names.specs.Heads.{IsHeads, switch_heads}
+use Rattle.names.specs.Shapes.{shape}
+use Rattle.names.specs.Values.{Alone, Started, call_findings, target_findings, target_kind, value_findings}
+use Rattle.names.specs.Variables.{Frame, Turn, closed, follow}
+use Rattle.names.proofs.BranchLemmas.{last_branch, next_case, case_there, last_case}
+use Rattle.names.proofs.KeepLemmas.{kept, statements_extend, case_extends}
+use Rattle.names.proofs.StatementTwins.{block_is, case_is, test_is, switch_is, of_declare, of_assign, of_call, of_start, of_delete, of_channel, of_break, of_continue, of_return}
+use Rattle.names.proofs.TurnLemmas.{Ongoing, goes_first, turned_then, adds_before, leaves, on_stays, on_before, on_ends, goes_on, ends}
+use Rattle.names.proofs.statements.+bodies.Goals as goal
+
+pub judge_block-returns : goal.judge_block-returns
+judge_block-returns t c = λ m f around frame.
+    let text = m.program.text in
+    let block = c.args.block.now in
+    let old = c.args.found.now.items in
+    let new = c.judge_statements.new.found.items in
+    let v = c.judge_statements.new.variables in
+    let row = statement_row (map statement_tree block.statements.items) in
+    let whole = statements_turn m row f in
+    let inner = subst (λ xs. Turned text old new v (statements_turn m (statement_row (map statement_tree xs)) f)) c.deref.ensures.value (c.in_ok-judge_statements.ensures m f around frame) in
+    subst (λ b. Turned text old new c.leave.new.self (block_turn m b f)) (sym (block_is block))
+    (leaves f whole around.scope.text_is (c.len-outer.ensures text f frame) c.leave.ensures (kept f whole.frame (statements_extend m row f)) inner)
+
+pub judge_case-returns : goal.judge_case-returns
+judge_case-returns t c = λ m f all around frame heads at.
+    let text = m.program.text in
+    let case = c.args.case.now in
+    let s = scope_in m f in
+    let old = c.args.found.now.items in
+    let headed = c.judge_head.new.found.items in
+    let bound = c.judge_binds.new.found.items in
+    let new = c.judge_statements.new.found.items in
+    let v = c.judge_binds.new.variables in
+    let w = c.judge_statements.new.variables in
+    let params = bound_params (awaited_message s (held (meant s case.endpoint)) case.message) in
+    let binding = binds_turn m.program params case.binds.items f in
+    let row = statement_row (map statement_tree case.statements.items) in
+    let first = subst (λ bs. Turned text headed bound v (binds_turn m.program params bs f)) c.deref.ensures.value (c.in_ok-judge_binds.ensures m.program f around.scope frame) in
+    let second = subst (λ xs. Turned text bound new w (statements_turn m (statement_row (map statement_tree xs)) binding.frame)) c.deref-2.ensures.value (c.in_ok-judge_statements.ensures m binding.frame around first.frame) in
+    let both = follow binding (statements_turn m row) in
+    let earlier = take c.args.place all in
+    let inner = leaves f both around.scope.text_is (c.len-outer.ensures text f frame) c.leave.ensures (kept f both.frame (case_extends m params case.binds.items row f)) (turned_then binding (statements_turn m row) first second) in
+    let here = c.in_ok-judge_head.ensures m.program f all around.scope frame heads in
+    subst (λ k. Turned text old new c.leave.new.self (case_turn m all earlier k f)) (sym (case_is case))
+    (adds_before _ (closed f both) here inner)
+
+pub judge_test-returns : goal.judge_test-returns
+judge_test-returns t c = λ m f around frame.
+    let text = m.program.text in
+    let test = c.args.test.now in
+    let old = c.args.found.now.items in
+    let mid = c.judge_truth.new.found.items in
+    let new = c.judge_block.new.found.items in
+    let w = c.judge_block.new.variables in
+    subst (λ x. OnOk c.judge_block.result (Turned text old new w (test_turn m x f))) (sym (test_is test))
+    (on_before c.judge_block.result text old mid new w (truth_findings (scope_in m f) (shape (expression_tree test.test))) (block_turn m (block_tree test.body) f)
+    (c.in_ok-judge_truth.ensures m.program f around.scope frame)
+    (c.judge_block.ensures m f around frame))
+
+pub judge_if-returns-in-Some : goal.judge_if-returns-in-Some
+judge_if-returns-in-Some t c = λ m f around frame.
+    let branches = c.args.branches.now in
+    let block = c.in-Some.block in
+    let whole = follow (test_turn m (if_tree branches).first f) (others_turn m (if_tree branches).others) in
+    let o = last_branch m c.deref-test-items.result.now c.loop-test.test-index _ block c.loop-test-test.false c.in-Some.is (c.loop-test.invariant m f around frame) in
+    on_ends c.judge_block.result m.program.text c.args.found.now.items c.loop-test.found.items c.judge_block.new.found.items c.loop-test.variables c.judge_block.new.variables whole (block_turn m (block_tree block)) o
+    (c.judge_block.ensures m o.frame around o.stands)
+
+pub judge_statement-returns-in-Declare : goal.judge_statement-returns-in-Declare
+judge_statement-returns-in-Declare t c = λ m f around frame.
+    let text = m.program.text in
+    let result = c.judge_declare.result in
+    let old = c.args.found.now.items in
+    let new = c.judge_declare.new.found.items in
+    subst (λ x. OnOk result (Turned text old new c.judge_declare.new.variables (statement_turn m x f))) (sym (ap statement_tree c.in-Declare.is ∙ of_declare c.in-Declare.declare))
+    (c.judge_declare.ensures m f around frame)
+
+pub judge_statement-returns-in-Assign : goal.judge_statement-returns-in-Assign
+judge_statement-returns-in-Assign t c = λ m f around frame.
+    let text = m.program.text in
+    let result = c.judge_assign.result in
+    let old = c.args.found.now.items in
+    let new = c.judge_assign.new.found.items in
+    let v = c.args.variables.now in
+    subst (λ x. OnOk result (Turned text old new v (statement_turn m x f))) (sym (ap statement_tree c.in-Assign.is ∙ of_assign c.in-Assign.assign))
+    (on_stays result text old new v (target_findings (scope_in m f) (assign_tree c.in-Assign.assign).target ++ value_findings (inside_of m f) (target_kind (scope_in m f) (assign_tree c.in-Assign.assign).target) (assign_tree c.in-Assign.assign).value) f frame (c.judge_assign.ensures m f around frame))
+
+pub judge_statement-returns-in-Call : goal.judge_statement-returns-in-Call
+judge_statement-returns-in-Call t c = λ m f around frame.
+    let text = m.program.text in
+    let result = c.judge_call.result in
+    let old = c.args.found.now.items in
+    let new = c.judge_call.new.found.items in
+    let v = c.args.variables.now in
+    subst (λ x. OnOk result (Turned text old new v (statement_turn m x f))) (sym (ap statement_tree c.in-Call.is ∙ of_call c.in-Call.call))
+    (on_stays result text old new v (call_findings (inside_of m f) Alone (call_tree c.in-Call.call)) f frame (c.judge_call.ensures m f around frame))
+
+pub judge_statement-returns-in-Start : goal.judge_statement-returns-in-Start
+judge_statement-returns-in-Start t c = λ m f around frame.
+    let text = m.program.text in
+    let result = c.judge_call-in-Start.result in
+    let old = c.args.found.now.items in
+    let new = c.judge_call-in-Start.new.found.items in
+    let v = c.args.variables.now in
+    subst (λ x. OnOk result (Turned text old new v (statement_turn m x f))) (sym (ap statement_tree c.in-Start.is ∙ of_start _ c.in-Start.call))
+    (on_stays result text old new v (call_findings (inside_of m f) Started (call_tree c.in-Start.call)) f frame (c.judge_call-in-Start.ensures m f around frame))
+
+pub judge_statement-returns-in-Delete : goal.judge_statement-returns-in-Delete
+judge_statement-returns-in-Delete t c = λ m f around frame.
+    let text = m.program.text in
+    let result = c.judge_delete.result in
+    let old = c.args.found.now.items in
+    let new = c.judge_delete.new.found.items in
+    let v = c.args.variables.now in
+    subst (λ x. OnOk result (Turned text old new v (statement_turn m x f))) (sym (ap statement_tree c.in-Delete.is ∙ of_delete c.in-Delete.name))
+    (on_stays result text old new v (delete_findings (scope_in m f) c.in-Delete.name) f frame (c.judge_delete.ensures m.program f around.scope frame))
+
+pub judge_statement-returns-in-NewChannel : goal.judge_statement-returns-in-NewChannel
+judge_statement-returns-in-NewChannel t c = λ m f around frame.
+    let text = m.program.text in
+    let result = c.judge_channel.result in
+    let old = c.args.found.now.items in
+    let new = c.judge_channel.new.found.items in
+    let v = c.args.variables.now in
+    subst (λ x. OnOk result (Turned text old new v (statement_turn m x f))) (sym (ap statement_tree c.in-NewChannel.is ∙ of_channel c.in-NewChannel.channel))
+    (on_stays result text old new v (channel_findings (scope_in m f) c.in-NewChannel.channel.contract c.in-NewChannel.channel.first c.in-NewChannel.channel.second) f frame (c.judge_channel.ensures m.program f around.scope frame))
+
+pub judge_statement-returns-in-Break : goal.judge_statement-returns-in-Break
+judge_statement-returns-in-Break t c = λ m f around frame.
+    let text = m.program.text in
+    let result = c.judge_break.result in
+    let old = c.args.found.now.items in
+    let new = c.judge_break.new.found.items in
+    let v = c.args.variables.now in
+    subst (λ x. OnOk result (Turned text old new v (statement_turn m x f))) (sym (ap statement_tree c.in-Break.is ∙ of_break c.in-Break.word))
+    (on_stays result text old new v (outside m.breaks c.in-Break.word.place (codes "break outside")) f frame (subst (λ b. OnOk result (Adds old new (outside b c.in-Break.word.place (codes "break outside")))) around.breaks c.judge_break.ensures))
+
+pub judge_statement-returns-in-Continue : goal.judge_statement-returns-in-Continue
+judge_statement-returns-in-Continue t c = λ m f around frame.
+    let text = m.program.text in
+    let result = c.judge_continue.result in
+    let old = c.args.found.now.items in
+    let new = c.judge_continue.new.found.items in
+    let v = c.args.variables.now in
+    subst (λ x. OnOk result (Turned text old new v (statement_turn m x f))) (sym (ap statement_tree c.in-Continue.is ∙ of_continue c.in-Continue.word))
+    (on_stays result text old new v (outside m.continues c.in-Continue.word.place (codes "continue outside")) f frame (subst (λ b. OnOk result (Adds old new (outside b c.in-Continue.word.place (codes "continue outside")))) around.continues c.judge_continue.ensures))
+
+pub judge_statement-returns-in-Return : goal.judge_statement-returns-in-Return
+judge_statement-returns-in-Return t c = λ m f around frame.
+    let text = m.program.text in
+    let result = c.judge_return.result in
+    let old = c.args.found.now.items in
+    let new = c.judge_return.new.found.items in
+    let v = c.args.variables.now in
+    subst (λ x. OnOk result (Turned text old new v (statement_turn m x f))) (sym (ap statement_tree c.in-Return.is ∙ of_return c.in-Return.word c.in-Return.value))
+    (on_stays result text old new v (return_findings (scope_in m f) m.result c.in-Return.word (option_map expression_tree c.in-Return.value)) f frame (subst (λ o. OnOk result (Adds old new (return_findings (scope_in m f) o c.in-Return.word (option_map expression_tree c.in-Return.value)))) around.result (c.judge_return.ensures m.program f around.scope frame)))
+
+pub judge_switch-loop-place-init : goal.judge_switch-loop-place-init
+judge_switch-loop-place-init t c = λ m f around frame.
+    let text = m.program.text in
+    let switch = c.args.switch.now in
+    let tree = switch_tree switch in
+    let all = switch_heads tree in
+    let old = c.args.found.now.items in
+    let new = c.judge_case.new.found.items in
+    let first = ap (λ (s : SwitchTree). s.first) (switch_is switch) in
+    let go : Frame → Turn = case_turn m all [] tree.first in
+    let rest : Frame → Turn = cases_turn m all (head_of tree.first ∷ []) (case_row tree.others) in
+    let heads = subst (λ u. IsHeads u all c.in_ok-heads.heads) around.scope.text_is c.in_ok-heads.ensures in
+    let turned = subst (λ k. Turned text old new c.judge_case.new.variables (case_turn m all [] k f)) (sym first) (c.in_ok-judge_case.ensures m f all around frame heads (ap (λ k. Some (head_of k)) first)) in
+    goes_first f go rest turned
+
+pub judge_switch-loop-place-preserved : goal.judge_switch-loop-place-preserved
+judge_switch-loop-place-preserved t c = λ m f around frame.
+    let text = m.program.text in
+    let switch = c.args.switch.now in
+    let i = c.loop-place.place in
+    let tree = switch_tree switch in
+    let all = switch_heads tree in
+    let others = ap (λ (s : SwitchTree). s.others) (switch_is switch) in
+    let case = c.case-item.result in
+    let old = c.args.found.now.items in
+    let size = ap (λ (l : List CaseTree). length l) others ∙ length-map (made.Switch.out-Switch switch).others.items case_tree in
+    let items = c.deref-case-items.ensures.value in
+    let there = subst (λ (l : List made.Case.Case). case ≡ get_or l i case) items c.case-item.is in
+    let next = next_case m (head_of tree.first) tree.others i (case_tree case) (omega (arith, size, ap (λ (l : List made.Case.Case). length l) items, c.loop-place-test.true)) (case_there switch i case others there) in
+    let whole = follow (case_turn m all [] tree.first f) (cases_turn m all (head_of tree.first ∷ []) (case_row tree.others)) in
+    let o = subst (Ongoing text old c.loop-place.found.items c.loop-place.variables whole) next.rest (c.loop-place.invariant m f around frame) in
+    goes_on (case_turn m all (take (i + 1) all) (case_tree case)) (cases_turn m all (take (i + 1 + 1) all) (case_row (drop (i + 1) tree.others))) o
+    (c.in_ok-judge_case-2.ensures m o.frame all around o.stands (subst (λ u. IsHeads u all c.in_ok-heads.heads) around.scope.text_is c.in_ok-heads.ensures) next.head)
+
+pub judge_switch-returns : goal.judge_switch-returns
+judge_switch-returns t c = λ m f around frame.
+    let switch = c.args.switch.now in
+    let i = c.loop-place.place in
+    let tree = switch_tree switch in
+    let all = switch_heads tree in
+    let others = ap (λ (s : SwitchTree). s.others) (switch_is switch) in
+    let size = ap (λ (l : List CaseTree). length l) others ∙ length-map (made.Switch.out-Switch switch).others.items case_tree in
+    let whole = follow (case_turn m all [] tree.first f) (cases_turn m all (head_of tree.first ∷ []) (case_row tree.others)) in
+    ends (subst (Ongoing m.program.text c.args.found.now.items c.loop-place.found.items c.loop-place.variables whole) (last_case m all (take (i + 1) all) tree.others i (omega (arith, size, ap (λ (l : List made.Case.Case). length l) c.deref-case-items.ensures.value, c.loop-place-test.false))) (c.loop-place.invariant m f around frame))

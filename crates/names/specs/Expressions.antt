@@ -1,0 +1,163 @@
+-- The kind of an expression, and what is wrong with the names and kinds in it.
+use Rattle.std.specs.Prelude.{ℕ, Bool, ◌||◌, not, List, [], ◌∷◌, ◌++◌, map, codes, if◌then◌else◌, Option, None, Some, is_some, option_and_then, slice_get}
+use Rattle.std.specs.Option.{option_map_or}
+use Rattle.source.specs.declared.place.Place.{Place}
+use Rattle.source.specs.declared.token.Span.{Span}
+use Rattle.syntax.specs.declared.tree.Scalar.TheVariants as scalar
+use Rattle.names.specs.Declarations.{first_among}
+use Rattle.names.specs.Found.{FindingParts, unknown}
+use Rattle.names.specs.Kinds.{is_silent, is_unknown, is_number, is_truth, is_block, unless}
+use Rattle.names.specs.Program.{Program, as_struct, item_at}
+use Rattle.names.specs.Shapes.{Shape, Number, Truth, Mention, Field, Element, Parens, Signed, Joined, Joint, Logic, Likeness, Order, Sum, Sign, Denial, Minus}
+use Rattle.syntax.specs.Trees.{StructTree}
+use Rattle.syntax.specs.declared.class as made
+use Rattle.names.specs.Variables.{Variable, variable_named}
+use Rattle.names.specs.Words.{word_at, same_word}
+use Rattle.names.specs.declared.kinds.Kind.{Kind}
+use Rattle.names.specs.declared.kinds.Kind.TheVariants as kind
+
+-- what is in scope: a program, and variables
+pub record InScope : Type 0 where
+  pub program : Program
+  pub variables : List Variable
+
+-- the variable that a name means
+abbrev pub meant : InScope → Span → Option Variable
+meant s name = variable_named s.program.text s.variables name
+
+-- the first field of this name in a struct
+abbrev pub field_named : List ℕ → StructTree → Span → Option made.Field.Field
+field_named text s name = option_and_then (slice_get s.fields) (first_among text (map (λ f. f.name) s.fields) name)
+
+abbrev pub is_length : InScope → Span → Bool
+is_length s name = same_word (word_at s.program.text name) (codes "Length")
+
+-- where an expression begins
+abbrev pub place_of : Shape → Place
+place_of (Number place) = place
+place_of (Truth place) = place
+place_of (Mention name) = name.place
+place_of (Field name field) = name.place
+place_of (Element name index) = name.place
+place_of (Parens place inner) = place
+place_of (Signed sign place inner) = place
+place_of (Joined joint left right) = place_of left
+
+-- the kind of a field of what a variable holds; of an array there is the length alone
+abbrev pub struct_field_kind : InScope → Option made.Field.Field → Kind
+struct_field_kind s None = kind.Unknown
+struct_field_kind s (Some f) = kind.Scalar f.kind
+
+abbrev pub field_kind : InScope → Kind → Span → Kind
+field_kind s (kind.Array element) field = if is_length s field then kind.Scalar scalar.Int else kind.Unknown
+field_kind s (kind.Pointer n) field = option_map_or (λ x. struct_field_kind s (field_named s.program.text x.1 field)) (item_at as_struct s.program n) kind.Unknown
+field_kind s kind.Unknown field = kind.Unknown
+field_kind s _ field = kind.Missing
+
+-- the kind of an element, where the index is built on an unknown name or not
+abbrev pub element_kind : Kind → Bool → Kind
+element_kind kind.Unknown lost = kind.Unknown
+element_kind (kind.Array element) lost = if lost then kind.Unknown else kind.Scalar element
+element_kind _ lost = if lost then kind.Unknown else kind.Missing
+
+-- the kind of what is meant by a name; of a name that nothing declares it is unknown
+abbrev pub held : Option Variable → Kind
+held None = kind.Unknown
+held (Some v) = v.kind
+
+abbrev pub joined_kind : Joint → Kind
+joined_kind Logic = kind.Scalar scalar.Bool
+joined_kind Likeness = kind.Scalar scalar.Bool
+joined_kind Order = kind.Scalar scalar.Bool
+joined_kind Sum = kind.Scalar scalar.Int
+
+abbrev pub signed_kind : Sign → Kind
+signed_kind Denial = kind.Scalar scalar.Bool
+signed_kind Minus = kind.Scalar scalar.Int
+
+-- An operator gives its own kind, but for operands that are built on an unknown name.
+abbrev pub kind_of : InScope → Shape → Kind
+kind_of s (Number place) = kind.Scalar scalar.Int
+kind_of s (Truth place) = kind.Scalar scalar.Bool
+kind_of s (Mention name) = held (meant s name)
+kind_of s (Field name field) = field_kind s (held (meant s name)) field
+kind_of s (Element name index) = element_kind (held (meant s name)) (is_unknown (kind_of s index))
+kind_of s (Parens place inner) = kind_of s inner
+kind_of s (Signed sign place inner) = if is_unknown (kind_of s inner) then kind.Unknown else signed_kind sign
+kind_of s (Joined joint left right) = if is_unknown (kind_of s left) || is_unknown (kind_of s right) then kind.Unknown else joined_kind joint
+
+-- what is asked of an operand
+abbrev pub asked_number : Kind → Place → List FindingParts
+asked_number k place = unless (is_silent k || is_number k) place
+
+abbrev pub asked_truth : Kind → Place → List FindingParts
+asked_truth k place = unless (is_silent k || is_truth k) place
+
+abbrev pub asked_either : Kind → Place → List FindingParts
+asked_either k place = unless (is_silent k || (is_number k || is_truth k)) place
+
+-- Of two that are compared the left one decides, where it is a number or a truth value.
+abbrev pub asked_like : Kind → Kind → Place → List FindingParts
+asked_like left k place = if is_number left then asked_number k place else (if is_truth left then asked_truth k place else asked_either k place)
+
+abbrev pub left_asked : Joint → Kind → Place → List FindingParts
+left_asked Logic k place = asked_truth k place
+left_asked Likeness k place = asked_either k place
+left_asked Order k place = asked_number k place
+left_asked Sum k place = asked_number k place
+
+abbrev pub right_asked : Joint → Kind → Kind → Place → List FindingParts
+right_asked Logic left k place = asked_truth k place
+right_asked Likeness left k place = asked_like left k place
+right_asked Order left k place = asked_number k place
+right_asked Sum left k place = asked_number k place
+
+abbrev pub sign_asked : Sign → Kind → Place → List FindingParts
+sign_asked Denial k place = asked_truth k place
+sign_asked Minus k place = asked_number k place
+
+-- a variable has to be declared
+abbrev pub variable_findings : InScope → Span → List FindingParts
+variable_findings s name = if is_some (meant s name) then [] else unknown s.program.text name ∷ []
+
+-- a variable of the exchange heap does not stand within an expression
+abbrev pub mention_findings : InScope → Span → List FindingParts
+mention_findings s name = variable_findings s name ++ unless (not (is_block (held (meant s name)))) name.place
+
+-- only an array has elements
+abbrev pub element_findings : Kind → Span → List FindingParts
+element_findings (kind.Array element) name = []
+element_findings k name = unless (is_silent k) name.place
+
+-- a struct has its fields, an array its length, anything else none
+abbrev pub field_findings : InScope → Kind → Span → Span → List FindingParts
+field_findings s (kind.Array element) name field = if is_length s field then [] else unknown s.program.text field ∷ []
+field_findings s (kind.Pointer n) name field = option_map_or (λ x. if is_some (field_named s.program.text x.1 field) then [] else unknown s.program.text field ∷ []) (item_at as_struct s.program n) []
+field_findings s k name field = unless (is_silent k) name.place
+
+abbrev pub expression_findings : InScope → Shape → List FindingParts
+expression_findings s (Number place) = []
+expression_findings s (Truth place) = []
+expression_findings s (Mention name) = mention_findings s name
+expression_findings s (Field name field) = variable_findings s name ++ field_findings s (held (meant s name)) name field
+expression_findings s (Element name index) =
+    expression_findings s index ++ (asked_number (kind_of s index) (place_of index)
+    ++ (variable_findings s name ++ element_findings (held (meant s name)) name))
+expression_findings s (Parens place inner) = expression_findings s inner
+expression_findings s (Signed sign place inner) = expression_findings s inner ++ sign_asked sign (kind_of s inner) (place_of inner)
+expression_findings s (Joined joint left right) =
+    expression_findings s left ++ (expression_findings s right
+    ++ (left_asked joint (kind_of s left) (place_of left) ++ right_asked joint (kind_of s left) (kind_of s right) (place_of right)))
+
+-- An expression that is the whole of a value, an argument or what is returned: a variable of the exchange heap may stand
+-- there alone.
+abbrev pub whole_findings : InScope → Shape → List FindingParts
+whole_findings s (Mention name) = variable_findings s name
+whole_findings s e = expression_findings s e
+
+-- an expression of which a truth value, or a number, is asked
+abbrev pub truth_findings : InScope → Shape → List FindingParts
+truth_findings s e = expression_findings s e ++ asked_truth (kind_of s e) (place_of e)
+
+abbrev pub number_findings : InScope → Shape → List FindingParts
+number_findings s e = expression_findings s e ++ asked_number (kind_of s e) (place_of e)

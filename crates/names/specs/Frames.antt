@@ -1,0 +1,49 @@
+-- The variables in scope, and what stands round a statement, as the code has them.
+use Rattle.std.specs.Prelude.{◌≡◌, ℕ, ◌+◌, min, List, [], ◌∷◌, ◌++◌, map, None}
+use Rattle.source.specs.declared.finding.Finding.{Finding}
+use Rattle.names.specs.Bodies as bodies
+use Rattle.names.specs.Firsts.{first_of}
+use Rattle.names.specs.Found.{Adds}
+use Rattle.names.specs.Scopes.{IsScope, AreMethods}
+use Rattle.names.specs.Tables.{IsTable}
+use Rattle.names.specs.Variables as model
+use Rattle.names.specs.Variables.{Frame, Turn}
+use Rattle.names.specs.Words.{words_at}
+use Rattle.names.specs.declared.surroundings.Surroundings.{Surroundings}
+use Rattle.names.specs.declared.limits.TheConstants.{MOST_VARIABLES}
+use Rattle.names.specs.declared.variables.Variable.{Variable}
+use Rattle.names.specs.declared.variables.Variables.{Variables}
+
+-- a variable without its memory
+abbrev pub variable_seen : Variable → model.Variable
+variable_seen v = record { name = v.name; kind = v.kind }
+
+-- each of these words is another than those before it
+abbrev pub AreApart : List (List ℕ) → List (List ℕ) → Type 0
+AreApart before [] = Unit {0}
+AreApart before (w ∷ words) = (first_of before w ≡ None) × AreApart (before ++ w ∷ []) words
+
+-- the names of the variables in scope, as they are written
+abbrev pub words_in : List ℕ → List model.Variable → List (List ℕ)
+words_in text variables = words_at text (map (λ v. v.name) variables)
+
+-- These are the variables in scope, each findable by its name, and no two of one name. Of the exchange heap they are
+-- counted as far as one past the limit.
+pub record IsFrame (text : List ℕ) (f : Frame) (v : Variables) : Type 0 where
+  pub list : map variable_seen v.list.items ≡ f.variables
+  pub names : IsTable (words_in text f.variables) v.names
+  pub apart : AreApart [] (words_in text f.variables)
+  pub heap : v.heap ≡ min f.heap (MOST_VARIABLES + 1)
+
+-- all is added to the findings that a turn adds, and its frame is the one that stands now
+pub record Turned (text : List ℕ) (old new : List Finding) (variables : Variables) (t : Turn) : Type 0 where
+  pub found : Adds old new t.found
+  pub frame : IsFrame text t.frame variables
+
+-- what stands round a statement
+pub record AreSurroundings (m : bodies.Surroundings) (s : Surroundings) : Type 0 where
+  pub scope : IsScope m.program s.scope.now
+  pub class : AreMethods m.program.text m.class s.methods.now
+  pub result : s.result ≡ m.result
+  pub breaks : s.breaks ≡ m.breaks
+  pub continues : s.continues ≡ m.continues

@@ -1,0 +1,63 @@
+-- What the parts of an expression are judged to be.
+use Rattle.std.specs.Prelude.{◌≡◌, ◌++◌, ◌||◌, List, Option, Some, None, if◌then◌else◌}
+use Rattle.source.specs.declared.finding.Finding.{Finding}
+use Rattle.source.specs.declared.place.Place.{Place}
+use Rattle.source.specs.declared.token.Span.{Span}
+use Rattle.names.specs.Expressions.{InScope, kind_of, place_of, expression_findings, whole_findings, joined_kind, left_asked, right_asked, signed_kind, sign_asked}
+use Rattle.names.specs.Found.{Adds}
+use Rattle.names.specs.Frames.{IsFrame}
+use Rattle.names.specs.Kinds.{is_unknown}
+use Rattle.names.specs.Program.{Program}
+use Rattle.names.specs.Scopes.{IsScope}
+use Rattle.names.specs.Shapes.{Shape, Number, Truth, Mention, Field, Element, Parens, Signed, Joined, Joint, Sign}
+use Rattle.names.specs.Variables.{Frame}
+use Rattle.names.specs.declared.kinds.Kind.TheVariants as kind
+use Rattle.names.specs.declared.operands.Operand.{Operand}
+use Rattle.names.specs.declared.scope.Scope.{Scope}
+use Rattle.names.specs.declared.variables.Variables.{Variables}
+
+-- what a program and the variables of a frame bring into scope
+abbrev pub in_frame : Program → Frame → InScope
+in_frame p f = record { program = p; variables = f.variables }
+
+-- an operand is of the kind and at the place of this expression, and what is wrong in it was added
+pub record IsJudged (s : InScope) (e : Shape) (old new : List Finding) (o : Operand) : Type 0 where
+  pub kind : o.kind ≡ kind_of s e
+  pub place : o.place ≡ place_of e
+  pub found : Adds old new (expression_findings s e)
+
+-- the same for the whole of a value, an argument or what is returned
+pub record IsJudgedWhole (s : InScope) (e : Shape) (old new : List Finding) (o : Operand) : Type 0 where
+  pub kind : o.kind ≡ kind_of s e
+  pub place : o.place ≡ place_of e
+  pub found : Adds old new (whole_findings s e)
+
+-- whatever these have in scope
+pub record Judges (scope : Scope) (variables : Variables) (e : Shape) (old new : List Finding) (o : Operand) : Type 0 where
+  pub all : (p : Program) (f : Frame) → IsScope p scope → IsFrame p.text f variables → IsJudged (in_frame p f) e old new o
+
+pub record JudgesWhole (scope : Scope) (variables : Variables) (e : Shape) (old new : List Finding) (o : Operand) : Type 0 where
+  pub all : (p : Program) (f : Frame) → IsScope p scope → IsFrame p.text f variables → IsJudgedWhole (in_frame p f) e old new o
+
+-- two operands, joined
+pub record IsJoined (joint : Joint) (left right : Operand) (old new : List Finding) (o : Operand) : Type 0 where
+  pub kind : o.kind ≡ (if is_unknown left.kind || is_unknown right.kind then kind.Unknown else joined_kind joint)
+  pub place : o.place ≡ left.place
+  pub found : Adds old new (left_asked joint left.kind left.place ++ right_asked joint left.kind right.kind right.place)
+
+-- an operand with a sign before it
+pub record IsSigned (sign : Sign) (place : Place) (inner : Operand) (old new : List Finding) (o : Operand) : Type 0 where
+  pub kind : o.kind ≡ (if is_unknown inner.kind then kind.Unknown else signed_kind sign)
+  pub at : o.place ≡ place
+  pub found : Adds old new (sign_asked sign inner.kind inner.place)
+
+-- the variable, if an expression is one and nothing more
+abbrev pub mentioned : Shape → Option Span
+mentioned (Mention name) = Some name
+mentioned (Number place) = None
+mentioned (Truth place) = None
+mentioned (Field name field) = None
+mentioned (Element name index) = None
+mentioned (Parens place inner) = None
+mentioned (Signed sign place inner) = None
+mentioned (Joined joint left right) = None

@@ -1,0 +1,128 @@
+//! What is wrong with the names and kinds of arguments.
+
+ghost use Rattle.std.specs.Prelude.{◌≡◌, map, take, List, OnOk, IfOk, slice_get};
+ghost use Rattle.syntax.specs.ExpressionTrees.{expression_tree};
+ghost use Rattle.names.specs.Found.{Adds};
+ghost use Rattle.names.specs.Frames.{IsFrame};
+ghost use Rattle.names.specs.Kinds.{type_kind};
+ghost use Rattle.names.specs.Program.{Program};
+ghost use Rattle.names.specs.Scopes.{IsScope};
+ghost use Rattle.names.specs.Shapes.{shape};
+ghost use Rattle.names.specs.Values.{asked_findings, argument_asked, argument_findings};
+ghost use Rattle.names.specs.Variables.{Frame};
+
+use crate::expressions::judge_whole;
+use crate::kinds::Kind;
+use crate::scope::Scope;
+use crate::types::kind_of_type;
+use crate::variables::Variables;
+use crate::wholes::judge_asked;
+use source::{Finding, Memory};
+use std::alloc::Global;
+use syntax::{Expression, Param, Parameter};
+
+/// Adds what is wrong with an argument for a parameter of this kind, if there is one.
+fn judge_argument(
+    alloc: Global,
+    scope: &Scope<'_>,
+    variables: &Variables<'_>,
+    asked: Option<Kind>,
+    argument: &Expression,
+    found: &mut Vec<Finding>,
+) -> Result<(), Memory>
+    ensures { (p : Program) (f : Frame) → IsScope p scope.now → IsFrame p.text f variables.now → OnOk result (Adds found.old.items found.new.items (argument_asked (record { program = p; variables = f.variables }) asked (shape (expression_tree argument.now)))) }
+{
+    match asked {
+        Some(kind) => judge_asked(alloc, scope, variables, kind, argument, found),
+        None => {
+            judge_whole(alloc, scope, variables, argument, found)?;
+            Ok(())
+        }
+    }
+}
+
+fn kind_at(kinds: &[Kind], place: usize) -> Option<Kind>
+    ensures { result ≡ slice_get kinds.now place }
+{
+    kinds.get(place).copied()
+}
+
+/// Adds what is wrong with arguments for parameters of these kinds.
+pub(crate) fn judge_arguments(
+    alloc: Global,
+    scope: &Scope<'_>,
+    variables: &Variables<'_>,
+    asked: &[Kind],
+    arguments: &[Expression],
+    found: &mut Vec<Finding>,
+) -> Result<(), Memory>
+    ensures { (p : Program) (f : Frame) → IsScope p scope.now → IsFrame p.text f variables.now → OnOk result (Adds found.old.items found.new.items (argument_findings (record { program = p; variables = f.variables }) asked.now (map shape (map expression_tree arguments.now)))) }
+{
+    for (place, argument) in arguments.iter().enumerate() {
+        let kind = kind_at(asked, place);
+        judge_argument(alloc, scope, variables, kind, argument, found)?;
+    }
+    Ok(())
+}
+
+/// The kinds of the first so many parameters of a method.
+fn parameter_kinds(
+    alloc: Global,
+    scope: &Scope<'_>,
+    parameters: &[Parameter],
+    most: usize,
+) -> Result<Vec<Kind>, Memory>
+    ensures { IfOk result (λ kinds. (p : Program) → IsScope p scope.now → kinds.items ≡ map (λ x. type_kind p x.kind) (take most parameters.now)) }
+{
+    let mut kinds = Vec::new(alloc);
+    for parameter in &parameters[..most.min(parameters.len())] {
+        kinds.push(kind_of_type(scope, parameter.kind))?;
+    }
+    Ok(kinds)
+}
+
+/// The kinds of the first so many parameters of a message.
+fn message_kinds(
+    alloc: Global,
+    scope: &Scope<'_>,
+    parameters: &[Param],
+    most: usize,
+) -> Result<Vec<Kind>, Memory>
+    ensures { IfOk result (λ kinds. (p : Program) → IsScope p scope.now → kinds.items ≡ map (λ x. type_kind p x.kind) (take most parameters.now)) }
+{
+    let mut kinds = Vec::new(alloc);
+    for parameter in &parameters[..most.min(parameters.len())] {
+        kinds.push(kind_of_type(scope, parameter.kind))?;
+    }
+    Ok(kinds)
+}
+
+/// Adds what is wrong with arguments for the parameters of a method.
+pub(crate) fn judge_parameter_arguments(
+    alloc: Global,
+    scope: &Scope<'_>,
+    variables: &Variables<'_>,
+    parameters: &[Parameter],
+    arguments: &[Expression],
+    found: &mut Vec<Finding>,
+) -> Result<(), Memory>
+    ensures { (p : Program) (f : Frame) → IsScope p scope.now → IsFrame p.text f variables.now → OnOk result (Adds found.old.items found.new.items (argument_findings (record { program = p; variables = f.variables }) (map (λ x. type_kind p x.kind) parameters.now) (map shape (map expression_tree arguments.now)))) }
+{
+    let kinds = parameter_kinds(alloc, scope, parameters, arguments.len())?;
+    judge_arguments(alloc, scope, variables, &kinds, arguments, found)
+}
+
+/// Adds what is wrong with arguments for the parameters of a message.
+pub(crate) fn judge_message_arguments(
+    alloc: Global,
+    scope: &Scope<'_>,
+    variables: &Variables<'_>,
+    parameters: &[Param],
+    arguments: &[Expression],
+    found: &mut Vec<Finding>,
+) -> Result<(), Memory>
+    ensures { (p : Program) (f : Frame) → IsScope p scope.now → IsFrame p.text f variables.now → OnOk result (Adds found.old.items found.new.items (argument_findings (record { program = p; variables = f.variables }) (map (λ x. type_kind p x.kind) parameters.now) (map shape (map expression_tree arguments.now)))) }
+{
+    let kinds = message_kinds(alloc, scope, parameters, arguments.len())?;
+    judge_arguments(alloc, scope, variables, &kinds, arguments, found)
+}

@@ -1,0 +1,131 @@
+//! What is wrong with what the cases of a switch bind.
+
+ghost use Rattle.std.specs.Prelude.{◌≡◌, ◌++◌, List, Option, OnOk, option_map, slice_get};
+ghost use Rattle.syntax.specs.Trees.{message_tree};
+ghost use Rattle.syntax.specs.declared.tree.Side.{Side};
+ghost use Rattle.syntax.specs.declared.tree.Param.{Param};
+ghost use Rattle.names.specs.Cases.{typed_turn, bind_turn, binds_turn, brought_kind, brings_heap};
+ghost use Rattle.names.specs.Found.{Adds};
+ghost use Rattle.names.specs.Frames.{IsFrame, Turned};
+ghost use Rattle.names.specs.Kinds.{agree, is_heap, type_kind, type_unknown, unless};
+ghost use Rattle.names.specs.Program.{Program};
+ghost use Rattle.names.specs.Scopes.{IsScope};
+ghost use Rattle.names.specs.Variables.{Frame, declared_variable};
+
+use crate::kinds::Kind;
+use crate::operands::ask;
+use crate::scope::Scope;
+use crate::simple_statements::is_heap;
+use crate::types::{judge_type, kind_of_type};
+use crate::variables::Variables;
+use source::{Finding, Memory, Span};
+use std::alloc::Global;
+use syntax::{Bind, Param, Type};
+
+/// The kind of what a message brings for this parameter, if there is one.
+fn brought_kind(scope: &Scope<'_>, parameter: Option<&Param>) -> Kind
+    ensures { (p : Program) → IsScope p scope.now → result ≡ brought_kind p (option_map (λ x. x.now) parameter.entry) }
+{
+    match parameter {
+        Some(parameter) => kind_of_type(scope, parameter.kind),
+        None => Kind::Unknown,
+    }
+}
+
+/// Whether a message brings something of the exchange heap for this parameter.
+fn brings_heap(parameter: Option<&Param>) -> bool
+    ensures { result ≡ brings_heap (option_map (λ x. x.now) parameter.entry) }
+{
+    match parameter {
+        Some(parameter) => is_heap(parameter.kind),
+        None => false,
+    }
+}
+
+/// Adds what is wrong with a type that is bound where this kind is brought.
+fn judge_bound_type(
+    alloc: Global,
+    scope: &Scope<'_>,
+    kind: Type,
+    brought: Kind,
+    name: Span,
+    found: &mut Vec<Finding>,
+) -> Result<(), Memory>
+    ensures { (p : Program) → IsScope p scope.now → OnOk result (Adds found.old.items found.new.items (type_unknown p kind ++ unless (agree (type_kind p kind) brought) name.place)) }
+{
+    judge_type(alloc, scope, kind, found)?;
+    let bound = kind_of_type(scope, kind);
+    ask(alloc, bound.agrees(brought), name.place, found)
+}
+
+/// Declares a variable in the scope of a program, unless one in scope has its name, and adds what is wrong with that.
+fn declare_in<'a>(
+    alloc: Global,
+    scope: &Scope<'a>,
+    variables: &mut Variables<'a>,
+    name: Span,
+    kind: Kind,
+    heap: bool,
+    found: &mut Vec<Finding>,
+) -> Result<(), Memory>
+    ensures { (p : Program) (f : Frame) → IsScope p scope.now → IsFrame p.text f variables.old → OnOk result (Turned p.text found.old.items found.new.items variables.new (declared_variable p.text name kind heap f)) }
+{
+    variables.declare(alloc, scope.tokens, name, kind, heap, found)
+}
+
+/// Adds what is wrong with a name that a case binds, and declares it.
+fn judge_bind<'a>(
+    alloc: Global,
+    scope: &Scope<'a>,
+    variables: &mut Variables<'a>,
+    parameter: Option<&Param>,
+    bind: Bind,
+    found: &mut Vec<Finding>,
+) -> Result<(), Memory>
+    ensures { (p : Program) (f : Frame) → IsScope p scope.now → IsFrame p.text f variables.old → OnOk result (Turned p.text found.old.items found.new.items variables.new (bind_turn p (option_map (λ x. x.now) parameter.entry) bind f)) }
+{
+    let brought = brought_kind(scope, parameter);
+    match bind.kind {
+        Some(kind) => {
+            judge_bound_type(alloc, scope, kind, brought, bind.name, found)?;
+            let bound = kind_of_type(scope, kind);
+            declare_in(
+                alloc,
+                scope,
+                variables,
+                bind.name,
+                bound,
+                is_heap(kind),
+                found,
+            )
+        }
+        None => {
+            let heap = brings_heap(parameter);
+            declare_in(alloc, scope, variables, bind.name, brought, heap, found)
+        }
+    }
+}
+
+fn parameter_at(parameters: &[Param], place: usize) -> Option<&Param>
+    ensures { option_map (λ x. x.now) result ≡ slice_get parameters.now place }
+{
+    parameters.get(place)
+}
+
+/// Adds what is wrong with the names that a case binds for these parameters, and declares them.
+pub(crate) fn judge_bound<'a>(
+    alloc: Global,
+    scope: &Scope<'a>,
+    variables: &mut Variables<'a>,
+    parameters: &[Param],
+    binds: &[Bind],
+    found: &mut Vec<Finding>,
+) -> Result<(), Memory>
+    ensures { (p : Program) (f : Frame) → IsScope p scope.now → IsFrame p.text f variables.old → OnOk result (Turned p.text found.old.items found.new.items variables.new (binds_turn p parameters.now binds.now f)) }
+{
+    for (place, bind) in binds.iter().enumerate() {
+        let parameter = parameter_at(parameters, place);
+        judge_bind(alloc, scope, variables, parameter, *bind, found)?;
+    }
+    Ok(())
+}

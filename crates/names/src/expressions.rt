@@ -1,0 +1,250 @@
+//! What is wrong with the names and kinds in expressions.
+
+ghost use Rattle.std.specs.Prelude.{◌≡◌, ℕ, List, OnOk, IfOk};
+ghost use Rattle.source.specs.declared.finding.Finding.{Finding};
+ghost use Rattle.syntax.specs.ExpressionTrees.{expression_tree, conjunction_tree, equality_tree, relation_tree, sum_tree, term_tree, unary_tree, atom_tree, target_tree};
+ghost use Rattle.names.specs.Expressions.{InScope, kind_of, expression_findings, whole_findings};
+ghost use Rattle.names.specs.Found.{Adds};
+ghost use Rattle.names.specs.Frames.{IsFrame};
+ghost use Rattle.names.specs.Operands.{IsJudged, Judges};
+ghost use Rattle.names.specs.Program.{Program};
+ghost use Rattle.names.specs.Scopes.{IsScope};
+ghost use Rattle.names.specs.Shapes.{Shape, shape, atom_shape, target_shape, signed};
+ghost use Rattle.names.specs.Variables.{Frame};
+
+use crate::kinds::Kind;
+use crate::mentions;
+use crate::operands::{Joint, Operand, join, sign};
+use crate::scope::Scope;
+use crate::variables::Variables;
+use crate::wholes::judge_whole_operand;
+use source::{Finding, Memory};
+use std::alloc::Global;
+use syntax::{Atom, Conjunction, Equality, Expression, Prefix, Relation, Sum, Target, Term, Unary};
+
+/// The kind of an expression, and where it begins; adds what is wrong in it.
+#[cycle(expressions)]
+pub(crate) fn judge_operand(
+    alloc: Global,
+    scope: &Scope<'_>,
+    variables: &Variables<'_>,
+    expression: &Expression,
+    found: &mut Vec<Finding>,
+) -> Result<Operand, Memory>
+    ensures { IfOk result (Judges scope.now variables.now (shape (expression_tree expression.now)) found.old.items found.new.items) }
+{
+    let mut left = judge_conjunction(alloc, scope, variables, &expression.first, found)?;
+    'each: for conjunction in &expression.others {
+        let right = judge_conjunction(alloc, scope, variables, conjunction, found)?;
+        left = join(alloc, Joint::Logic, left, right, found)?;
+    }
+    Ok(left)
+}
+
+/// The same of a conjunction.
+#[cycle(expressions)]
+fn judge_conjunction(
+    alloc: Global,
+    scope: &Scope<'_>,
+    variables: &Variables<'_>,
+    conjunction: &Conjunction,
+    found: &mut Vec<Finding>,
+) -> Result<Operand, Memory>
+    ensures { IfOk result (Judges scope.now variables.now (shape (conjunction_tree conjunction.now)) found.old.items found.new.items) }
+{
+    let mut left = judge_equality(alloc, scope, variables, &conjunction.first, found)?;
+    'each: for equality in &conjunction.others {
+        let right = judge_equality(alloc, scope, variables, equality, found)?;
+        left = join(alloc, Joint::Logic, left, right, found)?;
+    }
+    Ok(left)
+}
+
+/// The same of an equality.
+#[cycle(expressions)]
+fn judge_equality(
+    alloc: Global,
+    scope: &Scope<'_>,
+    variables: &Variables<'_>,
+    equality: &Equality,
+    found: &mut Vec<Finding>,
+) -> Result<Operand, Memory>
+    ensures { IfOk result (Judges scope.now variables.now (shape (equality_tree equality.now)) found.old.items found.new.items) }
+{
+    let mut left = judge_relation(alloc, scope, variables, &equality.first, found)?;
+    'each: for step in &equality.others {
+        let right = judge_relation(alloc, scope, variables, &step.relation, found)?;
+        left = join(alloc, Joint::Likeness, left, right, found)?;
+    }
+    Ok(left)
+}
+
+/// The same of a relation.
+#[cycle(expressions)]
+fn judge_relation(
+    alloc: Global,
+    scope: &Scope<'_>,
+    variables: &Variables<'_>,
+    relation: &Relation,
+    found: &mut Vec<Finding>,
+) -> Result<Operand, Memory>
+    ensures { IfOk result (Judges scope.now variables.now (shape (relation_tree relation.now)) found.old.items found.new.items) }
+{
+    let mut left = judge_sum(alloc, scope, variables, &relation.first, found)?;
+    'each: for step in &relation.others {
+        let right = judge_sum(alloc, scope, variables, &step.sum, found)?;
+        left = join(alloc, Joint::Order, left, right, found)?;
+    }
+    Ok(left)
+}
+
+/// The same of a sum.
+#[cycle(expressions)]
+fn judge_sum(
+    alloc: Global,
+    scope: &Scope<'_>,
+    variables: &Variables<'_>,
+    sum: &Sum,
+    found: &mut Vec<Finding>,
+) -> Result<Operand, Memory>
+    ensures { IfOk result (Judges scope.now variables.now (shape (sum_tree sum.now)) found.old.items found.new.items) }
+{
+    let mut left = judge_term(alloc, scope, variables, &sum.first, found)?;
+    'each: for step in &sum.others {
+        let right = judge_term(alloc, scope, variables, &step.term, found)?;
+        left = join(alloc, Joint::Sum, left, right, found)?;
+    }
+    Ok(left)
+}
+
+/// The same of a term.
+#[cycle(expressions)]
+fn judge_term(
+    alloc: Global,
+    scope: &Scope<'_>,
+    variables: &Variables<'_>,
+    term: &Term,
+    found: &mut Vec<Finding>,
+) -> Result<Operand, Memory>
+    ensures { IfOk result (Judges scope.now variables.now (shape (term_tree term.now)) found.old.items found.new.items) }
+{
+    let mut left = judge_unary(alloc, scope, variables, &term.first, found)?;
+    'each: for unary in &term.others {
+        let right = judge_unary(alloc, scope, variables, unary, found)?;
+        left = join(alloc, Joint::Sum, left, right, found)?;
+    }
+    Ok(left)
+}
+
+/// The same of an atom with what stands before it.
+#[cycle(expressions)]
+fn judge_unary(
+    alloc: Global,
+    scope: &Scope<'_>,
+    variables: &Variables<'_>,
+    unary: &Unary,
+    found: &mut Vec<Finding>,
+) -> Result<Operand, Memory>
+    ensures { IfOk result (Judges scope.now variables.now (shape (unary_tree unary.now)) found.old.items found.new.items) }
+{
+    let atom = judge_atom(alloc, scope, variables, &unary.atom, found)?;
+    judge_signs(alloc, &unary.prefixes, atom, found)
+}
+
+/// An operand with all of these before it, from the last on; adds what is wrong with that.
+fn judge_signs(
+    alloc: Global,
+    prefixes: &[Prefix],
+    inner: Operand,
+    found: &mut Vec<Finding>,
+) -> Result<Operand, Memory>
+    ensures { IfOk result (λ o. (s : InScope) (e : Shape) (start : List Finding) → IsJudged s e start found.old.items inner → IsJudged s (signed prefixes.now e) start found.new.items o) }
+{
+    let mut operand = inner;
+    let mut left = prefixes.len();
+    while left > 0 {
+        left -= 1;
+        operand = sign(alloc, prefixes[left], operand, found)?;
+    }
+    Ok(operand)
+}
+
+/// The same of an atom.
+#[cycle(expressions)]
+fn judge_atom(
+    alloc: Global,
+    scope: &Scope<'_>,
+    variables: &Variables<'_>,
+    atom: &Atom,
+    found: &mut Vec<Finding>,
+) -> Result<Operand, Memory>
+    ensures { IfOk result (Judges scope.now variables.now (atom_shape (atom_tree atom.now)) found.old.items found.new.items) }
+{
+    match atom {
+        Atom::Number(span) => Ok(Operand::number(span.place)),
+        Atom::True(span) => Ok(Operand::truth(span.place)),
+        Atom::False(span) => Ok(Operand::truth(span.place)),
+        Atom::Target(target) => judge_mentioned(alloc, scope, variables, target, found),
+        Atom::Parens { open, inner } => {
+            let inner = judge_operand(alloc, scope, variables, inner, found)?;
+            Ok(Operand {
+                kind: inner.kind,
+                place: open.place,
+            })
+        }
+    }
+}
+
+/// The same of a target within an expression.
+#[cycle(expressions)]
+fn judge_mentioned(
+    alloc: Global,
+    scope: &Scope<'_>,
+    variables: &Variables<'_>,
+    target: &Target,
+    found: &mut Vec<Finding>,
+) -> Result<Operand, Memory>
+    ensures { IfOk result (Judges scope.now variables.now (target_shape (target_tree target.now)) found.old.items found.new.items) }
+{
+    match target {
+        Target::Variable(name) => mentions::judge_mention(alloc, scope, variables, *name, found),
+        Target::Field { variable, field } => {
+            mentions::judge_field_of(alloc, scope, variables, *variable, *field, found)
+        }
+        Target::Element { variable, index } => {
+            let index = judge_operand(alloc, scope, variables, index, found)?;
+            mentions::judge_element_of(alloc, scope, variables, *variable, index, found)
+        }
+    }
+}
+
+/// The kind of an expression; adds what is wrong in it.
+pub(crate) fn judge_expression(
+    alloc: Global,
+    scope: &Scope<'_>,
+    variables: &Variables<'_>,
+    expression: &Expression,
+    found: &mut Vec<Finding>,
+) -> Result<Kind, Memory>
+    ensures kind { IfOk result (λ kind. (p : Program) (f : Frame) → IsScope p scope.now → IsFrame p.text f variables.now → kind ≡ kind_of (record { program = p; variables = f.variables }) (shape (expression_tree expression.now))) }
+    ensures found { (p : Program) (f : Frame) → IsScope p scope.now → IsFrame p.text f variables.now → OnOk result (Adds found.old.items found.new.items (expression_findings (record { program = p; variables = f.variables }) (shape (expression_tree expression.now)))) }
+{
+    let operand = judge_operand(alloc, scope, variables, expression, found)?;
+    Ok(operand.kind)
+}
+
+/// The same of an expression that is the whole of a value, an argument or what is returned: a variable of the exchange
+/// heap may stand there alone.
+pub(crate) fn judge_whole(
+    alloc: Global,
+    scope: &Scope<'_>,
+    variables: &Variables<'_>,
+    expression: &Expression,
+    found: &mut Vec<Finding>,
+) -> Result<Kind, Memory>
+    ensures kind { IfOk result (λ kind. (p : Program) (f : Frame) → IsScope p scope.now → IsFrame p.text f variables.now → kind ≡ kind_of (record { program = p; variables = f.variables }) (shape (expression_tree expression.now))) }
+    ensures found { (p : Program) (f : Frame) → IsScope p scope.now → IsFrame p.text f variables.now → OnOk result (Adds found.old.items found.new.items (whole_findings (record { program = p; variables = f.variables }) (shape (expression_tree expression.now)))) }
+{
+    let operand = judge_whole_operand(alloc, scope, variables, expression, found)?;
+    Ok(operand.kind)
+}

@@ -1,0 +1,143 @@
+//! The heads of the cases of a switch.
+
+ghost use Rattle.std.specs.Prelude.{◌≡◌, ℕ, List, Option, Some, take, map, IfOk, slice_get};
+ghost use Rattle.syntax.specs.StatementTrees.{switch_tree, case_tree};
+ghost use Rattle.names.specs.Bodies.{head_of};
+ghost use Rattle.names.specs.Heads.{awaiting_of, key_words, awaited_word, key_at, is_before, switch_heads};
+ghost use Rattle.names.specs.Words.{word_at};
+
+use crate::positions::first_positions;
+use crate::tables::Table;
+use source::{Memory, Span, Tokens};
+use std::alloc::Global;
+use std::collections::BTreeMap;
+use syntax::{Awaited, Case, Switch};
+
+/// What is written at the endpoint of a case and at the message that it awaits; at no message where the other end is
+/// closed.
+type Key<'a> = (&'a [u8], Option<&'a [u8]>);
+
+/// The endpoint of a case, and what is awaited there.
+#[derive(Clone, Copy, Debug)]
+pub(crate) struct Awaiting {
+    endpoint: Span,
+    awaited: Awaited,
+}
+
+/// Where each endpoint, and each endpoint with a message, stands first among the cases of a switch. Names are compared
+/// and never hashed.
+#[derive(Debug, Drop)]
+pub(crate) struct Heads<'a> {
+    cases: BTreeMap<Key<'a>, usize>,
+    endpoints: Table<'a>,
+}
+
+impl<'a> Heads<'a> {
+    ghost use Rattle.names.specs.Cases.{Head, awaits_too};
+    ghost use Rattle.names.specs.Heads.{IsHeads, lacks};
+
+    /// The heads of a switch.
+    pub(crate) fn of(
+        alloc: Global,
+        tokens: &'a Tokens,
+        switch: &Switch,
+    ) -> Result<Heads<'a>, Memory>
+        ensures { IfOk result (IsHeads tokens.now.text.items (switch_heads (switch_tree switch.now))) }
+    {
+        let list = awaiting_in(alloc, switch)?;
+        let names = endpoints_of(alloc, &list)?;
+        let keys = keys_of(alloc, tokens, &list)?;
+        let cases = first_positions(alloc, &keys)?;
+        let endpoints = Table::of(alloc, tokens, &names)?;
+        Ok(Heads { cases, endpoints })
+    }
+
+    /// Whether one of the heads before this place awaits the same as this case.
+    pub(crate) fn is_twice(&self, tokens: &'a Tokens, place: usize, case: Awaiting) -> bool
+        ensures { (all : List Head) (h : Head) → IsHeads tokens.now.text.items all self.now → case ≡ awaiting_of h → result ≡ awaits_too tokens.now.text.items h (take place all) }
+    {
+        stands_before(self.place_of(key_of(tokens, case)), place)
+    }
+
+    /// Whether the endpoint has no case for its close, and none of the heads before this place names it.
+    pub(crate) fn is_lacking(&self, tokens: &'a Tokens, place: usize, endpoint: Span) -> bool
+        ensures { (all : List Head) (h : Head) → IsHeads tokens.now.text.items all self.now → endpoint ≡ h.endpoint → result ≡ lacks tokens.now.text.items all (take place all) h }
+    {
+        let word = tokens.slice(endpoint);
+        let named = stands_before(self.endpoints.find(word), place);
+        let closed = self.place_of((word, None)).is_some();
+        !(named || closed)
+    }
+
+    /// How many heads stand before the first one that is written so.
+    fn place_of(&self, key: Key<'a>) -> Option<usize>
+        ensures { (text : List ℕ) (all : List Head) → IsHeads text all self.now → result ≡ key_at text (key_words key.entry) all }
+    {
+        self.cases.get(&key).copied()
+    }
+}
+
+/// Whether it is found, and before this place.
+fn stands_before(found: Option<usize>, place: usize) -> bool
+    ensures { result ≡ is_before place found }
+{
+    match found {
+        Some(first) => first < place,
+        None => false,
+    }
+}
+
+/// What is written at a head.
+fn key_of<'a>(tokens: &'a Tokens, case: Awaiting) -> Key<'a>
+    ensures { key_words result ≡ (word_at tokens.now.text.items case.endpoint, awaited_word tokens.now.text.items case.awaited) }
+{
+    let word = tokens.slice(case.endpoint);
+    match case.awaited {
+        Awaited::Message(message) => (word, Some(tokens.slice(message))),
+        Awaited::Closed(_) => (word, None),
+    }
+}
+
+/// What is written at these heads.
+fn keys_of<'a>(alloc: Global, tokens: &'a Tokens, list: &[Awaiting]) -> Result<Vec<Key<'a>>, Memory>
+    ensures { IfOk result (λ keys. map key_words keys.items ≡ map (λ a. (word_at tokens.now.text.items a.endpoint, awaited_word tokens.now.text.items a.awaited)) list.now) }
+{
+    let mut keys = Vec::new(alloc);
+    for case in list {
+        keys.push(key_of(tokens, *case))?;
+    }
+    Ok(keys)
+}
+
+/// The endpoints of these heads.
+fn endpoints_of(alloc: Global, list: &[Awaiting]) -> Result<Vec<Span>, Memory>
+    ensures { IfOk result (λ names. names.items ≡ map (λ a. a.endpoint) list.now) }
+{
+    let mut names = Vec::new(alloc);
+    for case in list {
+        names.push(case.endpoint)?;
+    }
+    Ok(names)
+}
+
+/// What the head of a case awaits.
+pub(crate) fn awaiting_at(case: &Case) -> Awaiting
+    ensures { result ≡ awaiting_of (head_of (case_tree case.now)) }
+{
+    Awaiting {
+        endpoint: case.endpoint,
+        awaited: case.message,
+    }
+}
+
+/// What the heads of a switch await, in order.
+fn awaiting_in(alloc: Global, switch: &Switch) -> Result<Vec<Awaiting>, Memory>
+    ensures { IfOk result (λ list. list.items ≡ map awaiting_of (switch_heads (switch_tree switch.now))) }
+{
+    let mut list = Vec::new(alloc);
+    list.push(awaiting_at(&switch.first))?;
+    for case in &switch.others {
+        list.push(awaiting_at(case))?;
+    }
+    Ok(list)
+}

@@ -1,0 +1,82 @@
+//! What a variable holds, and what an expression gives.
+
+ghost use Rattle.std.specs.Prelude.{◌≡◌};
+
+use syntax::{Scalar, Side};
+
+/// What a variable holds, or an expression gives. An item is named by how many items stand before it in the text.
+#[derive(Clone, Copy, Debug, PartialEq, Eq)]
+pub(crate) enum Kind {
+    Scalar(Scalar),
+    /// A pointer to a struct.
+    Pointer(usize),
+    /// An array of such elements.
+    Array(Scalar),
+    /// An end of a channel of a contract.
+    Endpoint(usize, Side),
+    /// None: what is read of a variable that has no fields or no elements. Nothing is asked of it.
+    Missing,
+    /// It is built on a name that is not declared. Nothing is asked of it, nor of what is built on it.
+    Unknown,
+}
+
+impl Kind {
+    ghost use Rattle.names.specs.Kinds as specs;
+
+    /// Whether nothing is asked of it.
+    pub(crate) fn is_silent(self) -> bool
+        ensures { result ≡ specs.is_silent self }
+    {
+        matches!(self, Kind::Missing | Kind::Unknown)
+    }
+
+    /// Whether it is built on a name that is not declared.
+    pub(crate) fn is_unknown(self) -> bool
+        ensures { result ≡ specs.is_unknown self }
+    {
+        matches!(self, Kind::Unknown)
+    }
+
+    /// Whether it is int or byte.
+    pub(crate) fn is_number(self) -> bool
+        ensures { result ≡ specs.is_number self }
+    {
+        matches!(self, Kind::Scalar(Scalar::Int | Scalar::Byte))
+    }
+
+    /// Whether it is bool.
+    pub(crate) fn is_truth(self) -> bool
+        ensures { result ≡ specs.is_truth self }
+    {
+        matches!(self, Kind::Scalar(Scalar::Bool))
+    }
+
+    /// Whether it is a block of the exchange heap.
+    pub(crate) fn is_block(self) -> bool
+        ensures { result ≡ specs.is_block self }
+    {
+        matches!(self, Kind::Pointer(_) | Kind::Array(_) | Kind::Endpoint(..))
+    }
+
+    /// Whether both are of one kind, but for which scalar a number is.
+    fn is_like(self, other: Kind) -> bool
+        ensures { result ≡ specs.alike self other }
+    {
+        match (self, other) {
+            (Kind::Scalar(_), Kind::Scalar(_)) => self.is_number() == other.is_number(),
+            (Kind::Pointer(left), Kind::Pointer(right)) => left == right,
+            (Kind::Array(left), Kind::Array(right)) => left == right,
+            (Kind::Endpoint(left, side), Kind::Endpoint(right, other_side)) => {
+                left == right && side == other_side
+            }
+            _ => false,
+        }
+    }
+
+    /// Whether it may stand where the other is asked for.
+    pub(crate) fn agrees(self, asked: Kind) -> bool
+        ensures { result ≡ specs.agree self asked }
+    {
+        self.is_silent() || asked.is_silent() || self.is_like(asked)
+    }
+}

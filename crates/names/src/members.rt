@@ -1,0 +1,232 @@
+//! What an item declares within it, and where each of its names is declared first.
+
+ghost use Rattle.std.specs.Prelude.{◌≡◌, List, ℕ, map, IfOk, option_map};
+ghost use Rattle.std.specs.Option.{option_copied};
+ghost use Rattle.syntax.specs.Trees.{ContractTree, StructTree, ClassTree, contract_tree, struct_tree, class_tree, definition_tree, message_tree, method_tree};
+ghost use Rattle.names.specs.Declarations.{names_of_messages, names_of_states};
+ghost use Rattle.names.specs.Expressions.{field_named};
+ghost use Rattle.names.specs.Outlines.{outlined_messages, outlined_states};
+ghost use Rattle.names.specs.Values.{message_written, method_named};
+
+use crate::outline::Outline;
+use crate::tables::Table;
+use source::{Span, Tokens};
+use std::alloc::{AllocError, Global};
+use syntax::{Class, Contract, Definition, Field, Message, Method, Struct};
+
+/// What a contract declares, and where each of its names is declared first.
+#[derive(Debug, Drop)]
+pub(crate) struct Declared<'a> {
+    pub(crate) outline: Outline<'a>,
+    pub(crate) messages: Table<'a>,
+    pub(crate) states: Table<'a>,
+}
+
+/// The fields of a struct, and where each of their names is declared first.
+#[derive(Debug, Drop)]
+pub(crate) struct Fields<'a> {
+    pub(crate) list: &'a [Field],
+    pub(crate) table: Table<'a>,
+}
+
+/// The methods of a class, and where each of their names is declared first.
+#[derive(Debug, Drop)]
+pub(crate) struct Methods<'a> {
+    pub(crate) list: &'a [Method],
+    pub(crate) table: Table<'a>,
+}
+
+/// What an item declares within it.
+#[derive(Debug, Drop)]
+pub(crate) enum Members<'a> {
+    Contract(Declared<'a>),
+    Struct(Fields<'a>),
+    Class(Methods<'a>),
+}
+
+impl<'a> Members<'a> {
+    ghost use Rattle.names.specs.Scopes.{AreMembers, as_declared, as_fields, as_methods};
+
+    /// What a definition declares within it.
+    pub(crate) fn of(
+        alloc: Global,
+        tokens: &'a Tokens,
+        definition: &'a Definition,
+    ) -> Result<Members<'a>, AllocError>
+        ensures { IfOk result (AreMembers tokens.now.text.items (definition_tree definition.now)) }
+    {
+        match definition {
+            Definition::Contract(contract) => {
+                Ok(Members::Contract(Declared::of(alloc, tokens, contract)?))
+            }
+            Definition::Struct(structure) => {
+                Ok(Members::Struct(Fields::of(alloc, tokens, structure)?))
+            }
+            Definition::Class(class) => Ok(Members::Class(Methods::of(alloc, tokens, class)?)),
+        }
+    }
+
+    /// What a contract declares, if it is one.
+    pub(crate) fn declared(&self) -> Option<&Declared<'a>>
+        ensures { option_copied result ≡ as_declared self.now }
+    {
+        match self {
+            Members::Contract(declared) => Some(declared),
+            _ => None,
+        }
+    }
+
+    /// The fields of a struct, if it is one.
+    pub(crate) fn fields(&self) -> Option<&Fields<'a>>
+        ensures { option_copied result ≡ as_fields self.now }
+    {
+        match self {
+            Members::Struct(fields) => Some(fields),
+            _ => None,
+        }
+    }
+
+    /// The methods of a class, if it is one.
+    pub(crate) fn methods(&self) -> Option<&Methods<'a>>
+        ensures { option_copied result ≡ as_methods self.now }
+    {
+        match self {
+            Members::Class(methods) => Some(methods),
+            _ => None,
+        }
+    }
+}
+
+impl<'a> Declared<'a> {
+    ghost use Rattle.names.specs.Scopes.{IsDeclared};
+
+    /// What a contract declares.
+    pub(crate) fn of(
+        alloc: Global,
+        tokens: &'a Tokens,
+        contract: &'a Contract,
+    ) -> Result<Declared<'a>, AllocError>
+        ensures { IfOk result (IsDeclared tokens.now.text.items (contract_tree contract.now)) }
+    {
+        let outline = Outline::of(alloc, contract)?;
+        let messages = outline.message_names(alloc)?;
+        let states = outline.state_names(alloc)?;
+        let messages = Table::of(alloc, tokens, &messages)?;
+        let states = Table::of(alloc, tokens, &states)?;
+        Ok(Declared {
+            outline,
+            messages,
+            states,
+        })
+    }
+
+    /// The first message that is written so.
+    pub(crate) fn message(&self, word: &[u8]) -> Option<&'a Message>
+        ensures { (text : List ℕ) (c : ContractTree) → IsDeclared text c self.now → option_map (λ m. message_tree m.now) result ≡ message_written text c word.now }
+    {
+        let place = self.messages.find(word)?;
+        self.outline.messages.get(place).copied()
+    }
+}
+
+impl<'a> Fields<'a> {
+    ghost use Rattle.names.specs.Scopes.{AreFields};
+
+    /// The fields of a struct.
+    pub(crate) fn of(
+        alloc: Global,
+        tokens: &'a Tokens,
+        structure: &'a Struct,
+    ) -> Result<Fields<'a>, AllocError>
+        ensures { IfOk result (AreFields tokens.now.text.items (struct_tree structure.now)) }
+    {
+        let names = names_of_fields(alloc, &structure.fields)?;
+        let table = Table::of(alloc, tokens, &names)?;
+        Ok(Fields {
+            list: &structure.fields,
+            table,
+        })
+    }
+
+    /// The first field of this name.
+    pub(crate) fn find(&self, tokens: &Tokens, name: Span) -> Option<Field>
+        ensures { (s : StructTree) → AreFields tokens.now.text.items s self.now → result ≡ field_named tokens.now.text.items s name }
+    {
+        let place = self.table.find(tokens.slice(name))?;
+        self.list.get(place).copied()
+    }
+}
+
+impl<'a> Methods<'a> {
+    ghost use Rattle.names.specs.Scopes.{AreMethods};
+
+    /// The methods of a class.
+    pub(crate) fn of(
+        alloc: Global,
+        tokens: &'a Tokens,
+        class: &'a Class,
+    ) -> Result<Methods<'a>, AllocError>
+        ensures { IfOk result (AreMethods tokens.now.text.items (class_tree class.now)) }
+    {
+        let names = names_of_methods(alloc, &class.methods)?;
+        let table = Table::of(alloc, tokens, &names)?;
+        Ok(Methods {
+            list: &class.methods,
+            table,
+        })
+    }
+
+    /// The first method of this name.
+    pub(crate) fn find(&self, tokens: &Tokens, name: Span) -> Option<&'a Method>
+        ensures { (c : ClassTree) → AreMethods tokens.now.text.items c self.now → option_map (λ m. method_tree m.now) result ≡ method_named tokens.now.text.items c name }
+    {
+        let place = self.table.find(tokens.slice(name))?;
+        self.list.get(place)
+    }
+}
+
+impl<'a> Outline<'a> {
+    /// The names of the messages, in order.
+    pub(crate) fn message_names(&self, alloc: Global) -> Result<Vec<Span>, AllocError>
+        ensures { IfOk result (λ names. names.items ≡ names_of_messages (outlined_messages self.now)) }
+    {
+        let mut names = Vec::new(alloc);
+        for message in &self.messages {
+            names.push(message.name)?;
+        }
+        Ok(names)
+    }
+
+    /// The names of the states, in order.
+    pub(crate) fn state_names(&self, alloc: Global) -> Result<Vec<Span>, AllocError>
+        ensures { IfOk result (λ names. names.items ≡ names_of_states (outlined_states self.now)) }
+    {
+        let mut names = Vec::new(alloc);
+        for state in &self.states {
+            names.push(state.name)?;
+        }
+        Ok(names)
+    }
+}
+
+/// The names of these fields, in order.
+pub(crate) fn names_of_fields(alloc: Global, fields: &[Field]) -> Result<Vec<Span>, AllocError>
+    ensures { IfOk result (λ names. names.items ≡ map (λ f. f.name) fields.now) }
+{
+    let mut names = Vec::new(alloc);
+    for field in fields {
+        names.push(field.name)?;
+    }
+    Ok(names)
+}
+
+/// The names of these methods, in order.
+pub(crate) fn names_of_methods(alloc: Global, methods: &[Method]) -> Result<Vec<Span>, AllocError>
+    ensures { IfOk result (λ names. names.items ≡ map (λ m. m.name) methods.now) }
+{
+    let mut names = Vec::new(alloc);
+    for method in methods {
+        names.push(method.name)?;
+    }
+    Ok(names)
+}

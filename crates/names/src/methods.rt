@@ -1,0 +1,121 @@
+//! What is wrong with the names and kinds in classes.
+
+ghost use Rattle.std.specs.Prelude.{OnOk};
+ghost use Rattle.std.specs.List.{flat_map};
+ghost use Rattle.syntax.specs.Trees.{ClassTree, method_tree};
+ghost use Rattle.names.specs.Found.{Adds};
+ghost use Rattle.names.specs.Frames.{IsFrame, Turned};
+ghost use Rattle.names.specs.Methods.{result_unknown, parameter_turn, parameters_turn, method_turn, class_findings};
+ghost use Rattle.names.specs.Program.{Program};
+ghost use Rattle.names.specs.Scopes.{IsScope, AreMethods};
+ghost use Rattle.names.specs.Variables.{Frame};
+
+use crate::judging::judge_twice;
+use crate::members::{Methods, names_of_methods};
+use crate::scope::Scope;
+use crate::statements::judge_block;
+use crate::surroundings::Surroundings;
+use crate::types::{is_heap, judge_type, kind_of_type};
+use crate::variables::Variables;
+use source::{Finding, Memory};
+use std::alloc::Global;
+use syntax::{Method, Parameter, Type};
+
+/// Adds what is wrong with the names and kinds in a class.
+pub(crate) fn judge_class<'a>(
+    alloc: Global,
+    scope: &Scope<'a>,
+    methods: &Methods<'a>,
+    found: &mut Vec<Finding>,
+) -> Result<(), Memory>
+    ensures { (p : Program) (c : ClassTree) → IsScope p scope.now → AreMethods p.text c methods.now → OnOk result (Adds found.old.items found.new.items (class_findings p c)) }
+{
+    let names = names_of_methods(alloc, methods.list)?;
+    judge_twice(alloc, scope.tokens, &methods.table, &names, found)?;
+    judge_methods(alloc, scope, methods, found)
+}
+
+/// Adds what is wrong with the names and kinds in each method of a class.
+fn judge_methods<'a>(
+    alloc: Global,
+    scope: &Scope<'a>,
+    methods: &Methods<'a>,
+    found: &mut Vec<Finding>,
+) -> Result<(), Memory>
+    ensures { (p : Program) (c : ClassTree) → IsScope p scope.now → AreMethods p.text c methods.now → OnOk result (Adds found.old.items found.new.items (flat_map (λ m. (method_turn p c m).found) c.methods)) }
+{
+    for method in methods.list {
+        judge_method(alloc, scope, methods, method, found)?;
+    }
+    Ok(())
+}
+
+/// Adds what is wrong with the names and kinds in a method.
+fn judge_method<'a>(
+    alloc: Global,
+    scope: &Scope<'a>,
+    methods: &Methods<'a>,
+    method: &Method,
+    found: &mut Vec<Finding>,
+) -> Result<(), Memory>
+    ensures { (p : Program) (c : ClassTree) → IsScope p scope.now → AreMethods p.text c methods.now → OnOk result (Adds found.old.items found.new.items (method_turn p c (method_tree method.now)).found) }
+{
+    judge_result(alloc, scope, method.result, found)?;
+    let mut variables = Variables::new(alloc);
+    judge_parameters(alloc, scope, &mut variables, &method.params, found)?;
+    let around = Surroundings {
+        scope,
+        methods,
+        result: method.result,
+        breaks: false,
+        continues: false,
+    };
+    judge_block(alloc, &around, &mut variables, &method.body, found)
+}
+
+/// Adds the names in the type that a method gives, if it gives anything, that are not declared.
+fn judge_result(
+    alloc: Global,
+    scope: &Scope<'_>,
+    kind: Option<Type>,
+    found: &mut Vec<Finding>,
+) -> Result<(), Memory>
+    ensures { (p : Program) → IsScope p scope.now → OnOk result (Adds found.old.items found.new.items (result_unknown p kind)) }
+{
+    match kind {
+        Some(kind) => judge_type(alloc, scope, kind, found),
+        None => Ok(()),
+    }
+}
+
+/// Declares the parameters of a method, and adds what is wrong with them.
+fn judge_parameters<'a>(
+    alloc: Global,
+    scope: &Scope<'a>,
+    variables: &mut Variables<'a>,
+    params: &[Parameter],
+    found: &mut Vec<Finding>,
+) -> Result<(), Memory>
+    ensures { (p : Program) (f : Frame) → IsScope p scope.now → IsFrame p.text f variables.old → OnOk result (Turned p.text found.old.items found.new.items variables.new (parameters_turn p params.now f)) }
+{
+    for parameter in params {
+        judge_parameter(alloc, scope, variables, *parameter, found)?;
+    }
+    Ok(())
+}
+
+/// Declares a parameter, and adds what is wrong with it.
+fn judge_parameter<'a>(
+    alloc: Global,
+    scope: &Scope<'a>,
+    variables: &mut Variables<'a>,
+    parameter: Parameter,
+    found: &mut Vec<Finding>,
+) -> Result<(), Memory>
+    ensures { (p : Program) (f : Frame) → IsScope p scope.now → IsFrame p.text f variables.old → OnOk result (Turned p.text found.old.items found.new.items variables.new (parameter_turn p parameter f)) }
+{
+    judge_type(alloc, scope, parameter.kind, found)?;
+    let kind = kind_of_type(scope, parameter.kind);
+    let heap = is_heap(parameter.kind);
+    variables.declare(alloc, scope.tokens, parameter.name, kind, heap, found)
+}

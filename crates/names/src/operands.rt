@@ -1,0 +1,244 @@
+//! Operands: what is asked of them, and what operators make of them.
+
+ghost use Rattle.std.specs.Prelude.{◌≡◌, ◌||◌, IfOk, OnOk, ◌∷◌, [], if◌then◌else◌};
+ghost use Rattle.names.specs.Found.{Adds};
+ghost use Rattle.names.specs.Kinds.{unless, wrong_type, is_unknown};
+ghost use Rattle.names.specs.Expressions.{asked_number, asked_truth, asked_either, asked_like, left_asked, right_asked, joined_kind, signed_kind, sign_asked};
+ghost use Rattle.names.specs.Operands.{IsJoined, IsSigned};
+ghost use Rattle.names.specs.Shapes.{sign_of};
+
+use crate::kinds::Kind;
+use source::{Finding, Memory, Place, texts};
+use std::alloc::Global;
+use syntax::{Prefix, PrefixOperator, Scalar};
+
+/// What an expression gives, and where it begins.
+#[derive(Clone, Copy, Debug)]
+pub(crate) struct Operand {
+    pub(crate) kind: Kind,
+    pub(crate) place: Place,
+}
+
+impl Operand {
+    /// A number.
+    pub(crate) fn number(place: Place) -> Operand
+        ensures { result ≡ record { kind = Kind.Scalar Scalar.Int; place = place } }
+    {
+        Operand {
+            kind: Kind::Scalar(Scalar::Int),
+            place,
+        }
+    }
+
+    /// A truth value.
+    pub(crate) fn truth(place: Place) -> Operand
+        ensures { result ≡ record { kind = Kind.Scalar Scalar.Bool; place = place } }
+    {
+        Operand {
+            kind: Kind::Scalar(Scalar::Bool),
+            place,
+        }
+    }
+}
+
+/// `&&` and `||`; `==` and `!=`; `<`, `<=`, `>` and `>=`; `+`, `-` and `*`.
+#[derive(Clone, Copy, Debug, PartialEq, Eq)]
+pub(crate) enum Joint {
+    Logic,
+    Likeness,
+    Order,
+    Sum,
+}
+
+/// Adds a wrong type.
+pub(crate) fn add_wrong_type(
+    alloc: Global,
+    place: Place,
+    found: &mut Vec<Finding>,
+) -> Result<(), Memory>
+    ensures { OnOk result (Adds found.old.items found.new.items (wrong_type place ∷ [])) }
+{
+    found.push(texts::wrong_type(alloc, place)?)?;
+    Ok(())
+}
+
+/// Adds a wrong type, unless all is well.
+pub(crate) fn ask(
+    alloc: Global,
+    well: bool,
+    place: Place,
+    found: &mut Vec<Finding>,
+) -> Result<(), Memory>
+    ensures { OnOk result (Adds found.old.items found.new.items (unless well place)) }
+{
+    if well {
+        return Ok(());
+    }
+    add_wrong_type(alloc, place, found)
+}
+
+/// Asks for a number.
+pub(crate) fn ask_number(
+    alloc: Global,
+    kind: Kind,
+    place: Place,
+    found: &mut Vec<Finding>,
+) -> Result<(), Memory>
+    ensures { OnOk result (Adds found.old.items found.new.items (asked_number kind place)) }
+{
+    ask(alloc, kind.is_silent() || kind.is_number(), place, found)
+}
+
+/// Asks for a truth value.
+pub(crate) fn ask_truth(
+    alloc: Global,
+    kind: Kind,
+    place: Place,
+    found: &mut Vec<Finding>,
+) -> Result<(), Memory>
+    ensures { OnOk result (Adds found.old.items found.new.items (asked_truth kind place)) }
+{
+    ask(alloc, kind.is_silent() || kind.is_truth(), place, found)
+}
+
+/// Asks for a number or a truth value.
+fn ask_either(
+    alloc: Global,
+    kind: Kind,
+    place: Place,
+    found: &mut Vec<Finding>,
+) -> Result<(), Memory>
+    ensures { OnOk result (Adds found.old.items found.new.items (asked_either kind place)) }
+{
+    let well = kind.is_silent() || kind.is_number() || kind.is_truth();
+    ask(alloc, well, place, found)
+}
+
+/// Asks for what can be compared with what stands on the left.
+fn ask_like(
+    alloc: Global,
+    left: Kind,
+    kind: Kind,
+    place: Place,
+    found: &mut Vec<Finding>,
+) -> Result<(), Memory>
+    ensures { OnOk result (Adds found.old.items found.new.items (asked_like left kind place)) }
+{
+    if left.is_number() {
+        return ask_number(alloc, kind, place, found);
+    }
+    if left.is_truth() {
+        return ask_truth(alloc, kind, place, found);
+    }
+    ask_either(alloc, kind, place, found)
+}
+
+/// What is asked on the left of an operator.
+fn ask_left(
+    alloc: Global,
+    joint: Joint,
+    left: Operand,
+    found: &mut Vec<Finding>,
+) -> Result<(), Memory>
+    ensures { OnOk result (Adds found.old.items found.new.items (left_asked joint left.kind left.place)) }
+{
+    match joint {
+        Joint::Logic => ask_truth(alloc, left.kind, left.place, found),
+        Joint::Likeness => ask_either(alloc, left.kind, left.place, found),
+        Joint::Order => ask_number(alloc, left.kind, left.place, found),
+        Joint::Sum => ask_number(alloc, left.kind, left.place, found),
+    }
+}
+
+/// What is asked on the right of an operator.
+fn ask_right(
+    alloc: Global,
+    joint: Joint,
+    left: Kind,
+    right: Operand,
+    found: &mut Vec<Finding>,
+) -> Result<(), Memory>
+    ensures { OnOk result (Adds found.old.items found.new.items (right_asked joint left right.kind right.place)) }
+{
+    match joint {
+        Joint::Logic => ask_truth(alloc, right.kind, right.place, found),
+        Joint::Likeness => ask_like(alloc, left, right.kind, right.place, found),
+        Joint::Order => ask_number(alloc, right.kind, right.place, found),
+        Joint::Sum => ask_number(alloc, right.kind, right.place, found),
+    }
+}
+
+/// The kind of two operands that are joined.
+fn kind_joined(joint: Joint, left: Kind, right: Kind) -> Kind
+    ensures { result ≡ (if is_unknown left || is_unknown right then Kind.Unknown else joined_kind joint) }
+{
+    if left.is_unknown() || right.is_unknown() {
+        return Kind::Unknown;
+    }
+    match joint {
+        Joint::Logic | Joint::Likeness | Joint::Order => Kind::Scalar(Scalar::Bool),
+        Joint::Sum => Kind::Scalar(Scalar::Int),
+    }
+}
+
+/// Two operands, joined; adds what is wrong with that.
+pub(crate) fn join(
+    alloc: Global,
+    joint: Joint,
+    left: Operand,
+    right: Operand,
+    found: &mut Vec<Finding>,
+) -> Result<Operand, Memory>
+    ensures { IfOk result (IsJoined joint left right found.old.items found.new.items) }
+{
+    ask_left(alloc, joint, left, found)?;
+    ask_right(alloc, joint, left.kind, right, found)?;
+    Ok(Operand {
+        kind: kind_joined(joint, left.kind, right.kind),
+        place: left.place,
+    })
+}
+
+/// What is asked behind a sign.
+fn ask_signed(
+    alloc: Global,
+    operator: PrefixOperator,
+    inner: Operand,
+    found: &mut Vec<Finding>,
+) -> Result<(), Memory>
+    ensures { OnOk result (Adds found.old.items found.new.items (sign_asked (sign_of operator) inner.kind inner.place)) }
+{
+    match operator {
+        PrefixOperator::Not => ask_truth(alloc, inner.kind, inner.place, found),
+        PrefixOperator::Negate => ask_number(alloc, inner.kind, inner.place, found),
+    }
+}
+
+/// The kind of an operand with a sign before it.
+fn kind_signed(operator: PrefixOperator, inner: Kind) -> Kind
+    ensures { result ≡ (if is_unknown inner then Kind.Unknown else signed_kind (sign_of operator)) }
+{
+    if inner.is_unknown() {
+        return Kind::Unknown;
+    }
+    match operator {
+        PrefixOperator::Not => Kind::Scalar(Scalar::Bool),
+        PrefixOperator::Negate => Kind::Scalar(Scalar::Int),
+    }
+}
+
+/// An operand with a sign before it; adds what is wrong with that.
+pub(crate) fn sign(
+    alloc: Global,
+    prefix: Prefix,
+    inner: Operand,
+    found: &mut Vec<Finding>,
+) -> Result<Operand, Memory>
+    ensures { IfOk result (IsSigned (sign_of prefix.operator) prefix.place.place inner found.old.items found.new.items) }
+{
+    ask_signed(alloc, prefix.operator, inner, found)?;
+    Ok(Operand {
+        kind: kind_signed(prefix.operator, inner.kind),
+        place: prefix.place.place,
+    })
+}

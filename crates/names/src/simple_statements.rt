@@ -1,0 +1,270 @@
+//! What is wrong with the names and kinds in statements that hold no other statement.
+
+ghost use Rattle.std.specs.Prelude.{◌≡◌, ◌++◌, ℕ, Option, None, Some, OnOk, IfOk, option_map};
+ghost use Rattle.syntax.specs.ExpressionTrees.{expression_tree};
+ghost use Rattle.syntax.specs.StatementTrees.{declare_tree, assign_tree};
+ghost use Rattle.syntax.specs.Values.{value_tree};
+ghost use Rattle.names.specs.Bodies as bodies;
+ghost use Rattle.names.specs.Bodies.{given_findings, declaration_turn, delete_findings, is_end_of, same_end, ends_findings, new_ends_findings, channel_findings, return_findings};
+ghost use Rattle.names.specs.Expressions.{variable_findings, meant, held};
+ghost use Rattle.names.specs.Found.{Adds};
+ghost use Rattle.names.specs.Frames.{IsFrame, Turned, AreSurroundings};
+ghost use Rattle.names.specs.Kinds.{unless, same_side, is_heap};
+ghost use Rattle.names.specs.Program.{Program, contract_named};
+ghost use Rattle.names.specs.Scopes.{IsScope};
+ghost use Rattle.names.specs.Shapes.{shape};
+ghost use Rattle.names.specs.Values.{target_kind, target_findings, value_findings};
+ghost use Rattle.names.specs.Variables.{Frame};
+
+use crate::expressions::judge_whole;
+use crate::judging::add_unknown;
+use crate::kinds::Kind;
+use crate::mentions::judge_variable;
+use crate::operands::{add_wrong_type, ask};
+use crate::scope::Scope;
+use crate::surroundings::Surroundings;
+use crate::targets::judge_target;
+use crate::types::{judge_type, kind_of_type};
+use crate::values::judge_value;
+use crate::variables::Variables;
+use crate::wholes::judge_asked;
+use source::{Finding, Memory, Span};
+use std::alloc::Global;
+use syntax::{Assign, Declare, Expression, NewChannel, Type, Value};
+
+pub(crate) fn is_heap(kind: Type) -> bool
+    ensures { result ≡ is_heap kind }
+{
+    matches!(kind, Type::Heap(_))
+}
+
+/// Adds what is wrong with the value of a declaration, if it has one.
+fn judge_given(
+    alloc: Global,
+    around: &Surroundings<'_, '_>,
+    variables: &Variables<'_>,
+    asked: Kind,
+    value: &Option<Value>,
+    found: &mut Vec<Finding>,
+) -> Result<(), Memory>
+    ensures { (m : bodies.Surroundings) (f : Frame) → AreSurroundings m around.now → IsFrame m.program.text f variables.now → OnOk result (Adds found.old.items found.new.items (given_findings (bodies.inside_of m f) asked (option_map value_tree value.now))) }
+{
+    match value {
+        Some(value) => judge_value(alloc, around, variables, asked, value, found),
+        None => Ok(()),
+    }
+}
+
+/// Adds what is wrong with a declaration, and declares its variable.
+pub(crate) fn judge_declare<'a>(
+    alloc: Global,
+    around: &Surroundings<'_, 'a>,
+    variables: &mut Variables<'a>,
+    declare: &Declare,
+    found: &mut Vec<Finding>,
+) -> Result<(), Memory>
+    ensures { (m : bodies.Surroundings) (f : Frame) → AreSurroundings m around.now → IsFrame m.program.text f variables.old → OnOk result (Turned m.program.text found.old.items found.new.items variables.new (declaration_turn m (declare_tree declare.now) f)) }
+{
+    let scope = around.scope;
+    let kind = kind_of_type(scope, declare.kind);
+    judge_type(alloc, scope, declare.kind, found)?;
+    judge_given(alloc, around, variables, kind, &declare.value, found)?;
+    let heap = is_heap(declare.kind);
+    variables.declare(alloc, scope.tokens, declare.name, kind, heap, found)
+}
+
+/// Adds what is wrong with an assignment.
+pub(crate) fn judge_assign(
+    alloc: Global,
+    around: &Surroundings<'_, '_>,
+    variables: &Variables<'_>,
+    assign: &Assign,
+    found: &mut Vec<Finding>,
+) -> Result<(), Memory>
+    ensures { (m : bodies.Surroundings) (f : Frame) → AreSurroundings m around.now → IsFrame m.program.text f variables.now → OnOk result (Adds found.old.items found.new.items (target_findings (bodies.scope_in m f) (assign_tree assign.now).target ++ value_findings (bodies.inside_of m f) (target_kind (bodies.scope_in m f) (assign_tree assign.now).target) (assign_tree assign.now).value)) }
+{
+    let asked = judge_target(alloc, around.scope, variables, &assign.target, found)?;
+    judge_value(alloc, around, variables, asked, &assign.value, found)
+}
+
+/// The kind of what this name means.
+pub(crate) fn kind_held(scope: &Scope<'_>, variables: &Variables<'_>, name: Span) -> Kind
+    ensures { (p : Program) (f : Frame) → IsScope p scope.now → IsFrame p.text f variables.now → result ≡ held (meant (record { program = p; variables = f.variables }) name) }
+{
+    match variables.find(scope.tokens, name) {
+        Some(variable) => variable.kind,
+        None => Kind::Unknown,
+    }
+}
+
+/// Adds that no variable has this name.
+pub(crate) fn judge_use(
+    alloc: Global,
+    scope: &Scope<'_>,
+    variables: &Variables<'_>,
+    name: Span,
+    found: &mut Vec<Finding>,
+) -> Result<(), Memory>
+    ensures { (p : Program) (f : Frame) → IsScope p scope.now → IsFrame p.text f variables.now → OnOk result (Adds found.old.items found.new.items (variable_findings (record { program = p; variables = f.variables }) name)) }
+{
+    judge_variable(alloc, scope, variables, name, found)?;
+    Ok(())
+}
+
+/// Adds what is wrong with deleting what this name means.
+pub(crate) fn judge_delete(
+    alloc: Global,
+    scope: &Scope<'_>,
+    variables: &Variables<'_>,
+    name: Span,
+    found: &mut Vec<Finding>,
+) -> Result<(), Memory>
+    ensures { (p : Program) (f : Frame) → IsScope p scope.now → IsFrame p.text f variables.now → OnOk result (Adds found.old.items found.new.items (delete_findings (record { program = p; variables = f.variables }) name)) }
+{
+    judge_use(alloc, scope, variables, name, found)?;
+    let kind = kind_held(scope, variables, name);
+    ask(
+        alloc,
+        kind.is_silent() || kind.is_block(),
+        name.place,
+        found,
+    )
+}
+
+/// Whether it is an end of the contract that is the item at this place.
+fn is_end_of(place: usize, kind: Kind) -> bool
+    ensures { result ≡ is_end_of place kind }
+{
+    match kind {
+        Kind::Endpoint(contract, _) => place == contract,
+        _ => false,
+    }
+}
+
+/// Whether both are the same end of a channel.
+fn same_end(first: Kind, second: Kind) -> bool
+    ensures { result ≡ same_end first second }
+{
+    match (first, second) {
+        (Kind::Endpoint(_, first), Kind::Endpoint(_, second)) => first == second,
+        _ => false,
+    }
+}
+
+/// Adds what is wrong with these kinds for the two ends of a new channel of a contract.
+fn judge_ends(
+    alloc: Global,
+    place: usize,
+    kinds: (Kind, Kind),
+    first: Span,
+    second: Span,
+    found: &mut Vec<Finding>,
+) -> Result<(), Memory>
+    ensures { OnOk result (Adds found.old.items found.new.items (ends_findings place kinds.0 kinds.1 first second)) }
+{
+    let (left, right) = kinds;
+    let is_left = is_end_of(place, left);
+    ask(alloc, left.is_silent() || is_left, first.place, found)?;
+    let apart = !(is_left && same_end(left, right));
+    let well = right.is_silent() || (is_end_of(place, right) && apart);
+    ask(alloc, well, second.place, found)
+}
+
+/// Adds what is wrong with the contract and the kinds of the ends of a new channel.
+fn judge_new_ends(
+    alloc: Global,
+    scope: &Scope<'_>,
+    variables: &Variables<'_>,
+    channel: NewChannel,
+    found: &mut Vec<Finding>,
+) -> Result<(), Memory>
+    ensures { (p : Program) (f : Frame) → IsScope p scope.now → IsFrame p.text f variables.now → OnOk result (Adds found.old.items found.new.items (new_ends_findings (record { program = p; variables = f.variables }) (contract_named p channel.contract) channel.contract channel.first channel.second)) }
+{
+    let left = kind_held(scope, variables, channel.first);
+    let right = kind_held(scope, variables, channel.second);
+    match scope.contract(channel.contract) {
+        Some((place, _)) => judge_ends(
+            alloc,
+            place,
+            (left, right),
+            channel.first,
+            channel.second,
+            found,
+        ),
+        None => add_unknown(alloc, scope.tokens, channel.contract, found),
+    }
+}
+
+/// Adds what is wrong with a new channel.
+pub(crate) fn judge_channel(
+    alloc: Global,
+    scope: &Scope<'_>,
+    variables: &Variables<'_>,
+    channel: NewChannel,
+    found: &mut Vec<Finding>,
+) -> Result<(), Memory>
+    ensures { (p : Program) (f : Frame) → IsScope p scope.now → IsFrame p.text f variables.now → OnOk result (Adds found.old.items found.new.items (channel_findings (record { program = p; variables = f.variables }) channel.contract channel.first channel.second)) }
+{
+    judge_new_ends(alloc, scope, variables, channel, found)?;
+    judge_use(alloc, scope, variables, channel.first, found)?;
+    judge_use(alloc, scope, variables, channel.second, found)
+}
+
+/// Adds what is wrong with a value that a void method returns.
+fn judge_needless(
+    alloc: Global,
+    scope: &Scope<'_>,
+    variables: &Variables<'_>,
+    word: Span,
+    value: &Option<Expression>,
+    found: &mut Vec<Finding>,
+) -> Result<(), Memory>
+    ensures { (p : Program) (f : Frame) → IsScope p scope.now → IsFrame p.text f variables.now → OnOk result (Adds found.old.items found.new.items (return_findings (record { program = p; variables = f.variables }) None word (option_map expression_tree value.now))) }
+{
+    match value {
+        Some(value) => {
+            judge_whole(alloc, scope, variables, value, found)?;
+            add_wrong_type(alloc, word.place, found)
+        }
+        None => Ok(()),
+    }
+}
+
+/// Adds what is wrong with what is returned where a type is asked.
+fn judge_returned(
+    alloc: Global,
+    scope: &Scope<'_>,
+    variables: &Variables<'_>,
+    asked: Type,
+    word: Span,
+    value: &Option<Expression>,
+    found: &mut Vec<Finding>,
+) -> Result<(), Memory>
+    ensures { (p : Program) (f : Frame) → IsScope p scope.now → IsFrame p.text f variables.now → OnOk result (Adds found.old.items found.new.items (return_findings (record { program = p; variables = f.variables }) (Some asked) word (option_map expression_tree value.now))) }
+{
+    match value {
+        Some(value) => {
+            let kind = kind_of_type(scope, asked);
+            judge_asked(alloc, scope, variables, kind, value, found)
+        }
+        None => add_wrong_type(alloc, word.place, found),
+    }
+}
+
+/// Adds what is wrong with a `return`.
+pub(crate) fn judge_return(
+    alloc: Global,
+    scope: &Scope<'_>,
+    variables: &Variables<'_>,
+    asked: Option<Type>,
+    word: Span,
+    value: &Option<Expression>,
+    found: &mut Vec<Finding>,
+) -> Result<(), Memory>
+    ensures { (p : Program) (f : Frame) → IsScope p scope.now → IsFrame p.text f variables.now → OnOk result (Adds found.old.items found.new.items (return_findings (record { program = p; variables = f.variables }) asked word (option_map expression_tree value.now))) }
+{
+    match asked {
+        Some(asked) => judge_returned(alloc, scope, variables, asked, word, value, found),
+        None => judge_needless(alloc, scope, variables, word, value, found),
+    }
+}

@@ -1,0 +1,203 @@
+//! What is wrong with the names and kinds in statements.
+
+ghost use Rattle.std.specs.Prelude.{◌≡◌, List, Some, map, take, OnOk, slice_get, [], ◌∷◌};
+ghost use Rattle.syntax.specs.StatementTrees.{statement_tree, statement_row, block_tree, test_tree, if_tree, switch_tree, case_tree, case_row};
+ghost use Rattle.names.specs.Bodies as bodies;
+ghost use Rattle.names.specs.Bodies.{in_loop, in_switch, statement_turn, statements_turn, block_turn, test_turn, others_turn, case_turn, cases_turn, head_of};
+ghost use Rattle.names.specs.Cases.{Head};
+ghost use Rattle.names.specs.Frames.{IsFrame, Turned, AreSurroundings};
+ghost use Rattle.names.specs.Heads.{IsHeads, switch_heads};
+ghost use Rattle.names.specs.Variables.{Frame, follow};
+
+use crate::calls::{Role, judge_call};
+use crate::cases::{judge_binds, judge_head};
+use crate::heads::Heads;
+use crate::simple_statements::{
+    judge_assign, judge_channel, judge_declare, judge_delete, judge_return,
+};
+use crate::surroundings::Surroundings;
+use crate::told::{judge_break, judge_continue};
+use crate::variables::Variables;
+use crate::wholes::judge_truth;
+use source::{Finding, Memory};
+use std::alloc::Global;
+use syntax::{Block, Case, If, Statement, Switch, Test};
+
+/// The same within a loop.
+fn within_loop<'s, 'a>(around: &Surroundings<'s, 'a>) -> Surroundings<'s, 'a>
+    ensures { (m : bodies.Surroundings) → AreSurroundings m around.now → AreSurroundings (in_loop m) result }
+{
+    Surroundings {
+        breaks: true,
+        continues: true,
+        ..*around
+    }
+}
+
+/// The same within a switch.
+fn within_switch<'s, 'a>(around: &Surroundings<'s, 'a>) -> Surroundings<'s, 'a>
+    ensures { (m : bodies.Surroundings) → AreSurroundings m around.now → AreSurroundings (in_switch m) result }
+{
+    Surroundings {
+        breaks: true,
+        ..*around
+    }
+}
+
+/// Adds what is wrong in a block. What it declares is in scope there alone.
+#[cycle(bodies)]
+pub(crate) fn judge_block<'a>(
+    alloc: Global,
+    around: &Surroundings<'_, 'a>,
+    variables: &mut Variables<'a>,
+    block: &Block,
+    found: &mut Vec<Finding>,
+) -> Result<(), Memory>
+    ensures { (m : bodies.Surroundings) (f : Frame) → AreSurroundings m around.now → IsFrame m.program.text f variables.old → OnOk result (Turned m.program.text found.old.items found.new.items variables.new (block_turn m (block_tree block.now) f)) }
+{
+    let outer = variables.len();
+    judge_statements(alloc, around, variables, &block.statements, found)?;
+    variables.leave(around.scope.tokens, outer);
+    Ok(())
+}
+
+/// Adds what is wrong in these statements.
+#[cycle(bodies)]
+fn judge_statements<'a>(
+    alloc: Global,
+    around: &Surroundings<'_, 'a>,
+    variables: &mut Variables<'a>,
+    statements: &[Statement],
+    found: &mut Vec<Finding>,
+) -> Result<(), Memory>
+    ensures { (m : bodies.Surroundings) (f : Frame) → AreSurroundings m around.now → IsFrame m.program.text f variables.old → OnOk result (Turned m.program.text found.old.items found.new.items variables.new (statements_turn m (statement_row (map statement_tree statements.now)) f)) }
+{
+    for statement in statements {
+        judge_statement(alloc, around, variables, statement, found)?;
+    }
+    Ok(())
+}
+
+/// Adds what is wrong in a statement.
+#[cycle(bodies)]
+fn judge_statement<'a>(
+    alloc: Global,
+    around: &Surroundings<'_, 'a>,
+    variables: &mut Variables<'a>,
+    statement: &Statement,
+    found: &mut Vec<Finding>,
+) -> Result<(), Memory>
+    ensures { (m : bodies.Surroundings) (f : Frame) → AreSurroundings m around.now → IsFrame m.program.text f variables.old → OnOk result (Turned m.program.text found.old.items found.new.items variables.new (statement_turn m (statement_tree statement.now) f)) }
+{
+    let scope = around.scope;
+    match statement {
+        Statement::Block(block) => judge_block(alloc, around, variables, block, found),
+        Statement::Declare(declare) => judge_declare(alloc, around, variables, declare, found),
+        Statement::Assign(assign) => judge_assign(alloc, around, variables, assign, found),
+        Statement::Call(call) => judge_call(alloc, around, variables, Role::Alone, call, found),
+        Statement::Start { call, .. } => {
+            judge_call(alloc, around, variables, Role::Started, call, found)
+        }
+        Statement::Delete(name) => judge_delete(alloc, scope, variables, *name, found),
+        Statement::NewChannel(channel) => judge_channel(alloc, scope, variables, *channel, found),
+        Statement::If(branches) => judge_if(alloc, around, variables, branches, found),
+        Statement::While(test) => {
+            let inner = within_loop(around);
+            judge_test(alloc, &inner, variables, test, found)
+        }
+        Statement::Break(word) => { judge_break(alloc, around.breaks, word.place, found) }
+        Statement::Continue(word) => judge_continue(alloc, around.continues, word.place, found),
+        Statement::Return { word, value } => {
+            judge_return(alloc, scope, variables, around.result, *word, value, found)
+        }
+        Statement::Switch(switch) => {
+            let inner = within_switch(around);
+            judge_switch(alloc, &inner, variables, switch, found)
+        }
+    }
+}
+
+/// Adds what is wrong in a condition and its block.
+#[cycle(bodies)]
+fn judge_test<'a>(
+    alloc: Global,
+    around: &Surroundings<'_, 'a>,
+    variables: &mut Variables<'a>,
+    test: &Test,
+    found: &mut Vec<Finding>,
+) -> Result<(), Memory>
+    ensures { (m : bodies.Surroundings) (f : Frame) → AreSurroundings m around.now → IsFrame m.program.text f variables.old → OnOk result (Turned m.program.text found.old.items found.new.items variables.new (test_turn m (test_tree test.now) f)) }
+{
+    judge_truth(alloc, around.scope, variables, &test.test, found)?;
+    judge_block(alloc, around, variables, &test.body, found)
+}
+
+/// Adds what is wrong in an `if`.
+#[cycle(bodies)]
+fn judge_if<'a>(
+    alloc: Global,
+    around: &Surroundings<'_, 'a>,
+    variables: &mut Variables<'a>,
+    branches: &If,
+    found: &mut Vec<Finding>,
+) -> Result<(), Memory>
+    ensures { (m : bodies.Surroundings) (f : Frame) → AreSurroundings m around.now → IsFrame m.program.text f variables.old → OnOk result (Turned m.program.text found.old.items found.new.items variables.new (follow (test_turn m (if_tree branches.now).first f) (others_turn m (if_tree branches.now).others))) }
+{
+    judge_test(alloc, around, variables, &branches.first, found)?;
+    for test in &branches.others {
+        judge_test(alloc, around, variables, test, found)?;
+    }
+    match &branches.otherwise {
+        Some(block) => judge_block(alloc, around, variables, block, found),
+        None => Ok(()),
+    }
+}
+
+/// Adds what is wrong in a switch; these surroundings are those within it.
+#[cycle(bodies)]
+fn judge_switch<'a>(
+    alloc: Global,
+    around: &Surroundings<'_, 'a>,
+    variables: &mut Variables<'a>,
+    switch: &Switch,
+    found: &mut Vec<Finding>,
+) -> Result<(), Memory>
+    ensures { (m : bodies.Surroundings) (f : Frame) → AreSurroundings m around.now → IsFrame m.program.text f variables.old → OnOk result (Turned m.program.text found.old.items found.new.items variables.new (follow (case_turn m (switch_heads (switch_tree switch.now)) [] (switch_tree switch.now).first f) (cases_turn m (switch_heads (switch_tree switch.now)) (head_of (switch_tree switch.now).first ∷ []) (case_row (switch_tree switch.now).others)))) }
+{
+    let heads = Heads::of(alloc, around.scope.tokens, switch)?;
+    judge_case(alloc, around, variables, &heads, 0, &switch.first, found)?;
+    for (place, case) in switch.others.iter().enumerate() {
+        judge_case(alloc, around, variables, &heads, place + 1, case, found)?;
+    }
+    Ok(())
+}
+
+/// Adds what is wrong in the case at this place in its switch. What it binds and declares is in scope there alone.
+#[cycle(bodies)]
+fn judge_case<'a>(
+    alloc: Global,
+    around: &Surroundings<'_, 'a>,
+    variables: &mut Variables<'a>,
+    heads: &Heads<'a>,
+    place: usize,
+    case: &Case,
+    found: &mut Vec<Finding>,
+) -> Result<(), Memory>
+    ensures { (m : bodies.Surroundings) (f : Frame) (all : List Head) → AreSurroundings m around.now → IsFrame m.program.text f variables.old → IsHeads m.program.text all heads.now → slice_get all place ≡ Some (head_of (case_tree case.now)) → OnOk result (Turned m.program.text found.old.items found.new.items variables.new (case_turn m all (take place all) (case_tree case.now) f)) }
+{
+    let scope = around.scope;
+    judge_head(alloc, scope, variables, heads, place, case, found)?;
+    let outer = variables.len();
+    judge_binds(
+        alloc,
+        scope,
+        variables,
+        case.endpoint,
+        case.message,
+        &case.binds,
+        found,
+    )?;
+    judge_statements(alloc, around, variables, &case.statements, found)?;
+    variables.leave(scope.tokens, outer);
+    Ok(())
+}

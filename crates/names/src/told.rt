@@ -1,0 +1,78 @@
+//! What is told of a value, a call or a statement.
+
+ghost use Rattle.std.specs.Prelude.{◌∷◌, [], OnOk, codes, if◌then◌else◌, ◌==◌};
+ghost use Rattle.names.specs.Bodies.{outside};
+ghost use Rattle.names.specs.Found.{Adds};
+ghost use Rattle.names.specs.Values.{wrong_number, not_started};
+
+use source::{Finding, Memory, Place, Span, Tokens, texts};
+use std::alloc::Global;
+
+fn add_wrong_number(alloc: Global, place: Place, found: &mut Vec<Finding>) -> Result<(), Memory>
+    ensures { OnOk result (Adds found.old.items found.new.items (wrong_number place ∷ [])) }
+{
+    found.push(texts::wrong_number_of_arguments(alloc, place)?)?;
+    Ok(())
+}
+
+/// Adds that there are too few arguments, or too many, unless there are as many as are asked.
+pub(crate) fn judge_number(
+    alloc: Global,
+    asked: usize,
+    given: usize,
+    place: Place,
+    found: &mut Vec<Finding>,
+) -> Result<(), Memory>
+    ensures { OnOk result (Adds found.old.items found.new.items (if asked == given then [] else wrong_number place ∷ [])) }
+{
+    if asked == given {
+        return Ok(());
+    }
+    add_wrong_number(alloc, place, found)
+}
+
+/// Adds a `break` with nothing to break off.
+pub(crate) fn judge_break(
+    alloc: Global,
+    well: bool,
+    place: Place,
+    found: &mut Vec<Finding>,
+) -> Result<(), Memory>
+    ensures { OnOk result (Adds found.old.items found.new.items (outside well place (codes "break outside"))) }
+{
+    if well {
+        return Ok(());
+    }
+    found.push(texts::break_outside(alloc, place)?)?;
+    Ok(())
+}
+
+/// Adds a `continue` with nothing to turn back to.
+pub(crate) fn judge_continue(
+    alloc: Global,
+    well: bool,
+    place: Place,
+    found: &mut Vec<Finding>,
+) -> Result<(), Memory>
+    ensures { OnOk result (Adds found.old.items found.new.items (outside well place (codes "continue outside"))) }
+{
+    if well {
+        return Ok(());
+    }
+    found.push(texts::continue_outside(alloc, place)?)?;
+    Ok(())
+}
+
+/// Adds that a method cannot be started.
+pub(crate) fn add_not_started(
+    alloc: Global,
+    tokens: &Tokens,
+    name: Span,
+    found: &mut Vec<Finding>,
+) -> Result<(), Memory>
+    ensures { OnOk result (Adds found.old.items found.new.items (not_started tokens.now.text.items name ∷ [])) }
+{
+    let word = tokens.slice(name);
+    found.push(texts::cannot_be_started(alloc, name.place, word)?)?;
+    Ok(())
+}

@@ -1,0 +1,99 @@
+//! What is wrong with the names and kinds in values.
+
+ghost use Rattle.std.specs.Prelude.{◌≡◌, OnOk, IfOk};
+ghost use Rattle.syntax.specs.Values.{value_tree, new_tree, made_tree};
+ghost use Rattle.names.specs.Bodies as bodies;
+ghost use Rattle.names.specs.Found.{Adds};
+ghost use Rattle.names.specs.Frames.{IsFrame, AreSurroundings};
+ghost use Rattle.names.specs.Kinds.{pointer_kind, pointer_unknown};
+ghost use Rattle.names.specs.Program.{Program, struct_named};
+ghost use Rattle.names.specs.Scopes.{IsScope};
+ghost use Rattle.names.specs.Values.{made_kind, made_findings, new_findings, value_findings};
+ghost use Rattle.names.specs.Variables.{Frame};
+
+use crate::calls::{Role, judge_call};
+use crate::judging::add_unknown;
+use crate::kinds::Kind;
+use crate::operands::ask;
+use crate::scope::Scope;
+use crate::surroundings::Surroundings;
+use crate::variables::Variables;
+use crate::wholes::{judge_asked, judge_number};
+use source::{Finding, Memory, Span};
+use std::alloc::Global;
+use syntax::{Made, New, Value};
+
+/// The kind of a pointer to the struct of this name; adds that there is none.
+fn judge_structure(
+    alloc: Global,
+    scope: &Scope<'_>,
+    name: Span,
+    found: &mut Vec<Finding>,
+) -> Result<Kind, Memory>
+    ensures kind { IfOk result (λ kind. (p : Program) → IsScope p scope.now → kind ≡ pointer_kind (struct_named p name)) }
+    ensures found { (p : Program) → IsScope p scope.now → OnOk result (Adds found.old.items found.new.items (pointer_unknown p.text (struct_named p name) name)) }
+{
+    match scope.structure(name) {
+        Some(place) => Ok(Kind::Pointer(place)),
+        None => {
+            add_unknown(alloc, scope.tokens, name, found)?;
+            Ok(Kind::Unknown)
+        }
+    }
+}
+
+/// The kind of what `new` makes; adds what is wrong in it.
+fn judge_made(
+    alloc: Global,
+    scope: &Scope<'_>,
+    variables: &Variables<'_>,
+    made: &Made,
+    found: &mut Vec<Finding>,
+) -> Result<Kind, Memory>
+    ensures kind { IfOk result (λ kind. (p : Program) (f : Frame) → IsScope p scope.now → kind ≡ made_kind (record { program = p; variables = f.variables }) (made_tree made.now)) }
+    ensures found { (p : Program) (f : Frame) → IsScope p scope.now → IsFrame p.text f variables.now → OnOk result (Adds found.old.items found.new.items (made_findings (record { program = p; variables = f.variables }) (made_tree made.now))) }
+{
+    match made {
+        Made::Struct { name, .. } => {
+            let kind = judge_structure(alloc, scope, *name, found)?;
+            Ok(kind)
+        }
+        Made::Array { element, length } => {
+            judge_number(alloc, scope, variables, length, found)?;
+            Ok(Kind::Array(*element))
+        }
+    }
+}
+
+/// Adds what is wrong with what `new` makes where this kind is asked.
+fn judge_new(
+    alloc: Global,
+    scope: &Scope<'_>,
+    variables: &Variables<'_>,
+    asked: Kind,
+    new: &New,
+    found: &mut Vec<Finding>,
+) -> Result<(), Memory>
+    ensures { (p : Program) (f : Frame) → IsScope p scope.now → IsFrame p.text f variables.now → OnOk result (Adds found.old.items found.new.items (new_findings (record { program = p; variables = f.variables }) asked (new_tree new.now))) }
+{
+    let kind = judge_made(alloc, scope, variables, &new.made, found)?;
+    ask(alloc, kind.agrees(asked), new.word.place, found)
+}
+
+/// Adds what is wrong with a value of which this kind is asked.
+pub(crate) fn judge_value(
+    alloc: Global,
+    around: &Surroundings<'_, '_>,
+    variables: &Variables<'_>,
+    asked: Kind,
+    value: &Value,
+    found: &mut Vec<Finding>,
+) -> Result<(), Memory>
+    ensures { (m : bodies.Surroundings) (f : Frame) → AreSurroundings m around.now → IsFrame m.program.text f variables.now → OnOk result (Adds found.old.items found.new.items (value_findings (bodies.inside_of m f) asked (value_tree value.now))) }
+{
+    match value {
+        Value::Expression(e) => judge_asked(alloc, around.scope, variables, asked, e, found),
+        Value::Call(call) => judge_call(alloc, around, variables, Role::Asked(asked), call, found),
+        Value::New(new) => judge_new(alloc, around.scope, variables, asked, new, found),
+    }
+}

@@ -1,0 +1,182 @@
+//! Expressions that are the whole of something: of a value, of an argument, of what is returned.
+
+ghost use Rattle.std.specs.Prelude.{◌≡◌, IfOk, OnOk, Option};
+ghost use Rattle.syntax.specs.ExpressionTrees.{expression_tree, conjunction_tree, equality_tree, relation_tree, sum_tree, term_tree, unary_tree, atom_tree, target_tree};
+ghost use Rattle.names.specs.Expressions.{truth_findings, number_findings};
+ghost use Rattle.names.specs.Found.{Adds};
+ghost use Rattle.names.specs.Frames.{IsFrame};
+ghost use Rattle.names.specs.Operands.{JudgesWhole, in_frame, mentioned};
+ghost use Rattle.names.specs.Program.{Program};
+ghost use Rattle.names.specs.Scopes.{IsScope};
+ghost use Rattle.names.specs.Shapes.{shape, atom_shape, target_shape};
+ghost use Rattle.names.specs.Values.{asked_findings};
+ghost use Rattle.names.specs.Variables.{Frame};
+
+use crate::expressions::judge_operand;
+use crate::kinds::Kind;
+use crate::mentions::judge_variable;
+use crate::operands::{Operand, ask, ask_number, ask_truth};
+use crate::scope::Scope;
+use crate::variables::Variables;
+use source::{Finding, Memory, Span};
+use std::alloc::Global;
+use syntax::{Atom, Conjunction, Equality, Expression, Relation, Sum, Target, Term, Unary};
+
+/// The kind of an expression that is the whole of something, and where it begins; adds what is wrong in it.
+pub(crate) fn judge_whole_operand(
+    alloc: Global,
+    scope: &Scope<'_>,
+    variables: &Variables<'_>,
+    expression: &Expression,
+    found: &mut Vec<Finding>,
+) -> Result<Operand, Memory>
+    ensures { IfOk result (JudgesWhole scope.now variables.now (shape (expression_tree expression.now)) found.old.items found.new.items) }
+{
+    match mention_alone(expression) {
+        Some(name) => {
+            let kind = judge_variable(alloc, scope, variables, name, found)?;
+            Ok(Operand {
+                kind,
+                place: name.place,
+            })
+        }
+        None => judge_operand(alloc, scope, variables, expression, found),
+    }
+}
+
+/// An expression of which this kind is asked.
+pub(crate) fn judge_asked(
+    alloc: Global,
+    scope: &Scope<'_>,
+    variables: &Variables<'_>,
+    asked: Kind,
+    expression: &Expression,
+    found: &mut Vec<Finding>,
+) -> Result<(), Memory>
+    ensures { (p : Program) (f : Frame) → IsScope p scope.now → IsFrame p.text f variables.now → OnOk result (Adds found.old.items found.new.items (asked_findings (in_frame p f) asked (shape (expression_tree expression.now)))) }
+{
+    let operand = judge_whole_operand(alloc, scope, variables, expression, found)?;
+    ask(alloc, operand.kind.agrees(asked), operand.place, found)
+}
+
+/// An expression of which a truth value is asked.
+pub(crate) fn judge_truth(
+    alloc: Global,
+    scope: &Scope<'_>,
+    variables: &Variables<'_>,
+    expression: &Expression,
+    found: &mut Vec<Finding>,
+) -> Result<(), Memory>
+    ensures { (p : Program) (f : Frame) → IsScope p scope.now → IsFrame p.text f variables.now → OnOk result (Adds found.old.items found.new.items (truth_findings (in_frame p f) (shape (expression_tree expression.now)))) }
+{
+    let operand = judge_operand(alloc, scope, variables, expression, found)?;
+    ask_truth(alloc, operand.kind, operand.place, found)
+}
+
+/// An expression of which a number is asked.
+pub(crate) fn judge_number(
+    alloc: Global,
+    scope: &Scope<'_>,
+    variables: &Variables<'_>,
+    expression: &Expression,
+    found: &mut Vec<Finding>,
+) -> Result<(), Memory>
+    ensures { (p : Program) (f : Frame) → IsScope p scope.now → IsFrame p.text f variables.now → OnOk result (Adds found.old.items found.new.items (number_findings (in_frame p f) (shape (expression_tree expression.now)))) }
+{
+    let operand = judge_operand(alloc, scope, variables, expression, found)?;
+    ask_number(alloc, operand.kind, operand.place, found)
+}
+
+/// The variable, if an expression is one and nothing more.
+fn mention_alone(expression: &Expression) -> Option<Span>
+    ensures { result ≡ mentioned (shape (expression_tree expression.now)) }
+{
+    if !expression.others.is_empty() {
+        return None;
+    }
+    in_conjunction(&expression.first)
+}
+
+/// The same of a conjunction.
+fn in_conjunction(conjunction: &Conjunction) -> Option<Span>
+    ensures { result ≡ mentioned (shape (conjunction_tree conjunction.now)) }
+{
+    if !conjunction.others.is_empty() {
+        return None;
+    }
+    in_equality(&conjunction.first)
+}
+
+/// The same of an equality.
+fn in_equality(equality: &Equality) -> Option<Span>
+    ensures { result ≡ mentioned (shape (equality_tree equality.now)) }
+{
+    if !equality.others.is_empty() {
+        return None;
+    }
+    in_relation(&equality.first)
+}
+
+/// The same of a relation.
+fn in_relation(relation: &Relation) -> Option<Span>
+    ensures { result ≡ mentioned (shape (relation_tree relation.now)) }
+{
+    if !relation.others.is_empty() {
+        return None;
+    }
+    in_sum(&relation.first)
+}
+
+/// The same of a sum.
+fn in_sum(sum: &Sum) -> Option<Span>
+    ensures { result ≡ mentioned (shape (sum_tree sum.now)) }
+{
+    if !sum.others.is_empty() {
+        return None;
+    }
+    in_term(&sum.first)
+}
+
+/// The same of a term.
+fn in_term(term: &Term) -> Option<Span>
+    ensures { result ≡ mentioned (shape (term_tree term.now)) }
+{
+    if !term.others.is_empty() {
+        return None;
+    }
+    in_unary(&term.first)
+}
+
+/// The same of an atom with what stands before it.
+fn in_unary(unary: &Unary) -> Option<Span>
+    ensures { result ≡ mentioned (shape (unary_tree unary.now)) }
+{
+    if !unary.prefixes.is_empty() {
+        return None;
+    }
+    in_atom(&unary.atom)
+}
+
+/// The same of an atom.
+fn in_atom(atom: &Atom) -> Option<Span>
+    ensures { result ≡ mentioned (atom_shape (atom_tree atom.now)) }
+{
+    match atom {
+        Atom::Number(_) => None,
+        Atom::True(_) => None,
+        Atom::False(_) => None,
+        Atom::Target(target) => in_target(target),
+        Atom::Parens { .. } => None,
+    }
+}
+
+/// The same of a target.
+fn in_target(target: &Target) -> Option<Span>
+    ensures { result ≡ mentioned (target_shape (target_tree target.now)) }
+{
+    match target {
+        Target::Variable(name) => Some(*name),
+        Target::Field { .. } => None,
+        Target::Element { .. } => None,
+    }
+}

@@ -1,0 +1,47 @@
+-- A program has no more contracts than tokens.
+use Rattle.std.proofs.Common.{◌≡◌, ℕ, suc, ◌≤◌, List, [], ◌∷◌, ◌++◌, length, map, refl, ap, arith}
+use Rattle.std.proofs.lemmas.List.{length-append, length-map}
+use Rattle.source.specs.declared.token.Token.{Token}
+use Rattle.syntax.specs.Grammar.{access_word}
+use Rattle.syntax.specs.Parsing.{Spells}
+use Rattle.syntax.specs.Programs.{definition, item, program}
+use Rattle.syntax.specs.Spelling.{optional, word}
+use Rattle.syntax.specs.Symbols.{End, symbols}
+use Rattle.syntax.specs.Trees.{ContractTree, DefinitionTree, Contract, Struct, Class, ItemTree, contract_of, contracts_of}
+use Rattle.names.specs.Resolution.{ContractSeen, each_behind, resolved_contracts}
+
+-- a contract has a symbol of its own
+in_definition : (d : DefinitionTree) → length (contract_of d) ≤ length (definition d)
+in_definition (Contract c) = omega arith
+in_definition (Struct s) = omega arith
+in_definition (Class c) = omega arith
+
+in_items : (items : List ItemTree) → length (contracts_of items) ≤ length (program items)
+in_items [] = omega arith
+in_items (i ∷ items) =
+    let here = in_definition i.definition in
+    let rest = in_items items in
+    let listed = length-append (contract_of i.definition) (contracts_of items) in
+    let front = length-append (optional (λ a. word (access_word a)) i.access) (definition i.definition) in
+    let spelled = length-append (item i) (program items) in
+    omega (arith, here, rest, listed, front, spelled)
+
+as_many_symbols : (tokens : List Token) → length (symbols tokens) ≡ suc (length tokens)
+as_many_symbols [] = refl
+as_many_symbols (t ∷ tokens) = ap suc (as_many_symbols tokens)
+
+-- one is resolved for each
+length_behind : (f : List ContractTree → ContractTree → ContractSeen) (before contracts : List ContractTree) → length (each_behind (λ b c. f b c ∷ []) before contracts) ≡ length contracts
+length_behind f before [] = refl
+length_behind f before (c ∷ cs) = let rest = length_behind f (before ++ c ∷ []) cs in omega (arith, rest)
+
+pub few_contracts : {C : Type 0} (text : List ℕ) (items : List ItemTree) (tokens : List Token) (contracts : List C) (seen : C → ContractSeen) → Spells program items tokens → map seen contracts ≡ resolved_contracts text (contracts_of items) → length contracts ≤ length tokens
+few_contracts text items tokens contracts seen spelled resolved =
+    let symbol = in_items items in
+    let size = ap length spelled in
+    let end = length-append (program items) (End ∷ []) in
+    let read = as_many_symbols tokens in
+    let same = ap length resolved in
+    let each : length (resolved_contracts text (contracts_of items)) ≡ length (contracts_of items) = length_behind _ [] (contracts_of items) in
+    let many = length-map contracts seen in
+    omega (arith, symbol, size, end, read, same, each, many)

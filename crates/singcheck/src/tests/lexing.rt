@@ -1,0 +1,210 @@
+//! Worked examples of the language's tokens, and of what a report says.
+
+mod findings;
+mod slow;
+
+use source::{Kind, MAX_TEXT, Place, TextFault, lex};
+use std::alloc::Global;
+use std::test::Fail;
+
+fn at(line: u32, col: u32) -> Place {
+    Place { line, col }
+}
+
+/// The kinds of a text's tokens.
+fn kinds(alloc: Global, text: &[u8]) -> Result<Vec<Kind>, Fail> {
+    let tokens = lex(alloc, text)?;
+    let kinds = tokens.list.iter().map(|token| token.kind).collect(alloc)?;
+    Ok(kinds)
+}
+
+/// The fault of a text; none where it has tokens.
+fn fault(alloc: Global, text: &[u8]) -> Option<TextFault> {
+    lex(alloc, text).err()
+}
+
+#[test]
+fn first_faults(rt: HostRuntime) {
+    let alloc = rt.alloc();
+    let faults: [(&[u8], TextFault); 15] = [
+        (b"/* a", TextFault::OpenComment(at(1, 1))),
+        (b"/*/", TextFault::OpenComment(at(1, 1))),
+        (b"a /* /* */ /*", TextFault::OpenComment(at(1, 12))),
+        (b"2147483648", TextFault::TooLarge(at(1, 1))),
+        (b"00000000002147483648", TextFault::TooLarge(at(1, 1))),
+        (b"99999999999999999999999", TextFault::TooLarge(at(1, 1))),
+        (b"\xef\xbb", TextFault::Stray(at(1, 1))),
+        (b"\xef\xbb\xbf\xef\xbb\xbf", TextFault::Stray(at(1, 1))),
+        (b"class K { /", TextFault::Stray(at(1, 11))),
+        (b"a\n b & c", TextFault::Stray(at(2, 4))),
+        (b"a | b", TextFault::Stray(at(1, 3))),
+        (b"a &&& b", TextFault::Stray(at(1, 5))),
+        (b"\xef\xbb\xbf\n\t#", TextFault::Stray(at(2, 2))),
+        (b"a # 2147483648", TextFault::Stray(at(1, 3))),
+        (b"2147483648 #", TextFault::TooLarge(at(1, 1))),
+    ];
+    for (text, expected) in &faults {
+        assert_eq!(rt; fault(alloc, text), Some(*expected), "in {text:?}");
+    }
+}
+
+#[test]
+fn no_faults(rt: HostRuntime) {
+    let alloc = rt.alloc();
+    let texts: [&[u8]; 8] = [
+        b"",
+        b"\xef\xbb\xbf",
+        b"2147483647",
+        b"00000000000000000002147483647",
+        b"/*/ */",
+        b"/***/ /**/",
+        b"// \xff /*",
+        b"/* \xff // */",
+    ];
+    for text in &texts {
+        assert_eq!(rt; fault(alloc, text), None, "in {text:?}");
+    }
+}
+
+#[test]
+fn brackets_101_deep(rt: HostRuntime) -> Result<(), Fail> {
+    let alloc = rt.alloc();
+    let mut text = vec![in alloc; b'('; 100]?;
+    assert_eq!(rt; fault(alloc, &text), None);
+    text.push(b'[')?;
+    assert_eq!(rt; fault(alloc, &text), Some(TextFault::TooDeep(at(1, 101))));
+    let mut text = vec![in alloc; b'}'; 5]?;
+    text.extend_from_slice(&[b'{'; 101])?;
+    assert_eq!(rt; fault(alloc, &text), Some(TextFault::TooDeep(at(1, 106))));
+    text.truncate(105);
+    text.extend_from_slice(b"](")?;
+    assert_eq!(rt; fault(alloc, &text), None);
+    Ok(())
+}
+
+#[test]
+fn longest_text(rt: HostRuntime) -> Result<(), Fail> {
+    let alloc = rt.alloc();
+    let mut text = vec![in alloc; b' '; MAX_TEXT]?;
+    assert_eq!(rt; lex(alloc, &text)?.end, at(1, 4_194_305));
+    text.push(b'#')?;
+    assert_eq!(rt; fault(alloc, &text), Some(TextFault::TooLong));
+    Ok(())
+}
+
+#[test]
+fn places_and_spans(rt: HostRuntime) -> Result<(), Fail> {
+    let alloc = rt.alloc();
+    let tokens = lex(alloc, b"\xef\xbb\xbfa\n  12ab//x\r\n/* y\n*/ -> ")?;
+    let found = [
+        (Kind::Name, at(1, 1), 3, "a"),
+        (Kind::Number, at(2, 3), 7, "12"),
+        (Kind::Name, at(2, 5), 9, "ab"),
+        (Kind::Arrow, at(4, 4), 24, "->"),
+    ];
+    assert_eq!(rt; tokens.list.len(), found.len());
+    for (token, (kind, place, start, text)) in tokens.list.iter().zip(&found) {
+        assert_eq!(rt; token.kind, *kind);
+        assert_eq!(rt; token.span.place, *place);
+        assert_eq!(rt; token.span.start, *start);
+        assert_eq!(rt; tokens.slice(token.span), text.as_bytes());
+    }
+    assert_eq!(rt; tokens.end, at(4, 7));
+    assert_eq!(rt; lex(alloc, b"class K {\n")?.end, at(2, 1));
+    Ok(())
+}
+
+/// Every reserved word, in order of the alphabet.
+const RESERVED: [Kind; 37] = [
+    Kind::Bool,
+    Kind::Break,
+    Kind::Byte,
+    Kind::Case,
+    Kind::Class,
+    Kind::ChannelClosed,
+    Kind::Claims,
+    Kind::Continue,
+    Kind::Contract,
+    Kind::Delete,
+    Kind::Else,
+    Kind::Exp,
+    Kind::ExHeap,
+    Kind::False,
+    Kind::If,
+    Kind::Imp,
+    Kind::In,
+    Kind::Int,
+    Kind::Internal,
+    Kind::Message,
+    Kind::New,
+    Kind::NewChannel,
+    Kind::One,
+    Kind::Out,
+    Kind::Private,
+    Kind::Public,
+    Kind::Receive,
+    Kind::Rep,
+    Kind::Return,
+    Kind::Start,
+    Kind::State,
+    Kind::Static,
+    Kind::Struct,
+    Kind::Switch,
+    Kind::True,
+    Kind::Void,
+    Kind::While,
+];
+
+#[test]
+fn reserved_words(rt: HostRuntime) -> Result<(), Fail> {
+    let text =
+        b"bool break byte case class ChannelClosed Claims continue contract delete else Exp ExHeap \
+        false if Imp in int internal message new NewChannel one out private public receive rep return start \
+        state static struct switch true void while";
+    let words = kinds(rt.alloc(), text)?;
+    assert_eq!(rt; words.as_slice(), RESERVED.as_slice());
+    let text = b"Bool breaks channelClosed exheap In i iff _in internall Case rece NewChannels";
+    let names = kinds(rt.alloc(), text)?;
+    assert_eq!(rt; names.as_slice(), [Kind::Name; 12].as_slice());
+    Ok(())
+}
+
+#[test]
+fn all_symbols(rt: HostRuntime) -> Result<(), Fail> {
+    let found = kinds(rt.alloc(), b"{}()[];:,.*!?= == !=<<=>>=+-&&||->-->===!==")?;
+    let symbols = [
+        Kind::OpenBrace,
+        Kind::CloseBrace,
+        Kind::OpenParen,
+        Kind::CloseParen,
+        Kind::OpenBracket,
+        Kind::CloseBracket,
+        Kind::Semicolon,
+        Kind::Colon,
+        Kind::Comma,
+        Kind::Dot,
+        Kind::Star,
+        Kind::Bang,
+        Kind::Question,
+        Kind::Equal,
+        Kind::EqualEqual,
+        Kind::NotEqual,
+        Kind::Less,
+        Kind::LessEqual,
+        Kind::Greater,
+        Kind::GreaterEqual,
+        Kind::Plus,
+        Kind::Minus,
+        Kind::AndAnd,
+        Kind::OrOr,
+        Kind::Arrow,
+        Kind::Minus,
+        Kind::Arrow,
+        Kind::EqualEqual,
+        Kind::Equal,
+        Kind::NotEqual,
+        Kind::Equal,
+    ];
+    assert_eq!(rt; found.as_slice(), symbols.as_slice());
+    Ok(())
+}

@@ -1,0 +1,18 @@
+use Rattle.std.proofs.Common.{◌≡◌, false, refl, sym, ap, ◌∙◌}
+use Rattle.syntax.specs.Symbols.{is_placed}
+use Rattle.syntax.specs.Grammar.{access_word}
+use Rattle.syntax.specs.Firsts.{access_of}
+use Rattle.syntax.specs.declared.tree.Access.{Access}
+use Rattle.syntax.specs.declared.tree.Access.TheVariants as access
+use Rattle.syntax.proofs.Pieces.{stops_never}
+use Rattle.syntax.proofs.Words.{words_taken}
+use Rattle.syntax.proofs.AccessRules.{accesses}
+use Rattle.syntax.proofs.access.access.Goals as goal
+
+pub returns : goal.returns
+returns c = (words_taken accesses c.in_ok-access.access _ _ (ap access_of (sym c.peek.ensures.kind) ∙ sym c.access_of.ensures ∙ c.in_ok-access.was) (plain c.in_ok-access.access) c.skip.ensures.fixed, stops_never _)
+  where
+    plain : (a : Access) → is_placed (access_word a) ≡ false
+    plain access.Public = refl
+    plain access.Private = refl
+    plain access.Internal = refl

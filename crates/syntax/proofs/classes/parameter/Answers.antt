@@ -1,0 +1,21 @@
+use Rattle.std.proofs.Common.{refl}
+use Rattle.syntax.specs.Reading.{never}
+use Rattle.syntax.proofs.Exits.{exits}
+use Rattle.syntax.proofs.Pieces.{fails_first, fails_second, via_fails}
+use Rattle.syntax.proofs.CursorLemmas.{named_piece}
+use Rattle.syntax.specs.Programs.{parameter}
+use Rattle.syntax.proofs.TypeForms.{type_piece, type_follows}
+use Rattle.syntax.proofs.ClassRules.{maybe_claims_piece, typed_name_piece, claims_follows, parameter_to, parameter_from}
+use Rattle.syntax.proofs.classes.parameter.Goals as goal
+
+pub returns-in_err-claims : goal.returns-in_err-claims
+returns-in_err-claims c = exits (λ x. x) parameter never (λ _. never) _ _ _ _ _ c.from_residual.ensures.1 c.in_err-claims.ensures
+    (λ h. via_fails parameter_to parameter_from (λ _. refl) (fails_first h typed_name_piece claims_follows))
+
+pub returns-in_err-kind : goal.returns-in_err-kind
+returns-in_err-kind c = exits (λ x. x) parameter never (λ _. never) _ _ _ _ _ c.from_residual-in_err-kind.ensures.1 c.in_err-kind.ensures
+    (λ h. via_fails parameter_to parameter_from (λ _. refl) (fails_second c.in_ok-claims.claims maybe_claims_piece c.in_ok-claims.ensures claims_follows (fails_first h named_piece type_follows)))
+
+pub returns-in_err-name : goal.returns-in_err-name
+returns-in_err-name c = exits (λ x. x) parameter never (λ _. never) _ _ _ _ _ c.from_residual-in_err-name.ensures.1 c.in_err-name.ensures
+    (λ h. via_fails parameter_to parameter_from (λ _. refl) (fails_second c.in_ok-claims.claims maybe_claims_piece c.in_ok-claims.ensures claims_follows (fails_second c.in_ok-kind.kind type_piece c.in_ok-kind.ensures type_follows h)))

@@ -1,0 +1,16 @@
+use Rattle.std.proofs.Common.{◌≡◌, ◌∷◌, ◌++◌, List, length}
+use Rattle.syntax.specs.Spelling.{listed}
+use Rattle.syntax.specs.Programs.{parameter}
+use Rattle.syntax.specs.declared.class.Parameter.{Parameter}
+use Rattle.syntax.proofs.classes.parameter_list.Given as goal
+
+abbrev pub invariant-more : goal.invariant-more
+invariant-more l = record {
+  read : l.fn.cursor ≡ listed parameter l.all.items ++ l.cursor;
+  first : Parameter;
+  others : List Parameter;
+  some : l.all.items ≡ first ∷ others;
+}
+
+abbrev pub decreases-more : goal.decreases-more
+decreases-more l = length l.cursor

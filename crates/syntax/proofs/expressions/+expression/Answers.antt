@@ -1,0 +1,284 @@
+use Rattle.std.proofs.Common.{map, sym, ap, ◌∙◌, refl, arith, subst}
+use Rattle.std.specs.List.{flat_map}
+use Rattle.std.proofs.lemmas.Bool.{iff_false}
+use Rattle.std.proofs.lemmas.Grind.{common_steps}
+use Rattle.source.specs.declared.kind.Kind.TheVariants as kind
+use Rattle.syntax.specs.Spelling.{parens}
+use Rattle.syntax.specs.Reading.{never, Reads, Fails}
+use Rattle.syntax.specs.Operators.{Or, And, Equal, Compare, Add, Multiply, Single, Joined, joins}
+use Rattle.syntax.specs.Expressions.{Number, True, False, level, level_on, level_at, expression, step, step_at, steps_end, atom, atom_at, target, target_at, target_on}
+use Rattle.syntax.specs.ExpressionTrees.{expression_tree, conjunction_tree, equality_tree, equality_step_tree, relation_tree, relation_step_tree, sum_tree, sum_step_tree, term_tree, unary_tree, atom_tree, target_tree, unmarked}
+use Rattle.syntax.proofs.Exits.{exits}
+use Rattle.syntax.proofs.KindLemmas.{kind_leads, test_leads}
+use Rattle.syntax.proofs.Enclosed.{parens_open_fails, parens_fails, parens_close_fails, brackets_open_fails, brackets_fails, brackets_close_fails}
+use Rattle.syntax.proofs.AtomRules.{in_parens, in_brackets, index, target_form, parens_form, number_form, number_leads}
+use Rattle.syntax.proofs.ExpressionFails.{first_fails, others_fail, unary_fails, mark_fails, behind_fails, step_fails, chain_is_read, expression_piece, prefixes_fail, atom_fails, variable_fails, dotted_fails, indexed_fails, unary_is_read, step_tail, last_step, atom_is_read}
+use Rattle.syntax.proofs.TreeLemmas.{expression_made, conjunction_made, equality_made, relation_made, sum_made, term_made, unary_made, number_made, true_made, false_made}
+use Rattle.syntax.proofs.Pieces.{wide_fails, stops_never}
+use Rattle.syntax.proofs.Choices.{form_fails}
+use Rattle.syntax.proofs.expressions.+expression.Goals as goal
+
+pub expression_from-returns-in_err-first-clause-read : goal.expression_from-returns-in_err-first-clause-read
+expression_from-returns-in_err-first-clause-read t c = exits expression_tree level (level_on (Joined Or)) level_at _ _ _ _ _ c.from_residual.ensures.1 c.in_err-first.ensures.read
+    (λ h. first_fails Or h)
+
+pub expression_from-returns-in_err-others-clause-read : goal.expression_from-returns-in_err-others-clause-read
+expression_from-returns-in_err-others-clause-read t c = exits expression_tree level (level_on (Joined Or)) level_at _ _ _ _ _ c.from_residual-in_err-others.ensures.1 c.in_err-others.ensures
+    (λ h. others_fail Or (conjunction_tree c.in_ok-first.first) c.in_ok-first.ensures.read h)
+
+pub expression_from-returns-clause-read : goal.expression_from-returns-clause-read
+expression_from-returns-clause-read t c = chain_is_read Or _ _ _ (conjunction_tree c.in_ok-first.first) (map (unmarked conjunction_tree) c.in_ok-others.others.items) _ (expression_made c.in_ok-first.first c.in_ok-others.others) c.in_ok-first.ensures.read c.in_ok-others.ensures
+
+pub conjunctions-returns-in_err-or_conjunction : goal.conjunctions-returns-in_err-or_conjunction
+conjunctions-returns-in_err-or_conjunction t c = exits (λ v. map (unmarked conjunction_tree) v.items) (flat_map (step Or)) (level_on (Joined Or)) (steps_end Or) _ _ _ _ _ c.from_residual.ensures.1 c.in_err-or_conjunction.ensures
+    (λ h. step_fails Or (map (unmarked conjunction_tree) c.each.all.items) c.each.invariant.read (kind_leads kind.OrOr _ (c.each-test.ensures.is.0 refl)) h)
+
+pub conjunctions-each-preserved : goal.conjunctions-each-preserved
+conjunctions-each-preserved t c = record {
+  read = grind (arith, common_steps);
+  ended = last_step Or (unmarked conjunction_tree) c.in_ok-or_conjunction.field-0 c.each.all.items c.push.new.self.items _ c.in_ok-push.ensures.items c.in_ok-or_conjunction.ensures.1;
+  shorter = grind (arith, common_steps);
+}
+
+pub or_conjunction-returns-in_err-expect : goal.or_conjunction-returns-in_err-expect
+or_conjunction-returns-in_err-expect t c = exits (unmarked conjunction_tree) (step Or) (level_on (Joined And)) (step_at Or) _ _ _ _ _ c.from_residual.ensures.1 c.in_err-expect.ensures
+    (λ h. mark_fails Or h)
+
+pub or_conjunction-returns-in_err-unary : goal.or_conjunction-returns-in_err-unary
+or_conjunction-returns-in_err-unary t c = exits (unmarked conjunction_tree) (step Or) (level_on (Joined And)) (step_at Or) _ _ _ _ _ c.from_residual-in_err-unary.ensures.1 c.in_err-unary.ensures
+    (λ h. behind_fails Or tt c.in_ok-expect.ensures (unary_fails (Joined And) h))
+
+pub or_conjunction-returns : goal.or_conjunction-returns
+or_conjunction-returns t c = step_tail Or conjunction_tree tt _ _ _ _ c.in_ok-expect.ensures (subst (λ mid. Reads conjunction_tree level (level_on (Joined And)) level_at mid c.conjunction_from.new.cursor c.conjunction_from.result) (sym c.in_ok-unary.ensures.0) c.conjunction_from.ensures.read)
+
+pub conjunction_from-returns-in_err-first-clause-read : goal.conjunction_from-returns-in_err-first-clause-read
+conjunction_from-returns-in_err-first-clause-read t c = exits conjunction_tree level (level_on (Joined And)) level_at _ _ _ _ _ c.from_residual.ensures.1 c.in_err-first.ensures.read
+    (λ h. first_fails And h)
+
+pub conjunction_from-returns-in_err-others-clause-read : goal.conjunction_from-returns-in_err-others-clause-read
+conjunction_from-returns-in_err-others-clause-read t c = exits conjunction_tree level (level_on (Joined And)) level_at _ _ _ _ _ c.from_residual-in_err-others.ensures.1 c.in_err-others.ensures
+    (λ h. others_fail And (equality_tree c.in_ok-first.first) c.in_ok-first.ensures.read h)
+
+pub conjunction_from-returns-clause-read : goal.conjunction_from-returns-clause-read
+conjunction_from-returns-clause-read t c = chain_is_read And _ _ _ (equality_tree c.in_ok-first.first) (map (unmarked equality_tree) c.in_ok-others.others.items) _ (conjunction_made c.in_ok-first.first c.in_ok-others.others) c.in_ok-first.ensures.read c.in_ok-others.ensures
+
+pub equalities-returns-in_err-and_equality : goal.equalities-returns-in_err-and_equality
+equalities-returns-in_err-and_equality t c = exits (λ v. map (unmarked equality_tree) v.items) (flat_map (step And)) (level_on (Joined And)) (steps_end And) _ _ _ _ _ c.from_residual.ensures.1 c.in_err-and_equality.ensures
+    (λ h. step_fails And (map (unmarked equality_tree) c.each.all.items) c.each.invariant.read (kind_leads kind.AndAnd _ (c.each-test.ensures.is.0 refl)) h)
+
+pub equalities-each-preserved : goal.equalities-each-preserved
+equalities-each-preserved t c = record {
+  read = grind (arith, common_steps);
+  ended = last_step And (unmarked equality_tree) c.in_ok-and_equality.field-0 c.each.all.items c.push.new.self.items _ c.in_ok-push.ensures.items c.in_ok-and_equality.ensures.1;
+  shorter = grind (arith, common_steps);
+}
+
+pub and_equality-returns-in_err-expect : goal.and_equality-returns-in_err-expect
+and_equality-returns-in_err-expect t c = exits (unmarked equality_tree) (step And) (level_on (Joined Equal)) (step_at And) _ _ _ _ _ c.from_residual.ensures.1 c.in_err-expect.ensures
+    (λ h. mark_fails And h)
+
+pub and_equality-returns-in_err-unary : goal.and_equality-returns-in_err-unary
+and_equality-returns-in_err-unary t c = exits (unmarked equality_tree) (step And) (level_on (Joined Equal)) (step_at And) _ _ _ _ _ c.from_residual-in_err-unary.ensures.1 c.in_err-unary.ensures
+    (λ h. behind_fails And tt c.in_ok-expect.ensures (unary_fails (Joined Equal) h))
+
+pub and_equality-returns : goal.and_equality-returns
+and_equality-returns t c = step_tail And equality_tree tt _ _ _ _ c.in_ok-expect.ensures (subst (λ mid. Reads equality_tree level (level_on (Joined Equal)) level_at mid c.equality_from.new.cursor c.equality_from.result) (sym c.in_ok-unary.ensures.0) c.equality_from.ensures.read)
+
+pub equality_from-returns-in_err-first-clause-read : goal.equality_from-returns-in_err-first-clause-read
+equality_from-returns-in_err-first-clause-read t c = exits equality_tree level (level_on (Joined Equal)) level_at _ _ _ _ _ c.from_residual.ensures.1 c.in_err-first.ensures.read
+    (λ h. first_fails Equal h)
+
+pub equality_from-returns-in_err-others-clause-read : goal.equality_from-returns-in_err-others-clause-read
+equality_from-returns-in_err-others-clause-read t c = exits equality_tree level (level_on (Joined Equal)) level_at _ _ _ _ _ c.from_residual-in_err-others.ensures.1 c.in_err-others.ensures
+    (λ h. others_fail Equal (relation_tree c.in_ok-first.first) c.in_ok-first.ensures.read h)
+
+pub equality_from-returns-clause-read : goal.equality_from-returns-clause-read
+equality_from-returns-clause-read t c = chain_is_read Equal _ _ _ (relation_tree c.in_ok-first.first) (map equality_step_tree c.in_ok-others.others.items) _ (equality_made c.in_ok-first.first c.in_ok-others.others) c.in_ok-first.ensures.read c.in_ok-others.ensures
+
+pub equality_steps-returns-in_err-equality_step : goal.equality_steps-returns-in_err-equality_step
+equality_steps-returns-in_err-equality_step t c = exits (λ v. map equality_step_tree v.items) (flat_map (step Equal)) (level_on (Joined Equal)) (steps_end Equal) _ _ _ _ _ c.from_residual.ensures.1 c.in_err-equality_step.ensures
+    (λ h. step_fails Equal (map equality_step_tree c.each.all.items) c.each.invariant.read (test_leads (joins Equal) c.each.cursor refl (ap (joins Equal) (sym c.peek.ensures.kind) ∙ sym c.is_equality.ensures ∙ c.each-test.true)) h)
+
+pub equality_steps-each-preserved : goal.equality_steps-each-preserved
+equality_steps-each-preserved t c = record {
+  read = grind (arith, common_steps);
+  ended = last_step Equal equality_step_tree c.in_ok-equality_step.field-0 c.each.all.items c.push.new.self.items _ c.in_ok-push.ensures.items c.in_ok-equality_step.ensures.1;
+  shorter = grind (arith, common_steps);
+}
+
+pub equality_step-returns-in_err-operator : goal.equality_step-returns-in_err-operator
+equality_step-returns-in_err-operator t c = exits equality_step_tree (step Equal) (level_on (Joined Compare)) (step_at Equal) _ _ _ _ _ c.from_residual.ensures.1 c.in_err-operator.ensures
+    (λ h. mark_fails Equal h)
+
+pub equality_step-returns-in_err-unary : goal.equality_step-returns-in_err-unary
+equality_step-returns-in_err-unary t c = exits equality_step_tree (step Equal) (level_on (Joined Compare)) (step_at Equal) _ _ _ _ _ c.from_residual-in_err-unary.ensures.1 c.in_err-unary.ensures
+    (λ h. behind_fails Equal c.in_ok-operator.operator c.in_ok-operator.ensures (unary_fails (Joined Compare) h))
+
+pub equality_step-returns-in_err-relation : goal.equality_step-returns-in_err-relation
+equality_step-returns-in_err-relation t c = exits equality_step_tree (step Equal) (level_on (Joined Compare)) (step_at Equal) _ _ _ _ _ c.from_residual-in_err-relation.ensures.1 c.in_err-relation.ensures.read
+    (λ h. behind_fails Equal c.in_ok-operator.operator c.in_ok-operator.ensures (subst (λ mid. Fails (level {l = Joined Compare}) (level_on (Joined Compare)) mid c.relation_from.new.cursor) (sym c.in_ok-unary.ensures.0) h))
+
+pub relation_from-returns-in_err-first-clause-read : goal.relation_from-returns-in_err-first-clause-read
+relation_from-returns-in_err-first-clause-read t c = exits relation_tree level (level_on (Joined Compare)) level_at _ _ _ _ _ c.from_residual.ensures.1 c.in_err-first.ensures.read
+    (λ h. first_fails Compare h)
+
+pub relation_from-returns-in_err-others-clause-read : goal.relation_from-returns-in_err-others-clause-read
+relation_from-returns-in_err-others-clause-read t c = exits relation_tree level (level_on (Joined Compare)) level_at _ _ _ _ _ c.from_residual-in_err-others.ensures.1 c.in_err-others.ensures
+    (λ h. others_fail Compare (sum_tree c.in_ok-first.first) c.in_ok-first.ensures.read h)
+
+pub relation_from-returns-clause-read : goal.relation_from-returns-clause-read
+relation_from-returns-clause-read t c = chain_is_read Compare _ _ _ (sum_tree c.in_ok-first.first) (map relation_step_tree c.in_ok-others.others.items) _ (relation_made c.in_ok-first.first c.in_ok-others.others) c.in_ok-first.ensures.read c.in_ok-others.ensures
+
+pub relation_steps-returns-in_err-relation_step : goal.relation_steps-returns-in_err-relation_step
+relation_steps-returns-in_err-relation_step t c = exits (λ v. map relation_step_tree v.items) (flat_map (step Compare)) (level_on (Joined Compare)) (steps_end Compare) _ _ _ _ _ c.from_residual.ensures.1 c.in_err-relation_step.ensures
+    (λ h. step_fails Compare (map relation_step_tree c.each.all.items) c.each.invariant.read (test_leads (joins Compare) c.each.cursor refl (ap (joins Compare) (sym c.peek.ensures.kind) ∙ sym c.is_relation.ensures ∙ c.each-test.true)) h)
+
+pub relation_steps-each-preserved : goal.relation_steps-each-preserved
+relation_steps-each-preserved t c = record {
+  read = grind (arith, common_steps);
+  ended = last_step Compare relation_step_tree c.in_ok-relation_step.field-0 c.each.all.items c.push.new.self.items _ c.in_ok-push.ensures.items c.in_ok-relation_step.ensures.1;
+  shorter = grind (arith, common_steps);
+}
+
+pub relation_step-returns-in_err-operator : goal.relation_step-returns-in_err-operator
+relation_step-returns-in_err-operator t c = exits relation_step_tree (step Compare) (level_on (Joined Add)) (step_at Compare) _ _ _ _ _ c.from_residual.ensures.1 c.in_err-operator.ensures
+    (λ h. mark_fails Compare h)
+
+pub relation_step-returns-in_err-unary : goal.relation_step-returns-in_err-unary
+relation_step-returns-in_err-unary t c = exits relation_step_tree (step Compare) (level_on (Joined Add)) (step_at Compare) _ _ _ _ _ c.from_residual-in_err-unary.ensures.1 c.in_err-unary.ensures
+    (λ h. behind_fails Compare c.in_ok-operator.operator c.in_ok-operator.ensures (unary_fails (Joined Add) h))
+
+pub relation_step-returns-in_err-sum : goal.relation_step-returns-in_err-sum
+relation_step-returns-in_err-sum t c = exits relation_step_tree (step Compare) (level_on (Joined Add)) (step_at Compare) _ _ _ _ _ c.from_residual-in_err-sum.ensures.1 c.in_err-sum.ensures.read
+    (λ h. behind_fails Compare c.in_ok-operator.operator c.in_ok-operator.ensures (subst (λ mid. Fails (level {l = Joined Add}) (level_on (Joined Add)) mid c.sum_from.new.cursor) (sym c.in_ok-unary.ensures.0) h))
+
+pub sum_from-returns-in_err-first-clause-read : goal.sum_from-returns-in_err-first-clause-read
+sum_from-returns-in_err-first-clause-read t c = exits sum_tree level (level_on (Joined Add)) level_at _ _ _ _ _ c.from_residual.ensures.1 c.in_err-first.ensures.read
+    (λ h. first_fails Add h)
+
+pub sum_from-returns-in_err-others-clause-read : goal.sum_from-returns-in_err-others-clause-read
+sum_from-returns-in_err-others-clause-read t c = exits sum_tree level (level_on (Joined Add)) level_at _ _ _ _ _ c.from_residual-in_err-others.ensures.1 c.in_err-others.ensures
+    (λ h. others_fail Add (term_tree c.in_ok-first.first) c.in_ok-first.ensures.read h)
+
+pub sum_from-returns-clause-read : goal.sum_from-returns-clause-read
+sum_from-returns-clause-read t c = chain_is_read Add _ _ _ (term_tree c.in_ok-first.first) (map sum_step_tree c.in_ok-others.others.items) _ (sum_made c.in_ok-first.first c.in_ok-others.others) c.in_ok-first.ensures.read c.in_ok-others.ensures
+
+pub sum_steps-returns-in_err-sum_step : goal.sum_steps-returns-in_err-sum_step
+sum_steps-returns-in_err-sum_step t c = exits (λ v. map sum_step_tree v.items) (flat_map (step Add)) (level_on (Joined Add)) (steps_end Add) _ _ _ _ _ c.from_residual.ensures.1 c.in_err-sum_step.ensures
+    (λ h. step_fails Add (map sum_step_tree c.each.all.items) c.each.invariant.read (test_leads (joins Add) c.each.cursor refl (ap (joins Add) (sym c.peek.ensures.kind) ∙ sym c.is_sum.ensures ∙ c.each-test.true)) h)
+
+pub sum_steps-each-preserved : goal.sum_steps-each-preserved
+sum_steps-each-preserved t c = record {
+  read = grind (arith, common_steps);
+  ended = last_step Add sum_step_tree c.in_ok-sum_step.field-0 c.each.all.items c.push.new.self.items _ c.in_ok-push.ensures.items c.in_ok-sum_step.ensures.1;
+  shorter = grind (arith, common_steps);
+}
+
+pub sum_step-returns-in_err-operator : goal.sum_step-returns-in_err-operator
+sum_step-returns-in_err-operator t c = exits sum_step_tree (step Add) (level_on (Joined Multiply)) (step_at Add) _ _ _ _ _ c.from_residual.ensures.1 c.in_err-operator.ensures
+    (λ h. mark_fails Add h)
+
+pub sum_step-returns-in_err-unary : goal.sum_step-returns-in_err-unary
+sum_step-returns-in_err-unary t c = exits sum_step_tree (step Add) (level_on (Joined Multiply)) (step_at Add) _ _ _ _ _ c.from_residual-in_err-unary.ensures.1 c.in_err-unary.ensures
+    (λ h. behind_fails Add c.in_ok-operator.operator c.in_ok-operator.ensures (unary_fails (Joined Multiply) h))
+
+pub sum_step-returns-in_err-term : goal.sum_step-returns-in_err-term
+sum_step-returns-in_err-term t c = exits sum_step_tree (step Add) (level_on (Joined Multiply)) (step_at Add) _ _ _ _ _ c.from_residual-in_err-term.ensures.1 c.in_err-term.ensures.read
+    (λ h. behind_fails Add c.in_ok-operator.operator c.in_ok-operator.ensures (subst (λ mid. Fails (level {l = Joined Multiply}) (level_on (Joined Multiply)) mid c.term_from.new.cursor) (sym c.in_ok-unary.ensures.0) h))
+
+pub term_from-returns-in_err-others-clause-read : goal.term_from-returns-in_err-others-clause-read
+term_from-returns-in_err-others-clause-read t c = exits term_tree level (level_on (Joined Multiply)) level_at _ _ _ _ _ c.from_residual.ensures.1 c.in_err-others.ensures
+    (λ h. others_fail Multiply (unary_tree c.args.unary) (refl, c.requires) h)
+
+pub term_from-returns-clause-read : goal.term_from-returns-clause-read
+term_from-returns-clause-read t c = chain_is_read Multiply _ _ _ (unary_tree c.args.unary) (map (unmarked unary_tree) c.in_ok-others.others.items) _ (term_made c.args.unary c.in_ok-others.others) (refl, c.requires) c.in_ok-others.ensures
+
+pub factors-returns-in_err-times_unary : goal.factors-returns-in_err-times_unary
+factors-returns-in_err-times_unary t c = exits (λ v. map (unmarked unary_tree) v.items) (flat_map (step Multiply)) (level_on (Joined Multiply)) (steps_end Multiply) _ _ _ _ _ c.from_residual.ensures.1 c.in_err-times_unary.ensures
+    (λ h. step_fails Multiply (map (unmarked unary_tree) c.each.all.items) c.each.invariant.read (kind_leads kind.Star _ (c.each-test.ensures.is.0 refl)) h)
+
+pub factors-each-preserved : goal.factors-each-preserved
+factors-each-preserved t c = record {
+  read = grind (arith, common_steps);
+  ended = last_step Multiply (unmarked unary_tree) c.in_ok-times_unary.field-0 c.each.all.items c.push.new.self.items _ c.in_ok-push.ensures.items c.in_ok-times_unary.ensures.1;
+  shorter = grind (arith, common_steps);
+}
+
+pub times_unary-returns-in_err-expect : goal.times_unary-returns-in_err-expect
+times_unary-returns-in_err-expect t c = exits (unmarked unary_tree) (step Multiply) (level_on Single) (step_at Multiply) _ _ _ _ _ c.from_residual.ensures.1 c.in_err-expect.ensures
+    (λ h. mark_fails Multiply h)
+
+pub times_unary-returns : goal.times_unary-returns
+times_unary-returns t c = step_tail Multiply unary_tree tt _ _ _ _ c.in_ok-expect.ensures c.read_unary.ensures
+
+pub read_expression-returns-in_err-unary : goal.read_expression-returns-in_err-unary
+read_expression-returns-in_err-unary t c = exits expression_tree level (level_on (Joined Or)) level_at _ _ _ _ _ c.from_residual.ensures.1 c.in_err-unary.ensures
+    (λ h. unary_fails (Joined Or) h)
+
+pub read_unary-returns-in_err-prefixes : goal.read_unary-returns-in_err-prefixes
+read_unary-returns-in_err-prefixes t c = exits unary_tree level (level_on Single) level_at _ _ _ _ _ c.from_residual.ensures.1 c.in_err-prefixes.ensures
+    (λ h. prefixes_fail h)
+
+pub read_unary-returns-in_err-atom : goal.read_unary-returns-in_err-atom
+read_unary-returns-in_err-atom t c = exits unary_tree level (level_on Single) level_at _ _ _ _ _ c.from_residual-in_err-atom.ensures.1 c.in_err-atom.ensures
+    (λ h. atom_fails c.in_ok-prefixes.prefixes.items c.in_ok-prefixes.ensures h)
+
+pub read_unary-returns : goal.read_unary-returns
+read_unary-returns t c = unary_is_read _ _ _ c.in_ok-prefixes.prefixes.items (atom_tree c.in_ok-atom.atom) _ (unary_made c.in_ok-prefixes.prefixes c.in_ok-atom.atom) c.in_ok-prefixes.ensures c.in_ok-atom.ensures
+
+pub read_atom-returns-in_err-read_target : goal.read_atom-returns-in_err-read_target
+read_atom-returns-in_err-read_target t c = exits atom_tree atom (level_on Single) atom_at _ _ _ _ _ c.from_residual.ensures.1 c.in_err-read_target.ensures
+    (λ h. form_fails target_form (kind_leads kind.Name _ (c.is_next.ensures.is.0 c.if-is_next.true)) h)
+
+pub read_atom-returns-in_err-open : goal.read_atom-returns-in_err-open
+read_atom-returns-in_err-open t c = exits atom_tree atom (level_on Single) atom_at _ _ _ _ _ c.from_residual-in_err-open.ensures.1 c.in_err-open.ensures
+    (λ h. form_fails parens_form (kind_leads kind.OpenParen _ (c.is_next-else-is_next.ensures.is.0 c.if-is_next-2.true)) (wide_fails (λ y k. refl) h))
+
+pub read_atom-returns-in_err-placed : goal.read_atom-returns-in_err-placed
+read_atom-returns-in_err-placed t c = exits atom_tree atom (level_on Single) atom_at _ _ _ _ _ c.from_residual-in_err-placed.ensures.1 c.in_err-placed.ensures
+    (λ h. form_fails number_form (number_leads _ c.is_next.ensures.some (iff_false c.is_next.ensures.is c.if-is_next.false) (iff_false c.is_next-else-is_next.ensures.is c.if-is_next-2.false) (iff_false c.is_next-else-is_next-2.ensures.is c.if-is_next-3.false) (iff_false c.is_next-else-is_next-3.ensures.is c.if-is_next-4.false)) (wide_fails (λ y k. refl) h))
+
+pub read_atom-returns-then-is_next-3 : goal.read_atom-returns-then-is_next-3
+read_atom-returns-then-is_next-3 t c = atom_is_read _ _ _ (True c.skip.result) (true_made c.skip.result) (c.skip.ensures.placed kind.True refl (c.is_next-else-is_next-2.ensures.is.0 c.if-is_next-3.true)) (stops_never _)
+
+pub read_atom-returns-then-is_next-4 : goal.read_atom-returns-then-is_next-4
+read_atom-returns-then-is_next-4 t c = atom_is_read _ _ _ (False c.skip-then-is_next-4.result) (false_made c.skip-then-is_next-4.result) (c.skip-then-is_next-4.ensures.placed kind.False refl (c.is_next-else-is_next-3.ensures.is.0 c.if-is_next-4.true)) (stops_never _)
+
+pub read_atom-returns-in_ok-placed : goal.read_atom-returns-in_ok-placed
+read_atom-returns-in_ok-placed t c = atom_is_read _ _ _ (Number c.in_ok-placed.field-0) (number_made c.in_ok-placed.field-0) c.in_ok-placed.ensures.0 (stops_never _)
+
+pub read_parens-returns-in_err-left : goal.read_parens-returns-in_err-left
+read_parens-returns-in_err-left t c = exits (λ p. (p.0, expression_tree p.1)) (parens expression) never (λ _. never) _ _ _ _ _ c.from_residual.ensures.1 c.in_err-left.ensures
+    (λ h. parens_open_fails in_parens expression_piece h)
+
+pub read_parens-returns-in_err-inner : goal.read_parens-returns-in_err-inner
+read_parens-returns-in_err-inner t c = exits (λ p. (p.0, expression_tree p.1)) (parens expression) never (λ _. never) _ _ _ _ _ c.from_residual-in_err-inner.ensures.1 c.in_err-inner.ensures
+    (λ h. parens_fails in_parens c.in_ok-left.left c.in_ok-left.ensures h)
+
+pub read_parens-returns-in_err-expect : goal.read_parens-returns-in_err-expect
+read_parens-returns-in_err-expect t c = exits (λ p. (p.0, expression_tree p.1)) (parens expression) never (λ _. never) _ _ _ _ _ c.from_residual-in_err-expect.ensures.1 c.in_err-expect.ensures
+    (λ h. parens_close_fails in_parens c.in_ok-left.left (expression_tree c.in_ok-inner.inner) expression_piece c.in_ok-left.ensures c.in_ok-inner.ensures h)
+
+pub read_index-returns-in_err-expect : goal.read_index-returns-in_err-expect
+read_index-returns-in_err-expect t c = exits expression_tree index never (λ _. never) _ _ _ _ _ c.from_residual.ensures.1 c.in_err-expect.ensures
+    (λ h. brackets_open_fails in_brackets expression_piece h)
+
+pub read_index-returns-in_err-index : goal.read_index-returns-in_err-index
+read_index-returns-in_err-index t c = exits expression_tree index never (λ _. never) _ _ _ _ _ c.from_residual-in_err-index.ensures.1 c.in_err-index.ensures
+    (λ h. brackets_fails in_brackets c.in_ok-expect.ensures h)
+
+pub read_index-returns-in_err-expect-2 : goal.read_index-returns-in_err-expect-2
+read_index-returns-in_err-expect-2 t c = exits expression_tree index never (λ _. never) _ _ _ _ _ c.from_residual-in_err-expect-2.ensures.1 c.in_err-expect-2.ensures
+    (λ h. brackets_close_fails in_brackets (expression_tree c.in_ok-index.index) expression_piece c.in_ok-expect.ensures c.in_ok-index.ensures h)
+
+pub read_target-returns-in_err-variable : goal.read_target-returns-in_err-variable
+read_target-returns-in_err-variable t c = exits target_tree target target_on target_at _ _ _ _ _ c.from_residual.ensures.1 c.in_err-variable.ensures
+    (λ h. variable_fails h)
+
+pub target_from-returns-in_err-field-clause-read : goal.target_from-returns-in_err-field-clause-read
+target_from-returns-in_err-field-clause-read t c = exits target_tree target target_on target_at _ _ _ _ _ c.from_residual.ensures.1 c.in_err-field.ensures
+    (λ h. dotted_fails c.args.variable (c.is_next.ensures.is.0 c.if-is_next.true) h)
+
+pub target_from-returns-in_err-read_index-clause-read : goal.target_from-returns-in_err-read_index-clause-read
+target_from-returns-in_err-read_index-clause-read t c = exits target_tree target target_on target_at _ _ _ _ _ c.from_residual-in_err-read_index.ensures.1 c.in_err-read_index.ensures
+    (λ h. indexed_fails c.args.variable (c.is_next-else-is_next.ensures.is.0 c.if-is_next-2.true) h)

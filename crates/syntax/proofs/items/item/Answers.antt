@@ -1,0 +1,13 @@
+use Rattle.std.proofs.Common.{refl}
+use Rattle.syntax.specs.Reading.{never}
+use Rattle.syntax.specs.Trees.{item_tree}
+use Rattle.syntax.specs.Programs.{item}
+use Rattle.syntax.proofs.Exits.{exits}
+use Rattle.syntax.proofs.Pieces.{fails_second, via_fails}
+use Rattle.syntax.proofs.AccessRules.{access_piece}
+use Rattle.syntax.proofs.ItemRules.{access_follows, item_to, item_from}
+use Rattle.syntax.proofs.items.item.Goals as goal
+
+pub returns-in_err-definition : goal.returns-in_err-definition
+returns-in_err-definition c = exits item_tree item never (λ _. never) _ _ _ _ _ c.from_residual.ensures.1 c.in_err-definition.ensures
+    (λ h. via_fails item_to item_from (λ _. refl) (fails_second c.access-access.result access_piece c.access-access.ensures access_follows h))

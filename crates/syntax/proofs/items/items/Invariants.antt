@@ -1,0 +1,10 @@
+use Rattle.std.proofs.Common.{◌≡◌, ◌++◌, length, map}
+use Rattle.syntax.specs.Programs.{program}
+use Rattle.syntax.specs.Trees.{item_tree}
+use Rattle.syntax.proofs.items.items.Given as goal
+
+abbrev pub invariant-each : goal.invariant-each
+invariant-each l = l.fn.cursor ≡ program (map item_tree l.all.items) ++ l.cursor
+
+abbrev pub decreases-each : goal.decreases-each
+decreases-each l = length l.cursor

@@ -1,0 +1,21 @@
+use Rattle.source.specs.declared.kind.Kind.TheVariants as kind
+use Rattle.syntax.proofs.Exits.{exits}
+use Rattle.syntax.proofs.Pieces.{fails_here, fails_after}
+use Rattle.syntax.proofs.Choices.{form_fails}
+use Rattle.syntax.proofs.KindLemmas.{kind_leads}
+use Rattle.syntax.specs.StatementTrees.{statement_tree}
+use Rattle.syntax.specs.StatementGrammar.{statement}
+use Rattle.syntax.specs.StatementFirsts.{statement_on, statement_at}
+use Rattle.syntax.proofs.TypeRules.{pointer_piece}
+use Rattle.syntax.proofs.SimpleRules.{declared_piece}
+use Rattle.syntax.proofs.NameRests.{pointed_form}
+use Rattle.syntax.proofs.NamedForms.{name_lift}
+use Rattle.syntax.proofs.simple.after_name.Goals as goal
+
+pub returns-in_err-bang : goal.returns-in_err-bang
+returns-in_err-bang c = exits statement_tree statement statement_on statement_at _ _ _ _ _ c.from_residual.ensures.1 c.in_err-bang.ensures
+    (λ h. name_lift c.args.first (form_fails pointed_form (kind_leads kind.Star _ (c.is_next.ensures.is.0 c.if-is_next.true)) (fails_here h declared_piece)))
+
+pub returns-in_err-name : goal.returns-in_err-name
+returns-in_err-name c = exits statement_tree statement statement_on statement_at _ _ _ _ _ c.from_residual-in_err-name.ensures.1 c.in_err-name.ensures
+    (λ h. name_lift c.args.first (form_fails pointed_form (kind_leads kind.Star _ (c.is_next.ensures.is.0 c.if-is_next.true)) (fails_after c.in_ok-bang.bang pointer_piece c.in_ok-bang.ensures h)))

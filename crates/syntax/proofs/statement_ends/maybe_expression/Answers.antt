@@ -1,0 +1,18 @@
+use Rattle.std.proofs.Common.{refl, sym, ap, ◌∙◌}
+use Rattle.syntax.specs.Symbols.{by_kind}
+use Rattle.syntax.specs.Spelling.{optional}
+use Rattle.syntax.specs.Reading.{optional_at}
+use Rattle.syntax.proofs.Exits.{exits}
+use Rattle.syntax.proofs.KindLemmas.{test_leads}
+use Rattle.std.specs.Option.{option_map}
+use Rattle.syntax.specs.Expressions.{expression, opens_expression, expression_at}
+use Rattle.syntax.specs.ExpressionTrees.{expression_tree}
+use Rattle.syntax.specs.StatementParts.{result_on}
+use Rattle.syntax.proofs.Options.{open_opt_fails}
+use Rattle.syntax.proofs.SimpleRules.{result_opens}
+use Rattle.syntax.proofs.ExpressionFails.{expression_piece, expression_starts}
+use Rattle.syntax.proofs.statement_ends.maybe_expression.Goals as goal
+
+pub returns-in_err-read_expression : goal.returns-in_err-read_expression
+returns-in_err-read_expression c = exits (option_map expression_tree) (optional expression) result_on (optional_at (by_kind opens_expression) expression_at) _ _ _ _ _ c.from_residual.ensures.1 c.in_err-read_expression.ensures
+    (λ h. open_opt_fails expression_piece expression_starts result_opens (test_leads opens_expression c.args.cursor.now refl (ap opens_expression (sym c.peek.ensures.kind) ∙ sym c.is_expression.ensures ∙ c.if-is_expression.true)) h)

@@ -1,0 +1,11 @@
+use Rattle.std.proofs.Common.{length, map}
+use Rattle.syntax.specs.Expressions.{expression, expression_at}
+use Rattle.syntax.specs.ExpressionTrees.{expression_tree}
+use Rattle.syntax.proofs.ListedOpen.{ListRead}
+use Rattle.syntax.proofs.values.expression_list.Given as goal
+
+abbrev pub invariant-more : goal.invariant-more
+invariant-more l = ListRead expression expression_at (map expression_tree l.all.items) l.fn.cursor l.cursor
+
+abbrev pub decreases-more : goal.decreases-more
+decreases-more l = length l.cursor

@@ -1,0 +1,76 @@
+-- By which token a statement begins, and by what it could go on.
+use Rattle.std.specs.Prelude.{Bool, ◌||◌, List, [], ◌∷◌, Option, Some, None, is_some}
+use Rattle.source.specs.declared.kind.Kind.{Kind}
+use Rattle.source.specs.declared.kind.Kind.TheVariants as kind
+use Rattle.syntax.specs.Symbols.{Symbol, is_kind, by_kind}
+use Rattle.syntax.specs.Reading.{never, many_at}
+use Rattle.syntax.specs.StatementTrees.{StatementTree, If, OtherTrees, NoOther, Else, ElseIf, CaseTree, Case, StatementTrees, NoStatement, MoreStatements, CaseTrees, NoCase, MoreCases}
+use Rattle.syntax.specs.declared.leads.Lead.{Lead}
+use Rattle.syntax.specs.declared.leads.Lead.TheVariants as lead
+use Rattle.syntax.specs.declared.leads.Simple.TheVariants as simple
+
+-- what a statement is that begins with a token of this kind
+abbrev pub lead_of : Option Kind → Option Lead
+lead_of (Some kind.OpenBrace) = Some lead.Block
+lead_of (Some kind.If) = Some lead.If
+lead_of (Some kind.While) = Some lead.While
+lead_of (Some kind.Switch) = Some lead.Switch
+lead_of (Some kind.Name) = Some (lead.Simple simple.Name)
+lead_of (Some kind.Int) = Some (lead.Simple simple.Scalar)
+lead_of (Some kind.Bool) = Some (lead.Simple simple.Scalar)
+lead_of (Some kind.Byte) = Some (lead.Simple simple.Scalar)
+lead_of (Some kind.Start) = Some (lead.Simple simple.Start)
+lead_of (Some kind.Delete) = Some (lead.Simple simple.Delete)
+lead_of (Some kind.Break) = Some (lead.Simple simple.Break)
+lead_of (Some kind.Continue) = Some (lead.Simple simple.Continue)
+lead_of (Some kind.Return) = Some (lead.Simple simple.Return)
+lead_of _ = None
+
+-- whether a statement begins with this token
+abbrev pub opens_statement : Option Kind → Bool
+opens_statement k = is_some (lead_of k)
+
+-- by what some statement could go on: an `if` by `else`
+abbrev pub statement_on : Symbol → Bool
+statement_on = is_kind kind.Else
+
+-- by what this could go on that stands behind the first block of an `if`
+abbrev pub others_at : OtherTrees → Symbol → Bool
+others_at NoOther = statement_on
+others_at (Else b) = never
+others_at (ElseIf t more) = others_at more
+
+-- by what this statement could
+abbrev pub statement_at : StatementTree → Symbol → Bool
+statement_at (If t more) = others_at more
+statement_at _ = never
+
+-- by what some statements in a row could
+abbrev pub statements_on : Symbol → Bool
+statements_on y = statement_on y || by_kind opens_statement y
+
+-- by what these could
+abbrev pub statements_at : List StatementTree → Symbol → Bool
+statements_at = many_at (by_kind opens_statement) statement_at
+
+-- a row as a list
+abbrev pub statement_list : StatementTrees → List StatementTree
+statement_list NoStatement = []
+statement_list (MoreStatements x xs) = x ∷ statement_list xs
+
+-- by what this case could
+abbrev pub case_at : CaseTree → Symbol → Bool
+case_at (Case span endpoint message open_paren binds inner) = statements_at (statement_list inner)
+
+-- by what some cases in a row could
+abbrev pub cases_on : Symbol → Bool
+cases_on y = statements_on y || is_kind kind.Case y
+
+-- by what these could
+abbrev pub cases_at : List CaseTree → Symbol → Bool
+cases_at = many_at (is_kind kind.Case) case_at
+
+-- a row as a list
+abbrev pub case_list : CaseTrees → List CaseTree
+case_list NoCase = []
+case_list (MoreCases x xs) = x ∷ case_list xs

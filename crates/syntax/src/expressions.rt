@@ -1,0 +1,363 @@
+//! Reads expressions: a level at a time, from the unary that stands first.
+
+ghost use Rattle.std.specs.Prelude.{◌≡◌, ◌≤◌, ◌++◌, length, map, OnOk};
+ghost use Rattle.std.specs.List.{flat_map};
+ghost use Rattle.source.specs.declared.kind.Kind.{Kind};
+ghost use Rattle.syntax.specs.Symbols.{by_kind};
+ghost use Rattle.syntax.specs.Spelling.{name, within, parens};
+ghost use Rattle.syntax.specs.Reading.{Stops, ReadsRow, Reads, ReadsEnded, never};
+ghost use Rattle.syntax.specs.Operators.{Or, And, Equal, Compare, Add, Multiply, Single, Joined, joins, prefix, opens_prefix};
+ghost use Rattle.syntax.specs.Expressions.{level, level_on, level_at, expression, step, step_at, steps_end, atom, atom_at, target, target_at, target_on, dot_name, opens_expression};
+ghost use Rattle.syntax.specs.ExpressionTrees.{expression_tree, conjunction_tree, equality_tree, equality_step_tree, relation_tree, relation_step_tree, sum_tree, sum_step_tree, term_tree, unary_tree, atom_tree, target_tree, unmarked};
+
+use crate::cursor::{Cursor, Stuck};
+use crate::expression::{
+    Atom, Conjunction, Equality, EqualityStep, Expression, Prefix, Relation, RelationStep, Sum,
+    SumStep, Target, Term, Unary,
+};
+use crate::operators::{
+    equality_operator, is_equality, is_prefix, is_relation, is_sum, prefix, relation_operator,
+    sum_operator,
+};
+use source::{Kind, Span};
+use std::alloc::Global;
+
+/// Whether an expression begins with this token.
+pub fn is_expression(kind: Option<Kind>) -> bool
+    ensures { result ≡ opens_expression kind }
+{
+    matches!(
+        kind,
+        Some(
+            Kind::Bang
+                | Kind::Minus
+                | Kind::Number
+                | Kind::True
+                | Kind::False
+                | Kind::Name
+                | Kind::OpenParen
+        )
+    )
+}
+
+/// expression = conjunction { "||" conjunction } .
+#[cycle(expression)]
+pub fn read_expression(alloc: Global, cursor: &mut Cursor<'_>) -> Result<Expression, Stuck>
+    ensures { Reads expression_tree level (level_on (Joined Or)) level_at cursor.old cursor.new result }
+{
+    let unary = read_unary(alloc, cursor)?;
+    expression_from(alloc, cursor, unary)
+}
+
+/// expression = conjunction { "||" conjunction }, from the unary that stands first.
+#[cycle(expression)]
+pub fn expression_from(
+    alloc: Global,
+    cursor: &mut Cursor<'_>,
+    unary: Unary,
+) -> Result<Expression, Stuck>
+    requires { Stops (level_at (unary_tree unary)) cursor.old }
+    ensures read { Reads expression_tree level (level_on (Joined Or)) level_at (level (unary_tree unary) ++ cursor.old) cursor.new result }
+    ensures left { OnOk result (length cursor.new ≤ length cursor.old) }
+{
+    let first = conjunction_from(alloc, cursor, unary)?;
+    let others = conjunctions(alloc, cursor)?;
+    Ok(Expression { first, others })
+}
+
+/// { "||" conjunction }
+#[cycle(expression)]
+fn conjunctions(alloc: Global, cursor: &mut Cursor<'_>) -> Result<Vec<Conjunction>, Stuck>
+    ensures { Reads (λ v. map (unmarked conjunction_tree) v.items) (flat_map (step Or)) (level_on (Joined Or)) (steps_end Or) cursor.old cursor.new result }
+{
+    let mut all = Vec::new(alloc);
+    'each: while cursor.is_next(Kind::OrOr) {
+        all.push(or_conjunction(alloc, cursor)?)?;
+    }
+    Ok(all)
+}
+
+/// "||" conjunction
+#[cycle(expression)]
+fn or_conjunction(alloc: Global, cursor: &mut Cursor<'_>) -> Result<Conjunction, Stuck>
+    ensures { Reads (unmarked conjunction_tree) (step Or) (level_on (Joined And)) (step_at Or) cursor.old cursor.new result }
+{
+    cursor.expect(Kind::OrOr)?;
+    let unary = read_unary(alloc, cursor)?;
+    conjunction_from(alloc, cursor, unary)
+}
+
+/// conjunction = equality { "&&" equality }, from the unary that stands first.
+#[cycle(expression)]
+fn conjunction_from(
+    alloc: Global,
+    cursor: &mut Cursor<'_>,
+    unary: Unary,
+) -> Result<Conjunction, Stuck>
+    requires { Stops (level_at (unary_tree unary)) cursor.old }
+    ensures read { Reads conjunction_tree level (level_on (Joined And)) level_at (level (unary_tree unary) ++ cursor.old) cursor.new result }
+    ensures left { OnOk result (length cursor.new ≤ length cursor.old) }
+{
+    let first = equality_from(alloc, cursor, unary)?;
+    let others = equalities(alloc, cursor)?;
+    Ok(Conjunction { first, others })
+}
+
+/// { "&&" equality }
+#[cycle(expression)]
+fn equalities(alloc: Global, cursor: &mut Cursor<'_>) -> Result<Vec<Equality>, Stuck>
+    ensures { Reads (λ v. map (unmarked equality_tree) v.items) (flat_map (step And)) (level_on (Joined And)) (steps_end And) cursor.old cursor.new result }
+{
+    let mut all = Vec::new(alloc);
+    'each: while cursor.is_next(Kind::AndAnd) {
+        all.push(and_equality(alloc, cursor)?)?;
+    }
+    Ok(all)
+}
+
+/// "&&" equality
+#[cycle(expression)]
+fn and_equality(alloc: Global, cursor: &mut Cursor<'_>) -> Result<Equality, Stuck>
+    ensures { Reads (unmarked equality_tree) (step And) (level_on (Joined Equal)) (step_at And) cursor.old cursor.new result }
+{
+    cursor.expect(Kind::AndAnd)?;
+    let unary = read_unary(alloc, cursor)?;
+    equality_from(alloc, cursor, unary)
+}
+
+/// equality = relation { ( "==" | "!=" ) relation }, from the unary that stands first.
+#[cycle(expression)]
+fn equality_from(alloc: Global, cursor: &mut Cursor<'_>, unary: Unary) -> Result<Equality, Stuck>
+    requires { Stops (level_at (unary_tree unary)) cursor.old }
+    ensures read { Reads equality_tree level (level_on (Joined Equal)) level_at (level (unary_tree unary) ++ cursor.old) cursor.new result }
+    ensures left { OnOk result (length cursor.new ≤ length cursor.old) }
+{
+    let first = relation_from(alloc, cursor, unary)?;
+    let others = equality_steps(alloc, cursor)?;
+    Ok(Equality { first, others })
+}
+
+/// { ( "==" | "!=" ) relation }
+#[cycle(expression)]
+fn equality_steps(alloc: Global, cursor: &mut Cursor<'_>) -> Result<Vec<EqualityStep>, Stuck>
+    ensures { Reads (λ v. map equality_step_tree v.items) (flat_map (step Equal)) (level_on (Joined Equal)) (steps_end Equal) cursor.old cursor.new result }
+{
+    let mut all = Vec::new(alloc);
+    'each: while is_equality(cursor.peek()) {
+        all.push(equality_step(alloc, cursor)?)?;
+    }
+    Ok(all)
+}
+
+/// ( "==" | "!=" ) relation
+#[cycle(expression)]
+fn equality_step(alloc: Global, cursor: &mut Cursor<'_>) -> Result<EqualityStep, Stuck>
+    ensures { Reads equality_step_tree (step Equal) (level_on (Joined Compare)) (step_at Equal) cursor.old cursor.new result }
+{
+    let operator = equality_operator(cursor)?;
+    let unary = read_unary(alloc, cursor)?;
+    let relation = relation_from(alloc, cursor, unary)?;
+    Ok(EqualityStep { operator, relation })
+}
+
+/// relation = sum { ( "<" | "<=" | ">" | ">=" ) sum }, from the unary that stands first.
+#[cycle(expression)]
+fn relation_from(alloc: Global, cursor: &mut Cursor<'_>, unary: Unary) -> Result<Relation, Stuck>
+    requires { Stops (level_at (unary_tree unary)) cursor.old }
+    ensures read { Reads relation_tree level (level_on (Joined Compare)) level_at (level (unary_tree unary) ++ cursor.old) cursor.new result }
+    ensures left { OnOk result (length cursor.new ≤ length cursor.old) }
+{
+    let first = sum_from(alloc, cursor, unary)?;
+    let others = relation_steps(alloc, cursor)?;
+    Ok(Relation { first, others })
+}
+
+/// { ( "<" | "<=" | ">" | ">=" ) sum }
+#[cycle(expression)]
+fn relation_steps(alloc: Global, cursor: &mut Cursor<'_>) -> Result<Vec<RelationStep>, Stuck>
+    ensures { Reads (λ v. map relation_step_tree v.items) (flat_map (step Compare)) (level_on (Joined Compare)) (steps_end Compare) cursor.old cursor.new result }
+{
+    let mut all = Vec::new(alloc);
+    'each: while is_relation(cursor.peek()) {
+        all.push(relation_step(alloc, cursor)?)?;
+    }
+    Ok(all)
+}
+
+/// ( "<" | "<=" | ">" | ">=" ) sum
+#[cycle(expression)]
+fn relation_step(alloc: Global, cursor: &mut Cursor<'_>) -> Result<RelationStep, Stuck>
+    ensures { Reads relation_step_tree (step Compare) (level_on (Joined Add)) (step_at Compare) cursor.old cursor.new result }
+{
+    let operator = relation_operator(cursor)?;
+    let unary = read_unary(alloc, cursor)?;
+    let sum = sum_from(alloc, cursor, unary)?;
+    Ok(RelationStep { operator, sum })
+}
+
+/// sum = term { ( "+" | "-" ) term }, from the unary that stands first.
+#[cycle(expression)]
+fn sum_from(alloc: Global, cursor: &mut Cursor<'_>, unary: Unary) -> Result<Sum, Stuck>
+    requires { Stops (level_at (unary_tree unary)) cursor.old }
+    ensures read { Reads sum_tree level (level_on (Joined Add)) level_at (level (unary_tree unary) ++ cursor.old) cursor.new result }
+    ensures left { OnOk result (length cursor.new ≤ length cursor.old) }
+{
+    let first = term_from(alloc, cursor, unary)?;
+    let others = sum_steps(alloc, cursor)?;
+    Ok(Sum { first, others })
+}
+
+/// { ( "+" | "-" ) term }
+#[cycle(expression)]
+fn sum_steps(alloc: Global, cursor: &mut Cursor<'_>) -> Result<Vec<SumStep>, Stuck>
+    ensures { Reads (λ v. map sum_step_tree v.items) (flat_map (step Add)) (level_on (Joined Add)) (steps_end Add) cursor.old cursor.new result }
+{
+    let mut all = Vec::new(alloc);
+    'each: while is_sum(cursor.peek()) {
+        all.push(sum_step(alloc, cursor)?)?;
+    }
+    Ok(all)
+}
+
+/// ( "+" | "-" ) term
+#[cycle(expression)]
+fn sum_step(alloc: Global, cursor: &mut Cursor<'_>) -> Result<SumStep, Stuck>
+    ensures { Reads sum_step_tree (step Add) (level_on (Joined Multiply)) (step_at Add) cursor.old cursor.new result }
+{
+    let operator = sum_operator(cursor)?;
+    let unary = read_unary(alloc, cursor)?;
+    let term = term_from(alloc, cursor, unary)?;
+    Ok(SumStep { operator, term })
+}
+
+/// term = unary { "*" unary }, from the unary that stands first.
+#[cycle(expression)]
+fn term_from(alloc: Global, cursor: &mut Cursor<'_>, unary: Unary) -> Result<Term, Stuck>
+    requires { Stops (level_at (unary_tree unary)) cursor.old }
+    ensures read { Reads term_tree level (level_on (Joined Multiply)) level_at (level (unary_tree unary) ++ cursor.old) cursor.new result }
+    ensures left { OnOk result (length cursor.new ≤ length cursor.old) }
+{
+    let others = factors(alloc, cursor)?;
+    Ok(Term {
+        first: unary,
+        others,
+    })
+}
+
+/// { "*" unary }
+#[cycle(expression)]
+fn factors(alloc: Global, cursor: &mut Cursor<'_>) -> Result<Vec<Unary>, Stuck>
+    ensures { Reads (λ v. map (unmarked unary_tree) v.items) (flat_map (step Multiply)) (level_on (Joined Multiply)) (steps_end Multiply) cursor.old cursor.new result }
+{
+    let mut all = Vec::new(alloc);
+    'each: while cursor.is_next(Kind::Star) {
+        all.push(times_unary(alloc, cursor)?)?;
+    }
+    Ok(all)
+}
+
+/// "*" unary
+#[cycle(expression)]
+fn times_unary(alloc: Global, cursor: &mut Cursor<'_>) -> Result<Unary, Stuck>
+    ensures { Reads (unmarked unary_tree) (step Multiply) (level_on Single) (step_at Multiply) cursor.old cursor.new result }
+{
+    cursor.expect(Kind::Star)?;
+    read_unary(alloc, cursor)
+}
+
+/// { "!" | "-" }
+fn prefixes(alloc: Global, cursor: &mut Cursor<'_>) -> Result<Vec<Prefix>, Stuck>
+    ensures { Reads (λ v. v.items) (flat_map prefix) (by_kind opens_prefix) (λ _. by_kind opens_prefix) cursor.old cursor.new result }
+{
+    let mut all = Vec::new(alloc);
+    'each: while is_prefix(cursor.peek()) {
+        all.push(prefix(cursor)?)?;
+    }
+    Ok(all)
+}
+
+/// unary = { "!" | "-" } atom .
+#[cycle(expression)]
+fn read_unary(alloc: Global, cursor: &mut Cursor<'_>) -> Result<Unary, Stuck>
+    ensures { Reads unary_tree level (level_on Single) level_at cursor.old cursor.new result }
+{
+    let prefixes = prefixes(alloc, cursor)?;
+    let atom = read_atom(alloc, cursor)?;
+    Ok(Unary { prefixes, atom })
+}
+
+/// atom = NUMBER | "true" | "false" | target | "(" expression ")" .
+#[cycle(expression)]
+fn read_atom(alloc: Global, cursor: &mut Cursor<'_>) -> Result<Atom, Stuck>
+    ensures { Reads atom_tree atom (level_on Single) atom_at cursor.old cursor.new result }
+{
+    if cursor.is_next(Kind::Name) {
+        Ok(Atom::Target(read_target(alloc, cursor)?))
+    } else if cursor.is_next(Kind::OpenParen) {
+        let (open, inner) = read_parens(alloc, cursor)?;
+        let inner = Box::new(alloc, inner)?;
+        Ok(Atom::Parens { open, inner })
+    } else if cursor.is_next(Kind::True) {
+        Ok(Atom::True(cursor.skip()))
+    } else if cursor.is_next(Kind::False) {
+        Ok(Atom::False(cursor.skip()))
+    } else {
+        Ok(Atom::Number(cursor.placed(Kind::Number)?))
+    }
+}
+
+/// "(" expression ")"
+#[cycle(expression)]
+pub fn read_parens(alloc: Global, cursor: &mut Cursor<'_>) -> Result<(Span, Expression), Stuck>
+    ensures { ReadsEnded (λ p. (p.0, expression_tree p.1)) (parens expression) cursor.old cursor.new result }
+{
+    let left = cursor.placed(Kind::OpenParen)?;
+    let inner = read_expression(alloc, cursor)?;
+    cursor.expect(Kind::CloseParen)?;
+    Ok((left, inner))
+}
+
+/// target = ID | ID "." ID | ID "[" expression "]" .
+#[cycle(expression)]
+fn read_target(alloc: Global, cursor: &mut Cursor<'_>) -> Result<Target, Stuck>
+    ensures { Reads target_tree target target_on target_at cursor.old cursor.new result }
+{
+    let variable = cursor.name()?;
+    target_from(alloc, cursor, variable)
+}
+
+/// The target that begins with this name.
+#[cycle(expression)]
+pub fn target_from(alloc: Global, cursor: &mut Cursor<'_>, variable: Span) -> Result<Target, Stuck>
+    ensures read { Reads target_tree target target_on target_at (name variable ++ cursor.old) cursor.new result }
+    ensures left { OnOk result (length cursor.new ≤ length cursor.old) }
+{
+    if cursor.is_next(Kind::Dot) {
+        let field = dot_name(cursor)?;
+        Ok(Target::Field { variable, field })
+    } else if cursor.is_next(Kind::OpenBracket) {
+        let index = Box::new(alloc, read_index(alloc, cursor)?)?;
+        Ok(Target::Element { variable, index })
+    } else {
+        Ok(Target::Variable(variable))
+    }
+}
+
+/// "." ID
+pub fn dot_name(cursor: &mut Cursor<'_>) -> Result<Span, Stuck>
+    ensures { ReadsEnded (λ x. x) dot_name cursor.old cursor.new result }
+{
+    cursor.expect(Kind::Dot)?;
+    Ok(cursor.name()?)
+}
+
+/// "[" expression "]"
+#[cycle(expression)]
+pub fn read_index(alloc: Global, cursor: &mut Cursor<'_>) -> Result<Expression, Stuck>
+    ensures { ReadsEnded expression_tree (within Kind.OpenBracket expression Kind.CloseBracket) cursor.old cursor.new result }
+{
+    cursor.expect(Kind::OpenBracket)?;
+    let index = read_expression(alloc, cursor)?;
+    cursor.expect(Kind::CloseBracket)?;
+    Ok(index)
+}

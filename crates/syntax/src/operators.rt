@@ -1,0 +1,117 @@
+//! Reads operators.
+
+ghost use Rattle.std.specs.Prelude.{◌≡◌};
+ghost use Rattle.syntax.specs.Reading.{ReadsWord, ReadsRow, ReadsEnded};
+ghost use Rattle.syntax.specs.Operators.{Or, And, Equal, Compare, Add, Multiply, joins, equality_of, relation_of, prefix_of, prefix, opens_prefix, equality_word, relation_word, sum_operator};
+
+use crate::cursor::{Cursor, Stuck};
+use crate::expression::{EqualityOperator, Prefix, PrefixOperator, RelationOperator, SumOperator};
+use source::{Kind, Span};
+
+/// The equality that this token is.
+fn equality_of(kind: Option<Kind>) -> Option<EqualityOperator>
+    ensures { result ≡ equality_of kind }
+{
+    match kind {
+        Some(Kind::EqualEqual) => Some(EqualityOperator::Equal),
+        Some(Kind::NotEqual) => Some(EqualityOperator::NotEqual),
+        _ => None,
+    }
+}
+
+/// Whether this token is an equality.
+pub fn is_equality(kind: Option<Kind>) -> bool
+    ensures { result ≡ joins Equal kind }
+{
+    equality_of(kind).is_some()
+}
+
+/// "==" | "!="
+pub fn equality_operator(cursor: &mut Cursor<'_>) -> Result<EqualityOperator, Stuck>
+    ensures { ReadsWord equality_word cursor.old cursor.new result }
+{
+    let Some(operator) = equality_of(cursor.peek()) else {
+        return Err(Stuck::Unexpected);
+    };
+    cursor.skip();
+    Ok(operator)
+}
+
+/// The relation that this token is.
+fn relation_of(kind: Option<Kind>) -> Option<RelationOperator>
+    ensures { result ≡ relation_of kind }
+{
+    match kind {
+        Some(Kind::Less) => Some(RelationOperator::Less),
+        Some(Kind::LessEqual) => Some(RelationOperator::LessEqual),
+        Some(Kind::Greater) => Some(RelationOperator::Greater),
+        Some(Kind::GreaterEqual) => Some(RelationOperator::GreaterEqual),
+        _ => None,
+    }
+}
+
+/// Whether this token is a relation.
+pub fn is_relation(kind: Option<Kind>) -> bool
+    ensures { result ≡ joins Compare kind }
+{
+    relation_of(kind).is_some()
+}
+
+/// "<" | "<=" | ">" | ">="
+pub fn relation_operator(cursor: &mut Cursor<'_>) -> Result<RelationOperator, Stuck>
+    ensures { ReadsWord relation_word cursor.old cursor.new result }
+{
+    let Some(operator) = relation_of(cursor.peek()) else {
+        return Err(Stuck::Unexpected);
+    };
+    cursor.skip();
+    Ok(operator)
+}
+
+/// Whether this token is "+" or "-".
+pub fn is_sum(kind: Option<Kind>) -> bool
+    ensures { result ≡ joins Add kind }
+{
+    matches!(kind, Some(Kind::Plus | Kind::Minus))
+}
+
+/// "+" | "-"
+pub fn sum_operator(cursor: &mut Cursor<'_>) -> Result<SumOperator, Stuck>
+    ensures { ReadsEnded (λ x. x) sum_operator cursor.old cursor.new result }
+{
+    if cursor.is_next(Kind::Minus) {
+        Ok(SumOperator::Minus(cursor.placed(Kind::Minus)?))
+    } else {
+        cursor.expect(Kind::Plus)?;
+        Ok(SumOperator::Plus)
+    }
+}
+
+/// The prefix that this token is.
+fn prefix_of(kind: Option<Kind>) -> Option<PrefixOperator>
+    ensures { result ≡ prefix_of kind }
+{
+    match kind {
+        Some(Kind::Bang) => Some(PrefixOperator::Not),
+        Some(Kind::Minus) => Some(PrefixOperator::Negate),
+        _ => None,
+    }
+}
+
+/// Whether this token is a prefix.
+pub fn is_prefix(kind: Option<Kind>) -> bool
+    ensures { result ≡ opens_prefix kind }
+{
+    prefix_of(kind).is_some()
+}
+
+/// "!" | "-"
+pub fn prefix(cursor: &mut Cursor<'_>) -> Result<Prefix, Stuck>
+    ensures { ReadsEnded (λ x. x) prefix cursor.old cursor.new result }
+{
+    let Some(operator) = prefix_of(cursor.peek()) else {
+        return Err(Stuck::Unexpected);
+    };
+    let place = cursor.skip();
+    Ok(Prefix { operator, place })
+}

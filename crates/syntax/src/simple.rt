@@ -1,0 +1,160 @@
+//! Reads statements that hold no other, by their first tokens.
+
+ghost use Rattle.std.specs.Prelude.{◌≡◌, ◌≢◌, ◌++◌};
+ghost use Rattle.syntax.specs.Symbols.{kind_at};
+ghost use Rattle.syntax.specs.Spelling.{word, name};
+ghost use Rattle.syntax.specs.Reading.{Reads};
+ghost use Rattle.syntax.specs.StatementTrees.{statement_tree};
+ghost use Rattle.syntax.specs.StatementGrammar.{statement};
+ghost use Rattle.syntax.specs.StatementFirsts.{lead_of, statement_on, statement_at};
+
+use crate::cursor::{Cursor, Stuck};
+use crate::expression::Target;
+use crate::expressions::read_index;
+use crate::leads::{Lead, Simple};
+use crate::statement::{Assign, Declare, NewChannel, Statement};
+use crate::statement_ends::{
+    assigned, called, channel_ends, declared, delete, jump, return_statement, start,
+};
+use crate::tree::{Heap, Type};
+use crate::types::{endpoint_end, is_side, pointer_tail, scalar_type};
+use crate::value::Call;
+use source::{Kind, Span};
+use std::alloc::Global;
+
+/// A statement that begins so and holds no other.
+pub fn simple_statement(
+    alloc: Global,
+    cursor: &mut Cursor<'_>,
+    simple: Simple,
+) -> Result<Statement, Stuck>
+    requires { lead_of (kind_at cursor.old) ≡ Some (Lead.Simple simple) }
+    ensures { Reads statement_tree statement statement_on statement_at cursor.old cursor.new result }
+{
+    match simple {
+        Simple::Name => {
+            let name = cursor.name()?;
+            after_name(alloc, cursor, name)
+        }
+        Simple::Scalar => {
+            let kind = Type::from(scalar_type(cursor)?);
+            let (name, value) = declared(alloc, cursor)?;
+            Ok(Statement::Declare(Declare { kind, name, value }))
+        }
+        Simple::Start => {
+            let (word, call) = start(alloc, cursor)?;
+            Ok(Statement::Start { word, call })
+        }
+        Simple::Delete => Ok(Statement::Delete(delete(cursor)?)),
+        Simple::Break => Ok(Statement::Break(jump(cursor, Kind::Break)?)),
+        Simple::Continue => Ok(Statement::Continue(jump(cursor, Kind::Continue)?)),
+        Simple::Return => {
+            let (word, value) = return_statement(alloc, cursor)?;
+            Ok(Statement::Return { word, value })
+        }
+    }
+}
+
+/// The rest of a statement that begins with this name.
+fn after_name(alloc: Global, cursor: &mut Cursor<'_>, first: Span) -> Result<Statement, Stuck>
+    ensures { Reads statement_tree statement statement_on statement_at (name first ++ cursor.old) cursor.new result }
+{
+    if cursor.is_next(Kind::Star) {
+        let bang = pointer_tail(cursor)?;
+        let kind = Type::Heap(Heap::Pointer { name: first, bang });
+        let (name, value) = declared(alloc, cursor)?;
+        Ok(Statement::Declare(Declare { kind, name, value }))
+    } else if cursor.take_if(Kind::Dot) {
+        after_dot(alloc, cursor, first)
+    } else {
+        after_variable(alloc, cursor, first)
+    }
+}
+
+/// The rest of a statement that begins with the name of a variable or a method, where no dot stands behind it.
+fn after_variable(alloc: Global, cursor: &mut Cursor<'_>, first: Span) -> Result<Statement, Stuck>
+    requires star { kind_at cursor.old ≢ Some Kind.Star }
+    requires dot { kind_at cursor.old ≢ Some Kind.Dot }
+    ensures { Reads statement_tree statement statement_on statement_at (name first ++ cursor.old) cursor.new result }
+{
+    if cursor.is_next(Kind::OpenParen) {
+        let (open, arguments) = called(alloc, cursor)?;
+        Ok(Statement::Call(Call {
+            name: first,
+            member: None,
+            open,
+            arguments,
+        }))
+    } else if cursor.is_next(Kind::OpenBracket) {
+        let index = Box::new(alloc, read_index(alloc, cursor)?)?;
+        let value = assigned(alloc, cursor)?;
+        let target = Target::Element {
+            variable: first,
+            index,
+        };
+        Ok(Statement::Assign(Assign { target, value }))
+    } else {
+        let value = assigned(alloc, cursor)?;
+        let target = Target::Variable(first);
+        Ok(Statement::Assign(Assign { target, value }))
+    }
+}
+
+/// The rest of a statement that begins with this name and a dot.
+fn after_dot(alloc: Global, cursor: &mut Cursor<'_>, first: Span) -> Result<Statement, Stuck>
+    ensures { Reads statement_tree statement statement_on statement_at (name first ++ (word Kind.Dot ++ cursor.old))
+        cursor.new result }
+{
+    if is_side(cursor.peek()) {
+        let end = endpoint_end(cursor)?;
+        let kind = Type::Heap(Heap::Endpoint {
+            contract: first,
+            side: end.side,
+            state: end.state,
+            bang: end.bang,
+            in_heap: end.in_heap,
+        });
+        let (name, value) = declared(alloc, cursor)?;
+        Ok(Statement::Declare(Declare { kind, name, value }))
+    } else if cursor.is_next(Kind::NewChannel) {
+        let ends = channel_ends(cursor)?;
+        Ok(Statement::NewChannel(NewChannel {
+            contract: first,
+            word: ends.word,
+            open: ends.open,
+            first: ends.first,
+            second: ends.second,
+        }))
+    } else {
+        let member = cursor.name()?;
+        after_member(alloc, cursor, first, member)
+    }
+}
+
+/// The rest of a statement that begins with these names and a dot between them.
+fn after_member(
+    alloc: Global,
+    cursor: &mut Cursor<'_>,
+    first: Span,
+    member: Span,
+) -> Result<Statement, Stuck>
+    ensures { Reads statement_tree statement statement_on statement_at
+        (name first ++ (word Kind.Dot ++ (name member ++ cursor.old))) cursor.new result }
+{
+    if cursor.is_next(Kind::OpenParen) {
+        let (open, arguments) = called(alloc, cursor)?;
+        Ok(Statement::Call(Call {
+            name: first,
+            member: Some(member),
+            open,
+            arguments,
+        }))
+    } else {
+        let value = assigned(alloc, cursor)?;
+        let target = Target::Field {
+            variable: first,
+            field: member,
+        };
+        Ok(Statement::Assign(Assign { target, value }))
+    }
+}

@@ -1,0 +1,193 @@
+//! Reads values and calls.
+
+ghost use Rattle.std.specs.Prelude.{◌≡◌, ◌++◌, map};
+ghost use Rattle.source.specs.declared.kind.Kind.{Kind};
+ghost use Rattle.syntax.specs.Symbols.{kind_at};
+ghost use Rattle.syntax.specs.Spelling.{name, comma, listed, parens, optional};
+ghost use Rattle.syntax.specs.Reading.{Stops, Reads, ReadsEnded};
+ghost use Rattle.syntax.specs.Expressions.{expression, expression_on, expression_at, target, target_at, dot_name};
+ghost use Rattle.syntax.specs.ExpressionTrees.{expression_tree, target_tree};
+ghost use Rattle.syntax.specs.Values.{arguments, expressions_on, expressions_at, call_tree, call, made_tree, made_spelling, made_struct, made_array, new_tree, new_spelling, value_tree, value_spelling, value_on, value_at, opens_value};
+
+use crate::cursor::{Cursor, Stuck};
+use crate::expression::{Atom, Expression, Target, Unary};
+use crate::expressions::{
+    dot_name, expression_from, is_expression, read_expression, read_index, target_from,
+};
+use crate::tree::Scalar;
+use crate::types::scalar;
+use crate::value::{Call, Made, New, Value};
+use source::{Kind, Span};
+use std::alloc::Global;
+
+/// Whether a value begins with this token.
+pub fn is_value(kind: Option<Kind>) -> bool
+    ensures { result ≡ opens_value kind }
+{
+    is_expression(kind) || kind == Some(Kind::New)
+}
+
+/// value = new | expression | call .
+pub fn read_value(alloc: Global, cursor: &mut Cursor<'_>) -> Result<Value, Stuck>
+    ensures { Reads value_tree value_spelling value_on value_at cursor.old cursor.new result }
+{
+    if cursor.is_next(Kind::New) {
+        Ok(Value::New(read_new(alloc, cursor)?))
+    } else if cursor.is_next(Kind::Name) {
+        let variable = cursor.skip();
+        named_value(alloc, cursor, variable)
+    } else {
+        Ok(Value::Expression(read_expression(alloc, cursor)?))
+    }
+}
+
+/// The value that begins with this name.
+fn named_value(alloc: Global, cursor: &mut Cursor<'_>, variable: Span) -> Result<Value, Stuck>
+    ensures { Reads value_tree value_spelling value_on value_at (name variable ++ cursor.old) cursor.new result }
+{
+    if cursor.is_next(Kind::OpenParen) {
+        Ok(Value::Call(call_from(alloc, cursor, variable, None)?))
+    } else if cursor.is_next(Kind::Dot) {
+        let member = dot_name(cursor)?;
+        member_value(alloc, cursor, variable, member)
+    } else {
+        let first = target_from(alloc, cursor, variable)?;
+        Ok(Value::Expression(expression_of(alloc, cursor, first)?))
+    }
+}
+
+/// The value that begins with these two names.
+fn member_value(
+    alloc: Global,
+    cursor: &mut Cursor<'_>,
+    variable: Span,
+    member: Span,
+) -> Result<Value, Stuck>
+    ensures { Reads value_tree value_spelling value_on value_at (name variable ++ (dot_name member ++ cursor.old)) cursor.new result }
+{
+    if cursor.is_next(Kind::OpenParen) {
+        Ok(Value::Call(call_from(alloc, cursor, variable, Some(member))?))
+    } else {
+        let first = Target::Field {
+            variable,
+            field: member,
+        };
+        Ok(Value::Expression(expression_of(alloc, cursor, first)?))
+    }
+}
+
+/// The expression that begins with this target.
+pub fn expression_of(
+    alloc: Global,
+    cursor: &mut Cursor<'_>,
+    first: Target,
+) -> Result<Expression, Stuck>
+    requires { Stops (target_at (target_tree first)) cursor.old }
+    ensures { Reads expression_tree expression expression_on expression_at (target (target_tree first) ++ cursor.old) cursor.new result }
+{
+    let unary = Unary {
+        prefixes: Vec::new(alloc),
+        atom: Atom::Target(first),
+    };
+    expression_from(alloc, cursor, unary)
+}
+
+/// call = ID [ "." ID ] arguments , behind its names.
+pub fn call_from(
+    alloc: Global,
+    cursor: &mut Cursor<'_>,
+    callee: Span,
+    member: Option<Span>,
+) -> Result<Call, Stuck>
+    requires { kind_at cursor.old ≡ Some Kind.OpenParen }
+    ensures { ReadsEnded call_tree call (name callee ++ (optional dot_name member ++ cursor.old)) cursor.new result }
+{
+    let (open, arguments) = read_arguments(alloc, cursor)?;
+    Ok(Call {
+        name: callee,
+        member,
+        open,
+        arguments,
+    })
+}
+
+/// new = "new" "[" "ExHeap" "]" made .
+fn read_new(alloc: Global, cursor: &mut Cursor<'_>) -> Result<New, Stuck>
+    ensures { ReadsEnded new_tree new_spelling cursor.old cursor.new result }
+{
+    let word = cursor.placed(Kind::New)?;
+    cursor.expect(Kind::OpenBracket)?;
+    cursor.expect(Kind::ExHeap)?;
+    cursor.expect(Kind::CloseBracket)?;
+    let made = made(alloc, cursor)?;
+    Ok(New { word, made })
+}
+
+/// made = made_struct | made_array .
+fn made(alloc: Global, cursor: &mut Cursor<'_>) -> Result<Made, Stuck>
+    ensures { ReadsEnded made_tree made_spelling cursor.old cursor.new result }
+{
+    if cursor.is_next(Kind::Name) {
+        let (name, open) = made_struct(cursor)?;
+        Ok(Made::Struct { name, open })
+    } else {
+        let (element, length) = made_array(alloc, cursor)?;
+        Ok(Made::Array { element, length })
+    }
+}
+
+/// made_struct = ID "(" ")" .
+fn made_struct(cursor: &mut Cursor<'_>) -> Result<(Span, Span), Stuck>
+    ensures { ReadsEnded (λ x. x) made_struct cursor.old cursor.new result }
+{
+    let name = cursor.name()?;
+    let left = cursor.placed(Kind::OpenParen)?;
+    cursor.expect(Kind::CloseParen)?;
+    Ok((name, left))
+}
+
+/// made_array = scalar "[" expression "]" .
+fn made_array(alloc: Global, cursor: &mut Cursor<'_>) -> Result<(Scalar, Expression), Stuck>
+    ensures { ReadsEnded (λ p. (p.0, expression_tree p.1)) made_array cursor.old cursor.new result }
+{
+    let element = scalar(cursor)?;
+    let length = read_index(alloc, cursor)?;
+    Ok((element, length))
+}
+
+/// arguments = "(" [ expression { "," expression } ] ")" .
+pub fn read_arguments(
+    alloc: Global,
+    cursor: &mut Cursor<'_>,
+) -> Result<(Span, Vec<Expression>), Stuck>
+    ensures { ReadsEnded (λ p. (p.0, map expression_tree p.1.items)) arguments cursor.old cursor.new result }
+{
+    let left = cursor.placed(Kind::OpenParen)?;
+    let all = expression_list(alloc, cursor)?;
+    cursor.expect(Kind::CloseParen)?;
+    Ok((left, all))
+}
+
+/// [ expression { "," expression } ]
+fn expression_list(alloc: Global, cursor: &mut Cursor<'_>) -> Result<Vec<Expression>, Stuck>
+    ensures { Reads (λ v. map expression_tree v.items) (listed expression) expressions_on expressions_at
+        cursor.old cursor.new result }
+{
+    let mut all = Vec::new(alloc);
+    if !is_expression(cursor.peek()) {
+        return Ok(all);
+    }
+    all.push(read_expression(alloc, cursor)?)?;
+    'more: while cursor.is_next(Kind::Comma) {
+        all.push(comma_expression(alloc, cursor)?)?;
+    }
+    Ok(all)
+}
+
+/// "," expression
+fn comma_expression(alloc: Global, cursor: &mut Cursor<'_>) -> Result<Expression, Stuck>
+    ensures { Reads expression_tree (comma expression) expression_on expression_at cursor.old cursor.new result }
+{
+    cursor.expect(Kind::Comma)?;
+    Ok(read_expression(alloc, cursor)?)
+}
