@@ -49,4 +49,77 @@ def long_names(n):
     return 'contract B { ' + ''.join('in message %s%d();' % ('x' * 100, k) for k in range(n)) + 'state S: ; }'
 
 
-LOADS = [path, ring, named_states, messages, contracts_256, comment, declared_twice, long_names]
+def in_method(statements):
+    """A program of one method with these statements."""
+    return 'rep struct D { int n; }\nclass K { static void F(bool b, D* in ExHeap p, int[] in ExHeap a) {\n' + statements + '} }\n'
+
+
+def statements(n):
+    """n assignments in a row."""
+    return in_method('int k;\n' + 'k = k + p.n * a[0];\n' * n)
+
+
+def else_ifs(n):
+    """One `if` with n further tests."""
+    return in_method('if (b) { }' + ' else if (b) { }' * n)
+
+
+def long_sum(n):
+    """One sum of n parts."""
+    return in_method('int k = 1' + ' + p.n' * n + ';')
+
+
+def deep_parentheses(n):
+    """Numbers in 90 parentheses, n of these in all."""
+    return in_method('int k;\n' + ('k = ' + '(' * 90 + '1' + ')' * 90 + ';\n') * max(1, n // 90))
+
+
+def deep_blocks(n):
+    """Empty blocks 90 deep, n of these in all."""
+    return in_method(('{' * 90 + '}' * 90 + '\n') * max(1, n // 90))
+
+
+def methods(n):
+    """Methods that call each other, as many as there may be, with n calls in all."""
+    count = min(4096, n)
+    calls = ''.join('M%d(b); ' % k for k in range(n // count))
+    return 'class K {\n' + ''.join('static void M%d(bool b) { %s}\n' % (k, calls) for k in range(count)) + '}\n'
+
+
+def unknown_names(n):
+    """n uses of one name that nothing declares."""
+    return in_method('x = b;\n' * n)
+
+
+def variables_twice(n):
+    """One variable declared n times."""
+    return in_method('int k;\n' * n)
+
+
+def variables(n):
+    """n scalars, each in use."""
+    return in_method(''.join('int v%d = %s;\n' % (k, 'v%d' % (k - 1) if k else '0') for k in range(n)))
+
+
+def cases(n):
+    """One switch with a case for each of n messages."""
+    contract = 'contract C { ' + ''.join('out message M%d();' % k for k in range(n)) + 'state S: ; }\n'
+    listed = ''.join('case i.M%d(): break;\n' % k for k in range(n))
+    return contract + 'class K { static void F(C.Imp:S i) { switch receive {\n' + listed + 'case i.ChannelClosed(): break; } } }\n'
+
+
+def blocks_of_variables(n):
+    """n blocks that declare a variable each, in the scope of a thousand others."""
+    outer = ''.join('int v%d;\n' % k for k in range(1000))
+    return in_method(outer + '{ int k; k = v999; }\n' * n)
+
+
+def starts(n):
+    """n starts of one method with n parameters."""
+    parameters = ', '.join('int a%d' % k for k in range(n))
+    return 'class K { static void G(' + parameters + ') { } static void F() {\n' + 'start G();\n' * n + '} }\n'
+
+
+LOADS = [path, ring, named_states, messages, contracts_256, comment, declared_twice, long_names,
+         statements, else_ifs, long_sum, deep_parentheses, deep_blocks, methods,
+         unknown_names, variables_twice, variables, cases, blocks_of_variables, starts]
