@@ -75,7 +75,11 @@ fn tokens_of(alloc: Global, text: &str) -> Result<Tokens, AllocError> {
 fn value_answers(alloc: Global, value: &str, wanted: Option<usize>) -> Result<bool, AllocError> {
     let text = format!(in alloc; "{FRONT}{value}")?;
     let tokens = tokens_of(alloc, text.as_str())?;
-    Ok(answers(alloc, &tokens, wanted.map(|number| BEFORE + number)))
+    let wanted = match wanted {
+        Some(number) => Some(number.saturating_add(BEFORE)),
+        None => None,
+    };
+    Ok(answers(alloc, &tokens, wanted))
 }
 
 #[test]
@@ -154,10 +158,16 @@ fn first_wrong_tokens_of_values(rt: HostRuntime) -> Result<(), Fail> {
 
 /// The expression that the first statement of the first method assigns.
 fn assigned(tree: &Tree) -> Result<&Expression, Fail> {
-    let Definition::Class(class) = &tree.items[0].definition else {
+    let Some(item) = tree.items.first() else {
+        return Err(Fail::from("no item"));
+    };
+    let Definition::Class(class) = &item.definition else {
         return Err(Fail::from("no class"));
     };
-    let Statement::Assign(assign) = &class.methods[0].body.statements[0] else {
+    let Some(method) = class.methods.first() else {
+        return Err(Fail::from("no method"));
+    };
+    let Some(Statement::Assign(assign)) = method.body.statements.first() else {
         return Err(Fail::from("no assignment"));
     };
     let Value::Expression(expression) = &assign.value else {
