@@ -45,3 +45,4 @@ pub use fault::NameFaults;
 pub use limits::{MOST_CONTRACTS, MOST_METHODS, MOST_PARAMETERS, MOST_STATES, MOST_VARIABLES};
 pub use resolved::{Contract, ContractId, Edge, Message, MessageId, Resolved, State, StateId};
 pub use resolving::resolve;
+pub use tables::Table;

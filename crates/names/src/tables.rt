@@ -12,7 +12,7 @@ use std::collections::BTreeMap;
 
 /// Where each name of a list is declared first. Names are compared and never hashed, so no choice of names makes it slow.
 #[derive(Debug, Drop)]
-pub(crate) struct Table<'a> {
+pub struct Table<'a> {
     first: BTreeMap<&'a [u8], usize>,
 }
 
@@ -46,7 +46,7 @@ impl<'a> Table<'a> {
     }
 
     /// The table of no names.
-    pub(crate) fn new(alloc: Global) -> Table<'a>
+    pub fn new(alloc: Global) -> Table<'a>
         ensures { IsTable [] result }
     {
         Table {
@@ -55,7 +55,7 @@ impl<'a> Table<'a> {
     }
 
     /// Adds a name that it lacks, behind the others.
-    pub(crate) fn add(&mut self, name: &'a [u8], place: usize) -> Result<(), AllocError>
+    pub fn add(&mut self, name: &'a [u8], place: usize) -> Result<(), AllocError>
         ensures { (words : List (List ℕ)) → IsTable words self.old → first_of words name.now ≡ None → place ≡ length words → OnOk result (IsTable (words ++ name.now ∷ []) self.new) }
     {
         self.first.insert(name, place)?;
@@ -70,7 +70,7 @@ impl<'a> Table<'a> {
     }
 
     /// Where the name is declared first, if it is.
-    pub(crate) fn find(&self, name: &[u8]) -> Option<usize>
+    pub fn find(&self, name: &[u8]) -> Option<usize>
         ensures { (words : List (List ℕ)) → IsTable words self.now → result ≡ first_of words name.now }
     {
         self.first.get(name).copied()

@@ -10,7 +10,7 @@ use Rattle.clap.specs.declared.parser.matches.ArgMatches.TheViews.{out-ArgMatche
 use Rattle.clap.specs.declared.parser.matches.SubCommand.{SubCommand}
 use Rattle.clap.proofs.OnLiterals.{clap_on_literals}
 use Rattle.clap.proofs.WalkLemmas.{first_value-rows}
-use Rattle.singcheck.specs.Asking.{AsksBounds, whole_command}
+use Rattle.singcheck.specs.Asking.{AsksOf, whole_command}
 
 whole_is_simple : is_simple whole_command ≡ true
 unfolding clap_on_literals
@@ -20,9 +20,9 @@ both_of : {Z : Type 0} (found : Option (Box SubCommand Z)) (name : Text) (rows :
 both_of None name rows e f = absurd (cc)
 both_of (Some b) name rows e f = cc
 
-pub asks_bounds : (words : List Text) (m inner : ArgMatches) (file : Text) (command : App) → command ≡ whole_command → HasMatchesOf command words m → subcommand_name_of m ≡ Some (codes "bounds") → option_map (λ p. p.1) (subcommand_rows (out-ArgMatches m).subcommand) ≡ Some (rows_of (found_of inner)) → first_value (found_of inner) (codes "FILE") ≡ Some file → AsksBounds words file
-asks_bounds words m inner file command is has name rows first = record {
+pub asks_of : (words : List Text) (m inner : ArgMatches) (subcommand file : Text) (command : App) → command ≡ whole_command → HasMatchesOf command words m → subcommand_name_of m ≡ Some subcommand → option_map (λ p. p.1) (subcommand_rows (out-ArgMatches m).subcommand) ≡ Some (rows_of (found_of inner)) → first_value (found_of inner) (codes "FILE") ≡ Some file → AsksOf words subcommand file
+asks_of words m inner subcommand file command is has name rows first = record {
   rows = rows_of (found_of inner);
-  named = sym (ap (λ a. subcommand_of a words) is) ∙ sym (has (ap is_simple is ∙ whole_is_simple)).1 ∙ both_of (out-ArgMatches m).subcommand (codes "bounds") (rows_of (found_of inner)) name rows;
+  named = sym (ap (λ a. subcommand_of a words) is) ∙ sym (has (ap is_simple is ∙ whole_is_simple)).1 ∙ both_of (out-ArgMatches m).subcommand subcommand (rows_of (found_of inner)) name rows;
   first = sym (first_value-rows (found_of inner) (codes "FILE")) ∙ first;
 }

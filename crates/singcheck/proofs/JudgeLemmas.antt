@@ -40,7 +40,7 @@ adds_is c some parts old new first same broken all = Adds (record {
   all = subst (λ p. AddsAll p old.findings.items new.findings.items) (sym same) all;
 })
 
-none_of : (f : FindingParts) → Contains [] f → ⊥
+pub none_of : (f : FindingParts) → Contains [] f → ⊥
 none_of f c = let below = c.1 in omega arith
 
 -- one more contract has been judged

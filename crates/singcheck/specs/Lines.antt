@@ -18,3 +18,7 @@ bounds_line name to_exp to_imp = name ++ codes ": to Exp " ++ decimal to_exp ++ 
 -- `ok: C contracts`
 abbrev pub ok_line : ℕ → List ℕ
 ok_line contracts = codes "ok: " ++ decimal contracts ++ codes " contracts\n"
+
+-- `ok: C contracts, M methods`
+abbrev pub clear_line : ℕ → ℕ → List ℕ
+clear_line contracts methods = codes "ok: " ++ decimal contracts ++ codes " contracts, " ++ decimal methods ++ codes " methods\n"

@@ -1,21 +1,22 @@
 -- What a run reads and writes.
 use Rattle.std.specs.Prelude.{◌≡◌, ℕ, ◌≤◌, List, length, drop, Option, Some, IfSome}
 use Rattle.std.specs.Io.KnownBytes.{Appends, Consumes}
-use Rattle.singcheck.specs.Answers.{Answers}
 use Rattle.singcheck.specs.Devices.{Begins}
+use Rattle.singcheck.specs.declared.fault.RunFault.{RunFault}
+use Rattle.singcheck.specs.declared.fault.RunFault.TheVariants.{Read, Memory}
 use Rattle.singcheck.specs.declared.fault.Status.{Status}
 
--- the answer to the text was written
-pub record Writes (text : List ℕ) (old new : Option (List ℕ)) (status : Status) : Type 0 where
+-- the answer to the text was written; by this it is known what answers a text
+pub record Writes (answer : List ℕ → List ℕ → Status → Type 0) (text : List ℕ) (old new : Option (List ℕ)) (status : Status) : Type 0 where
   pub bytes : List ℕ
-  pub answers : Answers text bytes status
+  pub answers : answer text bytes status
   pub written : Appends old new bytes
 
 -- a beginning of the answer to the text was written
-pub record BeginsAnswer (text : List ℕ) (old new : Option (List ℕ)) : Type 0 where
+pub record BeginsAnswer (answer : List ℕ → List ℕ → Status → Type 0) (text : List ℕ) (old new : Option (List ℕ)) : Type 0 where
   pub bytes : List ℕ
   pub status : Status
-  pub answers : Answers text bytes status
+  pub answers : answer text bytes status
   pub begun : Begins old new bytes
 
 -- at most so many bytes were taken, from the front
@@ -27,3 +28,9 @@ pub record TakesAtMost (most : ℕ) (old new : Option (List ℕ)) : Type 0 where
 -- so many bytes were taken, or all, and the rest is left
 abbrev pub LeavesRest : ℕ → Option (List ℕ) → Option (List ℕ) → Type 0
 LeavesRest most old new = IfSome old (λ bytes. new ≡ Some (drop most bytes))
+
+-- reading gives up for its device, or for want of memory
+abbrev pub IsReadFault : RunFault → Type 0
+IsReadFault (Read input) = Unit {0}
+IsReadFault Memory = Unit {0}
+IsReadFault _ = ⊥

@@ -1,15 +1,25 @@
 -- For proofs within the crate: what the stages answer each other.
-use Rattle.std.specs.Prelude.{◌≡◌, ℕ, List, [], ◌∷◌, ◌++◌, map, All}
+use Rattle.std.specs.Prelude.{◌≡◌, ◌<◌, ◌^◌, ℕ, List, [], ◌∷◌, ◌++◌, length, map, All}
 use Rattle.source.specs.Findings.{FindingParts, finding_parts}
 use Rattle.source.specs.declared.finding.Finding.{Finding}
 use Rattle.names.specs.Resolution.{ContractSeen, contract_seen}
+use Rattle.names.specs.declared.resolved.Resolved.{Resolved}
 use Rattle.contracts.specs.Conditions as conditions
 use Rattle.contracts.specs.Conditions.{AreExactly, IsSound}
 use Rattle.contracts.specs.Parts.{Parts}
 use Rattle.contracts.specs.Sounds.{sound_parts}
 use Rattle.singcheck.specs.Answers.{AreFindings, IsBoundsLine, IsResolved, IsBroken}
+use Rattle.source.specs.Tokens.{AreTokens}
+use Rattle.source.specs.declared.token.Tokens.{Tokens}
+use Rattle.syntax.specs.Parsing.{Spells}
+use Rattle.syntax.specs.Programs.{program}
+use Rattle.syntax.specs.Trees.{ItemTree, program_tree}
+use Rattle.syntax.specs.declared.tree.Tree.{Tree}
+use Rattle.singcheck.specs.Checks.{IsSoundProgram}
 use Rattle.singcheck.specs.declared.stages.Clean.{Clean}
 use Rattle.singcheck.specs.declared.stages.Judging.{Judging}
+use Rattle.singcheck.specs.declared.stages.Parsed.{Parsed}
+use Rattle.singcheck.specs.declared.stages.Parsed.TheVariants as parsed
 use Rattle.singcheck.specs.declared.stages.Staged.{Staged}
 use Rattle.singcheck.specs.declared.stages.Staged.TheVariants as staged
 
@@ -19,10 +29,31 @@ pub record IsClean (text : List ℕ) (clean : Clean) : Type 0 where
   pub sounds : map sound_parts clean.sounds.items ≡ map (λ c. c.parts) (map contract_seen clean.resolved.contracts.items)
   pub sound : All (λ c. IsSound c.parts) (map contract_seen clean.resolved.contracts.items)
 
+-- the text is no program, or these are its tokens and its tree
+pub record IsProgramOf (text : List ℕ) (tokens : Tokens) (tree : Tree) : Type 0 where
+  pub read : tokens.text.items ≡ text
+  pub lexed : AreTokens tokens.text.items tokens.list.items
+  pub spelled : Spells program (program_tree tree) tokens.list.items
+  pub few : length tokens.list.items < 2 ^ 32
+
+abbrev pub IsParsed : List ℕ → Parsed → Type 0
+IsParsed text (parsed.Found findings) = AreFindings text (map finding_parts findings.items)
+IsParsed text (parsed.Program tokens tree) = IsProgramOf text tokens tree
+
+-- where nothing is wrong, nothing is wrong with these items
+abbrev pub IsSoundTree : List ℕ → List ItemTree → Staged → Type 0
+IsSoundTree text items (staged.Found findings) = Unit {0}
+IsSoundTree text items (staged.Clean clean) = IsSoundProgram text items (map contract_seen clean.resolved.contracts.items)
+
 -- the findings of the text, or its contracts where there are none
 abbrev pub IsStaged : List ℕ → Staged → Type 0
 IsStaged text (staged.Found findings) = AreFindings text (map finding_parts findings.items)
 IsStaged text (staged.Clean clean) = IsClean text clean
+
+-- where nothing is wrong, the contracts are those that were judged
+abbrev pub KeepsContracts : Resolved → Staged → Type 0
+KeepsContracts resolved (staged.Found findings) = Unit {0}
+KeepsContracts resolved (staged.Clean clean) = clean.resolved ≡ resolved
 
 -- a sound contract is kept
 pub record KeepsSound (c : ContractSeen) (old new : Judging) : Type 0 where

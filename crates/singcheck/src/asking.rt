@@ -3,10 +3,17 @@
 ghost use Rattle.std.specs.Prelude.{map, IfOk};
 ghost use Rattle.singcheck.specs.Asking.{Asks};
 
+use crate::commands::whole_of;
 use crate::request::Ask;
+use clap::Error;
 use clap::error::ErrorKind;
-use clap::{Arg, ArgAction, Command, Error};
 use std::alloc::Global;
+
+/// How many workers there are where the command line does not say.
+const WORKERS: usize = 4;
+
+/// How many slots there are where the command line does not say.
+const SLOTS: usize = 65_536;
 
 /// What the words of a command line ask for, the program's name first among them.
 ///
@@ -14,23 +21,34 @@ use std::alloc::Global;
 pub fn ask<'a>(alloc: Global, words: &'a [&'a str]) -> Result<Ask<'a>, Error>
     ensures { IfOk result (Asks (map (λ w. w.now) words.entry.now)) }
 {
-    let file = Arg::new(alloc, "FILE")
-        .required(true)
-        .help("The program text")
-        .action(ArgAction::Set);
-    let bounds = Command::new(alloc, "bounds")
-        .about("Prints how long the queues of each contract can be")
-        .arg(file)?;
-    let mut command = Command::new(alloc, "singcheck")
-        .about("Checks channel contracts and exchange-heap ownership of Sing# programs")
-        .subcommand_required(true)
-        .arg_required_else_help(true)
-        .subcommand(bounds)?;
+    let mut command = whole_of(alloc)?;
     let matches = command.try_get_matches_from_mut(words)?;
     if let Some(("bounds", inner)) = matches.subcommand() {
         if let Some(file) = inner.get_str("FILE") {
             return Ok(Ask::Bounds { file });
         }
     }
+    if let Some(("check", inner)) = matches.subcommand() {
+        if let Some(file) = inner.get_str("FILE") {
+            let workers = number(inner.get_str("workers"), WORKERS);
+            let slots = number(inner.get_str("slots"), SLOTS);
+            let (Some(workers), Some(slots)) = (workers, slots) else {
+                return Err(command.error(ErrorKind::InvalidValue, "a number is required")?);
+            };
+            return Ok(Ask::Check {
+                file,
+                workers,
+                slots,
+            });
+        }
+    }
     Err(command.error(ErrorKind::MissingSubcommand, "a subcommand is required")?)
+}
+
+/// The number that an option has, or this one where the option is not given. None where it is no number that fits.
+fn number(given: Option<&str>, other: usize) -> Option<usize> {
+    match given {
+        Some(text) => text.parse().ok(),
+        None => Some(other),
+    }
 }

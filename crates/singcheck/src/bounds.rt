@@ -11,7 +11,7 @@ use crate::device::{Sink, Source};
 use crate::fault::{Input, RunFault, Status};
 use crate::lines::{add_bounds, add_contracts};
 use crate::reading::{MAX_READ, read_text};
-use crate::reports::report;
+use crate::reports::{Report, report_of};
 use crate::stages::{Clean, Staged, run_stages};
 use crate::writing::write_all;
 use contracts::Sound;
@@ -19,13 +19,6 @@ use names::Contract;
 use source::Memory;
 use std::alloc::Global;
 use syntax::Side;
-
-/// What a run writes, and its status.
-#[derive(Drop)]
-struct Answer {
-    bytes: Vec<u8>,
-    status: Status,
-}
 
 /// Reads a program text, and writes the greatest length of each queue of its contracts, or its findings.
 ///
@@ -40,9 +33,9 @@ pub fn run_bounds<R: Source, W: Sink>(
     writer: &mut W,
 ) -> Result<Status, RunFault>
     ensures written { IfOk result (λ status. IfSome (R.remaining reader.old) (λ text.
-        Writes (take MAX_READ text) (W.contents writer.old) (W.contents writer.new) status)) }
+        Writes Answers (take MAX_READ text) (W.contents writer.old) (W.contents writer.new) status)) }
     ensures begun { IsErrOf result RunFault.Write → IfSome (R.remaining reader.old) (λ text.
-        BeginsAnswer (take MAX_READ text) (W.contents writer.old) (W.contents writer.new)) }
+        BeginsAnswer Answers (take MAX_READ text) (W.contents writer.old) (W.contents writer.new)) }
     ensures rest { OnOk result (LeavesRest MAX_READ (R.remaining reader.old) (R.remaining reader.new)) }
     ensures most { TakesAtMost MAX_READ (R.remaining reader.old) (R.remaining reader.new) }
     ensures read { IsErrOf result (RunFault.Read Input.Text) → R.failed reader.new ≢ R.failed reader.old }
@@ -56,15 +49,15 @@ pub fn run_bounds<R: Source, W: Sink>(
 }
 
 /// The answer to a text.
-fn bounds_of(alloc: Global, text: &[u8]) -> Result<Answer, Memory>
+fn bounds_of(alloc: Global, text: &[u8]) -> Result<Report, Memory>
     ensures { IfOk result (λ answer. Answers text.now answer.bytes.items answer.status) }
 {
     match run_stages(alloc, text)? {
-        Staged::Found(findings) => Ok(Answer {
-            bytes: report(alloc, findings)?,
+        Staged::Found(findings) => Ok(Report {
+            bytes: report_of(alloc, findings)?,
             status: Status::Found,
         }),
-        Staged::Clean(clean) => Ok(Answer {
+        Staged::Clean(clean) => Ok(Report {
             bytes: bounds_lines(alloc, &clean)?,
             status: Status::Empty,
         }),

@@ -1,6 +1,7 @@
 //! How a run ends.
 
-use source::Memory;
+use resolving::MethodFault;
+use source::{Memory, Place};
 use std::alloc::{AllocError, AllocFailed};
 use thiserror::Error;
 
@@ -19,6 +20,23 @@ pub enum Input {
     Text,
 }
 
+/// Why there is no report.
+#[derive(Clone, Copy, Debug, PartialEq, Eq, Error)]
+pub enum CheckFault {
+    /// The workers are not 1 to 64. Looked at first.
+    #[error("workers not 1 to 64")]
+    Workers,
+    /// The slots are not 1 to 16,777,216. Looked at behind the workers, and before anything is read.
+    #[error("slots not 1 to 16777216")]
+    Slots,
+    /// Nothing is wrong with the text before its methods, but the first of what is not analysed yet stands there.
+    #[error("not yet")]
+    NotYet(Place),
+    /// A growth of memory was refused.
+    #[error("out of memory")]
+    Memory,
+}
+
 /// Why a run gave up.
 #[derive(Clone, Copy, Debug, PartialEq, Eq, Error)]
 pub enum RunFault {
@@ -28,6 +46,15 @@ pub enum RunFault {
     /// The writer failed. A beginning of the answer went out.
     #[error("cannot write")]
     Write,
+    /// The workers are not 1 to 64. Nothing was read or written.
+    #[error("workers not 1 to 64")]
+    Workers,
+    /// The slots are not 1 to 16,777,216. Nothing was read or written.
+    #[error("slots not 1 to 16777216")]
+    Slots,
+    /// The first of what is not analysed yet stands there. Nothing was written.
+    #[error("not yet")]
+    NotYet(Place),
     /// A growth of memory was refused. Nothing was written.
     #[error("out of memory")]
     Memory,
@@ -63,5 +90,68 @@ impl<T: Drop> From<AllocFailed<T>> for RunFault {
 
     fn from(_e: AllocFailed<T>) -> RunFault {
         RunFault::Memory
+    }
+}
+
+impl From<Memory> for CheckFault {
+    ghost use Rattle.std.specs.Prelude.{◌≡◌};
+    ghost use Rattle.singcheck.specs.declared.fault.CheckFault.TheVariants as faults;
+
+    ghost from_gives = { λ _ e. e ≡ faults.Memory };
+
+    fn from(_e: Memory) -> CheckFault {
+        CheckFault::Memory
+    }
+}
+
+impl From<AllocError> for CheckFault {
+    ghost use Rattle.std.specs.Prelude.{◌≡◌};
+    ghost use Rattle.singcheck.specs.declared.fault.CheckFault.TheVariants as faults;
+
+    ghost from_gives = { λ _ e. e ≡ faults.Memory };
+
+    fn from(_e: AllocError) -> CheckFault {
+        CheckFault::Memory
+    }
+}
+
+impl<T: Drop> From<AllocFailed<T>> for CheckFault {
+    ghost use Rattle.std.specs.Prelude.{◌≡◌};
+    ghost use Rattle.singcheck.specs.declared.fault.CheckFault.TheVariants as faults;
+
+    ghost from_gives = { λ _ e. e ≡ faults.Memory };
+
+    fn from(_e: AllocFailed<T>) -> CheckFault {
+        CheckFault::Memory
+    }
+}
+
+impl From<CheckFault> for RunFault {
+    ghost use Rattle.std.specs.Prelude.{◌≡◌};
+    ghost use Rattle.singcheck.specs.CheckFaults.{run_fault_of};
+
+    ghost from_gives = { λ fault e. e ≡ run_fault_of fault };
+
+    fn from(fault: CheckFault) -> RunFault {
+        match fault {
+            CheckFault::Workers => RunFault::Workers,
+            CheckFault::Slots => RunFault::Slots,
+            CheckFault::NotYet(place) => RunFault::NotYet(place),
+            CheckFault::Memory => RunFault::Memory,
+        }
+    }
+}
+
+impl From<MethodFault> for CheckFault {
+    ghost use Rattle.std.specs.Prelude.{◌≡◌};
+    ghost use Rattle.singcheck.specs.CheckFaults.{check_fault_of};
+
+    ghost from_gives = { λ fault e. e ≡ check_fault_of fault };
+
+    fn from(fault: MethodFault) -> CheckFault {
+        match fault {
+            MethodFault::NotYet(place) => CheckFault::NotYet(place),
+            MethodFault::Memory => CheckFault::Memory,
+        }
     }
 }

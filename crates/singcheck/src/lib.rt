@@ -3,24 +3,35 @@
 
 mod asking;
 mod bounds;
+mod checking;
+mod commands;
 mod device;
 mod endings;
 mod fault;
+mod gate;
 pub mod laws;
+mod limits;
 mod lines;
 mod reading;
 mod reports;
 mod request;
+mod running;
 mod stages;
+mod verdicts;
 mod writing;
 
 pub use asking::ask;
 pub use bounds::run_bounds;
+pub use checking::check;
 pub use device::{Counted, Failed, Sink, Source};
 pub use endings::ending;
-pub use fault::{Input, RunFault, Status};
+pub use fault::{CheckFault, Input, RunFault, Status};
+pub use gate::{Gate, Open};
+pub use limits::{MOST_SLOTS, MOST_WORKERS};
 pub use reading::MAX_READ;
+pub use reports::Report;
 pub use request::Ask;
+pub use running::run_check;
 
 #[cfg(test)]
 mod tests;

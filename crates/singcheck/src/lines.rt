@@ -3,7 +3,7 @@
 ghost use Rattle.std.specs.Prelude.{◌≡◌, ◌++◌, OnOk};
 ghost use Rattle.std.specs.Fmt.{decimal};
 ghost use Rattle.source.specs.Findings.{finding_parts};
-ghost use Rattle.singcheck.specs.Lines.{finding_line, count_line, bounds_line, ok_line};
+ghost use Rattle.singcheck.specs.Lines.{finding_line, count_line, bounds_line, ok_line, clear_line};
 
 use source::{Finding, Memory};
 use std::alloc::Global;
@@ -76,4 +76,20 @@ pub(crate) fn add_contracts(alloc: Global, answer: &mut Vec<u8>, count: usize) -
     add(answer, "ok: ")?;
     add_number(alloc, answer, count)?;
     add(answer, " contracts\n")
+}
+
+/// Adds `ok: C contracts, M methods`.
+pub(crate) fn add_clear(
+    alloc: Global,
+    answer: &mut Vec<u8>,
+    contracts: usize,
+    methods: usize,
+) -> Result<(), Memory>
+    ensures { OnOk result (answer.new.items ≡ answer.old.items ++ clear_line contracts methods) }
+{
+    add(answer, "ok: ")?;
+    add_number(alloc, answer, contracts)?;
+    add(answer, " contracts, ")?;
+    add_number(alloc, answer, methods)?;
+    add(answer, " methods\n")
 }

@@ -1,8 +1,8 @@
 //! Reads a text whole.
 
-ghost use Rattle.std.specs.Prelude.{◌≡◌, ◌≢◌, ◌<◌, ◌≤◌, length, IfOk, OnErr, IsErrOf};
+ghost use Rattle.std.specs.Prelude.{◌≡◌, ◌≢◌, ◌<◌, ◌≤◌, length, IfOk, IfErr, OnErr, IsErrOf};
 ghost use Rattle.std.specs.Io.KnownBytes.{Consumes, IsAtEnd};
-ghost use Rattle.singcheck.specs.Runs.{TakesAtMost};
+ghost use Rattle.singcheck.specs.Runs.{IsReadFault, TakesAtMost};
 
 use crate::device::{Failed, Source};
 use crate::fault::{Input, RunFault};
@@ -23,6 +23,7 @@ pub(crate) fn read_text<R: Source>(alloc: Global, reader: &mut R) -> Result<Vec<
     ensures most { OnErr result (TakesAtMost MAX_READ (R.remaining reader.old) (R.remaining reader.new)) }
     ensures read { IsErrOf result (RunFault.Read Input.Text) → R.failed reader.new ≢ R.failed reader.old }
     ensures no_write { IsErrOf result RunFault.Write → R.failed reader.old ≢ R.failed reader.old }
+    ensures only { IfErr result IsReadFault }
 {
     let mut text = Vec::new(alloc);
     let mut buffer = [0; PART];

@@ -4,12 +4,20 @@ ghost use Rattle.std.specs.Prelude.{◌≡◌, map, IfOk};
 ghost use Rattle.source.specs.Findings.{finding_parts};
 ghost use Rattle.singcheck.specs.Reports.{IsReport, report_bytes};
 
+use crate::fault::Status;
 use crate::lines::{add_count, add_finding};
 use source::{Finding, Memory, compare};
 use std::alloc::Global;
 
+/// What is answered for a text: the bytes of the report, and whether it has findings.
+#[derive(Debug, Drop)]
+pub struct Report {
+    pub bytes: Vec<u8>,
+    pub status: Status,
+}
+
 /// The report: a line a finding, sorted by line, column, code and text, each once, and then their number.
-pub(crate) fn report(alloc: Global, findings: Vec<Finding>) -> Result<Vec<u8>, Memory>
+pub(crate) fn report_of(alloc: Global, findings: Vec<Finding>) -> Result<Vec<u8>, Memory>
     ensures { IfOk result (λ bytes. IsReport (map finding_parts findings.items) bytes.items) }
 {
     let mut findings = findings;

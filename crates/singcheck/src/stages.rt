@@ -12,7 +12,7 @@ ghost use Rattle.names.specs.Parts.{IsWhole, contract_parts};
 ghost use Rattle.names.specs.Resolution.{ContractSeen, contract_seen};
 ghost use Rattle.contracts.specs.Parts.{parts_of};
 ghost use Rattle.singcheck.specs.Answers.{IsResolved, fault_findings, wrong_token};
-ghost use Rattle.singcheck.specs.Stages.{IsStaged, Judges, AddsAll};
+ghost use Rattle.singcheck.specs.Stages.{IsParsed, IsSoundTree, IsStaged, Judges, AddsAll, KeepsContracts};
 
 use contracts::{Edges, Sound, SoundFault, edges, faults};
 use names::{ContractId, NameFaults, Resolved, resolve};
@@ -37,13 +37,32 @@ pub(crate) struct Clean {
     pub(crate) sounds: Vec<Sound>,
 }
 
+/// What the text and its tokens are.
+#[derive(Drop)]
+pub(crate) enum Parsed {
+    /// No program: what is wrong with it.
+    Found(Vec<Finding>),
+    /// A program: its tokens, and the tree that they spell.
+    Program(Tokens, Tree),
+}
+
 /// The stages of a text.
 pub(crate) fn run_stages(alloc: Global, text: &[u8]) -> Result<Staged, Memory>
     ensures { IfOk result (IsStaged text.now) }
 {
+    match parse_text(alloc, text)? {
+        Parsed::Found(findings) => Ok(Staged::Found(findings)),
+        Parsed::Program(tokens, tree) => named(alloc, &tree, &tokens),
+    }
+}
+
+/// The first stage: the text and its tokens.
+pub(crate) fn parse_text(alloc: Global, text: &[u8]) -> Result<Parsed, Memory>
+    ensures { IfOk result (IsParsed text.now) }
+{
     match lex(alloc, text) {
-        Ok(tokens) => parsed(alloc, &tokens),
-        Err(fault) => Ok(Staged::Found(fault_at(alloc, fault)?)),
+        Ok(tokens) => parse_tokens(alloc, tokens),
+        Err(fault) => Ok(Parsed::Found(fault_at(alloc, fault)?)),
     }
 }
 
@@ -58,15 +77,15 @@ fn fault_at(alloc: Global, fault: TextFault) -> Result<Vec<Finding>, Memory>
     }
 }
 
-fn parsed(alloc: Global, tokens: &Tokens) -> Result<Staged, Memory>
-    requires lexed { AreTokens tokens.now.text.items tokens.now.list.items }
-    requires end { tokens.now.end ≡ place_of (body_of tokens.now.text.items) }
-    requires few { length tokens.now.list.items < 2 ^ 32 }
-    ensures { IfOk result (IsStaged tokens.now.text.items) }
+fn parse_tokens(alloc: Global, tokens: Tokens) -> Result<Parsed, Memory>
+    requires lexed { AreTokens tokens.text.items tokens.list.items }
+    requires end { tokens.end ≡ place_of (body_of tokens.text.items) }
+    requires few { length tokens.list.items < 2 ^ 32 }
+    ensures { IfOk result (IsParsed tokens.text.items) }
 {
-    match parse(alloc, tokens) {
-        Ok(tree) => named(alloc, &tree, tokens),
-        Err(SyntaxFault::At(number)) => Ok(Staged::Found(wrong_at(alloc, tokens, number)?)),
+    match parse(alloc, &tokens) {
+        Ok(tree) => Ok(Parsed::Program(tokens, tree)),
+        Err(SyntaxFault::At(number)) => Ok(Parsed::Found(wrong_at(alloc, &tokens, number)?)),
         Err(SyntaxFault::Memory) => Err(Memory),
     }
 }
@@ -83,11 +102,13 @@ fn wrong_at(alloc: Global, tokens: &Tokens, number: usize) -> Result<Vec<Finding
     }
 }
 
-fn named(alloc: Global, tree: &Tree, tokens: &Tokens) -> Result<Staged, Memory>
+/// The stages of names and contracts.
+pub(crate) fn named(alloc: Global, tree: &Tree, tokens: &Tokens) -> Result<Staged, Memory>
     requires lexed { AreTokens tokens.now.text.items tokens.now.list.items }
     requires spelled { Spells program (program_tree tree.now) tokens.now.list.items }
     requires few { length tokens.now.list.items < 2 ^ 32 }
-    ensures { IfOk result (IsStaged tokens.now.text.items) }
+    ensures staged { IfOk result (IsStaged tokens.now.text.items) }
+    ensures sound { IfOk result (IsSoundTree tokens.now.text.items (program_tree tree.now)) }
 {
     match resolve(alloc, tree, tokens) {
         Ok(resolved) => judged(alloc, resolved),
@@ -100,8 +121,9 @@ fn named(alloc: Global, tree: &Tree, tokens: &Tokens) -> Result<Staged, Memory>
 fn judged(alloc: Global, resolved: Resolved) -> Result<Staged, Memory>
     requires whole { All (λ c. IsWhole (contract_parts c)) resolved.contracts.items }
     requires few { length resolved.contracts.items < 2 ^ 32 }
-    ensures { IfOk result (λ staged. (text : List ℕ)
+    ensures staged { IfOk result (λ staged. (text : List ℕ)
         → IsResolved text (map contract_seen resolved.contracts.items) → IsStaged text staged) }
+    ensures kept { IfOk result (KeepsContracts resolved) }
 {
     let mut judging = Judging {
         sounds: Vec::new(alloc),

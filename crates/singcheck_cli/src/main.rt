@@ -2,7 +2,9 @@
 #![tactic(auto)]
 
 use clap::error::ErrorKind;
-use singcheck::{Ask, Counted, Input, RunFault, Sink, Status, ask, ending, run_bounds};
+use singcheck::{
+    Ask, Counted, Input, Open, RunFault, Sink, Status, ask, ending, run_bounds, run_check,
+};
 use std::alloc::{AllocError, Global};
 use std::fs::File;
 use std::process::ExitCode;
@@ -61,6 +63,11 @@ fn answer<R: AllocGlobal + Files + Print + Eprint, O: Sink, E: Sink>(
 ) -> u8 {
     match ask(rt.alloc(), words) {
         Ok(Ask::Bounds { file }) => bounds(rt, file, output, errors),
+        Ok(Ask::Check {
+            file,
+            workers,
+            slots,
+        }) => check(rt, file, workers, slots, output, errors),
         Err(refusal) if refusal.kind() == ErrorKind::OutOfMemory => {
             ending(&RunFault::Memory, "", errors)
         }
@@ -81,7 +88,29 @@ fn bounds<R: AllocGlobal + Files, O: Sink, E: Sink>(
     let Ok(text) = fs::open(rt, file) else {
         return ending(&RunFault::Read(Input::Text), file, errors);
     };
-    match run_bounds(rt.alloc(), &mut Counted::new(text), output) {
+    let answered = run_bounds(rt.alloc(), &mut Counted::new(text), output);
+    status(answered, file, errors)
+}
+
+fn check<R: AllocGlobal + Files, O: Sink, E: Sink>(
+    rt: &R,
+    file: &str,
+    workers: usize,
+    slots: usize,
+    output: &mut O,
+    errors: &mut E,
+) -> u8 {
+    let Ok(text) = fs::open(rt, file) else {
+        return ending(&RunFault::Read(Input::Text), file, errors);
+    };
+    let mut text = Counted::new(text);
+    let answered = run_check(rt.alloc(), &mut text, output, workers, slots, &Open);
+    status(answered, file, errors)
+}
+
+/// The exit status of a run.
+fn status<E: Sink>(answered: Result<Status, RunFault>, file: &str, errors: &mut E) -> u8 {
+    match answered {
         Ok(Status::Empty) => 0,
         Ok(Status::Found) => 1,
         Err(fault) => ending(&fault, file, errors),

@@ -213,6 +213,48 @@ pub fn one_direction_round(alloc: Global, place: Place, state: &[u8]) -> Result<
     naming(alloc, place, Code::C04, "one direction round ", state)
 }
 
+/// A variable that is used where it has nothing.
+pub fn not_owned(alloc: Global, place: Place, variable: &[u8]) -> Result<Finding, Memory>
+    ensures { IfOk result (IsFinding place Code.A01 (utf8_lossy variable.now ++ codes " not owned")) }
+{
+    named(alloc, place, Code::A01, variable, " not owned")
+}
+
+/// A variable that takes something while it still has something.
+pub fn overwritten(alloc: Global, place: Place, variable: &[u8]) -> Result<Finding, Memory>
+    ensures { IfOk result (IsFinding place Code.A07 (utf8_lossy variable.now ++ codes " overwritten")) }
+{
+    named(alloc, place, Code::A07, variable, " overwritten")
+}
+
+/// A variable that has something where it goes out of scope.
+pub fn still_owned(alloc: Global, place: Place, variable: &[u8]) -> Result<Finding, Memory>
+    ensures { IfOk result (IsFinding place Code.A08 (utf8_lossy variable.now ++ codes " still owned")) }
+{
+    named(alloc, place, Code::A08, variable, " still owned")
+}
+
+/// A parameter that is only lent, and is given away or assigned.
+pub fn is_lent(alloc: Global, place: Place, variable: &[u8]) -> Result<Finding, Memory>
+    ensures { IfOk result (IsFinding place Code.A10 (utf8_lossy variable.now ++ codes " is lent")) }
+{
+    named(alloc, place, Code::A10, variable, " is lent")
+}
+
+/// A variable that is given away twice at once, or to itself.
+pub fn given_twice(alloc: Global, place: Place, variable: &[u8]) -> Result<Finding, Memory>
+    ensures { IfOk result (IsFinding place Code.A11 (utf8_lossy variable.now ++ codes " twice")) }
+{
+    named(alloc, place, Code::A11, variable, " twice")
+}
+
+/// More pairs of a point and a row than a method may have, at its name.
+pub fn too_many_pairs(alloc: Global, place: Place) -> Result<Finding, Memory>
+    ensures { IfOk result (IsFinding place Code.A14 (codes "too many pairs")) }
+{
+    plain(alloc, place, Code::A14, "too many pairs")
+}
+
 /// The finding that a fault of a text is, and none where memory was refused, which is no fault of the text.
 pub fn finding_of(alloc: Global, fault: TextFault) -> Result<Option<Finding>, Memory>
     ensures { IfOk result (Reports fault) }

@@ -10,7 +10,7 @@ pub returns-in_err-write_all-clause-begun : goal.returns-in_err-write_all-clause
 returns-in_err-write_all-clause-begun g c = λ told.
     let answer = c.in_ok-answer.answer in
     let is = text_is (g.R.Source.remaining c.args.reader.now) (g.R.Source.remaining c.read_text.new.reader) c.in_ok-text.text.items MAX_READ c.in_ok-text.ensures.bytes c.in_ok-text.ensures.long c.in_ok-text.ensures.end in
-    begins_is (g.R.Source.remaining c.args.reader.now) (g.W.Sink.contents c.args.writer.now) (g.W.Sink.contents c.write_all.new.writer) c.in_ok-text.text.items answer.bytes.items answer.status MAX_READ is
+    begins_is Answers (g.R.Source.remaining c.args.reader.now) (g.W.Sink.contents c.args.writer.now) (g.W.Sink.contents c.write_all.new.writer) c.in_ok-text.text.items answer.bytes.items answer.status MAX_READ is
     (subst (λ t. Answers t answer.bytes.items answer.status) c.deref.ensures.value c.in_ok-answer.ensures)
     (subst (λ b. Begins (g.W.Sink.contents c.args.writer.now) (g.W.Sink.contents c.write_all.new.writer) b) c.deref-2.ensures.value c.in_err-write_all.ensures.begun)
 
@@ -18,7 +18,7 @@ pub returns-clause-written : goal.returns-clause-written
 returns-clause-written g c =
     let answer = c.in_ok-answer.answer in
     let is = text_is (g.R.Source.remaining c.args.reader.now) (g.R.Source.remaining c.read_text.new.reader) c.in_ok-text.text.items MAX_READ c.in_ok-text.ensures.bytes c.in_ok-text.ensures.long c.in_ok-text.ensures.end in
-    writes_is (g.R.Source.remaining c.args.reader.now) (g.W.Sink.contents c.args.writer.now) (g.W.Sink.contents c.write_all.new.writer) c.in_ok-text.text.items answer.bytes.items answer.status MAX_READ is
+    writes_is Answers (g.R.Source.remaining c.args.reader.now) (g.W.Sink.contents c.args.writer.now) (g.W.Sink.contents c.write_all.new.writer) c.in_ok-text.text.items answer.bytes.items answer.status MAX_READ is
     (subst (λ t. Answers t answer.bytes.items answer.status) c.deref.ensures.value c.in_ok-answer.ensures)
     (subst (λ b. Appends (g.W.Sink.contents c.args.writer.now) (g.W.Sink.contents c.write_all.new.writer) b) c.deref-2.ensures.value c.in_ok-write_all.ensures.all)
 

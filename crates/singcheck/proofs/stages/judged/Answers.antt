@@ -1,4 +1,4 @@
-use Rattle.std.proofs.Common.{◌≡◌, ◌∙◌, map, sym, subst, [], arith}
+use Rattle.std.proofs.Common.{◌≡◌, ◌∙◌, map, sym, subst, [], refl, arith}
 use Rattle.std.proofs.lemmas.Bool.{eqb-true, eqb-false}
 use Rattle.std.proofs.lemmas.List.{length-map, take_all}
 use Rattle.names.specs.Resolution.{contract_seen}
@@ -12,7 +12,8 @@ loop-number-preserved c =
     judged_turn (map contract_seen c.args.resolved.contracts.items) c.loop-number.number c.loop-number.judging _ (omega (arith, size, c.len-number-end.ensures)) c.loop-number.invariant c.in_ok-judge.ensures
 
 pub returns-then-is_empty : goal.returns-then-is_empty
-returns-then-is_empty c = λ text resolved.
+returns-then-is_empty c = record {
+  staged = λ text resolved.
     let all = map contract_seen c.args.resolved.contracts.items in
     let size = length-map c.args.resolved.contracts.items contract_seen in
     let judged : AreJudged all c.loop-number.judging = subst (λ l. AreJudged l c.loop-number.judging) (take_all c.loop-number.number all (omega (arith, size, c.len-number-end.ensures))) c.loop-number.invariant in
@@ -21,11 +22,16 @@ returns-then-is_empty c = λ text resolved.
       resolved = resolved;
       sounds = judged.kept none;
       sound = clean_all text all c.loop-number.judging judged none;
-    }
+    };
+  kept = refl;
+}
 
 pub returns-else-is_empty : goal.returns-else-is_empty
-returns-else-is_empty c = λ text resolved.
+returns-else-is_empty c = record {
+  staged = λ text resolved.
     let all = map contract_seen c.args.resolved.contracts.items in
     let size = length-map c.args.resolved.contracts.items contract_seen in
     let judged : AreJudged all c.loop-number.judging = subst (λ l. AreJudged l c.loop-number.judging) (take_all c.loop-number.number all (omega (arith, size, c.len-number-end.ensures))) c.loop-number.invariant in
-    found_all text all c.loop-number.judging judged (let differ = eqb-false _ _ (sym c.is_empty.ensures ∙ c.if-is_empty.false) in omega (arith, differ, c.loop-number.judging.findings.ok.0)) resolved
+    found_all text all c.loop-number.judging judged (let differ = eqb-false _ _ (sym c.is_empty.ensures ∙ c.if-is_empty.false) in omega (arith, differ, c.loop-number.judging.findings.ok.0)) resolved;
+  kept = tt;
+}

@@ -1,4 +1,5 @@
 use Rattle.std.proofs.Common.{map, sym, subst, Vec, arith}
+use Rattle.std.specs.Prelude.{IfOk}
 use Rattle.std.specs.Global.{Global}
 use Rattle.std.proofs.lemmas.Result.{IfOk-weaker}
 use Rattle.source.specs.Findings.{finding_parts}
@@ -8,7 +9,8 @@ use Rattle.names.specs.Program.{program_of}
 use Rattle.names.specs.Resolution.{contract_seen}
 use Rattle.singcheck.specs.Answers.{AreFindings, IsProgram, IsResolved}
 use Rattle.singcheck.proofs.FewLemmas.{few_contracts}
-use Rattle.singcheck.proofs.StageLemmas.{explained, misnamed}
+use Rattle.singcheck.proofs.StageLemmas.{explained, misnamed, sound_tree}
+use Rattle.singcheck.specs.Stages.{IsStaged}
 use Rattle.singcheck.proofs.stages.named.Goals as goal
 
 pub judged-requires : goal.judged-requires
@@ -28,7 +30,11 @@ returns-in-Ok c =
       clean = c.in-Ok.ensures.clean;
       are = c.in-Ok.ensures.resolved;
     } in
-    IfOk-weaker c.judged.result _ _ (λ staged h. h text resolved) c.judged.ensures
+    let staged : IfOk c.judged.result (IsStaged text) = IfOk-weaker c.judged.result _ _ (λ staged h. h text resolved) c.judged.ensures.staged in
+    record {
+      staged = staged;
+      sound = sound_tree text (program_tree c.args.tree.now) c.in-Ok.resolved c.judged.result resolved.parsed resolved.clean c.in-Ok.ensures.resolved staged c.judged.ensures.kept;
+    }
 
 pub returns-in-Err-Found : goal.returns-in-Err-Found
 returns-in-Err-Found c =
@@ -36,4 +42,7 @@ returns-in-Err-Found c =
     let items = program_tree c.args.tree.now in
     let parsed : IsProgram text items = record { tokens = c.args.tokens.now.list.items; lexed = c.requires.lexed; spelled = c.requires.spelled } in
     let told = explained (program_of text c.args.tree.now) c.in-Err-Found.field-0 c.in-Err-Found.findings c.in-Err-Found.field-0-is c.in-Err-Found.ensures.found in
-    subst (λ (v : Vec Finding Global). AreFindings text (map finding_parts v.items)) (sym c.in-Err-Found.findings-is) (misnamed text items c.in-Err-Found.findings.items parsed told)
+    record {
+      staged = subst (λ (v : Vec Finding Global). AreFindings text (map finding_parts v.items)) (sym c.in-Err-Found.findings-is) (misnamed text items c.in-Err-Found.findings.items parsed told);
+      sound = tt;
+    }

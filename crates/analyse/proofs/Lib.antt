@@ -1,0 +1,5 @@
+pub mod ListLemmas
+pub mod AddLemmas
+pub mod PairLemmas
+pub mod VerdictLemmas
+pub mod SearchLemmas

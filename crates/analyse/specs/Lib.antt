@@ -1,0 +1,5 @@
+pub mod Pairs
+pub mod Reach
+pub mod Searches
+pub mod Tasks
+pub mod Verdicts

@@ -1,0 +1,36 @@
+//! The search over pairs of a point and a row.
+
+ghost use Rattle.std.specs.Prelude.{◌≡◌, ◌<◌, IfOk, IfErr, length, map};
+ghost use Rattle.source.specs.Findings.{finding_parts};
+ghost use Rattle.rules.specs.Programs.{methods_of};
+ghost use Rattle.analyse.specs.Tasks.{number_of, verdict_number, findings_of};
+ghost use Rattle.analyse.specs.Verdicts.{IsMethodVerdict};
+
+use crate::searching::verdict_of;
+use crate::task::Task;
+use crate::verdict::Verdict;
+use rules::Program;
+use source::Memory;
+use std::alloc::Global;
+
+/// The most pairs of a point and a row that may be reached in a method.
+pub const MOST_PAIRS: usize = 20_000;
+
+/// The verdict of a task's method: what is found at the pairs that can be reached from its entry, or, where more than
+/// `MOST_PAIRS` can, that alone. All pairs are looked at, and no two rows are joined.
+///
+/// `Memory` is answered where a growth was refused, and gives the task back.
+pub fn analyse(alloc: Global, task: Task, program: &Program) -> Result<Verdict, (Task, Memory)>
+    requires there { number_of task < length (methods_of program.now) }
+    ensures method { IfOk result (λ v. verdict_number v ≡ number_of task) }
+    ensures found { IfOk result (λ v. IsMethodVerdict (methods_of program.now) (number_of task) (map finding_parts (findings_of v))) }
+    ensures kept { IfErr result (λ e. e.0 ≡ task) }
+{
+    match verdict_of(alloc, program, task.method) {
+        Ok(findings) => Ok(Verdict {
+            method: task.method,
+            findings,
+        }),
+        Err(memory) => Err((task, memory)),
+    }
+}

@@ -1,0 +1,11 @@
+//! The verdict of a method: what is found at the pairs of a point and a row that can be reached.
+#![tactic(auto)]
+
+mod analysing;
+mod searching;
+mod task;
+mod verdict;
+
+pub use analysing::{MOST_PAIRS, analyse};
+pub use task::{Task, tasks};
+pub use verdict::Verdict;

@@ -1,0 +1,45 @@
+//! Methods that are still to be analysed.
+
+ghost use Rattle.std.specs.Prelude.{◌≡◌, ◌<◌, ◌^◌, IfOk, length, map};
+ghost use Rattle.rules.specs.Programs.{methods_of};
+ghost use Rattle.analyse.specs.Tasks.{numbers_below, number_of};
+
+use resolved::MethodId;
+use rules::Program;
+use source::Memory;
+use std::alloc::Global;
+
+/// A method that is still to be analysed. It cannot be copied, so each method is analysed once.
+#[derive(Debug, Drop)]
+pub struct Task {
+    pub(crate) method: MethodId,
+}
+
+impl Task {
+    /// The method.
+    pub fn method(&self) -> MethodId
+        ensures { result.0 ≡ number_of self.now }
+    {
+        self.method
+    }
+
+    /// Leaves the method as it is, and does not analyse it.
+    pub fn give_up(self) {}
+}
+
+/// A task for each method of a program, in order of the text.
+///
+/// `Memory` is answered where a growth was refused.
+pub fn tasks(alloc: Global, program: &Program) -> Result<Vec<Task>, Memory>
+    requires few { length (methods_of program.now) < 2 ^ 32 }
+    ensures { IfOk result (λ tasks. map number_of tasks.items ≡ numbers_below (length (methods_of program.now))) }
+{
+    let count = program.methods().len();
+    let mut tasks = Vec::with_capacity(alloc, count)?;
+    for number in 0..count as u32 {
+        tasks.push(Task {
+            method: MethodId(number),
+        })?;
+    }
+    Ok(tasks)
+}

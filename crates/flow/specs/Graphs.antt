@@ -1,0 +1,29 @@
+-- Graphs without where they lie in memory.
+use Rattle.std.specs.Prelude.{ℕ, List, map}
+use Rattle.source.specs.declared.place.Place.{Place}
+use Rattle.resolved.specs.declared.statement.Mention.{Mention}
+use Rattle.flow.specs.declared.graph as made
+use Rattle.flow.specs.declared.graph.Instr.TheVariants as instr
+
+-- an instruction, and the point at which the method goes on
+pub data Instruction : Type 0 where
+  Use : (at : Mention) (next : ℕ) → Instruction
+  New : (target : Mention) (arguments : List Mention) (next : ℕ) → Instruction
+  Move : (target source : Mention) (next : ℕ) → Instruction
+  Delete : (at : Mention) (next : ℕ) → Instruction
+  Return : (place : Place) (scope : ℕ) → Instruction
+
+abbrev pub instruction_seen : made.Instr.Instr → Instruction
+instruction_seen (instr.Use at next) = Use at next
+instruction_seen (instr.New target arguments next) = New target arguments.items next
+instruction_seen (instr.Move target source next) = Move target source next
+instruction_seen (instr.Delete at next) = Delete at next
+instruction_seen (instr.Return place scope) = Return place scope
+
+-- a graph: its instructions by their points, and the point at which it begins
+pub record GraphSeen : Type 0 where
+  pub instructions : List Instruction
+  pub first : ℕ
+
+abbrev pub graph_seen : made.Graph.Graph → GraphSeen
+graph_seen g = record { instructions = map instruction_seen g.instructions.items; first = g.first }

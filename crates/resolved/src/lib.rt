@@ -1,0 +1,8 @@
+//! Methods in which every name is a number.
+#![tactic(auto)]
+
+mod method;
+mod statement;
+
+pub use method::{Method, MethodId, Role, VarId, Variable};
+pub use statement::{Action, Mention, Statement};

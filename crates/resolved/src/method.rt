@@ -1,0 +1,40 @@
+//! A method with a number for each of its variables.
+
+use crate::statement::Statement;
+use source::Place;
+
+/// A method's number: how many methods stand before it in the text.
+#[derive(Clone, Copy, Debug, PartialEq, Eq, PartialOrd, Ord, Hash)]
+pub struct MethodId(pub u32);
+
+/// A variable's number: how many variables of the exchange heap its method declares before it, parameters among them.
+#[derive(Clone, Copy, Debug, PartialEq, Eq, PartialOrd, Ord, Hash)]
+pub struct VarId(pub usize);
+
+/// How a method came to a variable of the exchange heap.
+#[derive(Clone, Copy, Debug, PartialEq, Eq)]
+pub enum Role {
+    /// A parameter that is lent for the call.
+    Lent,
+    /// A parameter that is the method's own from then on.
+    Claimed,
+    /// A variable that a statement declares.
+    Local,
+}
+
+/// A variable of the exchange heap: its name as it is written, and how the method came to it.
+#[derive(Debug, Drop)]
+pub struct Variable {
+    pub name: Vec<u8>,
+    pub role: Role,
+}
+
+/// A method: where its name stands, its variables of the exchange heap in order of declaration, its statements in order,
+/// and where its body ends.
+#[derive(Debug, Drop)]
+pub struct Method {
+    pub name: Place,
+    pub variables: Vec<Variable>,
+    pub statements: Vec<Statement>,
+    pub close: Place,
+}

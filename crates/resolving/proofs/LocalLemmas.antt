@@ -1,0 +1,79 @@
+-- Variables that come into scope.
+use Rattle.std.proofs.Common.{◌≡◌, ℕ, if◌then◌else◌, ◌<◌, List, [], ◌∷◌, ◌++◌, length, map, Bool, true, false, sym, refl, ap, ◌∙◌, subst, arith}
+use Rattle.std.specs.Prelude.{Option, None, Some, is_some, option_map, option_and_then, slice_get}
+use Rattle.std.proofs.lemmas.List.{map-append, length-map}
+use Rattle.std.proofs.lemmas.List.Quantifiers.{position-Some}
+use Rattle.std.proofs.lemmas.Option.{slice_get-map, slice_get-get_or}
+use Rattle.source.specs.declared.token.Span.{Span}
+use Rattle.names.specs.Firsts.{first_of}
+use Rattle.names.specs.Tables.{IsTable}
+use Rattle.names.specs.Words.{word_at, words_at, same_word}
+use Rattle.resolved.specs.declared.method.VarId.{VarId}
+use Rattle.resolving.specs.Frames.{IsFrame, local_seen, number_seen, words_in}
+use Rattle.resolving.specs.Locals as model
+use Rattle.resolving.specs.Locals.{Frame, local_named, entered}
+use Rattle.resolving.specs.declared.locals.Locals.{Locals}
+
+-- the words of the variables and one more
+words_push : (text : List ℕ) (locals : List model.Local) (l : model.Local) → words_in text (locals ++ l ∷ []) ≡ words_in text locals ++ word_at text l.name ∷ []
+words_push text locals l =
+    ap (words_at text) (map-append (λ (x : model.Local). x.name) locals (l ∷ []))
+    ∙ map-append (word_at text) (map (λ (x : model.Local). x.name) locals) (l.name ∷ [])
+
+local_at : (text : List ℕ) (f : Frame) (l : Locals) → IsFrame text f l → (place : Option ℕ) → option_map local_seen (option_and_then (slice_get l.list.items) place) ≡ option_and_then (slice_get f.locals) place
+local_at text f l h None = refl
+local_at text f l h (Some k) = sym (slice_get-map local_seen l.list.items k) ∙ ap (λ x. slice_get x k) h.list
+
+-- the variable that a table of names leads to
+pub local_found : (text : List ℕ) (f : Frame) (l : Locals) (name : Span) (place : Option ℕ) → IsFrame text f l → place ≡ first_of (words_in text f.locals) (word_at text name)
+    → option_map local_seen (option_and_then (slice_get l.list.items) place) ≡ local_named text f.locals name
+local_found text f l name place h is = local_at text f l h place ∙ ap (option_and_then (slice_get f.locals)) is
+
+abbrev here : Span → Option ℕ → model.Local
+here name number = record { name = name; number = number }
+
+some_there : (text : List ℕ) (locals : List model.Local) (name : Span) (o : Option ℕ) → first_of (words_in text locals) (word_at text name) ≡ o → is_some (option_and_then (slice_get locals) o) ≡ is_some o
+some_there text locals name None is = refl
+some_there text locals name (Some k) is =
+    let at = position-Some (same_word (word_at text name)) (words_in text locals) k [] is in
+    let many = length-map (map (λ (x : model.Local). x.name) locals) (word_at text) ∙ length-map locals (λ (x : model.Local). x.name) in
+    let lt : k < length locals = omega (arith, at.0, many) in
+    ap is_some (slice_get-get_or locals k (here name None) lt)
+
+-- a variable of a name is in scope where the name is among theirs
+is_named : (text : List ℕ) (locals : List model.Local) (name : Span) → is_some (local_named text locals name) ≡ is_some (first_of (words_in text locals) (word_at text name))
+is_named text locals name = some_there text locals name (first_of (words_in text locals) (word_at text name)) refl
+
+none_is : (o : Option ℕ) → is_some o ≡ false → o ≡ None
+none_is None h = refl
+none_is (Some n) h = cc
+
+abbrev entered_if : Bool → Span → Option ℕ → Frame → Frame
+entered_if taken name number f = record { locals = if taken then f.locals else f.locals ++ here name number ∷ []; variables = f.variables }
+
+-- a name that is taken already
+pub entered_taken : (text : List ℕ) (f : Frame) (l : Locals) (name : Span) (number : Option ℕ) (word : List ℕ) (found : Option ℕ) → IsFrame text f l → word ≡ word_at text name
+    → ((words : List (List ℕ)) → IsTable words l.names → found ≡ first_of words word) → is_some found ≡ true → IsFrame text (record { locals = entered text name number f.locals; variables = f.variables }) l
+entered_taken text f l name number word found h at is taken =
+    let there = is_named text f.locals name ∙ ap (λ w. is_some (first_of (words_in text f.locals) w)) (sym at) ∙ sym (ap is_some (is (words_in text f.locals) h.names)) ∙ taken in
+    subst (λ b. IsFrame text (entered_if b name number f) l) (sym there) h
+
+-- a new name
+pub entered_new : (text : List ℕ) (f : Frame) (l m : Locals) (name : Span) (number : Option VarId) (word : List ℕ) (found : Option ℕ) → IsFrame text f l → word ≡ word_at text name
+    → ((words : List (List ℕ)) → IsTable words l.names → found ≡ first_of words word) → is_some found ≡ false
+    → ((words : List (List ℕ)) → IsTable words l.names → first_of words word ≡ None → length l.list.items ≡ length words → IsTable (words ++ word ∷ []) m.names)
+    → m.list.items ≡ l.list.items ++ record { name = name; number = number } ∷ [] → m.variables.items ≡ l.variables.items
+    → IsFrame text (record { locals = entered text name (number_seen number) f.locals; variables = f.variables }) m
+entered_new text f l m name number word found h at is taken table list variables =
+    let words = words_in text f.locals in
+    let found_none : first_of words word ≡ None = sym (is words h.names) ∙ none_is found taken in
+    let none : first_of words (word_at text name) ≡ None = subst (λ x. first_of words x ≡ None) at found_none in
+    let there = is_named text f.locals name ∙ ap is_some none in
+    let many = length-map (map (λ (x : model.Local). x.name) f.locals) (word_at text) ∙ length-map f.locals (λ (x : model.Local). x.name) in
+    let size = ap length (sym h.list) ∙ length-map l.list.items local_seen in
+    let more = words_push text f.locals (here name (number_seen number)) in
+    subst (λ b. IsFrame text (entered_if b name (number_seen number) f) m) (sym there) (record {
+      list = ap (map local_seen) list ∙ map-append local_seen l.list.items (record { name = name; number = number } ∷ []) ∙ ap (λ x. x ++ here name (number_seen number) ∷ []) h.list;
+      names = subst (λ x. IsTable x m.names) (sym more) (subst (λ x. IsTable (words ++ x ∷ []) m.names) at (table words h.names found_none (sym (many ∙ size))));
+      variables = ap (map _) variables ∙ h.variables;
+    })

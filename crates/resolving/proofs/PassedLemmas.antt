@@ -1,0 +1,57 @@
+-- The first in a list of which a place is known, step by step.
+use Rattle.std.proofs.Common.{◌≡◌, ℕ, ◌+◌, ◌<◌, ◌≤◌, List, [], ◌∷◌, ◌++◌, length, map, drop, get_or, sym, refl, ap, ◌∙◌}
+use Rattle.std.specs.Prelude.{Option, None, Some}
+use Rattle.std.proofs.lemmas.List.{drop_more, drop_all}
+use Rattle.source.specs.declared.place.Place.{Place}
+use Rattle.syntax.specs.StatementTrees.{statement_tree, statement_row}
+use Rattle.syntax.specs.Trees.{MethodTree, method_tree, item_tree, definition_tree}
+use Rattle.syntax.specs.declared.class as made
+use Rattle.syntax.specs.declared.statement as stated
+use Rattle.syntax.specs.declared.tree as tree
+use Rattle.names.specs.Methods.{methods_in}
+use Rattle.resolving.specs.Methods.{all_methods, not_yet}
+use Rattle.resolving.specs.Passed.{first_place}
+use Rattle.resolving.specs.Unknown.{or_else, unknown_type, unknown_statement, unknown_statements, unknown_params, unknown_method, unknown_methods}
+
+here_first : {X : Type 0} (find : X → Option Place) (xs : List X) (i : ℕ) (x : X) → i < length xs → x ≡ get_or xs i x → first_place find (drop i xs) ≡ or_else (find x) (first_place find (drop (i + 1) xs))
+here_first find xs i x lt is = ap (first_place find) (drop_more xs i x lt) ∙ ap (λ y. or_else (find y) (first_place find (drop (i + 1) xs))) (sym is)
+
+-- one of which no place is known is passed
+pub passes : {X : Type 0} (find : X → Option Place) (xs : List X) (i : ℕ) (x : X) → i < length xs → x ≡ get_or xs i x → None ≡ find x → first_place find (drop i xs) ≡ first_place find (drop (i + 1) xs)
+passes find xs i x lt is none = here_first find xs i x lt is ∙ ap (λ o. or_else o (first_place find (drop (i + 1) xs))) (sym none)
+
+-- the place of one of which it is known is the answer
+pub finds : {X : Type 0} (find : X → Option Place) (xs : List X) (i : ℕ) (x : X) (p : Place) → i < length xs → x ≡ get_or xs i x → Some p ≡ find x → first_place find (drop i xs) ≡ Some p
+finds find xs i x p lt is some = here_first find xs i x lt is ∙ ap (λ o. or_else o (first_place find (drop (i + 1) xs))) (sym some)
+
+-- behind the last there is none
+pub passed_all : {X : Type 0} (find : X → Option Place) (xs : List X) (i : ℕ) → length xs ≤ i → first_place find (drop i xs) ≡ None
+passed_all find xs i le = ap (first_place find) (drop_all i xs le)
+
+-- the lists of the tree
+
+pub in_statements : (xs : List stated.Statement.Statement) → unknown_statements (statement_row (map statement_tree xs)) ≡ first_place (λ s. unknown_statement (statement_tree s)) xs
+in_statements [] = refl
+in_statements (x ∷ xs) = ap (or_else (unknown_statement (statement_tree x))) (in_statements xs)
+
+pub in_params : (xs : List made.Parameter.Parameter) → unknown_params xs ≡ first_place (λ x. unknown_type x.kind) xs
+in_params [] = refl
+in_params (x ∷ xs) = ap (or_else (unknown_type x.kind)) (in_params xs)
+
+pub in_methods : (xs : List made.Method.Method) → unknown_methods (map method_tree xs) ≡ first_place (λ m. unknown_method (method_tree m)) xs
+in_methods [] = refl
+in_methods (x ∷ xs) = ap (or_else (unknown_method (method_tree x))) (in_methods xs)
+
+or_else_assoc : (a b c : Option Place) → or_else (or_else a b) c ≡ or_else a (or_else b c)
+or_else_assoc None b c = refl
+or_else_assoc (Some p) b c = refl
+
+methods_append : (xs ys : List MethodTree) → unknown_methods (xs ++ ys) ≡ or_else (unknown_methods xs) (unknown_methods ys)
+methods_append [] ys = refl
+methods_append (x ∷ xs) ys = ap (or_else (unknown_method x)) (methods_append xs ys) ∙ sym (or_else_assoc (unknown_method x) (unknown_methods xs) (unknown_methods ys))
+
+pub in_items : (xs : List tree.Item.Item) → not_yet (map item_tree xs) ≡ first_place (λ i. unknown_methods (methods_in (definition_tree i.definition))) xs
+in_items [] = refl
+in_items (x ∷ xs) =
+    methods_append (methods_in (definition_tree x.definition)) (all_methods (map item_tree xs))
+    ∙ ap (or_else (unknown_methods (methods_in (definition_tree x.definition)))) (in_items xs)

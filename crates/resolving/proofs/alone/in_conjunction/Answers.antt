@@ -1,0 +1,17 @@
+use Rattle.std.proofs.Common.{sym, ◌∙◌}
+use Rattle.syntax.specs.Operators.{And}
+use Rattle.syntax.specs.ExpressionTrees.{unmarked, conjunction_tree, equality_tree}
+use Rattle.syntax.specs.declared.expression.Conjunction as conjunctions
+use Rattle.resolving.proofs.ExpressionTwins.{conjunction_seen}
+use Rattle.resolving.proofs.AloneLemmas.{chain_is_more, chain_is_first}
+use Rattle.resolving.proofs.alone.in_conjunction.Goals as goal
+
+pub returns-then-not-is_empty : goal.returns-then-not-is_empty
+returns-then-not-is_empty c =
+    let e = conjunctions.out-Conjunction c.args.conjunction.now in
+    chain_is_more And (unmarked equality_tree) (equality_tree e.first) e.others.items _ (conjunction_tree c.args.conjunction.now) (conjunction_seen c.args.conjunction.now) e.others.ok.0 (sym c.is_empty.ensures ∙ c.if-not-is_empty.true)
+
+pub returns : goal.returns
+returns c =
+    let e = conjunctions.out-Conjunction c.args.conjunction.now in
+    chain_is_first And (unmarked equality_tree) (equality_tree e.first) e.others.items _ (conjunction_tree c.args.conjunction.now) (conjunction_seen c.args.conjunction.now) e.others.ok.0 (sym c.is_empty.ensures ∙ c.if-not-is_empty.false) c.in_equality.ensures

@@ -1,0 +1,35 @@
+use Rattle.syntax.specs.Operators.{Or, And, Equal, Compare, Add, Multiply}
+use Rattle.syntax.specs.ExpressionTrees.{unmarked, conjunction_tree, equality_tree, equality_step_tree, relation_tree, relation_step_tree, sum_tree, sum_step_tree, term_tree, unary_tree}
+use Rattle.syntax.specs.declared.expression.Conjunction as conjunctions
+use Rattle.syntax.specs.declared.expression.Equality as equalitys
+use Rattle.syntax.specs.declared.expression.Expression as expressions
+use Rattle.syntax.specs.declared.expression.Relation as relations
+use Rattle.syntax.specs.declared.expression.Sum as sums
+use Rattle.syntax.specs.declared.expression.Term as terms
+use Rattle.resolving.specs.Steps.{AddsReads}
+use Rattle.resolving.proofs.ReadLemmas.{chain_reads}
+use Rattle.resolving.proofs.reads.+expressions.Given as goal
+
+abbrev pub invariant-add_reads-each : goal.invariant-add_reads-each
+invariant-add_reads-each l =
+    AddsReads l.tokens.text.items l.locals (chain_reads l.tokens.text.items Or (unmarked conjunction_tree) (conjunction_tree (expressions.out-Expression l.expression).first) l.conjunction-items l.conjunction-index) l.fn.found.items l.found.items
+
+abbrev pub invariant-add_conjunction-each : goal.invariant-add_conjunction-each
+invariant-add_conjunction-each l =
+    AddsReads l.tokens.text.items l.locals (chain_reads l.tokens.text.items And (unmarked equality_tree) (equality_tree (conjunctions.out-Conjunction l.conjunction).first) l.equality-items l.equality-index) l.fn.found.items l.found.items
+
+abbrev pub invariant-add_equality-each : goal.invariant-add_equality-each
+invariant-add_equality-each l =
+    AddsReads l.tokens.text.items l.locals (chain_reads l.tokens.text.items Equal equality_step_tree (relation_tree (equalitys.out-Equality l.equality).first) l.step-items l.step-index) l.fn.found.items l.found.items
+
+abbrev pub invariant-add_relation-each : goal.invariant-add_relation-each
+invariant-add_relation-each l =
+    AddsReads l.tokens.text.items l.locals (chain_reads l.tokens.text.items Compare relation_step_tree (sum_tree (relations.out-Relation l.relation).first) l.step-items l.step-index) l.fn.found.items l.found.items
+
+abbrev pub invariant-add_sum-each : goal.invariant-add_sum-each
+invariant-add_sum-each l =
+    AddsReads l.tokens.text.items l.locals (chain_reads l.tokens.text.items Add sum_step_tree (term_tree (sums.out-Sum l.sum).first) l.step-items l.step-index) l.fn.found.items l.found.items
+
+abbrev pub invariant-add_term-each : goal.invariant-add_term-each
+invariant-add_term-each l =
+    AddsReads l.tokens.text.items l.locals (chain_reads l.tokens.text.items Multiply (unmarked unary_tree) (unary_tree (terms.out-Term l.term).first) l.unary-items l.unary-index) l.fn.found.items l.found.items

@@ -1,0 +1,28 @@
+-- The variables in scope, as the code has them.
+use Rattle.std.specs.Prelude.{◌≡◌, ℕ, List, map, Option, option_map}
+use Rattle.names.specs.Tables.{IsTable}
+use Rattle.names.specs.Words.{words_at}
+use Rattle.resolved.specs.Methods.{variable_seen}
+use Rattle.resolved.specs.declared.method.VarId.{VarId}
+use Rattle.resolving.specs.Locals as model
+use Rattle.resolving.specs.Locals.{Frame}
+use Rattle.resolving.specs.declared.locals.Local.{Local}
+use Rattle.resolving.specs.declared.locals.Locals.{Locals}
+
+-- a number without its type
+abbrev pub number_seen : Option VarId → Option ℕ
+number_seen number = option_map (λ v. v.0) number
+
+-- a variable without its memory
+abbrev pub local_seen : Local → model.Local
+local_seen l = record { name = l.name; number = number_seen l.number }
+
+-- the names of the variables in scope, as they are written
+abbrev pub words_in : List ℕ → List model.Local → List (List ℕ)
+words_in text locals = words_at text (map (λ l. l.name) locals)
+
+-- These are the variables in scope, each findable by its name, and those of the exchange heap.
+pub record IsFrame (text : List ℕ) (f : Frame) (l : Locals) : Type 0 where
+  pub list : map local_seen l.list.items ≡ f.locals
+  pub names : IsTable (words_in text f.locals) l.names
+  pub variables : map variable_seen l.variables.items ≡ f.variables

@@ -1,0 +1,57 @@
+-- The methods of a program with a number for each variable of the exchange heap.
+use Rattle.std.specs.Prelude.{◌≡◌, ℕ, List, [], ◌∷◌, map, if◌then◌else◌, Option, Some}
+use Rattle.std.specs.List.{flat_map}
+use Rattle.source.specs.declared.place.Place.{Place}
+use Rattle.syntax.specs.StatementTrees as stated
+use Rattle.syntax.specs.StatementTrees.{BlockTree}
+use Rattle.syntax.specs.Trees.{ItemTree, MethodTree}
+use Rattle.syntax.specs.declared.class as made
+use Rattle.names.specs.Kinds.{is_heap}
+use Rattle.names.specs.Methods.{methods_in}
+use Rattle.resolved.specs.Methods.{MethodSeen}
+use Rattle.resolved.specs.declared.method.Role.{Role}
+use Rattle.resolved.specs.declared.method.Role.TheVariants.{Lent, Claimed}
+use Rattle.resolving.specs.Locals.{Frame, declared}
+use Rattle.resolving.specs.Told.{Body, statements_told}
+use Rattle.resolving.specs.Unknown.{unknown_methods}
+use Rattle.resolving.specs.declared.fault.MethodFault.{MethodFault}
+use Rattle.resolving.specs.declared.fault.MethodFault.TheVariants as fault
+
+abbrev pub role_of : made.Parameter.Parameter → Role
+role_of x = if x.claims then Claimed else Lent
+
+-- parameters are variables of the method
+abbrev pub parameters_frame : List ℕ → List made.Parameter.Parameter → Frame → Frame
+parameters_frame text [] f = f
+parameters_frame text (x ∷ params) f = parameters_frame text params (declared text x.name (is_heap x.kind) (role_of x) f)
+
+abbrev pub no_variables : Frame
+no_variables = record { locals = []; variables = [] }
+
+abbrev pub body_told : List ℕ → BlockTree → Frame → Body
+body_told text (stated.Braces statements close) f = statements_told text statements f
+
+abbrev pub closing : BlockTree → Place
+closing (stated.Braces statements close) = close.place
+
+abbrev pub method_with : MethodTree → Body → MethodSeen
+method_with m body = record { name = m.name.place; variables = body.frame.variables; statements = body.statements; close = closing m.body }
+
+abbrev pub method_told : List ℕ → MethodTree → MethodSeen
+method_told text m = method_with m (body_told text m.body (parameters_frame text m.params no_variables))
+
+-- the methods of all classes, in order of the text
+abbrev pub all_methods : List ItemTree → List MethodTree
+all_methods items = flat_map (λ i. methods_in i.definition) items
+
+abbrev pub methods_told : List ℕ → List ItemTree → List MethodSeen
+methods_told text items = map (method_told text) (all_methods items)
+
+-- the place of what is not analysed yet, if there is something
+abbrev pub not_yet : List ItemTree → Option Place
+not_yet items = unknown_methods (all_methods items)
+
+-- a fault names what is not analysed yet; want of memory says nothing
+abbrev pub IsFault : List ItemTree → MethodFault → Type 0
+IsFault items (fault.NotYet place) = not_yet items ≡ Some place
+IsFault items fault.Memory = Unit {0}

@@ -1,0 +1,41 @@
+-- The blocks that an expression reads: a variable of the exchange heap before `.` or `[`, in order of the text.
+use Rattle.std.specs.Prelude.{ℕ, List, [], ◌∷◌, ◌++◌, Option, Some, None}
+use Rattle.source.specs.declared.token.Span.{Span}
+use Rattle.syntax.specs.Operators.{Operators, Level}
+use Rattle.syntax.specs.Expressions as trees
+use Rattle.syntax.specs.Expressions.{LevelTree, StepTrees, AtomTree, TargetTree}
+use Rattle.resolved.specs.declared.statement.Mention.{Mention}
+use Rattle.resolving.specs.Locals.{Local, mention}
+
+abbrev pub listed : Option Mention → List Mention
+listed None = []
+listed (Some m) = m ∷ []
+
+module _ (text : List ℕ) (locals : List Local) where
+  abbrev mutual
+    pub reads : {l : Level} → LevelTree l → List Mention
+    reads (trees.Unary prefixes a) = atom_reads a
+    reads (trees.Chain l first others) = reads first ++ step_reads others
+
+    pub step_reads : {l : Operators} → StepTrees l → List Mention
+    step_reads (trees.Done l) = []
+    step_reads (trees.More l o x xs) = reads x ++ step_reads xs
+
+    pub atom_reads : AtomTree → List Mention
+    atom_reads (trees.Number span) = []
+    atom_reads (trees.True span) = []
+    atom_reads (trees.False span) = []
+    atom_reads (trees.Target t) = target_reads t
+    atom_reads (trees.Parens left inner) = reads inner
+
+    pub target_reads : TargetTree → List Mention
+    target_reads (trees.Variable name) = []
+    target_reads (trees.Field name field) = listed (mention text locals name)
+    target_reads (trees.Element name index) = listed (mention text locals name) ++ reads index
+
+-- the name that an expression is, where it is nothing else
+abbrev pub lone_name : {l : Level} → LevelTree l → Option Span
+lone_name (trees.Unary [] (trees.Target (trees.Variable name))) = Some name
+lone_name (trees.Unary prefixes a) = None
+lone_name (trees.Chain l first (trees.Done _)) = lone_name first
+lone_name (trees.Chain l first (trees.More _ o x xs)) = None

@@ -1,0 +1,14 @@
+//! From the methods of a tree to methods in which every name is a number.
+#![tactic(auto)]
+
+mod alone;
+mod fault;
+mod locals;
+mod methods;
+mod reads;
+mod statements;
+mod unknown;
+mod values;
+
+pub use fault::MethodFault;
+pub use methods::resolve_methods;

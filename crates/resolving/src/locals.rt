@@ -1,0 +1,136 @@
+//! The variables in scope, and the numbers of those of the exchange heap.
+
+ghost use Rattle.std.specs.Prelude.{◌≡◌, ℕ, List, [], length, map, true, OnOk, option_map};
+ghost use Rattle.resolved.specs.Methods.{variable_seen};
+ghost use Rattle.resolving.specs.Frames.{IsFrame, local_seen, number_seen};
+ghost use Rattle.resolving.specs.Locals.{Frame, local_named, mention, next_number, entered, counted, declared};
+
+use names::Table;
+use resolved::{Mention, Role, VarId, Variable};
+use source::{Span, Tokens};
+use std::alloc::{AllocError, Global};
+
+/// A variable: the name that declares it, and its number where it is one of the exchange heap.
+#[derive(Clone, Copy, Debug)]
+pub(crate) struct Local {
+    name: Span,
+    number: Option<VarId>,
+}
+
+/// The variables in scope, in order of declaration, and those of the exchange heap that the method has declared so far.
+#[derive(Debug, Drop)]
+pub(crate) struct Locals<'a> {
+    names: Table<'a>,
+    list: Vec<Local>,
+    variables: Vec<Variable>,
+}
+
+impl<'a> Locals<'a> {
+    /// None.
+    pub(crate) fn new(alloc: Global) -> Locals<'a>
+        ensures { (text : List ℕ) → IsFrame text (record { locals = []; variables = [] }) result }
+    {
+        Locals {
+            names: Table::new(alloc),
+            list: Vec::new(alloc),
+            variables: Vec::new(alloc),
+        }
+    }
+
+    /// How many of the exchange heap are declared.
+    pub(crate) fn len(&self) -> usize
+        ensures { (text : List ℕ) (f : Frame) → IsFrame text f self.now → result ≡ length f.variables }
+    {
+        self.variables.len()
+    }
+
+    /// Those of the exchange heap, in order of declaration.
+    pub(crate) fn into_variables(self) -> Vec<Variable>
+        ensures { (text : List ℕ) (f : Frame) → IsFrame text f self.entry → map variable_seen result.items ≡ f.variables }
+    {
+        self.variables
+    }
+
+    /// The variable of this name.
+    fn find(&self, tokens: &Tokens, name: Span) -> Option<Local>
+        ensures { (f : Frame) → IsFrame tokens.now.text.items f self.now → option_map local_seen result ≡ local_named tokens.now.text.items f.locals name }
+    {
+        let place = self.names.find(tokens.slice(name))?;
+        let local = self.list.get(place)?;
+        Some(*local)
+    }
+
+    /// A name, where it means a variable of the exchange heap.
+    pub(crate) fn mention(&self, tokens: &Tokens, name: Span) -> Option<Mention>
+        ensures { (f : Frame) → IsFrame tokens.now.text.items f self.now → result ≡ mention tokens.now.text.items f.locals name }
+    {
+        let variable = self.find(tokens, name)?.number?;
+        Some(Mention {
+            variable,
+            place: name.place,
+        })
+    }
+
+    /// The number of a variable that is declared next, where it is one of the exchange heap.
+    pub(crate) fn next_number(&self, heap: bool) -> Option<VarId>
+        ensures { (text : List ℕ) (f : Frame) → IsFrame text f self.now → number_seen result ≡ next_number heap f }
+    {
+        if heap {
+            Some(VarId(self.variables.len()))
+        } else {
+            None
+        }
+    }
+
+    /// Declares a variable. It comes into scope unless one there has its name; one of the exchange heap is counted.
+    pub(crate) fn declare(
+        &mut self,
+        alloc: Global,
+        tokens: &'a Tokens,
+        name: Span,
+        heap: bool,
+        role: Role,
+    ) -> Result<(), AllocError>
+        ensures { (f : Frame) → IsFrame tokens.now.text.items f self.old → OnOk result (IsFrame tokens.now.text.items (declared tokens.now.text.items name heap role f) self.new) }
+    {
+        let number = self.next_number(heap);
+        self.enter(tokens, name, number)?;
+        if heap {
+            self.count(alloc, tokens, name, role)?;
+        }
+        Ok(())
+    }
+
+    /// Brings a variable into scope, unless one there has its name.
+    fn enter(
+        &mut self,
+        tokens: &'a Tokens,
+        name: Span,
+        number: Option<VarId>,
+    ) -> Result<(), AllocError>
+        ensures { (f : Frame) → IsFrame tokens.now.text.items f self.old → OnOk result (IsFrame tokens.now.text.items (record { locals = entered tokens.now.text.items name (number_seen number) f.locals; variables = f.variables }) self.new) }
+    {
+        let word = tokens.slice(name);
+        if self.names.find(word).is_some() {
+            return Ok(());
+        }
+        self.names.add(word, self.list.len())?;
+        self.list.push(Local { name, number })?;
+        Ok(())
+    }
+
+    /// Counts one more of the exchange heap.
+    fn count(
+        &mut self,
+        alloc: Global,
+        tokens: &Tokens,
+        name: Span,
+        role: Role,
+    ) -> Result<(), AllocError>
+        ensures { (f : Frame) → IsFrame tokens.now.text.items f self.old → OnOk result (IsFrame tokens.now.text.items (record { locals = f.locals; variables = counted tokens.now.text.items name true role f.variables }) self.new) }
+    {
+        let name = Vec::from_slice(alloc, tokens.slice(name))?;
+        self.variables.push(Variable { name, role })?;
+        Ok(())
+    }
+}

@@ -1,0 +1,126 @@
+//! The methods of a program.
+
+ghost use Rattle.std.specs.Prelude.{◌≡◌, ◌≤◌, ◌++◌, [], None, length, map, IfErr, IfOk, OnOk};
+ghost use Rattle.syntax.specs.Trees.{program_tree, item_tree, definition_tree, method_tree};
+ghost use Rattle.names.specs.Findings.{program_findings};
+ghost use Rattle.names.specs.Methods.{methods_in};
+ghost use Rattle.names.specs.Program.{program_of};
+ghost use Rattle.names.specs.declared.limits.TheConstants.{MOST_METHODS};
+ghost use Rattle.resolved.specs.Methods.{method_seen};
+ghost use Rattle.resolving.specs.Frames.{IsFrame};
+ghost use Rattle.resolving.specs.Locals.{Frame};
+ghost use Rattle.resolving.specs.Methods.{IsFault, methods_told, not_yet, role_of, parameters_frame, method_told};
+
+use crate::fault::MethodFault;
+use crate::locals::Locals;
+use crate::statements::{is_heap, tell_statements};
+use crate::unknown::find_unknown;
+use resolved::{Method, Role};
+use source::Tokens;
+use std::alloc::{AllocError, Global};
+use syntax::{Definition, Item, Parameter, Tree};
+
+/// How a method comes to a parameter.
+fn role_of(parameter: Parameter) -> Role
+    ensures { result ≡ role_of parameter }
+{
+    if parameter.claims {
+        Role::Claimed
+    } else {
+        Role::Lent
+    }
+}
+
+/// Declares the parameters of a method.
+fn declare_parameters<'a>(
+    alloc: Global,
+    tokens: &'a Tokens,
+    locals: &mut Locals<'a>,
+    params: &[Parameter],
+) -> Result<(), AllocError>
+    ensures { (f : Frame) → IsFrame tokens.now.text.items f locals.old → OnOk result (IsFrame tokens.now.text.items (parameters_frame tokens.now.text.items params.now f) locals.new) }
+{
+    for parameter in params {
+        let heap = is_heap(parameter.kind);
+        locals.declare(alloc, tokens, parameter.name, heap, role_of(*parameter))?;
+    }
+    Ok(())
+}
+
+/// A method with a number for each variable of the exchange heap.
+fn resolve_method(
+    alloc: Global,
+    tokens: &Tokens,
+    method: &syntax::Method,
+) -> Result<Method, AllocError>
+    ensures { IfOk result (λ m. method_seen m ≡ method_told tokens.now.text.items (method_tree method.now)) }
+{
+    let mut locals = Locals::new(alloc);
+    declare_parameters(alloc, tokens, &mut locals, &method.params)?;
+    let statements = tell_statements(alloc, tokens, &mut locals, &method.body.statements)?;
+    Ok(Method {
+        name: method.name.place,
+        variables: locals.into_variables(),
+        statements,
+        close: method.body.close.place,
+    })
+}
+
+/// The methods of a class, if it is one.
+pub(crate) fn methods_of(definition: &Definition) -> &[syntax::Method]
+    ensures { map method_tree result.now ≡ methods_in (definition_tree definition.now) }
+{
+    match definition {
+        Definition::Class(class) => &class.methods,
+        _ => &[],
+    }
+}
+
+/// Adds these methods, resolved.
+fn add_methods(
+    alloc: Global,
+    tokens: &Tokens,
+    methods: &[syntax::Method],
+    resolved: &mut Vec<Method>,
+) -> Result<(), AllocError>
+    ensures { OnOk result (map method_seen resolved.new.items ≡ map method_seen resolved.old.items ++ map (method_told tokens.now.text.items) (map method_tree methods.now)) }
+{
+    for method in methods {
+        resolved.push(resolve_method(alloc, tokens, method)?)?;
+    }
+    Ok(())
+}
+
+/// The methods of these items, resolved, in order of the text.
+fn resolve_items(alloc: Global, tokens: &Tokens, items: &[Item]) -> Result<Vec<Method>, AllocError>
+    ensures { IfOk result (λ methods. map method_seen methods.items ≡ methods_told tokens.now.text.items (map item_tree items.now)) }
+{
+    let mut resolved = Vec::new(alloc);
+    for item in items {
+        add_methods(alloc, tokens, methods_of(&item.definition), &mut resolved)?;
+    }
+    Ok(resolved)
+}
+
+/// The methods of a program in order of the text, in which each variable of the exchange heap is a number and each scalar is
+/// forgotten. A use means the variable in scope of its name; nothing is wrong with the names and kinds of the program.
+///
+/// `NotYet` is answered where a method holds a statement, a parameter or a result type that is not analysed yet, with the
+/// first place that the tree keeps of the first of these; `Memory` where a growth was refused.
+pub fn resolve_methods(
+    alloc: Global,
+    tree: &Tree,
+    tokens: &Tokens,
+) -> Result<Vec<Method>, MethodFault>
+    requires clean { program_findings (program_of tokens.now.text.items tree.now) ≡ [] }
+    ensures known { OnOk result (not_yet (program_tree tree.now) ≡ None) }
+    ensures resolved { IfOk result (λ methods. map method_seen methods.items ≡ methods_told tokens.now.text.items (program_tree tree.now)) }
+    ensures few { IfOk result (λ methods. length methods.items ≤ MOST_METHODS) }
+    ensures fault { IfErr result (IsFault (program_tree tree.now)) }
+{
+    if let Some(place) = find_unknown(&tree.items) {
+        return Err(MethodFault::NotYet(place));
+    }
+    let methods = resolve_items(alloc, tokens, &tree.items)?;
+    Ok(methods)
+}

@@ -1,0 +1,49 @@
+-- Methods and their graphs, by number.
+use Rattle.std.proofs.Common.{◌≡◌, ℕ, zero, suc, ◌<◌, List, [], ◌∷◌, length, map, get_or, refl, sym, ap, ◌∙◌, arith, Option, Some, None, IsSomeAnd, slice_get}
+use Rattle.std.specs.Option.{option_map}
+use Rattle.std.proofs.lemmas.Option.{slice_get-map}
+use Rattle.std.proofs.lemmas.Simd.{map-map}
+use Rattle.flow.specs.declared.graph.Graph.{Graph}
+use Rattle.flow.specs.declared.graph.Instr.{Instr}
+use Rattle.flow.specs.Graphs.{GraphSeen, graph_seen, instruction_seen}
+use Rattle.flow.specs.Lowering.{graph_of}
+use Rattle.resolved.specs.declared.method.Method.{Method}
+use Rattle.resolved.specs.Methods.{MethodSeen, method_seen, variable_seen}
+use Rattle.rules.specs.declared.row.Leaf.{Leaf}
+use Rattle.rules.specs.RuleTable.{Goes, Pair}
+use Rattle.rules.specs.Steps.{entry_leaf, method_entry, method_outcome, outcome, point_outcome}
+
+-- what stands at one place in two rows that are the same
+pub same_at : {A B C : Type 0} (f : A → C) (g : B → C) (xs : List A) (ys : List B) (n : ℕ) (x : A) → map f xs ≡ map g ys → n < length ys → x ≡ get_or xs n x → IsSomeAnd (slice_get ys n) (λ y. f x ≡ g y)
+same_at f g [] [] n x e h is = absurd (omega arith)
+same_at f g [] (y ∷ ys) n x e h is = absurd (cc)
+same_at f g (a ∷ xs) [] n x e h is = absurd (omega arith)
+same_at f g (a ∷ xs) (y ∷ ys) zero x e h is = let head : f a ≡ g y = cc in ap f is ∙ head
+same_at f g (a ∷ xs) (y ∷ ys) (suc n) x e h is = same_at f g xs ys n x (cc) (omega arith) is
+
+-- the pair with which a method begins
+pub entry_is : (o : Option MethodSeen) (m : Method) (g : Graph) (leaves : List Leaf) → IsSomeAnd o (λ s. s ≡ method_seen m) → IsSomeAnd o (λ s. graph_seen g ≡ graph_of s) → leaves ≡ map (λ v. entry_leaf v.role) m.variables.items → (g.first, leaves) ≡ method_entry o
+entry_is None m g leaves its graph is = absurd its
+entry_is (Some s) m g leaves its graph is =
+    let first : g.first ≡ (graph_of s).first = ap (λ (h : GraphSeen). h.first) graph in
+    let row : leaves ≡ map (λ v. entry_leaf v.role) s.variables = is ∙ sym (map-map (λ v. entry_leaf v.role) variable_seen m.variables.items) ∙ ap (λ (t : MethodSeen). map (λ v. entry_leaf v.role) t.variables) (sym its) in
+    λ i. (first i, row i)
+
+-- what stands at a point of a method
+at_point : (s : MethodSeen) (g : Graph) (point : ℕ) (i : Option Instr) → graph_seen g ≡ graph_of s → slice_get g.instructions.items point ≡ i → slice_get (graph_of s).instructions point ≡ option_map instruction_seen i
+at_point s g point i graph is = ap (λ (h : GraphSeen). slice_get h.instructions point) (sym graph) ∙ slice_get-map instruction_seen g.instructions.items point ∙ ap (option_map instruction_seen) is
+
+-- the step at a point
+pub outcome_at : (o : Option MethodSeen) (m : Method) (g : Graph) (point : ℕ) (row : List Leaf) (i : Option Instr) → IsSomeAnd o (λ s. s ≡ method_seen m) → IsSomeAnd o (λ s. graph_seen g ≡ graph_of s) → slice_get g.instructions.items point ≡ i → method_outcome o (point, row) ≡ point_outcome (method_seen m) row (option_map instruction_seen i)
+outcome_at None m g point row i its graph is = absurd its
+outcome_at (Some s) m g point row i its graph is = λ j. point_outcome (its j) row (at_point s g point i graph is j)
+
+-- no instruction is there
+pub outcome_past : (o : Option MethodSeen) (g : Graph) (point : ℕ) (row : List Leaf) → IsSomeAnd o (λ s. graph_seen g ≡ graph_of s) → slice_get g.instructions.items point ≡ None → method_outcome o (point, row) ≡ Goes []
+outcome_past None g point row graph is = absurd graph
+outcome_past (Some s) g point row graph is = λ j. point_outcome s row (at_point s g point None graph is j)
+
+-- the step of a method
+pub outcome_is : (methods : List MethodSeen) (n : ℕ) (pair : Pair) → outcome methods n pair ≡ method_outcome (slice_get methods n) pair
+unfolding outcome
+outcome_is methods n pair = refl

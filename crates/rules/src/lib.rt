@@ -1,0 +1,14 @@
+//! Rows, and the rule table: what an instruction does to a row, or the finding that it is.
+#![tactic(auto)]
+
+mod checks;
+mod outcome;
+mod program;
+mod row;
+mod stepping;
+mod table;
+
+pub use outcome::Outcome;
+pub use program::Program;
+pub use row::{Leaf, MOST_LEAVES, MOST_STATES, Row};
+pub use stepping::{entry, step};

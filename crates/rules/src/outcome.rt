@@ -1,0 +1,13 @@
+//! What a step comes to.
+
+use crate::row::Row;
+use source::Finding;
+
+/// What a step comes to.
+#[derive(Debug, Drop)]
+pub enum Outcome {
+    /// The method goes on at one of these points, with that row there; where there is none, it ends.
+    Next(Vec<(usize, Row)>),
+    /// What is wrong there. The method does not go on.
+    Found(Finding),
+}

@@ -1,0 +1,24 @@
+-- For proofs within the crate: the verdicts of methods one after another.
+use Rattle.std.specs.Prelude.{◌≡◌, ◌<◌, ◌++◌, ℕ, List, length, map}
+use Rattle.source.specs.Findings.{FindingParts, finding_parts}
+use Rattle.source.specs.declared.finding.Finding.{Finding}
+use Rattle.contracts.specs.Conditions.{AreExactly}
+use Rattle.resolved.specs.Methods.{MethodSeen}
+use Rattle.analyse.specs.Tasks.{number_of, numbers_below}
+use Rattle.analyse.specs.declared.task.Task.{Task}
+use Rattle.singcheck.specs.Checks.{IsFoundIn}
+
+-- all that is found in a method is added
+pub record AddsVerdict (methods : List MethodSeen) (n : ℕ) (old new : List Finding) : Type 0 where
+  pub more : List FindingParts
+  pub exactly : AreExactly (IsFoundIn methods n) more
+  pub added : map finding_parts new ≡ map finding_parts old ++ more
+
+-- what is found in the first methods, so many
+abbrev pub IsWrongBelow : List MethodSeen → ℕ → FindingParts → Type 0
+IsWrongBelow methods most f = (n : ℕ) × (n < most) × IsFoundIn methods n f
+
+-- the methods of these tasks are done, and those are left
+pub record AreAnalysed (methods : List MethodSeen) (done left : List Task) (found : List Finding) : Type 0 where
+  pub tasks : map number_of (done ++ left) ≡ numbers_below (length methods)
+  pub exactly : AreExactly (IsWrongBelow methods (length done)) (map finding_parts found)

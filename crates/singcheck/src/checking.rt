@@ -1,0 +1,135 @@
+//! The check of a text, its methods too.
+
+ghost use Rattle.std.specs.Prelude.{◌≡◌, ◌<◌, ◌^◌, [], true, map, length, List, IfOk, IfErr, OnOk};
+ghost use Rattle.source.specs.Findings.{finding_parts};
+ghost use Rattle.source.specs.Tokens.{AreTokens};
+ghost use Rattle.syntax.specs.Parsing.{Spells};
+ghost use Rattle.syntax.specs.Programs.{program};
+ghost use Rattle.syntax.specs.Trees.{program_tree};
+ghost use Rattle.names.specs.Findings.{program_findings};
+ghost use Rattle.names.specs.Program.{program_of};
+ghost use Rattle.names.specs.Resolution.{ContractSeen};
+ghost use Rattle.singcheck.specs.Checks.{Checks, IsSoundProgram};
+ghost use Rattle.singcheck.specs.CheckFaults.{AreUnfit, Explains, IsTextFault, workers_fit, slots_fit};
+ghost use Rattle.singcheck.specs.Reports.{IsReport};
+
+use crate::fault::{CheckFault, Status};
+use crate::gate::Gate;
+use crate::limits::{MOST_SLOTS, MOST_WORKERS};
+use crate::lines::add_clear;
+use crate::reports::{Report, report_of};
+use crate::stages::{Parsed, Staged, named, parse_text};
+use crate::verdicts::analyse_methods;
+use resolving::resolve_methods;
+use rules::Program;
+use source::{Finding, Memory, Tokens};
+use std::alloc::Global;
+use syntax::Tree;
+
+/// Checks a text: the report of the first stage that has findings (the text, its names, its contracts, its methods), with
+/// status `Found`, or the line `ok: C contracts, M methods`, with status `Empty`.
+///
+/// Each method is checked once, and the gate is entered before it with the number of methods that stand before it in the
+/// text. The report is the same for every number of `workers` and `slots`. `Workers` is answered where there are not 1 to
+/// `MOST_WORKERS`, then `Slots` where there are not 1 to `MOST_SLOTS`, before the text is looked at; `NotYet` where nothing is
+/// found before the methods and one of them holds what is not analysed yet; `Memory` where a growth was refused.
+pub fn check<G: Gate>(
+    alloc: Global,
+    text: &[u8],
+    workers: usize,
+    slots: usize,
+    gate: &G,
+) -> Result<Report, CheckFault>
+    ensures report { IfOk result (λ r. Checks text.now r.bytes.items r.status) }
+    ensures workers { OnOk result (workers_fit workers ≡ true) }
+    ensures slots { OnOk result (slots_fit slots ≡ true) }
+    ensures fault { IfErr result (Explains text.now workers slots) }
+{
+    judge_numbers(workers, slots)?;
+    check_text(alloc, text, gate)
+}
+
+/// Whether there may be so many workers and slots.
+pub(crate) fn judge_numbers(workers: usize, slots: usize) -> Result<(), CheckFault>
+    ensures workers { OnOk result (workers_fit workers ≡ true) }
+    ensures slots { OnOk result (slots_fit slots ≡ true) }
+    ensures fault { IfErr result (AreUnfit workers slots) }
+{
+    if !(1..=MOST_WORKERS).contains(&workers) {
+        return Err(CheckFault::Workers);
+    }
+    if !(1..=MOST_SLOTS).contains(&slots) {
+        return Err(CheckFault::Slots);
+    }
+    Ok(())
+}
+
+/// The report of a text.
+pub(crate) fn check_text<G: Gate>(alloc: Global, text: &[u8], gate: &G) -> Result<Report, CheckFault>
+    ensures report { IfOk result (λ r. Checks text.now r.bytes.items r.status) }
+    ensures fault { IfErr result (IsTextFault text.now) }
+{
+    match parse_text(alloc, text)? {
+        Parsed::Found(findings) => Ok(reported(alloc, findings)?),
+        Parsed::Program(tokens, tree) => check_program(alloc, &tokens, &tree, gate),
+    }
+}
+
+/// The report of findings.
+fn reported(alloc: Global, findings: Vec<Finding>) -> Result<Report, Memory>
+    ensures bytes { IfOk result (λ r. IsReport (map finding_parts findings.items) r.bytes.items) }
+    ensures status { IfOk result (λ r. r.status ≡ Status.Found) }
+{
+    Ok(Report {
+        bytes: report_of(alloc, findings)?,
+        status: Status::Found,
+    })
+}
+
+/// The report of a program.
+fn check_program<G: Gate>(
+    alloc: Global,
+    tokens: &Tokens,
+    tree: &Tree,
+    gate: &G,
+) -> Result<Report, CheckFault>
+    requires lexed { AreTokens tokens.now.text.items tokens.now.list.items }
+    requires spelled { Spells program (program_tree tree.now) tokens.now.list.items }
+    requires few { length tokens.now.list.items < 2 ^ 32 }
+    ensures report { IfOk result (λ r. Checks tokens.now.text.items r.bytes.items r.status) }
+    ensures fault { IfErr result (IsTextFault tokens.now.text.items) }
+{
+    match named(alloc, tree, tokens)? {
+        Staged::Found(findings) => Ok(reported(alloc, findings)?),
+        Staged::Clean(clean) => {
+            check_methods(alloc, tokens, tree, clean.resolved.contracts.len(), gate)
+        }
+    }
+}
+
+/// The report of the methods of a program of so many contracts, with which nothing else is wrong.
+fn check_methods<G: Gate>(
+    alloc: Global,
+    tokens: &Tokens,
+    tree: &Tree,
+    contracts: usize,
+    gate: &G,
+) -> Result<Report, CheckFault>
+    requires clean { program_findings (program_of tokens.now.text.items tree.now) ≡ [] }
+    ensures report { IfOk result (λ r. (seen : List ContractSeen) → IsSoundProgram tokens.now.text.items (program_tree tree.now) seen → contracts ≡ length seen → Checks tokens.now.text.items r.bytes.items r.status) }
+    ensures fault { IfErr result (λ fault. (seen : List ContractSeen) → IsSoundProgram tokens.now.text.items (program_tree tree.now) seen → IsTextFault tokens.now.text.items fault) }
+{
+    let methods = resolve_methods(alloc, tree, tokens)?;
+    let count = methods.len();
+    let program = Program::new(alloc, methods)?;
+    let findings = analyse_methods(alloc, &program, gate)?;
+    if !findings.is_empty() {
+        return Ok(reported(alloc, findings)?);
+    }
+    let mut bytes = Vec::new(alloc);
+    add_clear(alloc, &mut bytes, contracts, count)?;
+    Ok(Report {
+        bytes,
+        status: Status::Empty,
+    })
+}

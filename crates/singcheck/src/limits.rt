@@ -1,0 +1,7 @@
+//! What a call may ask for.
+
+/// The most workers of a call.
+pub const MOST_WORKERS: usize = 64;
+
+/// The most slots of the table of rows that the workers share.
+pub const MOST_SLOTS: usize = 16_777_216;
