@@ -120,6 +120,38 @@ def starts(n):
     return 'class K { static void G(' + parameters + ') { } static void F() {\n' + 'start G();\n' * n + '} }\n'
 
 
+def reads(n):
+    """n reads of one block, in methods that keep below the limit of pairs."""
+    one = 'static void F%d(D* in ExHeap p) { int k;\n' + 'k = p.n;\n' * min(n, 10000) + '}\n'
+    return 'rep struct D { int n; }\nclass K {\n' + ''.join(one % k for k in range(max(1, n // 10000))) + '}\n'
+
+
+def small_methods(n):
+    """Methods with a block each, 4,096 at most; those of larger texts do more."""
+    count = min(n, 4096)
+    work = 'q.n = k; k = q.n + p.n; ' * max(1, n // 4096)
+    one = 'static void M%d(D* in ExHeap p) { int k; D* in ExHeap q = new[ExHeap] D(); ' + work + 'delete q; }\n'
+    return 'rep struct D { int n; }\nclass K {\n' + ''.join(one % k for k in range(count)) + '}\n'
+
+
+def scalars(n):
+    """n scalars, each of which takes a value once more."""
+    return in_method_alone(''.join('int v%d = %d;\n' % (k, k) for k in range(n)) + ''.join('v%d = 1;\n' % k for k in range(n)))
+
+
+def in_method_alone(statements):
+    return 'class K { static void F() {\n' + statements + '} }\n'
+
+
+def many_variables(n):
+    """1,000 variables of the exchange heap that take and free a block in turn, n times in all, 9,000 to a method."""
+    declared = ''.join('D* in ExHeap v%d;\n' % k for k in range(1000))
+    turns = ''.join('v%d = new[ExHeap] D(); delete v%d;\n' % (k % 1000, k % 1000) for k in range(min(n, 9000)))
+    one = 'static void F%d() {\n' + declared + turns + '}\n'
+    return 'rep struct D { int n; }\nclass K {\n' + ''.join(one % k for k in range(max(1, n // 9000))) + '}\n'
+
+
 LOADS = [path, ring, named_states, messages, contracts_256, comment, declared_twice, long_names,
          statements, else_ifs, long_sum, deep_parentheses, deep_blocks, methods,
          unknown_names, variables_twice, variables, cases, blocks_of_variables, starts]
+CHECKED = [reads, small_methods, scalars, many_variables]

@@ -43,6 +43,15 @@ def help_to_full_device(program):
         return compared(run(program, '--help', stdout=full), None, CANNOT_WRITE, 3)
 
 
+def check_to_full_device(program):
+    with open('/dev/full', 'wb') as full:
+        return compared(run(program, 'check', PING, stdout=full), None, CANNOT_WRITE, 3)
+
+
+def check_of_nothing(program):
+    return compared(run(program, 'check', 'nowhere.sg', '--workers', '0'), b'', b'singcheck: cannot read nowhere.sg\n', 3)
+
+
 def folder(program):
     with tempfile.TemporaryDirectory() as made:
         return compared(run(program, 'bounds', made), b'', b'singcheck: cannot read %s\n' % made.encode(), 3)
@@ -74,4 +83,5 @@ def unreadable(program):
 
 
 TESTS = [('devices/' + test.__name__, test) for test in
-         (full_device, closed_pipe, closed_output, help_to_full_device, folder, null, pipe_by_name, unreadable)]
+         (full_device, closed_pipe, closed_output, help_to_full_device, check_to_full_device,
+          check_of_nothing, folder, null, pipe_by_name, unreadable)]

@@ -23,6 +23,11 @@ def variables(count):
     return b'rep struct D { int n; }\nclass K { static void F() {\n' + declared + b'} }\n'
 
 
+def uses(count):
+    """A method whose one parameter is used so often, a point each, and then a Return."""
+    return b'rep struct D { int n; }\nclass K {\nstatic void F(D* in ExHeap p) { int k;\n' + b'k=p.n;' * count + b'\n} }\n'
+
+
 def within(statement):
     """A method with this statement, which stands behind two open brackets."""
     return b'class K { static void F(bool b, int[] in ExHeap a) { ' + statement + b' } }\n'
@@ -47,8 +52,18 @@ def cases(folder):
         ('ifs_100', within(b'if (b) {' * 98 + b'}' * 98), NOTHING, 0),
         ('whiles_100', within(b'while (b) {' * 98 + b'}' * 98), NOTHING, 0),
     ]
+    checked = [
+        ('pairs_20000', uses(19999), b'ok: 0 contracts, 1 methods\n', 0),
+        ('pairs_20001', uses(20000), b'3:13 A14 too many pairs\nfindings: 1\n', 1),
+        # In each of the methods as many pairs as there may be, but not more in any.
+        ('pairs_40000_in_two_methods', uses(19999) + uses(19999).replace(b'rep struct D', b'rep struct E').replace(b'class K', b'class L'),
+         b'ok: 0 contracts, 2 methods\n', 0),
+        ('methods_4096_checked', methods(4096), b'ok: 0 contracts, 4096 methods\n', 0),
+        ('variables_1000_checked', variables(1000), b'ok: 0 contracts, 1 methods\n', 0),
+    ]
     made = []
-    for name, text, stdout, status in inputs:
-        (folder / name).write_bytes(text)
-        made.append(('large/' + name, folder, ['bounds', name], stdout, b'', status))
+    for command, given in (('bounds', inputs), ('check', checked)):
+        for name, text, stdout, status in given:
+            (folder / name).write_bytes(text)
+            made.append(('large/' + name, folder, [command, name], stdout, b'', status))
     return made

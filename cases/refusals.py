@@ -45,11 +45,11 @@ def refuser():
     return folder, library
 
 
-def run(program, text, nth, mark):
+def run(program, words, folder, nth, mark):
     with ONCE:
         library = refuser()[1]
     more = dict(os.environ, LD_PRELOAD=str(library), REFUSE_NTH=str(nth), REFUSE_MARK=str(mark))
-    ran = subprocess.run([program, 'bounds', text], stdin=subprocess.DEVNULL, capture_output=True, timeout=60, env=more)
+    ran = subprocess.run([program, *words], cwd=folder, stdin=subprocess.DEVNULL, capture_output=True, timeout=60, env=more)
     return ran.stdout, ran.stderr, ran.returncode
 
 
@@ -60,11 +60,12 @@ def itself(program):
 
 def each_refused(name, program):
     folder, program = HERE / name, itself(program)
+    words = (folder / 'command').read_text().split()
     answer = ((folder / 'stdout').read_bytes(), b'', int((folder / 'status').read_text()))
     with tempfile.TemporaryDirectory() as made:
         for nth in range(1, MOST):
             mark = pathlib.Path(made) / str(nth)
-            given = run(program, str(folder / 'input.sg'), nth, mark)
+            given = run(program, words, folder, nth, mark)
             if given not in ((answer, OUT_OF_MEMORY) if mark.exists() else (answer,)):
                 return ['growth %d refused: %r' % (nth, given)]
             if not mark.exists():
@@ -74,4 +75,5 @@ def each_refused(name, program):
 
 TESTS = [('refusals/' + name, functools.partial(each_refused, name)) for name in
          ('bounds/ping', 'bounds/burst', 'bounds/two_contracts', 'conditions/one_direction_round',
-          'conditions/both_directions_and_twice', 'names/unknown_everywhere', 'text/comment_not_closed', 'text/trailing_comma')]
+          'conditions/both_directions_and_twice', 'names/unknown_everywhere', 'text/comment_not_closed', 'text/trailing_comma',
+          'ownership/all_owned_and_given_back', 'ownership/a_finding_in_each_of_two_methods')]

@@ -34,7 +34,7 @@ pub record Laws : Type 0 where
   pub none : (text : List ℕ) (tokens : List Token) (f : TextFault) → AreTokens text tokens → IsFault text f → ⊥
   pub trees : (s t : List ItemTree) → program s ≡ program t → s ≡ t
 
-one_program : Laws → (text : List ℕ) (a b : List ItemTree) → IsProgram text a → IsProgram text b → a ≡ b
+pub one_program : Laws → (text : List ℕ) (a b : List ItemTree) → IsProgram text a → IsProgram text b → a ≡ b
 one_program laws text a b one other =
     let tokens : one.tokens ≡ other.tokens = laws.tokens text one.tokens other.tokens one.lexed other.lexed in
     let spelled : whole program a ≡ whole program b = one.spelled ∙ ap symbols tokens ∙ sym other.spelled in
@@ -79,7 +79,7 @@ text_or_program laws text found items faulty parsed = laws.none text parsed.toke
 syntax_or_program : Laws → (text : List ℕ) (found : List FindingParts) (items : List ItemTree) → IsNoProgram text found → IsProgram text items → ⊥
 syntax_or_program laws text found items wrong parsed = none_wrong wrong.tokens items wrong.number (parsed.spelled ∙ ap symbols (laws.tokens text parsed.tokens wrong.tokens parsed.lexed wrong.lexed)) wrong.wrong
 
-some_in : (found : List FindingParts) → found ≢ [] → (f : FindingParts) × Contains found f
+pub some_in : (found : List FindingParts) → found ≢ [] → (f : FindingParts) × Contains found f
 some_in [] some = absurd (some refl)
 some_in (f ∷ found) some = (f, (0, omega arith, refl))
 
@@ -95,15 +95,19 @@ names_or_clean laws text found contracts wrong resolved =
 broken_or_sound : (contracts : List ContractSeen) (f : FindingParts) → All (λ c. IsSound c.parts) contracts → IsBroken contracts f → ⊥
 broken_or_sound contracts f sound broken = All-contains (λ c. IsSound c.parts) contracts broken.0 sound broken.1 f broken.2
 
+-- a text with findings is no sound program
+pub found_or_sound : Laws → (text : List ℕ) (found : List FindingParts) (contracts : List ContractSeen) → AreFindings text found → IsResolved text contracts → All (λ c. IsSound c.parts) contracts → ⊥
+found_or_sound laws text found contracts (OfText h) resolved sound = text_or_program laws text found resolved.items h resolved.parsed
+found_or_sound laws text found contracts (OfSyntax h) resolved sound = syntax_or_program laws text found resolved.items h resolved.parsed
+found_or_sound laws text found contracts (OfNames h) resolved sound = names_or_clean laws text found contracts h resolved
+found_or_sound laws text found contracts (OfContracts h) resolved sound =
+    let first = some_in found h.some in
+    let same = one_resolved laws text h.contracts contracts h.resolved resolved in
+    broken_or_sound contracts first.0 sound (subst (λ l. IsBroken l first.0) same (h.are.right first.0 first.1))
+
 -- a text with findings has no bounds
 pub found_or_bounds : Laws → (text bytes : List ℕ) (found : List FindingParts) → AreFindings text found → AreBounds text bytes → ⊥
-found_or_bounds laws text bytes found (OfText h) are = text_or_program laws text found are.resolved.items h are.resolved.parsed
-found_or_bounds laws text bytes found (OfSyntax h) are = syntax_or_program laws text found are.resolved.items h are.resolved.parsed
-found_or_bounds laws text bytes found (OfNames h) are = names_or_clean laws text found are.contracts h are.resolved
-found_or_bounds laws text bytes found (OfContracts h) are =
-    let first = some_in found h.some in
-    let same = one_resolved laws text h.contracts are.contracts h.resolved are.resolved in
-    broken_or_sound are.contracts first.0 are.sound (subst (λ l. IsBroken l first.0) same (h.are.right first.0 first.1))
+found_or_bounds laws text bytes found h are = found_or_sound laws text found are.contracts h are.resolved are.sound
 
 -- the findings of a text are the same
 pub one_findings : Laws → (text : List ℕ) (a b : List FindingParts) → AreFindings text a → AreFindings text b → AreAlike a b

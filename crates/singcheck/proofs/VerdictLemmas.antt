@@ -74,7 +74,7 @@ task_at before rest task n e =
     let first = length-map before number_of in
     let below : length before < n = omega (arith, size, many, mapped, sum) in
     let here : get_or (map number_of before ++ number_of task ∷ map number_of rest) (length before) 0 ≡ number_of task
-        = subst (λ k. get_or (map number_of before ++ number_of task ∷ map number_of rest) k 0 ≡ number_of task) first (get_or-append_seam (map number_of before) (number_of task) (map number_of rest) 0) in
+    = subst (λ k. get_or (map number_of before ++ number_of task ∷ map number_of rest) k 0 ≡ number_of task) first (get_or-append_seam (map number_of before) (number_of task) (map number_of rest) 0) in
     (sym here ∙ ap (λ l. get_or l (length before) 0) (sym parts ∙ e) ∙ number_at n (length before) below, below)
 
 -- one more task

@@ -65,7 +65,11 @@ pub(crate) fn judge_numbers(workers: usize, slots: usize) -> Result<(), CheckFau
 }
 
 /// The report of a text.
-pub(crate) fn check_text<G: Gate>(alloc: Global, text: &[u8], gate: &G) -> Result<Report, CheckFault>
+pub(crate) fn check_text<G: Gate>(
+    alloc: Global,
+    text: &[u8],
+    gate: &G,
+) -> Result<Report, CheckFault>
     ensures report { IfOk result (λ r. Checks text.now r.bytes.items r.status) }
     ensures fault { IfErr result (IsTextFault text.now) }
 {

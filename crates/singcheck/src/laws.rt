@@ -2,17 +2,30 @@
 
 ghost use Rattle.std.specs.Prelude.{◌≡◌, ℕ, List};
 ghost use Rattle.singcheck.specs.Answers.{Answers};
+ghost use Rattle.singcheck.specs.Checks.{Checks};
 ghost use Rattle.singcheck.specs.declared.fault.Status.{Status};
 
 use source::laws::{one_cutting, one_fault};
 use syntax::one_tree_a_spelling;
 
-/// A text has one answer and one status.
+/// A text has one answer of `bounds`, and one status.
 pub fn one_answer()
     ensures bytes { (text a b : List ℕ) (s t : Status)
         → Answers text a s → Answers text b t → a ≡ b }
     ensures status { (text a b : List ℕ) (s t : Status)
         → Answers text a s → Answers text b t → s ≡ t }
+{
+    one_cutting();
+    one_fault();
+    one_tree_a_spelling();
+}
+
+/// A text has one answer of `check`, and one status, whatever workers and slots there are.
+pub fn one_check()
+    ensures bytes { (text a b : List ℕ) (s t : Status)
+        → Checks text a s → Checks text b t → a ≡ b }
+    ensures status { (text a b : List ℕ) (s t : Status)
+        → Checks text a s → Checks text b t → s ≡ t }
 {
     one_cutting();
     one_fault();

@@ -4,7 +4,9 @@
 #[derive(Clone, Copy, Debug, PartialEq, Eq)]
 pub enum Ask<'a> {
     /// The queue bounds of the contracts in this file.
-    Bounds { file: &'a str },
+    Bounds {
+        file: &'a str,
+    },
     /// What is wrong in this file, found by so many workers over a table of so many slots.
     Check {
         file: &'a str,

@@ -62,9 +62,23 @@ fn asks_for_bounds_or_a_check_of_a_file(rt: HostRuntime) -> Result<(), Fail> {
     assert!(rt; asked == usual);
     let letter = ["singcheck", "check", "a.sg", "--slots", "x"];
     assert!(rt; ask(rt.alloc(), letter.as_slice()).is_err());
-    let long = ["singcheck", "check", "a.sg", "--workers", "18446744073709551616"];
+    let long = [
+        "singcheck",
+        "check",
+        "a.sg",
+        "--workers",
+        "18446744073709551616",
+    ];
     assert!(rt; ask(rt.alloc(), long.as_slice()).is_err());
-    let twice = ["singcheck", "check", "a.sg", "--workers", "1", "--workers", "1"];
+    let twice = [
+        "singcheck",
+        "check",
+        "a.sg",
+        "--workers",
+        "1",
+        "--workers",
+        "1",
+    ];
     assert!(rt; ask(rt.alloc(), twice.as_slice()).is_err());
     let unknown = ["singcheck", "bound", "a.sg"];
     assert!(rt; ask(rt.alloc(), unknown.as_slice()).is_err());

@@ -1,7 +1,10 @@
 //! Whole checks on worked texts, and on devices and memory that fail.
 
 use super::devices::{Card, Page, Text};
-use crate::{Counted, Gate, Input, MOST_SLOTS, MOST_WORKERS, Open, RunFault, Status, check, run_check};
+use crate::laws::one_check;
+use crate::{
+    Counted, Gate, Input, MOST_SLOTS, MOST_WORKERS, Open, RunFault, Status, check, run_check,
+};
 use std::alloc::Global;
 use std::cell::Cell;
 use std::test::Fail;
@@ -19,7 +22,7 @@ const HANDED_ON: &str =
 const HANDED_ON_ANSWER: &str = "ok: 0 contracts, 2 methods\n";
 
 /// A gate that counts the methods before which it was entered, as long as they come in order from 0.
-#[derive(Debug)]
+#[derive(Drop)]
 struct InOrder {
     entered: Cell<u32>,
 }
@@ -77,11 +80,23 @@ fn enters_the_gate_before_each_method_in_order(rt: HostRuntime) -> Result<(), Fa
     let gate = InOrder {
         entered: Cell::new(0),
     };
-    let report = check(rt.alloc(), HANDED_ON.as_bytes(), MOST_WORKERS, MOST_SLOTS, &gate)?;
+    let report = check(
+        rt.alloc(),
+        HANDED_ON.as_bytes(),
+        MOST_WORKERS,
+        MOST_SLOTS,
+        &gate,
+    )?;
     assert!(rt; report.status == Status::Empty);
     assert!(rt; report.bytes.as_slice() == HANDED_ON_ANSWER.as_bytes());
     assert!(rt; gate.entered.get() == 2);
-    let none = check(rt.alloc(), b"class K { static void F() { k = 1; } }".as_slice(), 1, 1, &gate)?;
+    let none = check(
+        rt.alloc(),
+        b"class K { static void F() { k = 1; } }".as_slice(),
+        1,
+        1,
+        &gate,
+    )?;
     assert!(rt; none.status == Status::Found);
     assert!(rt; gate.entered.get() == 2);
     Ok(())
@@ -121,7 +136,14 @@ fn reads_nothing_where_the_numbers_do_not_fit(rt: HostRuntime) -> Result<(), Fai
     for (workers, slots, wanted) in rows.iter() {
         let mut reader = Text::new(rt.alloc(), HANDED_ON, 10, 1)?;
         let mut writer = Page::new(rt.alloc(), 100, NEVER);
-        match run_check(rt.alloc(), &mut reader, &mut writer, *workers, *slots, &Open) {
+        match run_check(
+            rt.alloc(),
+            &mut reader,
+            &mut writer,
+            *workers,
+            *slots,
+            &Open,
+        ) {
             Err(fault) => assert!(rt; fault == *wanted),
             Ok(_) => assert!(rt; false),
         }
@@ -146,5 +168,6 @@ fn names_the_device_that_fails(rt: HostRuntime) -> Result<(), Fail> {
         Ok(_) => assert!(rt; false),
     }
     assert!(rt; FREED_TWICE_ANSWER.as_bytes().starts_with(&full.bytes));
+    one_check();
     Ok(())
 }

@@ -14,24 +14,24 @@ loop-number-preserved c =
 pub returns-then-is_empty : goal.returns-then-is_empty
 returns-then-is_empty c = record {
   staged = λ text resolved.
-    let all = map contract_seen c.args.resolved.contracts.items in
-    let size = length-map c.args.resolved.contracts.items contract_seen in
-    let judged : AreJudged all c.loop-number.judging = subst (λ l. AreJudged l c.loop-number.judging) (take_all c.loop-number.number all (omega (arith, size, c.len-number-end.ensures))) c.loop-number.invariant in
-    let none : c.loop-number.judging.findings.items ≡ [] = no_items c.loop-number.judging.findings.items (sym c.loop-number.judging.findings.ok.0 ∙ eqb-true _ _ (sym c.is_empty.ensures ∙ c.if-is_empty.true)) in
-    record {
-      resolved = resolved;
-      sounds = judged.kept none;
-      sound = clean_all text all c.loop-number.judging judged none;
-    };
+      let all = map contract_seen c.args.resolved.contracts.items in
+      let size = length-map c.args.resolved.contracts.items contract_seen in
+      let judged : AreJudged all c.loop-number.judging = subst (λ l. AreJudged l c.loop-number.judging) (take_all c.loop-number.number all (omega (arith, size, c.len-number-end.ensures))) c.loop-number.invariant in
+      let none : c.loop-number.judging.findings.items ≡ [] = no_items c.loop-number.judging.findings.items (sym c.loop-number.judging.findings.ok.0 ∙ eqb-true _ _ (sym c.is_empty.ensures ∙ c.if-is_empty.true)) in
+      record {
+        resolved = resolved;
+        sounds = judged.kept none;
+        sound = clean_all text all c.loop-number.judging judged none;
+      };
   kept = refl;
 }
 
 pub returns-else-is_empty : goal.returns-else-is_empty
 returns-else-is_empty c = record {
   staged = λ text resolved.
-    let all = map contract_seen c.args.resolved.contracts.items in
-    let size = length-map c.args.resolved.contracts.items contract_seen in
-    let judged : AreJudged all c.loop-number.judging = subst (λ l. AreJudged l c.loop-number.judging) (take_all c.loop-number.number all (omega (arith, size, c.len-number-end.ensures))) c.loop-number.invariant in
-    found_all text all c.loop-number.judging judged (let differ = eqb-false _ _ (sym c.is_empty.ensures ∙ c.if-is_empty.false) in omega (arith, differ, c.loop-number.judging.findings.ok.0)) resolved;
+      let all = map contract_seen c.args.resolved.contracts.items in
+      let size = length-map c.args.resolved.contracts.items contract_seen in
+      let judged : AreJudged all c.loop-number.judging = subst (λ l. AreJudged l c.loop-number.judging) (take_all c.loop-number.number all (omega (arith, size, c.len-number-end.ensures))) c.loop-number.invariant in
+      found_all text all c.loop-number.judging judged (let differ = eqb-false _ _ (sym c.is_empty.ensures ∙ c.if-is_empty.false) in omega (arith, differ, c.loop-number.judging.findings.ok.0)) resolved;
   kept = tt;
 }
