@@ -1,7 +1,7 @@
 -- A command with one more argument, or one more subcommand.
 use Rattle.std.proofs.Common.{◌≡◌, ◌||◌, Bool, false, ap, ap₂, ◌∙◌}
 use Rattle.clap.specs.Built.{AddsArg, AddsSubcommand}
-use Rattle.clap.specs.Words.{App, Rule, app_of, rule_of, with_rule, with_subcommand}
+use Rattle.clap.specs.Words.{App, Rule, rule_of, with_rule, with_subcommand}
 use Rattle.clap.specs.declared.builder.arg.Arg.{Arg}
 use Rattle.clap.specs.declared.builder.command.Command.{Command}
 use Rattle.singcheck.specs.Asking.{IsCommand}

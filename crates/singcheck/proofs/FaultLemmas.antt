@@ -1,5 +1,5 @@
 -- Why a run of a check gives up, from what gave up in it.
-use Rattle.std.proofs.Common.{◌≡◌, ℕ, true, List, take, Option, Some, None, sym, subst}
+use Rattle.std.proofs.Common.{◌≡◌, ℕ, true, List, take, Option, Some, None, subst}
 use Rattle.std.specs.Prelude.{IfSome}
 use Rattle.singcheck.specs.CheckFaults.{IsTextFault, RunExplains, run_fault_of, workers_fit, slots_fit}
 use Rattle.singcheck.specs.Checks.{IsNotYet}

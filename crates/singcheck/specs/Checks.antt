@@ -1,6 +1,6 @@
 -- What `check` answers for a text. Its methods are analysed where nothing is wrong before: with the text, its tokens, its
 -- names and its contracts.
-use Rattle.std.specs.Prelude.{◌≡◌, ◌≢◌, ◌<◌, ◌+◌, ◌⊎◌, ℕ, List, [], length, All, Option, Some, None}
+use Rattle.std.specs.Prelude.{◌≡◌, ◌≢◌, ◌<◌, ◌+◌, ◌⊎◌, ℕ, List, [], length, All, Some, None}
 use Rattle.source.specs.Findings.{FindingParts}
 use Rattle.source.specs.declared.place.Place.{Place}
 use Rattle.syntax.specs.Trees.{ItemTree, contracts_of}

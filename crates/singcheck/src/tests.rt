@@ -5,6 +5,7 @@ mod devices;
 mod lexing;
 mod parsing;
 mod resolution;
+mod steps;
 
 use crate::{Ask, Input, RunFault, ask, ending};
 use devices::Page;
@@ -40,10 +41,19 @@ fn ends_with_a_line_and_a_status(rt: HostRuntime) -> Result<(), Fail> {
 }
 
 #[test]
-fn asks_for_bounds_or_a_check_of_a_file(rt: HostRuntime) -> Result<(), Fail> {
+fn asks_for_the_bounds_of_a_file(rt: HostRuntime) -> Result<(), Fail> {
     let words = ["singcheck", "bounds", "a.sg"];
     let asked = ask(rt.alloc(), words.as_slice())?;
     assert!(rt; asked == Ask::Bounds { file: "a.sg" });
+    let unknown = ["singcheck", "bound", "a.sg"];
+    assert!(rt; ask(rt.alloc(), unknown.as_slice()).is_err());
+    let missing = ["singcheck", "bounds"];
+    assert!(rt; ask(rt.alloc(), missing.as_slice()).is_err());
+    Ok(())
+}
+
+#[test]
+fn asks_for_a_check_of_a_file(rt: HostRuntime) -> Result<(), Fail> {
     let both = ["singcheck", "check", "--slots", "7", "a.sg", "--workers=64"];
     let asked = ask(rt.alloc(), both.as_slice())?;
     let numbers = Ask::Check {
@@ -60,6 +70,11 @@ fn asks_for_bounds_or_a_check_of_a_file(rt: HostRuntime) -> Result<(), Fail> {
         slots: 65_536,
     };
     assert!(rt; asked == usual);
+    Ok(())
+}
+
+#[test]
+fn refuses_numbers_that_are_none(rt: HostRuntime) -> Result<(), Fail> {
     let letter = ["singcheck", "check", "a.sg", "--slots", "x"];
     assert!(rt; ask(rt.alloc(), letter.as_slice()).is_err());
     let long = [
@@ -80,9 +95,5 @@ fn asks_for_bounds_or_a_check_of_a_file(rt: HostRuntime) -> Result<(), Fail> {
         "1",
     ];
     assert!(rt; ask(rt.alloc(), twice.as_slice()).is_err());
-    let unknown = ["singcheck", "bound", "a.sg"];
-    assert!(rt; ask(rt.alloc(), unknown.as_slice()).is_err());
-    let missing = ["singcheck", "bounds"];
-    assert!(rt; ask(rt.alloc(), missing.as_slice()).is_err());
     Ok(())
 }

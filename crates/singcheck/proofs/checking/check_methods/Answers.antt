@@ -1,12 +1,10 @@
-use Rattle.std.proofs.Common.{◌≡◌, ◌++◌, ◌∙◌, [], map, length, ap, ap₂, sym, subst, arith}
+use Rattle.std.proofs.Common.{◌≡◌, ◌++◌, ◌∙◌, map, length, ap, ap₂, sym, arith}
 use Rattle.std.proofs.lemmas.Bool.{eqb-true, eqb-false}
 use Rattle.std.proofs.lemmas.List.{length-map}
 use Rattle.source.specs.Findings.{finding_parts}
 use Rattle.syntax.specs.Trees.{program_tree}
-use Rattle.contracts.specs.Conditions.{AreExactly}
-use Rattle.resolved.specs.Methods.{MethodSeen, method_seen}
+use Rattle.resolved.specs.Methods.{method_seen}
 use Rattle.rules.specs.Programs.{methods_of}
-use Rattle.singcheck.specs.Checks.{IsWrong}
 use Rattle.singcheck.specs.Lines.{clear_line}
 use Rattle.singcheck.proofs.CheckLemmas.{reported_is, has_methods, misowned, clear_is}
 use Rattle.singcheck.proofs.JudgeLemmas.{no_items}

@@ -1,6 +1,5 @@
-use Rattle.std.proofs.Common.{◌++◌, codes, subst}
+use Rattle.std.proofs.Common.{◌++◌, codes}
 use Rattle.std.specs.Fmt.{decimal}
-use Rattle.std.specs.Io.KnownBytes.{Appends}
 use Rattle.std.proofs.KnownBytes.{Appends-trans}
 use Rattle.std.proofs.lemmas.Result.{on_ok_weaker, on_err_weaker}
 use Rattle.singcheck.proofs.BeginLemmas.{begins_first, begins_second, on_err_always}

@@ -1,6 +1,6 @@
 use Rattle.std.proofs.Common.{subst, rules}
 use Rattle.std.specs.Io.KnownBytes.{Appends}
-use Rattle.singcheck.specs.CheckFaults.{IsTextFault, RunExplains, run_fault_of}
+use Rattle.singcheck.specs.CheckFaults.{IsTextFault}
 use Rattle.singcheck.specs.Checks.{Checks}
 use Rattle.singcheck.specs.Devices.{Begins}
 use Rattle.singcheck.specs.declared.reading.TheConstants.{MAX_READ}

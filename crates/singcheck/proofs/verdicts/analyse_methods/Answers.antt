@@ -1,4 +1,4 @@
-use Rattle.std.proofs.Common.{◌≡◌, ◌++◌, [], map, length, ap, sym, subst, ◌∙◌, arith}
+use Rattle.std.proofs.Common.{◌++◌, [], map, length, ap, sym, subst, ◌∙◌, arith}
 use Rattle.rules.specs.Programs.{methods_of}
 use Rattle.analyse.specs.Tasks.{number_of}
 use Rattle.singcheck.specs.Verdicts.{AreAnalysed}

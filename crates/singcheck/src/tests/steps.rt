@@ -1,0 +1,174 @@
+//! The graph, the steps and the verdict of a method that is put together by hand.
+
+ghost use Rattle.std.specs.Prelude.{◌≡◌, IfOk, length};
+ghost use Rattle.rules.specs.Programs.{methods_of};
+
+use analyse::tasks;
+use flow::{Instr, lower};
+use resolved::{Action, Mention, Method, MethodId, Role, Statement, VarId, Variable};
+use rules::{Leaf, MOST_LEAVES, MOST_STATES, Outcome, Program, Row, entry, step};
+use source::{Memory, Place};
+use std::alloc::Global;
+use std::test::Fail;
+
+fn mention(variable: usize, col: u32) -> Mention {
+    Mention {
+        variable: VarId(variable),
+        place: Place { line: 1, col },
+    }
+}
+
+fn variable(alloc: Global, name: &str, role: Role) -> Result<Variable, Memory> {
+    Ok(Variable {
+        name: Vec::from_slice(alloc, name.as_bytes())?,
+        role,
+    })
+}
+
+/// A method that claims `p`, moves it to `q`, frees `q` and reads `q`.
+fn freed_and_read(alloc: Global) -> Result<Method, Memory> {
+    let mut variables = Vec::new(alloc);
+    variables.push(variable(alloc, "p", Role::Claimed)?)?;
+    variables.push(variable(alloc, "q", Role::Local)?)?;
+    let mut reads = Vec::new(alloc);
+    reads.push(mention(1, 30))?;
+    let mut statements = Vec::new(alloc);
+    let moved = Action::Move {
+        target: mention(1, 10),
+        source: mention(0, 12),
+    };
+    statements.push(plain(alloc, moved))?;
+    statements.push(plain(alloc, Action::Delete(mention(1, 20))))?;
+    statements.push(Statement {
+        reads,
+        action: Action::Nothing,
+    })?;
+    Ok(Method {
+        name: Place { line: 1, col: 1 },
+        variables,
+        statements,
+        close: Place { line: 1, col: 40 },
+    })
+}
+
+fn plain(alloc: Global, action: Action) -> Statement {
+    Statement {
+        reads: Vec::new(alloc),
+        action,
+    }
+}
+
+fn only(alloc: Global) -> Result<Program, Memory>
+    ensures { IfOk result (λ p. length (methods_of p) ≡ 1) }
+{
+    let mut methods = Vec::new(alloc);
+    methods.push(freed_and_read(alloc)?)?;
+    Program::new(alloc, methods)
+}
+
+#[test]
+fn lays_a_method_from_its_end(rt: HostRuntime) -> Result<(), Fail> {
+    let graph = lower(rt.alloc(), &freed_and_read(rt.alloc())?)?;
+    assert!(rt; graph.first == 3);
+    let laid = &graph.instructions;
+    assert!(rt; laid.len() == 4);
+    assert!(rt;
+        matches!(
+            laid.get(0),
+            Some(Instr::Return {
+                scope: 2,
+                place: Place { line: 1, col: 40 }
+            })
+        )
+    );
+    assert!(rt;
+        matches!(
+            laid.get(1),
+            Some(Instr::Use {
+                at: Mention {
+                    variable: VarId(1),
+                    ..
+                },
+                next: 0
+            })
+        )
+    );
+    assert!(rt;
+        matches!(
+            laid.get(2),
+            Some(Instr::Delete {
+                at: Mention {
+                    variable: VarId(1),
+                    ..
+                },
+                next: 1
+            })
+        )
+    );
+    assert!(rt;
+        matches!(
+            laid.get(3),
+            Some(Instr::Move {
+                source: Mention {
+                    variable: VarId(0),
+                    ..
+                },
+                next: 2,
+                ..
+            })
+        )
+    );
+    Ok(())
+}
+
+#[test]
+fn steps_by_the_rule_table(rt: HostRuntime) -> Result<(), Fail> {
+    let program = only(rt.alloc())?;
+    assert!(rt; program.methods().len() == 1);
+    assert!(rt; program.graph(MethodId(0)).first == 3);
+    let (point, row) = entry(rt.alloc(), &program, MethodId(0))?;
+    assert!(rt; point == 3);
+    assert!(rt; row.leaves() == [Leaf::Block, Leaf::Nothing].as_slice());
+    match step(rt.alloc(), &program, MethodId(0), point, &row)? {
+        Outcome::Next(pairs) => match pairs.get(0) {
+            Some((point, row)) => {
+                assert!(rt; *point == 2);
+                assert!(rt; row.leaves() == [Leaf::Nothing, Leaf::Block].as_slice());
+            }
+            None => assert!(rt; false),
+        },
+        Outcome::Found(_) => assert!(rt; false),
+    }
+    Ok(())
+}
+
+#[test]
+fn has_a_task_for_each_method(rt: HostRuntime) -> Result<(), Fail> {
+    let program = only(rt.alloc())?;
+    for task in tasks(rt.alloc(), &program)? {
+        assert!(rt; task.method() == MethodId(0));
+        task.give_up();
+    }
+    Ok(())
+}
+
+#[test]
+fn rows_are_within_the_limits(rt: HostRuntime) -> Result<(), Fail> {
+    let mut leaves = Vec::new(rt.alloc());
+    for _ in 0..MOST_LEAVES {
+        leaves.push(Leaf::CutOff)?;
+    }
+    assert!(rt; Row::of(leaves).is_some());
+    let mut more = Vec::new(rt.alloc());
+    for _ in 0..MOST_LEAVES + 1 {
+        more.push(Leaf::Nothing)?;
+    }
+    assert!(rt; Row::of(more).is_none());
+    let mut last = Vec::new(rt.alloc());
+    last.push(Leaf::State(MOST_STATES - 1))?;
+    assert!(rt; Row::of(last).is_some());
+    let mut past = Vec::new(rt.alloc());
+    past.push(Leaf::State(MOST_STATES))?;
+    assert!(rt; Row::of(past).is_none());
+    Ok(())
+}
