@@ -151,7 +151,14 @@ def many_variables(n):
     return 'rep struct D { int n; }\nclass K {\n' + ''.join(one % k for k in range(max(1, n // 9000))) + '}\n'
 
 
+def long_types(n):
+    """n calls of a method whose parameter and whose result have a type with a name of n bytes."""
+    name = 'D' * n
+    method = 'static %s* in ExHeap G(%s* in ExHeap p) { }' % (name, name)
+    return 'rep struct %s { int n; } class K { %s static void F() {\n' % (name, method) + 'G();\n' * n + '} }\n'
+
+
 LOADS = [path, ring, named_states, messages, contracts_256, comment, declared_twice, long_names,
          statements, else_ifs, long_sum, deep_parentheses, deep_blocks, methods,
-         unknown_names, variables_twice, variables, cases, blocks_of_variables, starts]
+         unknown_names, variables_twice, variables, cases, blocks_of_variables, starts, long_types]
 CHECKED = [reads, small_methods, scalars, many_variables]

@@ -1,5 +1,5 @@
 -- The last branch of an `if`, and the cases of a switch one after another.
-use Rattle.std.proofs.Common.{◌≡◌, ℕ, zero, suc, ◌+◌, ◌<◌, ◌≤◌, List, [], ◌∷◌, ◌++◌, length, map, take, drop, get_or, Option, Some, sym, ap, ◌∙◌, subst, arith, add-one}
+use Rattle.std.proofs.Common.{◌≡◌, ℕ, zero, suc, ◌+◌, ◌<◌, ◌≤◌, List, [], ◌∷◌, ◌++◌, length, map, take, drop, get_or, Option, None, Some, sym, ap, ◌∙◌, subst, arith, add-one}
 use Rattle.std.specs.Prelude.{slice_get}
 use Rattle.std.specs.Option.{option_map}
 use Rattle.std.proofs.Math.ListN.{get_or-map}
@@ -19,6 +19,13 @@ use Rattle.names.proofs.TurnLemmas.{Ongoing}
 pub last_branch : {text : List ℕ} {old mid : List Finding} {v : Variables} {whole : Turn} (m : Surroundings) (ts : List made.Test.Test) (i : ℕ) (otherwise : Option made.Block.Block) (block : made.Block.Block) → length ts ≤ i → otherwise ≡ Some block
     → Ongoing text old mid v whole (others_turn m (other_row (map test_tree (drop i ts)) (option_map block_tree otherwise))) → Ongoing text old mid v whole (block_turn m (block_tree block))
 last_branch {text = text} {old = old} {mid = mid} {v = v} {whole = whole} m ts i otherwise block past is o =
+    subst (λ last. Ongoing text old mid v whole (others_turn m (other_row [] (option_map block_tree last)))) is
+    (subst (λ rest. Ongoing text old mid v whole (others_turn m (other_row (map test_tree rest) (option_map block_tree otherwise)))) (drop_all i ts past) o)
+
+-- behind the last test of an `if` with no last block nothing is left
+pub no_branch : {text : List ℕ} {old mid : List Finding} {v : Variables} {whole : Turn} (m : Surroundings) (ts : List made.Test.Test) (i : ℕ) (otherwise : Option made.Block.Block) → length ts ≤ i → otherwise ≡ None
+    → Ongoing text old mid v whole (others_turn m (other_row (map test_tree (drop i ts)) (option_map block_tree otherwise))) → Ongoing text old mid v whole (turn [])
+no_branch {text = text} {old = old} {mid = mid} {v = v} {whole = whole} m ts i otherwise past is o =
     subst (λ last. Ongoing text old mid v whole (others_turn m (other_row [] (option_map block_tree last)))) is
     (subst (λ rest. Ongoing text old mid v whole (others_turn m (other_row (map test_tree rest) (option_map block_tree otherwise)))) (drop_all i ts past) o)
 

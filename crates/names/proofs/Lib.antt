@@ -30,3 +30,4 @@ pub mod MemberLemmas
 pub mod ReadyLemmas
 pub mod FewLemmas
 pub mod ApartLemmas
+pub mod TypeLemmas

@@ -1,17 +1,25 @@
 -- The names of a program, as the code has them.
-use Rattle.std.specs.Prelude.{◌≡◌, ℕ, List, [], ◌∷◌, map, Option, None, Some}
-use Rattle.syntax.specs.Trees.{ItemTree, DefinitionTree, Contract, Struct, Class, ContractTree, StructTree, ClassTree, item_tree, method_tree}
+use Rattle.std.specs.Prelude.{◌≡◌, ℕ, List, [], ◌∷◌, map, Option, None, Some, option_map}
+use Rattle.std.specs.BTreeMap.{get}
+use Rattle.std.specs.Ordering.{nat_cmp}
+use Rattle.syntax.specs.declared.tree.Type.TheVariants as type
+use Rattle.syntax.specs.Trees.{ItemTree, DefinitionTree, Contract, Struct, Class, ContractTree, StructTree, ClassTree, MethodTree, item_tree, method_tree}
 use Rattle.names.specs.Declarations.{names_of_messages, names_of_states, messages_of, states_of}
+use Rattle.names.specs.Kinds.{type_kind}
 use Rattle.names.specs.Outlines.{IsOutline}
 use Rattle.names.specs.Program.{Program, item_names}
 use Rattle.names.specs.Tables.{IsTable}
+use Rattle.names.specs.Values.{can_start}
 use Rattle.names.specs.Words.{words_at}
 use Rattle.names.specs.declared.members.Declared.{Declared}
 use Rattle.names.specs.declared.members.Fields.{Fields}
 use Rattle.names.specs.declared.members.Methods.{Methods}
 use Rattle.names.specs.declared.members.Members.{Members}
 use Rattle.names.specs.declared.members.Members.TheVariants as members
+use Rattle.names.specs.declared.noted.Noted.{Noted}
+use Rattle.names.specs.declared.noted.NotedKinds.{NotedKinds}
 use Rattle.names.specs.declared.scope.Scope.{Scope}
+use Rattle.names.specs.declared.starts.Callee.{Callee}
 
 -- what a contract declares, and the tables of it
 pub record IsDeclared (text : List ℕ) (c : ContractTree) (d : Declared) : Type 0 where
@@ -24,9 +32,10 @@ pub record AreFields (text : List ℕ) (s : StructTree) (f : Fields) : Type 0 wh
   pub list : f.list.now ≡ s.fields
   pub table : IsTable (words_at text (map (λ x. x.name) s.fields)) f.table
 
--- the methods of a class, and the table of them
+-- the methods of a class, which of them can be started, and the table of them
 pub record AreMethods (text : List ℕ) (c : ClassTree) (m : Methods) : Type 0 where
   pub list : map method_tree m.list.now ≡ c.methods
+  pub startable : m.startable.items ≡ map can_start c.methods
   pub table : IsTable (words_at text (map (λ x. x.name) c.methods)) m.table
 
 -- what a definition declares within it
@@ -35,6 +44,11 @@ AreMembers text (Contract c) (members.Contract d) = IsDeclared text c d
 AreMembers text (Struct s) (members.Struct f) = AreFields text s f
 AreMembers text (Class c) (members.Class m) = AreMethods text c m
 AreMembers text _ _ = ⊥
+
+-- what a look-up of a method answers: the method, and whether it can be started
+pub record IsCallee (m : Option MethodTree) (callee : Option Callee) : Type 0 where
+  pub method : option_map (λ c. method_tree c.method.now) callee ≡ m
+  pub startable : option_map (λ c. c.startable) callee ≡ option_map can_start m
 
 -- members that are a contract's, a struct's, a class's
 abbrev pub as_declared : Members → Option Declared
@@ -72,12 +86,17 @@ AreDeclared text [] (d ∷ ds) = ⊥
 AreDeclared text (c ∷ cs) [] = ⊥
 AreDeclared text (c ∷ cs) (d ∷ ds) = IsDeclared text c d × AreDeclared text cs ds
 
+-- each kind that is noted is that of its type
+pub record AreNoted (p : Program) (noted : NotedKinds) : Type 0 where
+  pub kinds : (start : ℕ) (n : Noted) → get nat_cmp noted.first start ≡ Some n → n.kind ≡ type_kind p (type.Heap n.written)
+
 -- what these items declare is in scope
 pub record IsScope (p : Program) (scope : Scope) : Type 0 where
   pub text_is : scope.tokens.now.text.items ≡ p.text
   pub items_are : map item_tree scope.items.now ≡ p.items
   pub names : IsTable (words_at p.text (item_names p)) scope.names
   pub members : AllMembers p.text p.items scope.members.items
+  pub noted : AreNoted p scope.noted
 
 -- what a look-up of a contract answers: how many items stand before it, and what it declares
 abbrev pub IsContract : List ℕ → Option (ℕ × ContractTree) → Option (ℕ × Declared) → Type 0

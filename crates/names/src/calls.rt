@@ -9,9 +9,9 @@ ghost use Rattle.names.specs.Expressions.{meant, held};
 ghost use Rattle.names.specs.Found.{Adds, unknown};
 ghost use Rattle.names.specs.Frames.{IsFrame, AreSurroundings, variable_seen};
 ghost use Rattle.names.specs.Program.{Program, class_named};
-ghost use Rattle.names.specs.Scopes.{IsScope};
+ghost use Rattle.names.specs.Scopes.{IsScope, IsCallee};
 ghost use Rattle.names.specs.Shapes.{shape};
-ghost use Rattle.names.specs.Values.{is_lent, argument_findings, any_lent, can_start, result_fits, start_findings, method_findings, sends, is_alone, message_findings, contract_message, send_findings, class_findings, class_meant, member_findings, call_findings};
+ghost use Rattle.names.specs.Values.{argument_findings, can_start, result_fits, start_findings, method_findings, sends, is_alone, message_findings, contract_message, send_findings, class_findings, class_meant, member_findings, call_findings};
 ghost use Rattle.names.specs.Variables.{Frame};
 ghost use Rattle.names.specs.Variables as model;
 ghost use Rattle.names.specs.Words.{word_at, same_word};
@@ -21,13 +21,14 @@ use crate::judging::add_unknown;
 use crate::kinds::Kind;
 use crate::operands::ask;
 use crate::scope::Scope;
+use crate::starts::Callee;
 use crate::surroundings::Surroundings;
 use crate::told::{add_not_started, judge_number};
 use crate::types::kind_of_type;
 use crate::variables::Variables;
 use source::{Finding, Memory, Span};
 use std::alloc::Global;
-use syntax::{Call, Direction, Expression, Message, Method, Parameter, Side, Type};
+use syntax::{Call, Direction, Expression, Message, Side, Type};
 
 /// What is done with what a call gives.
 #[derive(Clone, Copy, Debug, PartialEq, Eq)]
@@ -38,30 +39,6 @@ pub(crate) enum Role {
     Alone,
     /// It is started.
     Started,
-}
-
-fn is_lent(parameter: &Parameter) -> bool
-    ensures { result ≡ is_lent parameter.now }
-{
-    matches!(parameter.kind, Type::Heap(_)) && !parameter.claims
-}
-
-/// Whether one of these parameters is of the exchange heap and not claimed.
-fn any_lent(parameters: &[Parameter]) -> bool
-    ensures { result ≡ any_lent parameters.now }
-{
-    for parameter in parameters {
-        if is_lent(parameter) {
-            return true;
-        }
-    }
-    false
-}
-
-fn can_start(method: &Method) -> bool
-    ensures { result ≡ can_start (method_tree method.now) }
-{
-    method.result.is_none() && !any_lent(&method.params)
 }
 
 /// Whether the kind of what a method gives fits what is done with it.
@@ -81,15 +58,15 @@ fn result_fits(scope: &Scope<'_>, given: Option<Type>, role: Role) -> bool
 fn judge_start(
     alloc: Global,
     scope: &Scope<'_>,
-    method: &Method,
+    startable: bool,
     role: Role,
     name: Span,
     found: &mut Vec<Finding>,
 ) -> Result<(), Memory>
-    ensures { (p : Program) → IsScope p scope.now → OnOk result (Adds found.old.items found.new.items (start_findings p.text (method_tree method.now) role name)) }
+    ensures { (p : Program) (m : MethodTree) → IsScope p scope.now → startable ≡ can_start m → OnOk result (Adds found.old.items found.new.items (start_findings p.text m role name)) }
 {
     match role {
-        Role::Started if !can_start(method) => add_not_started(alloc, scope.tokens, name, found),
+        Role::Started if !startable => add_not_started(alloc, scope.tokens, name, found),
         _ => Ok(()),
     }
 }
@@ -99,18 +76,19 @@ fn judge_known_method(
     alloc: Global,
     scope: &Scope<'_>,
     variables: &Variables<'_>,
-    method: &Method,
+    callee: Callee<'_>,
     role: Role,
     name: Span,
     arguments: &[Expression],
     found: &mut Vec<Finding>,
 ) -> Result<(), Memory>
-    ensures { (p : Program) (f : Frame) → IsScope p scope.now → IsFrame p.text f variables.now → OnOk result (Adds found.old.items found.new.items (method_findings (record { program = p; variables = f.variables }) (Some (method_tree method.now)) role name (map shape (map expression_tree arguments.now)))) }
+    ensures { (p : Program) (f : Frame) → IsScope p scope.now → IsFrame p.text f variables.now → callee.entry.startable ≡ can_start (method_tree callee.entry.method.now) → OnOk result (Adds found.old.items found.new.items (method_findings (record { program = p; variables = f.variables }) (Some (method_tree callee.entry.method.now)) role name (map shape (map expression_tree arguments.now)))) }
 {
+    let method = callee.method;
     let asked = method.params.len();
     judge_number(alloc, asked, arguments.len(), name.place, found)?;
     judge_parameter_arguments(alloc, scope, variables, &method.params, arguments, found)?;
-    judge_start(alloc, scope, method, role, name, found)?;
+    judge_start(alloc, scope, callee.startable, role, name, found)?;
     let fits = result_fits(scope, method.result, role);
     ask(alloc, fits, name.place, found)
 }
@@ -135,17 +113,17 @@ fn judge_method(
     alloc: Global,
     scope: &Scope<'_>,
     variables: &Variables<'_>,
-    method: Option<&Method>,
+    callee: Option<Callee<'_>>,
     role: Role,
     name: Span,
     arguments: &[Expression],
     found: &mut Vec<Finding>,
 ) -> Result<(), Memory>
-    ensures { (p : Program) (f : Frame) → IsScope p scope.now → IsFrame p.text f variables.now → OnOk result (Adds found.old.items found.new.items (method_findings (record { program = p; variables = f.variables }) (option_map (λ m. method_tree m.now) method.entry) role name (map shape (map expression_tree arguments.now)))) }
+    ensures { (p : Program) (f : Frame) (m : Option MethodTree) → IsScope p scope.now → IsFrame p.text f variables.now → IsCallee m callee.entry → OnOk result (Adds found.old.items found.new.items (method_findings (record { program = p; variables = f.variables }) m role name (map shape (map expression_tree arguments.now)))) }
 {
-    match method {
-        Some(method) => judge_known_method(
-            alloc, scope, variables, method, role, name, arguments, found,
+    match callee {
+        Some(callee) => judge_known_method(
+            alloc, scope, variables, callee, role, name, arguments, found,
         ),
         None => judge_unknown(alloc, scope, variables, name, arguments, found),
     }
@@ -270,9 +248,9 @@ fn judge_class(
 {
     match scope.class(class) {
         Some(methods) => {
-            let method = methods.find(scope.tokens, name);
+            let callee = methods.find(scope.tokens, name);
             judge_method(
-                alloc, scope, variables, method, role, name, arguments, found,
+                alloc, scope, variables, callee, role, name, arguments, found,
             )
         }
         None => judge_unknown(alloc, scope, variables, class, arguments, found),
@@ -323,9 +301,9 @@ pub(crate) fn judge_call(
     let arguments = &call.arguments;
     match call.member {
         None => {
-            let method = around.methods.find(scope.tokens, call.name);
+            let callee = around.methods.find(scope.tokens, call.name);
             judge_method(
-                alloc, scope, variables, method, role, call.name, arguments, found,
+                alloc, scope, variables, callee, role, call.name, arguments, found,
             )
         }
         Some(word) => {

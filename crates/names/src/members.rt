@@ -1,6 +1,6 @@
 //! What an item declares within it, and where each of its names is declared first.
 
-ghost use Rattle.std.specs.Prelude.{◌≡◌, List, ℕ, map, IfOk, option_map};
+ghost use Rattle.std.specs.Prelude.{◌≡◌, List, ℕ, map, IfOk, option_map, slice_get};
 ghost use Rattle.std.specs.Option.{option_copied};
 ghost use Rattle.syntax.specs.Trees.{ContractTree, StructTree, ClassTree, contract_tree, struct_tree, class_tree, definition_tree, message_tree, method_tree};
 ghost use Rattle.names.specs.Declarations.{names_of_messages, names_of_states};
@@ -9,6 +9,7 @@ ghost use Rattle.names.specs.Outlines.{outlined_messages, outlined_states};
 ghost use Rattle.names.specs.Values.{message_written, method_named};
 
 use crate::outline::Outline;
+use crate::starts::{Callee, startable_methods};
 use crate::tables::Table;
 use source::{Span, Tokens};
 use std::alloc::{AllocError, Global};
@@ -29,10 +30,12 @@ pub(crate) struct Fields<'a> {
     pub(crate) table: Table<'a>,
 }
 
-/// The methods of a class, and where each of their names is declared first.
+/// The methods of a class, whether each can be started, and where each of their names is declared first.
 #[derive(Debug, Drop)]
 pub(crate) struct Methods<'a> {
     pub(crate) list: &'a [Method],
+    /// Found once for each method, so that no start of it reads all of its parameters.
+    pub(crate) startable: Vec<bool>,
     pub(crate) table: Table<'a>,
 }
 
@@ -158,7 +161,7 @@ impl<'a> Fields<'a> {
 }
 
 impl<'a> Methods<'a> {
-    ghost use Rattle.names.specs.Scopes.{AreMethods};
+    ghost use Rattle.names.specs.Scopes.{AreMethods, IsCallee};
 
     /// The methods of a class.
     pub(crate) fn of(
@@ -170,18 +173,29 @@ impl<'a> Methods<'a> {
     {
         let names = names_of_methods(alloc, &class.methods)?;
         let table = Table::of(alloc, tokens, &names)?;
+        let startable = startable_methods(alloc, &class.methods)?;
         Ok(Methods {
             list: &class.methods,
+            startable,
             table,
         })
     }
 
     /// The first method of this name.
-    pub(crate) fn find(&self, tokens: &Tokens, name: Span) -> Option<&'a Method>
-        ensures { (c : ClassTree) → AreMethods tokens.now.text.items c self.now → option_map (λ m. method_tree m.now) result ≡ method_named tokens.now.text.items c name }
+    pub(crate) fn find(&self, tokens: &Tokens, name: Span) -> Option<Callee<'a>>
+        ensures { (c : ClassTree) → AreMethods tokens.now.text.items c self.now → IsCallee (method_named tokens.now.text.items c name) result }
     {
         let place = self.table.find(tokens.slice(name))?;
-        self.list.get(place)
+        self.callee(place)
+    }
+
+    /// The method at this place.
+    fn callee(&self, place: usize) -> Option<Callee<'a>>
+        ensures { (c : ClassTree) (text : List ℕ) → AreMethods text c self.now → IsCallee (slice_get c.methods place) result }
+    {
+        let method = self.list.get(place)?;
+        let startable = *self.startable.get(place)?;
+        Some(Callee { method, startable })
     }
 }
 

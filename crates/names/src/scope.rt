@@ -9,6 +9,7 @@ ghost use Rattle.names.specs.Expressions.{field_named};
 ghost use Rattle.names.specs.Scopes.{AllMembers};
 
 use crate::members::{Declared, Fields, Members, Methods};
+use crate::noted::NotedKinds;
 use crate::tables::Table;
 use source::{Span, Tokens};
 use std::alloc::{AllocError, Global};
@@ -21,6 +22,7 @@ pub(crate) struct Scope<'a> {
     pub(crate) items: &'a [Item],
     pub(crate) names: Table<'a>,
     pub(crate) members: Vec<Members<'a>>,
+    pub(crate) noted: NotedKinds,
 }
 
 impl<'a> Scope<'a> {
@@ -37,12 +39,15 @@ impl<'a> Scope<'a> {
         let names = names_of_items(alloc, items)?;
         let names = Table::of(alloc, tokens, &names)?;
         let members = members_of_items(alloc, tokens, items)?;
-        Ok(Scope {
+        let mut scope = Scope {
             tokens,
             items,
             names,
             members,
-        })
+            noted: NotedKinds::new(alloc),
+        };
+        scope.noted = NotedKinds::of(alloc, &scope)?;
+        Ok(scope)
     }
 
     /// The first item of this name, if it is a contract: how many items stand before it, and what it declares.

@@ -35,6 +35,16 @@ pub(crate) fn kind_of_type(scope: &Scope<'_>, kind: Type) -> Kind
 fn kind_of_heap(scope: &Scope<'_>, kind: Heap) -> Kind
     ensures { (p : Program) → IsScope p scope.now → result ≡ type_kind p (Type.Heap kind) }
 {
+    match scope.noted.find(kind) {
+        Some(noted) => noted,
+        None => look_up_kind(scope, kind),
+    }
+}
+
+/// The kind of a type, by the names in it.
+pub(crate) fn look_up_kind(scope: &Scope<'_>, kind: Heap) -> Kind
+    ensures { (p : Program) → IsScope p scope.now → result ≡ type_kind p (Type.Heap kind) }
+{
     match kind {
         Heap::Pointer { name, .. } => kind_of_pointer(scope, name),
         Heap::Array { element, .. } => Kind::Array(element),

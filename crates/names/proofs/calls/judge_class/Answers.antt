@@ -1,12 +1,12 @@
-use Rattle.std.proofs.Common.{map, sym, ap, ◌∙◌, subst}
+use Rattle.std.proofs.Common.{map, sym, subst}
 use Rattle.std.specs.Prelude.{OnOk}
 use Rattle.syntax.specs.ExpressionTrees.{expression_tree}
 use Rattle.names.specs.Expressions.{InScope}
 use Rattle.names.specs.Found.{Adds}
 use Rattle.names.specs.Program.{class_named}
-use Rattle.names.specs.Scopes.{AreMethods}
+use Rattle.names.specs.Scopes.{AreMethods, IsCallee}
 use Rattle.names.specs.Shapes.{shape}
-use Rattle.names.specs.Values.{class_findings, method_findings, method_named}
+use Rattle.names.specs.Values.{class_findings, method_named}
 use Rattle.names.proofs.PassLemmas.{class_lacks, classed}
 use Rattle.names.proofs.calls.judge_class.Goals as goal
 
@@ -20,9 +20,9 @@ returns-in-Some c = λ p f scope frame.
     let name = c.args.name in
     let looked = classed p.text (class_named p c.args.class) c.in-Some.methods.now (c.in-Some.ensures p scope) in
     let own = subst (λ t. AreMethods t looked.class c.in-Some.methods.now) (sym scope.text_is) looked.methods in
-    let found = c.find-method.ensures looked.class own ∙ ap (λ t. method_named t looked.class name) scope.text_is in
+    let found = subst (λ t. IsCallee (method_named t looked.class name) c.find-callee.result) scope.text_is (c.find-callee.ensures looked.class own) in
     subst (λ o. OnOk result (Adds old new (class_findings s o c.args.role c.args.class name args))) (sym looked.is)
-    (subst (λ m. OnOk result (Adds old new (method_findings s m c.args.role name args))) found (c.judge_method.ensures p f scope frame))
+    (c.judge_method.ensures p f (method_named p.text looked.class name) scope frame found)
 
 pub returns-in-None : goal.returns-in-None
 returns-in-None c = λ p f scope frame.

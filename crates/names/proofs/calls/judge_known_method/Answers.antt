@@ -12,9 +12,9 @@ use Rattle.names.proofs.PendingLemmas.{numbered}
 use Rattle.names.proofs.calls.judge_known_method.Goals as goal
 
 pub returns : goal.returns
-returns c = λ p f scope frame.
+returns c = λ p f scope frame startable.
     let s : InScope = record { program = p; variables = f.variables } in
-    let method = c.args.method.now in
+    let method = c.args.callee.method.now in
     let params = method.params.items in
     let args = c.args.arguments.now in
     let es = map shape (map expression_tree args) in
@@ -33,5 +33,5 @@ returns c = λ p f scope frame.
     (numbered expression_tree params c.len-asked.result args place (omega (arith, c.len-asked.ensures, method.params.ok.0)) c.in_ok-judge_number.ensures)
     (on_adds result counted given new each (start ++ fits)
     (subst (λ ps. Adds counted given (argument_findings s (map (λ x. type_kind p x.kind) ps) es)) c.deref.ensures.value (c.in_ok-judge_parameter_arguments.ensures p f scope frame))
-    (on_adds result given started new start fits (c.in_ok-judge_start.ensures p scope)
+    (on_adds result given started new start fits (c.in_ok-judge_start.ensures p (method_tree method) scope startable)
     (subst (λ b. OnOk result (Adds started new (unless b place))) (c.result_fits-fits.ensures p scope) c.ask.ensures)))

@@ -15,7 +15,7 @@ use Rattle.names.specs.Heads.{IsHeads, switch_heads}
 use Rattle.names.specs.Shapes.{shape}
 use Rattle.names.specs.Values.{Alone, Started, call_findings, target_findings, target_kind, value_findings}
 use Rattle.names.specs.Variables.{Frame, Turn, closed, follow}
-use Rattle.names.proofs.BranchLemmas.{last_branch, next_case, case_there, last_case}
+use Rattle.names.proofs.BranchLemmas.{last_branch, no_branch, next_case, case_there, last_case}
 use Rattle.names.proofs.KeepLemmas.{kept, statements_extend, case_extends}
 use Rattle.names.proofs.StatementTwins.{block_is, case_is, test_is, switch_is, of_declare, of_assign, of_call, of_start, of_delete, of_channel, of_break, of_continue, of_return}
 use Rattle.names.proofs.TurnLemmas.{Ongoing, goes_first, turned_then, adds_before, leaves, on_stays, on_before, on_ends, goes_on, ends}
@@ -78,6 +78,10 @@ judge_if-returns-in-Some t c = λ m f around frame.
     let o = last_branch m c.deref-test-items.result.now c.loop-test.test-index _ block c.loop-test-test.false c.in-Some.is (c.loop-test.invariant m f around frame) in
     on_ends c.judge_block.result m.program.text c.args.found.now.items c.loop-test.found.items c.judge_block.new.found.items c.loop-test.variables c.judge_block.new.variables whole (block_turn m (block_tree block)) o
     (c.judge_block.ensures m o.frame around o.stands)
+
+pub judge_if-returns-in-None : goal.judge_if-returns-in-None
+judge_if-returns-in-None t c = λ m f around frame.
+    ends (no_branch m c.deref-test-items.result.now c.loop-test.test-index _ c.loop-test-test.false c.in-None.is (c.loop-test.invariant m f around frame))
 
 pub judge_statement-returns-in-Declare : goal.judge_statement-returns-in-Declare
 judge_statement-returns-in-Declare t c = λ m f around frame.
