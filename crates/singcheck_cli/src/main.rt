@@ -63,11 +63,13 @@ fn answer<R: AllocGlobal + Files + Print + Eprint, O: Sink, E: Sink>(
 ) -> u8 {
     match ask(rt.alloc(), words) {
         Ok(Ask::Bounds { file }) => bounds(rt, file, output, errors),
-        Ok(Ask::Check {
-            file,
-            workers,
-            slots,
-        }) => check(rt, file, workers, slots, output, errors),
+        Ok(
+            Ask::Check {
+                file,
+                workers,
+                slots,
+            },
+        ) => check(rt, file, workers, slots, output, errors),
         Err(refusal) if refusal.kind() == ErrorKind::OutOfMemory => {
             ending(&RunFault::Memory, "", errors)
         }
