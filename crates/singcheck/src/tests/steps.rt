@@ -66,58 +66,50 @@ fn only(alloc: Global) -> Result<Program, Memory>
     Program::new(alloc, methods)
 }
 
+/// Whether it reads what this variable has, and goes on there.
+fn is_use(instruction: Option<&Instr>, variable: usize, point: usize) -> bool {
+    match instruction {
+        Some(Instr::Use { at, next }) => at.variable == VarId(variable) && *next == point,
+        _ => false,
+    }
+}
+
+/// Whether it frees what this variable has, and goes on there.
+fn is_delete(instruction: Option<&Instr>, variable: usize, point: usize) -> bool {
+    match instruction {
+        Some(Instr::Delete { at, next }) => at.variable == VarId(variable) && *next == point,
+        _ => false,
+    }
+}
+
+/// Whether it takes what this variable has, and goes on there.
+fn is_move(instruction: Option<&Instr>, variable: usize, point: usize) -> bool {
+    match instruction {
+        Some(Instr::Move { source, next, .. }) => {
+            source.variable == VarId(variable) && *next == point
+        }
+        _ => false,
+    }
+}
+
+/// Whether it ends the method there, with so many variables in scope.
+fn is_return(instruction: Option<&Instr>, col: u32, many: usize) -> bool {
+    match instruction {
+        Some(Instr::Return { place, scope }) => place.col == col && *scope == many,
+        _ => false,
+    }
+}
+
 #[test]
 fn lays_a_method_from_its_end(rt: HostRuntime) -> Result<(), Fail> {
     let graph = lower(rt.alloc(), &freed_and_read(rt.alloc())?)?;
     assert!(rt; graph.first == 3);
     let laid = &graph.instructions;
     assert!(rt; laid.len() == 4);
-    assert!(rt;
-        matches!(
-            laid.get(0),
-            Some(Instr::Return {
-                scope: 2,
-                place: Place { line: 1, col: 40 }
-            })
-        )
-    );
-    assert!(rt;
-        matches!(
-            laid.get(1),
-            Some(Instr::Use {
-                at: Mention {
-                    variable: VarId(1),
-                    ..
-                },
-                next: 0
-            })
-        )
-    );
-    assert!(rt;
-        matches!(
-            laid.get(2),
-            Some(Instr::Delete {
-                at: Mention {
-                    variable: VarId(1),
-                    ..
-                },
-                next: 1
-            })
-        )
-    );
-    assert!(rt;
-        matches!(
-            laid.get(3),
-            Some(Instr::Move {
-                source: Mention {
-                    variable: VarId(0),
-                    ..
-                },
-                next: 2,
-                ..
-            })
-        )
-    );
+    assert!(rt; is_return(laid.get(0), 40, 2));
+    assert!(rt; is_use(laid.get(1), 1, 0));
+    assert!(rt; is_delete(laid.get(2), 1, 1));
+    assert!(rt; is_move(laid.get(3), 0, 2));
     Ok(())
 }
 
