@@ -158,7 +158,30 @@ def long_types(n):
     return 'rep struct %s { int n; } class K { %s static void F() {\n' % (name, method) + 'G();\n' * n + '} }\n'
 
 
+def in_small_methods(statement, n, most):
+    """n of these statements, so many to a method."""
+    one = 'static void F%d(bool b, D* in ExHeap p) { int k;\n' + statement * min(n, most) + '}\n'
+    return 'rep struct D { int n; }\nclass K {\n' + ''.join(one % k for k in range(max(1, n // most))) + '}\n'
+
+
+def ways(n):
+    """n conditions with two ways each."""
+    return in_small_methods('if (b) { k = p.n; } else { p.n = k; }\n', n, 2000)
+
+
+def loops(n):
+    """n loops, with a block that is made and freed each time, or at a break."""
+    return in_small_methods('while (b) { D* in ExHeap q = new[ExHeap] D(); if (b) { delete q; break; } delete q; }\n', n, 200)
+
+
+def returns(n):
+    """n returns on ways of their own, where 1,000 variables are in scope."""
+    declared = ''.join('D* in ExHeap v%d;\n' % k for k in range(1000))
+    one = 'static void F%d(bool b) {\n' + declared + 'if (b) { return; }\n' * min(n, 5000) + '}\n'
+    return 'rep struct D { int n; }\nclass K {\n' + ''.join(one % k for k in range(max(1, n // 5000))) + '}\n'
+
+
 LOADS = [path, ring, named_states, messages, contracts_256, comment, declared_twice, long_names,
          statements, else_ifs, long_sum, deep_parentheses, deep_blocks, methods,
          unknown_names, variables_twice, variables, cases, blocks_of_variables, starts, long_types]
-CHECKED = [reads, small_methods, scalars, many_variables]
+CHECKED = [reads, small_methods, scalars, many_variables, ways, loops, returns]

@@ -28,6 +28,12 @@ def uses(count):
     return b'rep struct D { int n; }\nclass K {\nstatic void F(D* in ExHeap p) { int k;\n' + b'k=p.n;' * count + b'\n} }\n'
 
 
+def maybe_freed(count):
+    """A method of so many blocks, each freed on one way of an `if`: 4 * 2^n - 3 pairs, the points of the end among them."""
+    declared = b''.join(b'D* in ExHeap p%d = new[ExHeap] D(); if (b) { delete p%d; }\n' % (k, k) for k in range(1, count + 1))
+    return b'rep struct D { int n; }\nclass K {\nstatic void F(bool b) {\n' + declared + b'}\n}\n'
+
+
 def within(statement):
     """A method with this statement, which stands behind two open brackets."""
     return b'class K { static void F(bool b, int[] in ExHeap a) { ' + statement + b' } }\n'
@@ -55,6 +61,9 @@ def cases(folder):
     checked = [
         ('pairs_20000', uses(19999), b'ok: 0 contracts, 1 methods\n', 0),
         ('pairs_20001', uses(20000), b'3:13 A14 too many pairs\nfindings: 1\n', 1),
+        # Of twelve blocks 16,381 pairs are reached, of thirteen 32,765; text is sorted by bytes.
+        ('blocks_12_maybe_freed', maybe_freed(12), b''.join(b'16:1 A08 p%d still owned\n' % k for k in (1, 10, 11, 12, 2, 3, 4, 5, 6, 7, 8, 9)) + b'findings: 12\n', 1),
+        ('blocks_13_maybe_freed', maybe_freed(13), b'3:13 A14 too many pairs\nfindings: 1\n', 1),
         # In each of the methods as many pairs as there may be, but not more in any.
         ('pairs_40000_in_two_methods', uses(19999) + uses(19999).replace(b'rep struct D', b'rep struct E').replace(b'class K', b'class L'),
          b'ok: 0 contracts, 2 methods\n', 0),

@@ -6,9 +6,11 @@ use Rattle.flow.specs.Graphs.{Instruction, instruction_seen}
 use Rattle.flow.specs.Growths.{Grew}
 use Rattle.flow.specs.Lowering.{Laid, Lays, nothing, one, both}
 
+-- as many instructions without where they lie in memory
 pub seen_length : (xs : List Instr) → length (map instruction_seen xs) ≡ length xs
 seen_length xs = length-map xs instruction_seen
 
+-- how many there are
 pub grew_length : (old new : List Instr) (entry : ℕ) (laid : Laid) → Grew old new entry laid → length new ≡ length old + length laid.instructions
 grew_length old new entry laid g =
     sym (seen_length new) ∙ ap length g.instructions ∙ length-append (map instruction_seen old) laid.instructions ∙ ap (λ n. n + length laid.instructions) (seen_length old)

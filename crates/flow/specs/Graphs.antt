@@ -1,8 +1,11 @@
 -- Graphs without where they lie in memory.
-use Rattle.std.specs.Prelude.{ℕ, List, map}
+use Rattle.std.specs.Prelude.{ℕ, List, map, Option}
 use Rattle.source.specs.declared.place.Place.{Place}
+use Rattle.resolved.specs.declared.method.VarId.{VarId}
 use Rattle.resolved.specs.declared.statement.Mention.{Mention}
+use Rattle.resolved.specs.declared.statement as stated
 use Rattle.flow.specs.declared.graph as made
+use Rattle.flow.specs.declared.graph.Branches.{Branches}
 use Rattle.flow.specs.declared.graph.Instr.TheVariants as instr
 
 -- an instruction, and the point at which the method goes on
@@ -11,13 +14,17 @@ pub data Instruction : Type 0 where
   New : (target : Mention) (arguments : List Mention) (next : ℕ) → Instruction
   Move : (target source : Mention) (next : ℕ) → Instruction
   Delete : (at : Mention) (next : ℕ) → Instruction
-  Return : (place : Place) (scope : ℕ) → Instruction
+  Branch : (place : Place) (branches : Branches) → Instruction
+  Forget : (forget : stated.Forget.Forget) (next : ℕ) → Instruction
+  Return : (place : Place) (scope : Option VarId) → Instruction
 
 abbrev pub instruction_seen : made.Instr.Instr → Instruction
 instruction_seen (instr.Use at next) = Use at next
 instruction_seen (instr.New target arguments next) = New target arguments.items next
 instruction_seen (instr.Move target source next) = Move target source next
 instruction_seen (instr.Delete at next) = Delete at next
+instruction_seen (instr.Branch place branches) = Branch place branches
+instruction_seen (instr.Forget forget next) = Forget forget next
 instruction_seen (instr.Return place scope) = Return place scope
 
 -- a graph: its instructions by their points, and the point at which it begins

@@ -1,3 +1,4 @@
 pub mod Graphs
 pub mod Growths
 pub mod Lowering
+pub mod Within

@@ -1,10 +1,18 @@
 -- What a method is lowered to. It is laid from its end on, so that each instruction knows where it goes on.
-use Rattle.std.specs.Prelude.{ℕ, ◌+◌, List, [], ◌∷◌, ◌++◌, length}
-use Rattle.resolved.specs.Methods.{MethodSeen, StatementSeen}
+use Rattle.std.specs.Prelude.{ℕ, ◌+◌, List, [], ◌∷◌, ◌++◌, length, Option, None, Some}
+use Rattle.source.specs.declared.place.Place.{Place}
+use Rattle.resolved.specs.Methods.{MethodSeen}
+use Rattle.resolved.specs.Statements as stated
+use Rattle.resolved.specs.Statements.{StatementSeen, StatementsSeen, BlockSeen, TestSeen, OthersSeen}
 use Rattle.resolved.specs.declared.statement.Action.{Action}
 use Rattle.resolved.specs.declared.statement.Action.TheVariants as action
+use Rattle.resolved.specs.declared.statement as made
 use Rattle.resolved.specs.declared.statement.Mention.{Mention}
-use Rattle.flow.specs.Graphs.{Instruction, Use, New, Move, Delete, Return, GraphSeen}
+use Rattle.resolved.specs.declared.statement.Ways.{Ways}
+use Rattle.resolved.specs.declared.statement.Ways.TheVariants as ways_of
+use Rattle.flow.specs.Graphs.{Instruction, Use, New, Move, Delete, Branch, Forget, Return, GraphSeen}
+use Rattle.flow.specs.declared.graph.Branches.{Branches}
+use Rattle.flow.specs.declared.graph.Branches.TheVariants.{Either, Only}
 
 -- instructions in a row, and the point at which they begin
 pub record Laid : Type 0 where
@@ -31,30 +39,83 @@ on_top from behind a =
 abbrev pub both : Lays → Lays → Lays
 both a b from next = on_top from (b from next) a
 
+-- laid where the method goes on at that point, whatever stands behind
+abbrev pub gone : ℕ → Lays → Lays
+gone to a from next = a from to
+
+-- where a condition goes on, by the ways that it can go
+abbrev pub branches : Ways → (inside past : ℕ) → Branches
+branches ways_of.Either inside past = Either inside past
+branches ways_of.Body inside past = Only inside
+branches ways_of.Past inside past = Only past
+
+-- A condition that goes one of two ways; both go on behind it. The second is laid first, then the first, then the Branch.
+abbrev pub parts : Place → Ways → Lays → Lays → Lays
+parts place w body otherwise from next =
+    let other = otherwise from next in
+    let first = body (from + length other.instructions) next in
+    record {
+      instructions = other.instructions ++ (first.instructions ++ Branch place (branches w first.entry other.entry) ∷ []);
+      entry = from + length other.instructions + length first.instructions;
+    }
+
+-- A loop: its Branch is laid first, then what its condition reads, then its body, which goes on at the condition. The body is
+-- told where the loop ends and where its condition begins.
+abbrev pub turns : Place → Ways → Lays → ((exit again : ℕ) → Lays) → Lays
+turns place w test body from next =
+    let head = test (from + 1) from in
+    let inside = body next head.entry (from + 1 + length head.instructions) head.entry in
+    record { instructions = Branch place (branches w inside.entry next) ∷ (head.instructions ++ inside.instructions); entry = head.entry }
+
 -- a Use for each mention
 abbrev pub reads : List Mention → Lays
 reads [] = nothing
 reads (m ∷ ms) = both (one (Use m)) (reads ms)
 
-abbrev pub acts : Action → Lays
-acts action.Nothing = nothing
-acts (action.Use m) = one (Use m)
-acts (action.New m) = one (New m [])
-acts (action.Move target source) = one (Move target source)
-acts (action.Delete m) = one (Delete m)
-acts (action.Return place scope) = one (λ next. Return place scope)
+-- variables go out of scope, if there are some
+abbrev pub forgets : Option made.Forget.Forget → Lays
+forgets None = nothing
+forgets (Some f) = one (Forget f)
 
--- A statement reads, and then does what it does.
-abbrev pub statement : StatementSeen → Lays
-statement s = both (reads s.reads) (acts s.action)
+-- What a simple statement does; a `break` goes on where its loop ends, a `continue` where the condition begins.
+abbrev pub acts : Action → (exit again : ℕ) → Lays
+acts action.Nothing exit again = nothing
+acts (action.Use m) exit again = one (Use m)
+acts (action.New m) exit again = one (New m [])
+acts (action.Move target source) exit again = one (Move target source)
+acts (action.Delete m) exit again = one (Delete m)
+acts (action.Break f) exit again = gone exit (forgets f)
+acts (action.Continue f) exit again = gone again (forgets f)
+acts (action.Return place scope) exit again = one (λ next. Return place scope)
 
-abbrev pub statements : List StatementSeen → Lays
-statements [] = nothing
-statements (s ∷ ss) = both (statement s) (statements ss)
+abbrev mutual
+  pub statement : StatementSeen → (exit again : ℕ) → Lays
+  statement (stated.Simple mentions does) exit again = both (reads mentions) (acts does exit again)
+  statement (stated.Block b) exit again = block b exit again
+  statement (stated.If first rest) exit again = condition first (others rest exit again) exit again
+  statement (stated.While (stated.Test place mentions w body)) exit again = turns place w (reads mentions) (block body)
 
--- At the end of a method stands a Return, which looks at all its variables.
+  pub statements : StatementsSeen → (exit again : ℕ) → Lays
+  statements stated.NoStatement exit again = nothing
+  statements (stated.MoreStatements s ss) exit again = both (statement s exit again) (statements ss exit again)
+
+  -- the statements of a block, and then what goes out of scope
+  pub block : BlockSeen → (exit again : ℕ) → Lays
+  block (stated.Braces ss f) exit again = both (statements ss exit again) (forgets f)
+
+  -- a condition, its block where it is true, and this where it is false
+  pub condition : TestSeen → Lays → (exit again : ℕ) → Lays
+  condition (stated.Test place mentions w body) otherwise exit again = both (reads mentions) (parts place w (block body exit again) otherwise)
+
+  -- what is done where a condition is false
+  pub others : OthersSeen → (exit again : ℕ) → Lays
+  others stated.NoOther exit again = nothing
+  others (stated.Else b) exit again = block b exit again
+  others (stated.ElseIf t rest) exit again = condition t (others rest exit again) exit again
+
+-- At the end of a method stands a Return, which looks at all variables in scope there.
 abbrev pub method : MethodSeen → Lays
-method m = both (statements m.statements) (one (λ next. Return m.close (length m.variables)))
+method m = both (statements m.statements 0 0) (one (λ next. Return m.close m.scope))
 
 abbrev pub graph_of : MethodSeen → GraphSeen
 graph_of m = record { instructions = (method m 0 0).instructions; first = (method m 0 0).entry }

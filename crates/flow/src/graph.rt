@@ -1,7 +1,16 @@
 //! Instructions, and where each goes on.
 
-use resolved::Mention;
+use resolved::{Forget, Mention, VarId};
 use source::Place;
+
+/// Where a condition goes on.
+#[derive(Clone, Copy, Debug, PartialEq, Eq)]
+pub enum Branches {
+    /// At the one point where it is true, at the other where it is false.
+    Either { inside: usize, past: usize },
+    /// At this point alone: the condition is just `true` or just `false`.
+    Only(usize),
+}
 
 /// An instruction, and the point at which the method goes on behind it. A point is the number of an instruction in its graph.
 #[derive(Debug, Drop)]
@@ -28,10 +37,20 @@ pub enum Instr {
         at: Mention,
         next: usize,
     },
-    /// The method ends where so many variables are in scope, the first ones.
+    /// A condition, at its `if` or `while`.
+    Branch {
+        place: Place,
+        branches: Branches,
+    },
+    /// Variables go out of scope.
+    Forget {
+        forget: Forget,
+        next: usize,
+    },
+    /// The method ends where this is the last variable of the exchange heap in scope, if there is one.
     Return {
         place: Place,
-        scope: usize,
+        scope: Option<VarId>,
     },
 }
 

@@ -2,7 +2,8 @@
 #![tactic(auto)]
 
 mod graph;
+mod laying;
 mod lowering;
 
-pub use graph::{Graph, Instr};
+pub use graph::{Branches, Graph, Instr};
 pub use lowering::lower;

@@ -1,34 +1,45 @@
 //! From statements to instructions, laid from the end of a method on.
 
-ghost use Rattle.std.specs.Prelude.{◌≡◌, IfOk, [], ◌∷◌, ◌++◌, length, map};
-ghost use Rattle.resolved.specs.Methods.{method_seen, statement_seen};
+ghost use Rattle.std.specs.Prelude.{◌≡◌, ℕ, List, IfOk, [], length, map, option_map};
+ghost use Rattle.resolved.specs.Methods.{method_seen};
+ghost use Rattle.resolved.specs.Statements as stated;
+ghost use Rattle.resolved.specs.Statements.{statement_seen, statement_row, block_seen, test_seen, if_seen, other_row};
+ghost use Rattle.flow.specs.declared.graph.Instr.{Instr};
 ghost use Rattle.flow.specs.Graphs.{graph_seen};
 ghost use Rattle.flow.specs.Growths.{Grew};
 ghost use Rattle.flow.specs.Lowering as laid;
-ghost use Rattle.flow.specs.Lowering.{graph_of};
+ghost use Rattle.flow.specs.Lowering.{Lays, graph_of};
+ghost use Rattle.flow.specs.Within.{IsClosed};
 
 use crate::graph::{Graph, Instr};
-use resolved::{Action, Mention, Method, Statement};
+use crate::laying::{Exits, branches, lay, lay_branches, lay_forget, lay_reads, lay_simple};
+use resolved::{Block, If, Method, Statement, Test};
 use source::Memory;
 use std::alloc::Global;
 
 /// The graph of a method.
 ///
 /// A statement reads first, a `Use` for each mention of a variable of the exchange heap before `.` or `[`, in order of the
-/// text, and then does what it does; a statement that only changes scalars is its reads alone. At the end of the method
-/// stands a `Return`, which looks at all its variables. Instructions that nothing leads to are laid all the same.
+/// text, and then does what it does; a statement that only changes scalars is its reads alone. A condition reads and then
+/// goes on at its block or behind it; what goes out of scope is forgotten behind a block, at a `break` and at a `continue`.
+/// At the end of the method stands a `Return`, which looks at all its variables in scope. Instructions that nothing leads to
+/// are laid all the same.
+///
+/// The method begins at a point of the graph, and each instruction goes on at such points alone.
 ///
 /// `Memory` is answered where a growth was refused.
 pub fn lower(alloc: Global, method: &Method) -> Result<Graph, Memory>
-    ensures { IfOk result (λ graph. graph_seen graph ≡ graph_of (method_seen method.now)) }
+    ensures graph { IfOk result (λ g. graph_seen g ≡ graph_of (method_seen method.now)) }
+    ensures closed { IfOk result (λ g. IsClosed (graph_seen g)) }
 {
     let mut instructions = Vec::new(alloc);
     let end = Instr::Return {
         place: method.close,
-        scope: method.variables.len(),
+        scope: method.scope,
     };
     let last = lay(&mut instructions, end)?;
-    let first = lay_statements(alloc, &mut instructions, &method.statements, last)?;
+    let nowhere = Exits { end: 0, again: 0 };
+    let first = lay_statements(alloc, &mut instructions, &method.statements, nowhere, last)?;
     Ok(Graph {
         instructions,
         first,
@@ -36,86 +47,130 @@ pub fn lower(alloc: Global, method: &Method) -> Result<Graph, Memory>
 }
 
 /// Lays these statements, behind which the method goes on at `next`. The answer is the point at which they begin.
+#[cycle(statements)]
 fn lay_statements(
     alloc: Global,
     instructions: &mut Vec<Instr>,
     statements: &[Statement],
+    exits: Exits,
     next: usize,
 ) -> Result<usize, Memory>
-    ensures { IfOk result (λ entry. Grew instructions.old.items instructions.new.items entry (laid.statements (map statement_seen statements.now) (length instructions.old.items) next)) }
+    ensures { IfOk result (λ entry. Grew instructions.old.items instructions.new.items entry (laid.statements (statement_row (map statement_seen statements.now)) exits.end exits.again (length instructions.old.items) next)) }
 {
     let mut entry = next;
     for statement in statements.iter().rev() {
-        entry = lay_statement(alloc, instructions, statement, entry)?;
+        entry = lay_statement(alloc, instructions, statement, exits, entry)?;
     }
     Ok(entry)
 }
 
-/// Lays a statement: what it does, and on top of it what it reads.
+/// Lays a statement.
+#[cycle(statements)]
 fn lay_statement(
     alloc: Global,
     instructions: &mut Vec<Instr>,
     statement: &Statement,
+    exits: Exits,
     next: usize,
 ) -> Result<usize, Memory>
-    ensures { IfOk result (λ entry. Grew instructions.old.items instructions.new.items entry (laid.statement (statement_seen statement.now) (length instructions.old.items) next)) }
+    ensures { IfOk result (λ entry. Grew instructions.old.items instructions.new.items entry (laid.statement (statement_seen statement.now) exits.end exits.again (length instructions.old.items) next)) }
 {
-    let behind = lay_action(alloc, instructions, statement.action, next)?;
-    lay_reads(instructions, &statement.reads, behind)
-}
-
-/// Lays a `Use` for each of these mentions.
-fn lay_reads(
-    instructions: &mut Vec<Instr>,
-    mentions: &[Mention],
-    next: usize,
-) -> Result<usize, Memory>
-    ensures { IfOk result (λ entry. Grew instructions.old.items instructions.new.items entry (laid.reads mentions.now (length instructions.old.items) next)) }
-{
-    let mut entry = next;
-    for mention in mentions.iter().rev() {
-        let read = Instr::Use {
-            at: *mention,
-            next: entry,
-        };
-        entry = lay(instructions, read)?;
+    match statement {
+        Statement::Simple(simple) => lay_simple(alloc, instructions, simple, exits, next),
+        Statement::Block(block) => lay_block(alloc, instructions, block, exits, next),
+        Statement::If(branches) => lay_if(alloc, instructions, branches, exits, next),
+        Statement::While(test) => lay_while(alloc, instructions, test, next),
     }
-    Ok(entry)
 }
 
-/// Lays what a statement does behind its reads.
-fn lay_action(
+/// Lays a block, and behind it what goes out of scope.
+#[cycle(statements)]
+fn lay_block(
     alloc: Global,
     instructions: &mut Vec<Instr>,
-    action: Action,
+    block: &Block,
+    exits: Exits,
     next: usize,
 ) -> Result<usize, Memory>
-    ensures { IfOk result (λ entry. Grew instructions.old.items instructions.new.items entry (laid.acts action (length instructions.old.items) next)) }
+    ensures { IfOk result (λ entry. Grew instructions.old.items instructions.new.items entry (laid.block (block_seen block.now) exits.end exits.again (length instructions.old.items) next)) }
 {
-    let instruction = match action {
-        Action::Nothing => return Ok(next),
-        Action::Use(at) => Instr::Use { at, next },
-        Action::New(target) => Instr::New {
-            target,
-            arguments: Vec::new(alloc),
-            next,
-        },
-        Action::Move { target, source } => Instr::Move {
-            target,
-            source,
-            next,
-        },
-        Action::Delete(at) => Instr::Delete { at, next },
-        Action::Return { place, scope } => Instr::Return { place, scope },
-    };
-    lay(instructions, instruction)
+    let behind = lay_forget(instructions, block.forget, next)?;
+    lay_statements(alloc, instructions, &block.statements, exits, behind)
 }
 
-/// Lays one more instruction. The answer is its point.
-fn lay(instructions: &mut Vec<Instr>, instruction: Instr) -> Result<usize, Memory>
-    ensures { IfOk result (λ at. (instructions.new.items ≡ instructions.old.items ++ instruction ∷ []) × (at ≡ length instructions.old.items)) }
+/// Lays what is done where all conditions of an `if` are false.
+#[cycle(statements)]
+fn lay_otherwise(
+    alloc: Global,
+    instructions: &mut Vec<Instr>,
+    otherwise: &Option<Block>,
+    exits: Exits,
+    next: usize,
+) -> Result<usize, Memory>
+    ensures { IfOk result (λ entry. Grew instructions.old.items instructions.new.items entry (laid.others (other_row [] (option_map block_seen otherwise.now)) exits.end exits.again (length instructions.old.items) next)) }
 {
-    let at = instructions.len();
-    instructions.push(instruction)?;
-    Ok(at)
+    match otherwise {
+        Some(block) => lay_block(alloc, instructions, block, exits, next),
+        None => Ok(next),
+    }
+}
+
+/// Lays an `if`: its conditions from the last on, where what is done otherwise is laid already.
+#[cycle(statements)]
+fn lay_if(
+    alloc: Global,
+    instructions: &mut Vec<Instr>,
+    branches: &If,
+    exits: Exits,
+    next: usize,
+) -> Result<usize, Memory>
+    ensures { IfOk result (λ entry. Grew instructions.old.items instructions.new.items entry (laid.condition (if_seen branches.now).first (laid.others (if_seen branches.now).others exits.end exits.again) exits.end exits.again (length instructions.old.items) next)) }
+{
+    let mut other = lay_otherwise(alloc, instructions, &branches.otherwise, exits, next)?;
+    for test in branches.others.iter().rev() {
+        other = lay_condition(alloc, instructions, test, exits, other, next)?;
+    }
+    lay_condition(alloc, instructions, &branches.first, exits, other, next)
+}
+
+/// Lays a condition and its block on top of what is done where the condition is false, which begins at `other`. Behind both
+/// the method goes on at `next`.
+#[cycle(statements)]
+fn lay_condition(
+    alloc: Global,
+    instructions: &mut Vec<Instr>,
+    test: &Test,
+    exits: Exits,
+    other: usize,
+    next: usize,
+) -> Result<usize, Memory>
+    ensures { IfOk result (λ entry. (below : List Instr) (otherwise : Lays) → Grew below instructions.old.items other (otherwise (length below) next) → Grew below instructions.new.items entry (laid.condition (test_seen test.now) otherwise exits.end exits.again (length below) next)) }
+{
+    let body = lay_block(alloc, instructions, &test.body, exits, next)?;
+    let branch = lay_branches(instructions, test.place, test.ways, body, other)?;
+    lay_reads(instructions, &test.reads, branch)
+}
+
+/// Lays a loop: its Branch, what its condition reads, its body, and then where the Branch goes on.
+#[cycle(statements)]
+fn lay_while(
+    alloc: Global,
+    instructions: &mut Vec<Instr>,
+    test: &Test,
+    next: usize,
+) -> Result<usize, Memory>
+    ensures { IfOk result (λ entry. (exit again : ℕ) → Grew instructions.old.items instructions.new.items entry (laid.statement (stated.While (test_seen test.now)) exit again (length instructions.old.items) next)) }
+{
+    let branch = lay_branches(instructions, test.place, test.ways, next, next)?;
+    let head = lay_reads(instructions, &test.reads, branch)?;
+    let exits = Exits {
+        end: next,
+        again: head,
+    };
+    let body = lay_block(alloc, instructions, &test.body, exits, head)?;
+    instructions[branch] = Instr::Branch {
+        place: test.place,
+        branches: branches(test.ways, body, next),
+    };
+    Ok(head)
 }

@@ -63,7 +63,7 @@ impl<'a> Table<'a> {
     }
 
     /// Takes the last name away, which no other is.
-    pub(crate) fn remove(&mut self, name: &[u8])
+    pub fn remove(&mut self, name: &[u8])
         ensures { (words : List (List ℕ)) → IsTable (words ++ name.now ∷ []) self.old → first_of words name.now ≡ None → IsTable words self.new }
     {
         self.first.remove(name);

@@ -5,4 +5,4 @@ mod method;
 mod statement;
 
 pub use method::{Method, MethodId, Role, VarId, Variable};
-pub use statement::{Action, Mention, Statement};
+pub use statement::{Action, Block, Forget, If, Mention, Simple, Statement, Test, Ways};

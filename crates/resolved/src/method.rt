@@ -22,19 +22,22 @@ pub enum Role {
     Local,
 }
 
-/// A variable of the exchange heap: its name as it is written, and how the method came to it.
+/// A variable of the exchange heap: its name as it is written, how the method came to it, and the variable of the exchange
+/// heap before it in scope, the last one declared there, if there is one.
 #[derive(Debug, Drop)]
 pub struct Variable {
     pub name: Vec<u8>,
     pub role: Role,
+    pub outer: Option<VarId>,
 }
 
-/// A method: where its name stands, its variables of the exchange heap in order of declaration, its statements in order,
-/// and where its body ends.
+/// A method: where its name stands, its variables of the exchange heap in order of declaration, its statements in order, the
+/// last variable of the exchange heap in scope behind them, and where its body ends.
 #[derive(Debug, Drop)]
 pub struct Method {
     pub name: Place,
     pub variables: Vec<Variable>,
     pub statements: Vec<Statement>,
+    pub scope: Option<VarId>,
     pub close: Place,
 }

@@ -10,7 +10,16 @@ pub struct Mention {
     pub place: Place,
 }
 
-/// What a statement does behind its reads.
+/// Variables of the exchange heap that go out of scope here: the last one declared of those that do, and of those that stay
+/// in scope. Each variable knows the one before it in scope, so these two name them all.
+#[derive(Clone, Copy, Debug, PartialEq, Eq)]
+pub struct Forget {
+    pub place: Place,
+    pub last: VarId,
+    pub outer: Option<VarId>,
+}
+
+/// What a simple statement does behind its reads.
 #[derive(Clone, Copy, Debug, PartialEq, Eq)]
 pub enum Action {
     /// Only scalars change.
@@ -23,13 +32,67 @@ pub enum Action {
     Move { target: Mention, source: Mention },
     /// What the variable has is freed.
     Delete(Mention),
-    /// The method ends. So many variables of the exchange heap are in scope, the first ones.
-    Return { place: Place, scope: usize },
+    /// The innermost loop ends. What it and what stands in it has declared goes out of scope.
+    Break(Option<Forget>),
+    /// The innermost loop goes back to its test, likewise.
+    Continue(Option<Forget>),
+    /// The method ends. The last variable of the exchange heap in scope, if there is one, names them all.
+    Return { place: Place, scope: Option<VarId> },
 }
 
-/// A statement: the variables whose blocks its expressions read, in order of the text, and then what it does.
+/// A statement that holds no others: the variables whose blocks its expressions read, in order of the text, and then what it
+/// does.
 #[derive(Debug, Drop)]
-pub struct Statement {
+pub struct Simple {
     pub reads: Vec<Mention>,
     pub action: Action,
+}
+
+/// A statement.
+#[cycle(statement)]
+#[derive(Debug, Drop)]
+pub enum Statement {
+    Simple(Simple),
+    Block(Block),
+    If(If),
+    While(Test),
+}
+
+/// Statements in a row, and what goes out of scope behind them.
+#[cycle(statement)]
+#[derive(Debug, Drop)]
+pub struct Block {
+    pub statements: Vec<Statement>,
+    pub forget: Option<Forget>,
+}
+
+/// Which ways a condition can go.
+#[derive(Clone, Copy, Debug, PartialEq, Eq)]
+pub enum Ways {
+    /// It may be true or false.
+    Either,
+    /// It is just `true`.
+    Body,
+    /// It is just `false`.
+    Past,
+}
+
+/// A condition of an `if` or a `while`, with its block: where that word stands, what the condition reads, which ways it can
+/// go.
+#[cycle(statement)]
+#[derive(Debug, Drop)]
+pub struct Test {
+    pub place: Place,
+    pub reads: Vec<Mention>,
+    pub ways: Ways,
+    pub body: Block,
+}
+
+/// Conditions in order, each asked where those before it were false, and what is done where all were.
+#[cycle(statement)]
+#[derive(Debug, Drop)]
+pub struct If {
+    pub first: Test,
+    pub others: Vec<Test>,
+    pub otherwise: Option<Block>,
 }

@@ -1,13 +1,12 @@
--- Expressions that are a name and nothing more.
+-- Expressions that are an atom and nothing more.
 use Rattle.std.proofs.Common.{◌≡◌, ◌==◌, ℕ, zero, suc, ◌<◌, true, false, List, [], ◌∷◌, length, map, sym, ap, ◌∙◌, arith}
 use Rattle.std.specs.Prelude.{Option, None}
 use Rattle.std.proofs.lemmas.Bool.{eqb-true}
-use Rattle.source.specs.declared.token.Span.{Span}
 use Rattle.syntax.specs.Operators as levels
 use Rattle.syntax.specs.Operators.{Operators, below}
-use Rattle.syntax.specs.Expressions.{LevelTree, StepOf, Chain}
+use Rattle.syntax.specs.Expressions.{LevelTree, AtomTree, StepOf, Chain}
 use Rattle.syntax.specs.ExpressionTrees.{step_row}
-use Rattle.resolving.specs.Reads.{lone_name}
+use Rattle.resolving.specs.Reads.{lone_atom}
 
 some_of : (n m : ℕ) → n ≡ m → (n == 0) ≡ false → 0 < m
 some_of zero m is h = cc
@@ -17,11 +16,11 @@ none_of : (n m : ℕ) → n ≡ m → (n == 0) ≡ true → m ≡ 0
 none_of n m is h = sym is ∙ eqb-true n 0 h
 
 -- with operators behind its first part it is more
-pub chain_is_more : (l : Operators) {X : Type 0} (f : X → StepOf l) (first : LevelTree (below l)) (xs : List X) (n : ℕ) (tree : LevelTree (levels.Joined l)) → tree ≡ Chain l first (step_row l (map f xs)) → n ≡ length xs → (n == 0) ≡ false → None ≡ lone_name tree
+pub chain_is_more : (l : Operators) {X : Type 0} (f : X → StepOf l) (first : LevelTree (below l)) (xs : List X) (n : ℕ) (tree : LevelTree (levels.Joined l)) → tree ≡ Chain l first (step_row l (map f xs)) → n ≡ length xs → (n == 0) ≡ false → None ≡ lone_atom tree
 chain_is_more l f first [] n tree seen is h = let lt = some_of n 0 is h in absurd (omega (arith, lt))
-chain_is_more l f first (x ∷ xs) n tree seen is h = sym (ap (λ (t : LevelTree (levels.Joined l)). lone_name t) seen)
+chain_is_more l f first (x ∷ xs) n tree seen is h = sym (ap (λ (t : LevelTree (levels.Joined l)). lone_atom t) seen)
 
 -- without, it is its first part
-pub chain_is_first : (l : Operators) {X : Type 0} (f : X → StepOf l) (first : LevelTree (below l)) (xs : List X) (n : ℕ) (tree : LevelTree (levels.Joined l)) {r : Option Span} → tree ≡ Chain l first (step_row l (map f xs)) → n ≡ length xs → (n == 0) ≡ true → r ≡ lone_name first → r ≡ lone_name tree
-chain_is_first l f first [] n tree seen is h same = same ∙ sym (ap (λ (t : LevelTree (levels.Joined l)). lone_name t) seen)
+pub chain_is_first : (l : Operators) {X : Type 0} (f : X → StepOf l) (first : LevelTree (below l)) (xs : List X) (n : ℕ) (tree : LevelTree (levels.Joined l)) {r : Option AtomTree} → tree ≡ Chain l first (step_row l (map f xs)) → n ≡ length xs → (n == 0) ≡ true → r ≡ lone_atom first → r ≡ lone_atom tree
+chain_is_first l f first [] n tree seen is h same = same ∙ sym (ap (λ (t : LevelTree (levels.Joined l)). lone_atom t) seen)
 chain_is_first l f first (x ∷ xs) n tree seen is h same = let none = none_of n (length (x ∷ xs)) is h in absurd (omega (arith, none))

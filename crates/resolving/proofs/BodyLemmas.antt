@@ -1,46 +1,50 @@
 -- Statements and parameters, one after another.
-use Rattle.std.proofs.Common.{◌≡◌, ℕ, ◌+◌, ◌<◌, List, [], ◌∷◌, ◌++◌, length, map, take, get_or, sym, refl, ap, ◌∙◌, subst}
-use Rattle.std.proofs.lemmas.List.{take_more, map-append}
-use Rattle.syntax.specs.StatementTrees.{StatementTree, statement_tree, statement_row}
+use Rattle.std.proofs.Common.{◌≡◌, ℕ, ◌+◌, ◌<◌, ◌≤◌, List, [], ◌∷◌, ◌++◌, length, map, take, get_or, sym, refl, ap, ◌∙◌, subst}
+use Rattle.std.proofs.lemmas.List.{take_more, take_all, map-append}
+use Rattle.syntax.specs.StatementTrees as trees
+use Rattle.syntax.specs.StatementTrees.{StatementTree}
 use Rattle.syntax.specs.declared.class as made
-use Rattle.syntax.specs.declared.statement as stated
 use Rattle.names.specs.Kinds.{is_heap}
-use Rattle.resolved.specs.Methods.{statement_seen}
-use Rattle.resolved.specs.declared.statement.Statement.{Statement}
+use Rattle.resolved.specs.Statements as seen
+use Rattle.resolved.specs.Statements.{StatementSeen}
 use Rattle.resolving.specs.Frames.{IsFrame}
 use Rattle.resolving.specs.Locals.{Frame, declared}
 use Rattle.resolving.specs.Methods.{role_of, parameters_frame}
-use Rattle.resolving.specs.Steps.{Tells, IsBody}
-use Rattle.resolving.specs.Told.{Body, put_before, statement_told, statements_told, frame_behind}
+use Rattle.resolving.specs.Steps.{IsTold, walked}
+use Rattle.resolving.specs.Told.{Told, Loop, follow, made as remade, statement_told, statements_told}
 use Rattle.resolving.specs.declared.locals.Locals.{Locals}
 
--- one more statement behind these
-abbrev behind : List ℕ → Body → StatementTree → Body
-behind text b x = record { statements = b.statements ++ statement_told text b.frame x ∷ []; frame = frame_behind text b.frame x }
+walked_push : {T X : Type 0} (go : T → Frame → Told X) (ts : List T) (t : T) (f : Frame) → walked go (ts ++ t ∷ []) f ≡ follow (λ xs x. xs ++ x ∷ []) (walked go ts f) (go t)
+walked_push go [] t f = refl
+walked_push go (u ∷ ts) t f = ap (remade (λ xs. (go u f).what ∷ xs)) (walked_push go ts t (go u f).frame)
 
-statements_push : (text : List ℕ) (xs : List StatementTree) (x : StatementTree) (f : Frame) → statements_told text (statement_row (xs ++ x ∷ [])) f ≡ behind text (statements_told text (statement_row xs) f) x
-statements_push text [] x f = refl
-statements_push text (y ∷ xs) x f = ap (put_before (statement_told text f y)) (statements_push text xs x (frame_behind text f y))
+walked_map : {S T X : Type 0} (go : T → Frame → Told X) (tree : S → T) (ss : List S) (f : Frame) → walked (λ s. go (tree s)) ss f ≡ walked go (map tree ss) f
+walked_map go tree [] f = refl
+walked_map go tree (s ∷ ss) f = ap (remade (λ xs. (go (tree s) f).what ∷ xs)) (walked_map go tree ss (go (tree s) f).frame)
 
--- the statements as far as they were walked
-abbrev pub told_to : List ℕ → List stated.Statement.Statement → ℕ → Frame → Body
-told_to text xs i f = statements_told text (statement_row (map statement_tree (take i xs))) f
-
-told_more : (text : List ℕ) (xs : List stated.Statement.Statement) (i : ℕ) (x : stated.Statement.Statement) (f : Frame) → i < length xs → x ≡ get_or xs i x → told_to text xs (i + 1) f ≡ behind text (told_to text xs i f) (statement_tree x)
-told_more text xs i x f lt is =
-    ap (λ ys. statements_told text (statement_row (map statement_tree ys)) f) (take_more xs i x lt ∙ ap (λ y. take i xs ++ y ∷ []) (sym is))
-    ∙ ap (λ ys. statements_told text (statement_row ys) f) (map-append statement_tree (take i xs) (x ∷ []))
-    ∙ statements_push text (map statement_tree (take i xs)) (statement_tree x) f
-
--- one more statement: what it comes to where its frame stands, and then what it declares
-pub body_more : (text : List ℕ) (xs : List stated.Statement.Statement) (i : ℕ) (x : stated.Statement.Statement) (f : Frame) (s : Statement) (done : List Statement) (l m : Locals) → i < length xs → x ≡ get_or xs i x
-    → IsBody text (told_to text xs i f) done l → Tells text l (λ g. statement_told text g (statement_tree x)) s
-    → ((g : Frame) → IsFrame text g l → IsFrame text (frame_behind text g (statement_tree x)) m) → IsBody text (told_to text xs (i + 1) f) (done ++ s ∷ []) m
-body_more text xs i x f s done l m lt is before tells brings =
-    subst (λ b. IsBody text b (done ++ s ∷ []) m) (sym (told_more text xs i x f lt is)) (record {
-      statements_are = map-append statement_seen done (s ∷ []) ∙ ap (λ l. l ++ statement_seen s ∷ []) before.statements_are ∙ ap (λ t. (told_to text xs i f).statements ++ t ∷ []) (tells.all _ before.frame);
-      frame = brings _ before.frame;
+-- one more piece
+pub walks_more : {S T X : Type 0} (text : List ℕ) (go : S → Frame → Told X) (seen : T → X) (ss : List S) (i : ℕ) (s : S) (f : Frame) (t : T) (done : List T) (l m : Locals) → i < length ss → s ≡ get_or ss i s
+    → IsTold text (walked go (take i ss) f) (map seen done) l → ((g : Frame) → IsFrame text g l → IsTold text (go s g) (seen t) m) → IsTold text (walked go (take (i + 1) ss) f) (map seen (done ++ t ∷ [])) m
+walks_more text go seen ss i s f t done l m lt is before more =
+    let taken = take_more ss i s lt ∙ ap (λ y. take i ss ++ y ∷ []) (sym is) in
+    let here = more (walked go (take i ss) f).frame before.frame in
+    subst (λ b. IsTold text b (map seen (done ++ t ∷ [])) m) (sym (ap (λ ys. walked go ys f) taken ∙ walked_push go (take i ss) s f)) (record {
+      is = map-append seen done (t ∷ []) ∙ ap (λ xs. xs ++ seen t ∷ []) before.is ∙ ap (λ x. (walked go (take i ss) f).what ++ x ∷ []) here.is;
+      frame = here.frame;
     })
+
+-- all of them, as trees
+pub walks_all : {S T X : Type 0} (text : List ℕ) (go : T → Frame → Told X) (tree : S → T) (ss : List S) (i : ℕ) (f : Frame) (done : List X) (l : Locals) → length ss ≤ i
+    → IsTold text (walked (λ s. go (tree s)) (take i ss) f) done l → IsTold text (walked go (map tree ss) f) done l
+walks_all text go tree ss i f done l le h = subst (λ t. IsTold text t done l) (ap (λ ys. walked (λ s. go (tree s)) ys f) (take_all i ss le) ∙ walked_map go tree ss f) h
+
+row_walked : (text : List ℕ) (loop : Loop) (xs : List StatementTree) (f : Frame) → remade seen.statement_row (walked (statement_told text loop) xs f) ≡ statements_told text loop (trees.statement_row xs) f
+row_walked text loop [] f = refl
+row_walked text loop (x ∷ xs) f = ap (remade (seen.MoreStatements (statement_told text loop x f).what)) (row_walked text loop xs (statement_told text loop x f).frame)
+
+-- statements as a row
+pub row_told : (text : List ℕ) (loop : Loop) (xs : List StatementTree) (f : Frame) (done : List StatementSeen) (l : Locals) → IsTold text (walked (statement_told text loop) xs f) done l → IsTold text (statements_told text loop (trees.statement_row xs) f) (seen.statement_row done) l
+row_told text loop xs f done l h = subst (λ t. IsTold text t (seen.statement_row done) l) (row_walked text loop xs f) (record { is = ap seen.statement_row h.is; frame = h.frame })
 
 parameters_push : (text : List ℕ) (params : List made.Parameter.Parameter) (x : made.Parameter.Parameter) (f : Frame) → parameters_frame text (params ++ x ∷ []) f ≡ declared text x.name (is_heap x.kind) (role_of x) (parameters_frame text params f)
 parameters_push text [] x f = refl

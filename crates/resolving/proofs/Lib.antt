@@ -1,7 +1,12 @@
 pub mod ExpressionTwins
 pub mod AloneLemmas
 pub mod ReadLemmas
+pub mod ScopeLemmas
 pub mod LocalLemmas
+pub mod StatementTwins
+pub mod SeenTwins
 pub mod PassedLemmas
 pub mod BodyLemmas
+pub mod KeepLemmas
+pub mod BlockLemmas
 pub mod TellLemmas

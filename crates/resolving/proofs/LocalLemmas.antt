@@ -7,18 +7,15 @@ use Rattle.std.proofs.lemmas.Option.{slice_get-map, slice_get-get_or}
 use Rattle.source.specs.declared.token.Span.{Span}
 use Rattle.names.specs.Firsts.{first_of}
 use Rattle.names.specs.Tables.{IsTable}
-use Rattle.names.specs.Words.{word_at, words_at, same_word}
+use Rattle.names.specs.Words.{word_at, same_word}
+use Rattle.resolved.specs.Methods.{variable_seen}
+use Rattle.resolved.specs.declared.method.Role.{Role}
 use Rattle.resolved.specs.declared.method.VarId.{VarId}
-use Rattle.resolving.specs.Frames.{IsFrame, local_seen, number_seen, words_in}
+use Rattle.resolving.specs.Frames.{AreApart, IsFrame, local_seen, number_seen, words_in}
 use Rattle.resolving.specs.Locals as model
-use Rattle.resolving.specs.Locals.{Frame, local_named, entered}
+use Rattle.resolving.specs.Locals.{Frame, local_named, number_of, entered, counted, declared_heap}
 use Rattle.resolving.specs.declared.locals.Locals.{Locals}
-
--- the words of the variables and one more
-words_push : (text : List ℕ) (locals : List model.Local) (l : model.Local) → words_in text (locals ++ l ∷ []) ≡ words_in text locals ++ word_at text l.name ∷ []
-words_push text locals l =
-    ap (words_at text) (map-append (λ (x : model.Local). x.name) locals (l ∷ []))
-    ∙ map-append (word_at text) (map (λ (x : model.Local). x.name) locals) (l.name ∷ [])
+use Rattle.resolving.proofs.ScopeLemmas.{apart_push, scoped, words_push}
 
 local_at : (text : List ℕ) (f : Frame) (l : Locals) → IsFrame text f l → (place : Option ℕ) → option_map local_seen (option_and_then (slice_get l.list.items) place) ≡ option_and_then (slice_get f.locals) place
 local_at text f l h None = refl
@@ -49,11 +46,11 @@ none_is None h = refl
 none_is (Some n) h = cc
 
 abbrev entered_if : Bool → Span → Option ℕ → Frame → Frame
-entered_if taken name number f = record { locals = if taken then f.locals else f.locals ++ here name number ∷ []; variables = f.variables }
+entered_if taken name number f = scoped (if taken then f.locals else f.locals ++ here name number ∷ []) f.last f
 
 -- a name that is taken already
 pub entered_taken : (text : List ℕ) (f : Frame) (l : Locals) (name : Span) (number : Option ℕ) (word : List ℕ) (found : Option ℕ) → IsFrame text f l → word ≡ word_at text name
-    → ((words : List (List ℕ)) → IsTable words l.names → found ≡ first_of words word) → is_some found ≡ true → IsFrame text (record { locals = entered text name number f.locals; variables = f.variables }) l
+    → ((words : List (List ℕ)) → IsTable words l.names → found ≡ first_of words word) → is_some found ≡ true → IsFrame text (scoped (entered text name number f.locals) f.last f) l
 entered_taken text f l name number word found h at is taken =
     let there = is_named text f.locals name ∙ ap (λ w. is_some (first_of (words_in text f.locals) w)) (sym at) ∙ sym (ap is_some (is (words_in text f.locals) h.names)) ∙ taken in
     subst (λ b. IsFrame text (entered_if b name number f) l) (sym there) h
@@ -62,9 +59,9 @@ entered_taken text f l name number word found h at is taken =
 pub entered_new : (text : List ℕ) (f : Frame) (l m : Locals) (name : Span) (number : Option VarId) (word : List ℕ) (found : Option ℕ) → IsFrame text f l → word ≡ word_at text name
     → ((words : List (List ℕ)) → IsTable words l.names → found ≡ first_of words word) → is_some found ≡ false
     → ((words : List (List ℕ)) → IsTable words l.names → first_of words word ≡ None → length l.list.items ≡ length words → IsTable (words ++ word ∷ []) m.names)
-    → m.list.items ≡ l.list.items ++ record { name = name; number = number } ∷ [] → m.variables.items ≡ l.variables.items
-    → IsFrame text (record { locals = entered text name (number_seen number) f.locals; variables = f.variables }) m
-entered_new text f l m name number word found h at is taken table list variables =
+    → m.list.items ≡ l.list.items ++ record { name = name; number = number } ∷ [] → m.last ≡ l.last → m.variables.items ≡ l.variables.items
+    → IsFrame text (scoped (entered text name (number_seen number) f.locals) f.last f) m
+entered_new text f l m name number word found h at is taken table list last variables =
     let words = words_in text f.locals in
     let found_none : first_of words word ≡ None = sym (is words h.names) ∙ none_is found taken in
     let none : first_of words (word_at text name) ≡ None = subst (λ x. first_of words x ≡ None) at found_none in
@@ -75,5 +72,21 @@ entered_new text f l m name number word found h at is taken table list variables
     subst (λ b. IsFrame text (entered_if b name (number_seen number) f) m) (sym there) (record {
       list = ap (map local_seen) list ∙ map-append local_seen l.list.items (record { name = name; number = number } ∷ []) ∙ ap (λ x. x ++ here name (number_seen number) ∷ []) h.list;
       names = subst (λ x. IsTable x m.names) (sym more) (subst (λ x. IsTable (words ++ x ∷ []) m.names) at (table words h.names found_none (sym (many ∙ size))));
+      apart = subst (AreApart []) (sym more) (apart_push [] words (word_at text name) h.apart none);
+      last = ap number_seen last ∙ h.last;
       variables = ap (map _) variables ∙ h.variables;
+    })
+
+-- one of the exchange heap that is in scope and counted is the last of them
+pub heap_declared : (text : List ℕ) (f : Frame) (l m : Locals) (name : Span) (role : Role) (n : ℕ) → IsFrame text f l → n ≡ length l.variables.items
+    → IsFrame text (record { locals = entered text name (Some n) f.locals; last = f.last; variables = counted text name role f.last f.variables }) m
+    → IsFrame text (declared_heap text name role f) (record { names = m.names; list = m.list; last = Some (number_of n); variables = m.variables })
+heap_declared text f l m name role n h is both =
+    let many : n ≡ length f.variables = is ∙ sym (length-map l.variables.items variable_seen) ∙ ap length h.variables in
+    subst (λ k. IsFrame text (record { locals = entered text name (Some k) f.locals; last = Some k; variables = counted text name role f.last f.variables }) (record { names = m.names; list = m.list; last = Some (number_of n); variables = m.variables })) many (record {
+      list = both.list;
+      names = both.names;
+      apart = both.apart;
+      last = refl;
+      variables = both.variables;
     })

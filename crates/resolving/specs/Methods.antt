@@ -1,5 +1,5 @@
 -- The methods of a program with a number for each variable of the exchange heap.
-use Rattle.std.specs.Prelude.{◌≡◌, ℕ, List, [], ◌∷◌, map, if◌then◌else◌, Option, Some}
+use Rattle.std.specs.Prelude.{◌≡◌, ℕ, List, [], ◌∷◌, map, if◌then◌else◌, Option, None, Some, option_map}
 use Rattle.std.specs.List.{flat_map}
 use Rattle.source.specs.declared.place.Place.{Place}
 use Rattle.syntax.specs.StatementTrees as stated
@@ -9,10 +9,11 @@ use Rattle.syntax.specs.declared.class as made
 use Rattle.names.specs.Kinds.{is_heap}
 use Rattle.names.specs.Methods.{methods_in}
 use Rattle.resolved.specs.Methods.{MethodSeen}
+use Rattle.resolved.specs.Statements.{StatementsSeen}
 use Rattle.resolved.specs.declared.method.Role.{Role}
 use Rattle.resolved.specs.declared.method.Role.TheVariants.{Lent, Claimed}
-use Rattle.resolving.specs.Locals.{Frame, declared}
-use Rattle.resolving.specs.Told.{Body, statements_told}
+use Rattle.resolving.specs.Locals.{Frame, declared, number_of}
+use Rattle.resolving.specs.Told.{Told, statements_told}
 use Rattle.resolving.specs.Unknown.{unknown_methods}
 use Rattle.resolving.specs.declared.fault.MethodFault.{MethodFault}
 use Rattle.resolving.specs.declared.fault.MethodFault.TheVariants as fault
@@ -26,16 +27,23 @@ parameters_frame text [] f = f
 parameters_frame text (x ∷ params) f = parameters_frame text params (declared text x.name (is_heap x.kind) (role_of x) f)
 
 abbrev pub no_variables : Frame
-no_variables = record { locals = []; variables = [] }
+no_variables = record { locals = []; last = None; variables = [] }
 
-abbrev pub body_told : List ℕ → BlockTree → Frame → Body
-body_told text (stated.Braces statements close) f = statements_told text statements f
+-- A method body ends with its method: nothing is forgotten there.
+abbrev pub body_told : List ℕ → BlockTree → Frame → Told StatementsSeen
+body_told text (stated.Braces statements close) f = statements_told text None statements f
 
 abbrev pub closing : BlockTree → Place
 closing (stated.Braces statements close) = close.place
 
-abbrev pub method_with : MethodTree → Body → MethodSeen
-method_with m body = record { name = m.name.place; variables = body.frame.variables; statements = body.statements; close = closing m.body }
+abbrev pub method_with : MethodTree → Told StatementsSeen → MethodSeen
+method_with m body = record {
+  name = m.name.place;
+  variables = body.frame.variables;
+  statements = body.what;
+  scope = option_map number_of body.frame.last;
+  close = closing m.body;
+}
 
 abbrev pub method_told : List ℕ → MethodTree → MethodSeen
 method_told text m = method_with m (body_told text m.body (parameters_frame text m.params no_variables))

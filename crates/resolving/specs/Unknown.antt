@@ -3,9 +3,9 @@ use Rattle.std.specs.Prelude.{List, [], ◌∷◌, Option, Some, None}
 use Rattle.source.specs.declared.place.Place.{Place}
 use Rattle.source.specs.declared.token.Span.{Span}
 use Rattle.syntax.specs.Expressions as trees
-use Rattle.syntax.specs.Expressions.{TargetTree}
+use Rattle.syntax.specs.Expressions.{TargetTree, ExpressionTree}
 use Rattle.syntax.specs.StatementTrees as stated
-use Rattle.syntax.specs.StatementTrees.{StatementTree, StatementTrees, BlockTree, TestTree, DeclareTree}
+use Rattle.syntax.specs.StatementTrees.{StatementTree, StatementTrees, BlockTree, TestTree, OtherTrees, DeclareTree}
 use Rattle.syntax.specs.Trees.{MethodTree}
 use Rattle.syntax.specs.Values as values
 use Rattle.syntax.specs.Values.{ValueTree, CallTree}
@@ -39,34 +39,43 @@ target_place (trees.Variable name) = name.place
 target_place (trees.Field name field) = name.place
 target_place (trees.Element name index) = name.place
 
-abbrev pub unknown_block : BlockTree → Option Place
-unknown_block (stated.Braces statements close) = Some close.place
+abbrev pub unknown_declare : DeclareTree → Option Place
+unknown_declare d = or_else (unknown_type d.kind) (unknown_value (type_place d.name.place d.kind) d.value)
 
-abbrev pub unknown_test : TestTree → Option Place
-unknown_test (stated.Test word left test body) = Some word.place
+abbrev pub unknown_returned : Place → Option ExpressionTree → Option Place
+unknown_returned place None = None
+unknown_returned place (Some e) = Some place
 
-abbrev pub unknown_statement : StatementTree → Option Place
-unknown_statement (stated.Block b) = unknown_block b
-unknown_statement (stated.Declare d) = or_else (unknown_type d.kind) (unknown_value (type_place d.name.place d.kind) d.value)
-unknown_statement (stated.Assign a) = unknown_value (target_place a.target) (Some a.value)
-unknown_statement (stated.Call c) = Some c.name.place
-unknown_statement (stated.Start word c) = Some word.place
-unknown_statement (stated.Delete name) = None
-unknown_statement (stated.NewChannel n) = Some n.contract.place
-unknown_statement (stated.If first others) = unknown_test first
-unknown_statement (stated.While test) = unknown_test test
-unknown_statement (stated.Break word) = Some word.place
-unknown_statement (stated.Continue word) = Some word.place
-unknown_statement (stated.Return word None) = None
-unknown_statement (stated.Return word (Some e)) = Some word.place
-unknown_statement (stated.Switch word first cases close) = Some word.place
+abbrev mutual
+  pub unknown_statement : StatementTree → Option Place
+  unknown_statement (stated.Block b) = unknown_block b
+  unknown_statement (stated.Declare d) = unknown_declare d
+  unknown_statement (stated.Assign a) = unknown_value (target_place a.target) (Some a.value)
+  unknown_statement (stated.Call c) = Some c.name.place
+  unknown_statement (stated.Start word c) = Some word.place
+  unknown_statement (stated.Delete name) = None
+  unknown_statement (stated.NewChannel n) = Some n.contract.place
+  unknown_statement (stated.If first others) = or_else (unknown_test first) (unknown_others others)
+  unknown_statement (stated.While test) = unknown_test test
+  unknown_statement (stated.Break word) = None
+  unknown_statement (stated.Continue word) = None
+  unknown_statement (stated.Return word value) = unknown_returned word.place value
+  unknown_statement (stated.Switch word first cases close) = Some word.place
 
-abbrev pub unknown_statements : StatementTrees → Option Place
-unknown_statements stated.NoStatement = None
-unknown_statements (stated.MoreStatements x xs) = or_else (unknown_statement x) (unknown_statements xs)
+  pub unknown_statements : StatementTrees → Option Place
+  unknown_statements stated.NoStatement = None
+  unknown_statements (stated.MoreStatements x xs) = or_else (unknown_statement x) (unknown_statements xs)
 
-abbrev pub unknown_body : BlockTree → Option Place
-unknown_body (stated.Braces statements close) = unknown_statements statements
+  pub unknown_block : BlockTree → Option Place
+  unknown_block (stated.Braces statements close) = unknown_statements statements
+
+  pub unknown_test : TestTree → Option Place
+  unknown_test (stated.Test word left test body) = unknown_block body
+
+  pub unknown_others : OtherTrees → Option Place
+  unknown_others stated.NoOther = None
+  unknown_others (stated.Else b) = unknown_block b
+  unknown_others (stated.ElseIf t others) = or_else (unknown_test t) (unknown_others others)
 
 abbrev pub unknown_params : List made.Parameter.Parameter → Option Place
 unknown_params [] = None
@@ -78,7 +87,7 @@ unknown_result name None = None
 unknown_result name (Some t) = Some (type_place name.place t)
 
 abbrev pub unknown_method : MethodTree → Option Place
-unknown_method m = or_else (unknown_result m.name m.result) (or_else (unknown_params m.params) (unknown_body m.body))
+unknown_method m = or_else (unknown_result m.name m.result) (or_else (unknown_params m.params) (unknown_block m.body))
 
 abbrev pub unknown_methods : List MethodTree → Option Place
 unknown_methods [] = None

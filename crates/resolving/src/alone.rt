@@ -1,16 +1,71 @@
-//! Expressions that are a name and nothing more.
+//! Expressions that are an atom and nothing more.
 
-ghost use Rattle.std.specs.Prelude.{◌≡◌, []};
+ghost use Rattle.std.specs.Prelude.{◌≡◌, Some, option_map};
 ghost use Rattle.syntax.specs.Expressions as trees;
 ghost use Rattle.syntax.specs.ExpressionTrees.{expression_tree, conjunction_tree, equality_tree, relation_tree, sum_tree, term_tree, unary_tree, atom_tree, target_tree};
-ghost use Rattle.resolving.specs.Reads.{lone_name};
+ghost use Rattle.resolving.specs.Reads.{lone_atom, atom_name, lone_name, atom_ways, ways};
 
+use resolved::Ways;
 use source::Span;
 use syntax::{Atom, Conjunction, Equality, Expression, Relation, Sum, Target, Term, Unary};
 
 /// The name, if an expression is one and nothing more.
 pub(crate) fn name_alone(expression: &Expression) -> Option<Span>
     ensures { result ≡ lone_name (expression_tree expression.now) }
+{
+    let atom = atom_alone(expression)?;
+    name_of(atom)
+}
+
+/// Which ways a condition can go: one, if it is just `true` or just `false`.
+pub(crate) fn ways_of(condition: &Expression) -> Ways
+    ensures { result ≡ ways (expression_tree condition.now) }
+{
+    match atom_alone(condition) {
+        Some(atom) => ways_of_atom(atom),
+        None => Ways::Either,
+    }
+}
+
+/// Which ways a condition that is this atom and nothing more can go.
+fn ways_of_atom(atom: &Atom) -> Ways
+    ensures { result ≡ atom_ways (Some (atom_tree atom.now)) }
+{
+    match atom {
+        Atom::True(_) => Ways::Body,
+        Atom::False(_) => Ways::Past,
+        Atom::Number(_) => Ways::Either,
+        Atom::Target(_) => Ways::Either,
+        Atom::Parens { .. } => Ways::Either,
+    }
+}
+
+/// The name that an atom is, if it is one.
+fn name_of(atom: &Atom) -> Option<Span>
+    ensures { result ≡ atom_name (atom_tree atom.now) }
+{
+    match atom {
+        Atom::Target(target) => name_of_target(target),
+        Atom::Number(_) => None,
+        Atom::True(_) => None,
+        Atom::False(_) => None,
+        Atom::Parens { .. } => None,
+    }
+}
+
+fn name_of_target(target: &Target) -> Option<Span>
+    ensures { result ≡ atom_name (trees.Target (target_tree target.now)) }
+{
+    match target {
+        Target::Variable(name) => Some(*name),
+        Target::Field { .. } => None,
+        Target::Element { .. } => None,
+    }
+}
+
+/// The atom, if an expression is one and nothing more.
+fn atom_alone(expression: &Expression) -> Option<&Atom>
+    ensures { option_map (λ a. atom_tree a.now) result ≡ lone_atom (expression_tree expression.now) }
 {
     if !expression.others.is_empty() {
         return None;
@@ -19,8 +74,8 @@ pub(crate) fn name_alone(expression: &Expression) -> Option<Span>
 }
 
 /// The same of a conjunction.
-fn in_conjunction(conjunction: &Conjunction) -> Option<Span>
-    ensures { result ≡ lone_name (conjunction_tree conjunction.now) }
+fn in_conjunction(conjunction: &Conjunction) -> Option<&Atom>
+    ensures { option_map (λ a. atom_tree a.now) result ≡ lone_atom (conjunction_tree conjunction.now) }
 {
     if !conjunction.others.is_empty() {
         return None;
@@ -29,8 +84,8 @@ fn in_conjunction(conjunction: &Conjunction) -> Option<Span>
 }
 
 /// The same of an equality.
-fn in_equality(equality: &Equality) -> Option<Span>
-    ensures { result ≡ lone_name (equality_tree equality.now) }
+fn in_equality(equality: &Equality) -> Option<&Atom>
+    ensures { option_map (λ a. atom_tree a.now) result ≡ lone_atom (equality_tree equality.now) }
 {
     if !equality.others.is_empty() {
         return None;
@@ -39,8 +94,8 @@ fn in_equality(equality: &Equality) -> Option<Span>
 }
 
 /// The same of a relation.
-fn in_relation(relation: &Relation) -> Option<Span>
-    ensures { result ≡ lone_name (relation_tree relation.now) }
+fn in_relation(relation: &Relation) -> Option<&Atom>
+    ensures { option_map (λ a. atom_tree a.now) result ≡ lone_atom (relation_tree relation.now) }
 {
     if !relation.others.is_empty() {
         return None;
@@ -49,8 +104,8 @@ fn in_relation(relation: &Relation) -> Option<Span>
 }
 
 /// The same of a sum.
-fn in_sum(sum: &Sum) -> Option<Span>
-    ensures { result ≡ lone_name (sum_tree sum.now) }
+fn in_sum(sum: &Sum) -> Option<&Atom>
+    ensures { option_map (λ a. atom_tree a.now) result ≡ lone_atom (sum_tree sum.now) }
 {
     if !sum.others.is_empty() {
         return None;
@@ -59,8 +114,8 @@ fn in_sum(sum: &Sum) -> Option<Span>
 }
 
 /// The same of a term.
-fn in_term(term: &Term) -> Option<Span>
-    ensures { result ≡ lone_name (term_tree term.now) }
+fn in_term(term: &Term) -> Option<&Atom>
+    ensures { option_map (λ a. atom_tree a.now) result ≡ lone_atom (term_tree term.now) }
 {
     if !term.others.is_empty() {
         return None;
@@ -69,35 +124,11 @@ fn in_term(term: &Term) -> Option<Span>
 }
 
 /// The same of an atom with what stands before it.
-fn in_unary(unary: &Unary) -> Option<Span>
-    ensures { result ≡ lone_name (unary_tree unary.now) }
+fn in_unary(unary: &Unary) -> Option<&Atom>
+    ensures { option_map (λ a. atom_tree a.now) result ≡ lone_atom (unary_tree unary.now) }
 {
     if !unary.prefixes.is_empty() {
         return None;
     }
-    in_atom(&unary.atom)
-}
-
-/// The same of an atom.
-fn in_atom(atom: &Atom) -> Option<Span>
-    ensures { result ≡ lone_name (trees.Unary [] (atom_tree atom.now)) }
-{
-    match atom {
-        Atom::Number(_) => None,
-        Atom::True(_) => None,
-        Atom::False(_) => None,
-        Atom::Target(target) => in_target(target),
-        Atom::Parens { .. } => None,
-    }
-}
-
-/// The same of a target.
-fn in_target(target: &Target) -> Option<Span>
-    ensures { result ≡ lone_name (trees.Unary [] (trees.Target (target_tree target.now))) }
-{
-    match target {
-        Target::Variable(name) => Some(*name),
-        Target::Field { .. } => None,
-        Target::Element { .. } => None,
-    }
+    Some(&unary.atom)
 }

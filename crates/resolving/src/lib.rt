@@ -6,6 +6,7 @@ mod fault;
 mod locals;
 mod methods;
 mod reads;
+mod simple;
 mod statements;
 mod unknown;
 mod values;

@@ -1,9 +1,10 @@
 //! The variables in scope, and the numbers of those of the exchange heap.
 
-ghost use Rattle.std.specs.Prelude.{◌≡◌, ℕ, List, [], length, map, true, OnOk, option_map};
+ghost use Rattle.std.specs.Prelude.{◌≡◌, ◌-◌, ℕ, List, [], length, map, take, OnOk, option_map};
 ghost use Rattle.resolved.specs.Methods.{variable_seen};
 ghost use Rattle.resolving.specs.Frames.{IsFrame, local_seen, number_seen};
-ghost use Rattle.resolving.specs.Locals.{Frame, local_named, mention, next_number, entered, counted, declared};
+ghost use Rattle.resolving.specs.Methods.{no_variables};
+ghost use Rattle.resolving.specs.Locals.{Frame, local_named, mention, next_number, number_of, entered, counted, declared, declared_heap};
 
 use names::Table;
 use resolved::{Mention, Role, VarId, Variable};
@@ -17,31 +18,41 @@ pub(crate) struct Local {
     number: Option<VarId>,
 }
 
-/// The variables in scope, in order of declaration, and those of the exchange heap that the method has declared so far.
+/// The variables in scope, in order of declaration, the last one of the exchange heap among them, and those of the exchange
+/// heap that the method has declared so far. No two in scope have one name.
 #[derive(Debug, Drop)]
 pub(crate) struct Locals<'a> {
     names: Table<'a>,
     list: Vec<Local>,
+    last: Option<VarId>,
     variables: Vec<Variable>,
 }
 
 impl<'a> Locals<'a> {
     /// None.
     pub(crate) fn new(alloc: Global) -> Locals<'a>
-        ensures { (text : List ℕ) → IsFrame text (record { locals = []; variables = [] }) result }
+        ensures { (text : List ℕ) → IsFrame text no_variables result }
     {
         Locals {
             names: Table::new(alloc),
             list: Vec::new(alloc),
+            last: None,
             variables: Vec::new(alloc),
         }
     }
 
-    /// How many of the exchange heap are declared.
+    /// How many are in scope.
     pub(crate) fn len(&self) -> usize
-        ensures { (text : List ℕ) (f : Frame) → IsFrame text f self.now → result ≡ length f.variables }
+        ensures { (text : List ℕ) (f : Frame) → IsFrame text f self.now → result ≡ length f.locals }
     {
-        self.variables.len()
+        self.list.len()
+    }
+
+    /// The last one of the exchange heap in scope.
+    pub(crate) fn last(&self) -> Option<VarId>
+        ensures { (text : List ℕ) (f : Frame) → IsFrame text f self.now → result ≡ option_map number_of f.last }
+    {
+        self.last
     }
 
     /// Those of the exchange heap, in order of declaration.
@@ -93,11 +104,27 @@ impl<'a> Locals<'a> {
     ) -> Result<(), AllocError>
         ensures { (f : Frame) → IsFrame tokens.now.text.items f self.old → OnOk result (IsFrame tokens.now.text.items (declared tokens.now.text.items name heap role f) self.new) }
     {
-        let number = self.next_number(heap);
-        self.enter(tokens, name, number)?;
         if heap {
-            self.count(alloc, tokens, name, role)?;
+            self.declare_heap(alloc, tokens, name, role)
+        } else {
+            self.enter(tokens, name, None)
         }
+    }
+
+    /// Declares a variable of the exchange heap.
+    fn declare_heap(
+        &mut self,
+        alloc: Global,
+        tokens: &'a Tokens,
+        name: Span,
+        role: Role,
+    ) -> Result<(), AllocError>
+        ensures { (f : Frame) → IsFrame tokens.now.text.items f self.old → OnOk result (IsFrame tokens.now.text.items (declared_heap tokens.now.text.items name role f) self.new) }
+    {
+        let number = VarId(self.variables.len());
+        self.enter(tokens, name, Some(number))?;
+        self.count(alloc, tokens, name, role)?;
+        self.last = Some(number);
         Ok(())
     }
 
@@ -108,7 +135,7 @@ impl<'a> Locals<'a> {
         name: Span,
         number: Option<VarId>,
     ) -> Result<(), AllocError>
-        ensures { (f : Frame) → IsFrame tokens.now.text.items f self.old → OnOk result (IsFrame tokens.now.text.items (record { locals = entered tokens.now.text.items name (number_seen number) f.locals; variables = f.variables }) self.new) }
+        ensures { (f : Frame) → IsFrame tokens.now.text.items f self.old → OnOk result (IsFrame tokens.now.text.items (record { locals = entered tokens.now.text.items name (number_seen number) f.locals; last = f.last; variables = f.variables }) self.new) }
     {
         let word = tokens.slice(name);
         if self.names.find(word).is_some() {
@@ -127,10 +154,32 @@ impl<'a> Locals<'a> {
         name: Span,
         role: Role,
     ) -> Result<(), AllocError>
-        ensures { (f : Frame) → IsFrame tokens.now.text.items f self.old → OnOk result (IsFrame tokens.now.text.items (record { locals = f.locals; variables = counted tokens.now.text.items name true role f.variables }) self.new) }
+        ensures { (f : Frame) → IsFrame tokens.now.text.items f self.old → OnOk result (IsFrame tokens.now.text.items (record { locals = f.locals; last = f.last; variables = counted tokens.now.text.items name role f.last f.variables }) self.new) }
     {
         let name = Vec::from_slice(alloc, tokens.slice(name))?;
-        self.variables.push(Variable { name, role })?;
+        let outer = self.last;
+        self.variables.push(Variable { name, role, outer })?;
         Ok(())
+    }
+
+    /// Leaves a scope: the first so many stay, and the last of the exchange heap among them is this.
+    pub(crate) fn leave(&mut self, tokens: &Tokens, outer: usize, last: Option<VarId>)
+        ensures { (f : Frame) → IsFrame tokens.now.text.items f self.old → IsFrame tokens.now.text.items (record { locals = take outer f.locals; last = number_seen last; variables = f.variables }) self.new }
+    {
+        while self.list.len() > outer {
+            self.drop_last(tokens);
+        }
+        self.last = last;
+    }
+
+    /// Takes the last variable out of scope.
+    fn drop_last(&mut self, tokens: &Tokens)
+        ensures frame { (f : Frame) → IsFrame tokens.now.text.items f self.old → IsFrame tokens.now.text.items (record { locals = take (length f.locals - 1) f.locals; last = f.last; variables = f.variables }) self.new }
+        ensures shorter { length self.new.list.items ≡ length self.old.list.items - 1 }
+    {
+        match self.list.pop() {
+            Some(local) => self.names.remove(tokens.slice(local.name)),
+            None => {}
+        }
     }
 }

@@ -13,7 +13,8 @@ ghost use Rattle.resolving.specs.Methods.{IsFault, methods_told, not_yet, role_o
 
 use crate::fault::MethodFault;
 use crate::locals::Locals;
-use crate::statements::{is_heap, tell_statements};
+use crate::simple::is_heap;
+use crate::statements::tell_statements;
 use crate::unknown::find_unknown;
 use resolved::{Method, Role};
 use source::Tokens;
@@ -57,11 +58,13 @@ fn resolve_method(
 {
     let mut locals = Locals::new(alloc);
     declare_parameters(alloc, tokens, &mut locals, &method.params)?;
-    let statements = tell_statements(alloc, tokens, &mut locals, &method.body.statements)?;
+    let statements = tell_statements(alloc, tokens, &mut locals, None, &method.body.statements)?;
+    let scope = locals.last();
     Ok(Method {
         name: method.name.place,
         variables: locals.into_variables(),
         statements,
+        scope,
         close: method.body.close.place,
     })
 }

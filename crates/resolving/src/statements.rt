@@ -1,206 +1,216 @@
 //! What statements come to.
 
-ghost use Rattle.std.specs.Prelude.{◌≡◌, ◌++◌, map, IfOk, OnOk, option_map, List, ℕ};
-ghost use Rattle.syntax.specs.ExpressionTrees.{expression_tree, target_tree};
-ghost use Rattle.syntax.specs.StatementTrees.{statement_tree, statement_row};
-ghost use Rattle.syntax.specs.Values.{value_tree};
-ghost use Rattle.names.specs.Kinds.{is_heap};
-ghost use Rattle.resolving.specs.Frames.{IsFrame};
-ghost use Rattle.resolving.specs.Locals.{Frame, mention, mention_of, next_number};
-ghost use Rattle.resolving.specs.Reads.{reads};
-ghost use Rattle.resolving.specs.Steps.{AddsReads, Tells, IsBody};
-ghost use Rattle.resolving.specs.Told.{told, used, deleted, value_reads, written, first_value, statement_told, statements_told, frame_behind};
+ghost use Rattle.std.specs.Prelude.{◌≡◌, ℕ, List, map, IfOk, option_map};
+ghost use Rattle.resolved.specs.Statements as seen;
+ghost use Rattle.resolved.specs.Statements.{simple_seen, statement_seen, block_seen, test_seen, if_seen};
+ghost use Rattle.resolving.specs.Frames.{IsFrame, number_seen};
+ghost use Rattle.resolving.specs.Locals.{Frame, forget};
+ghost use Rattle.resolving.specs.Steps.{IsTold, walked};
+ghost use Rattle.resolving.specs.Told.{follow, left, simple_told, frame_behind, statement_told, statements_told, block_told, test_told, others_told};
+ghost use Rattle.syntax.specs.StatementTrees.{statement_tree, statement_row, block_tree, test_tree, if_tree, last_other};
 
+use crate::alone::ways_of;
 use crate::locals::Locals;
 use crate::reads::add_reads;
-use crate::values::{add_value_reads, tell_assigned, unread};
-use resolved::{Action, Mention, Role, Statement};
-use source::{Span, Tokens};
+use crate::simple::{declare_in, tell_simple};
+use crate::values::unread;
+use resolved::{Action, Block, Forget, If, Simple, Statement, Test, VarId};
+use source::{Place, Tokens};
 use std::alloc::{AllocError, Global};
-use syntax::{Declare, Expression, Target, Type, Value};
 
-/// Whether it is a type of the exchange heap.
-pub(crate) fn is_heap(kind: Type) -> bool
-    ensures { result ≡ is_heap kind }
+/// What goes out of scope where the first of these is the last variable that stays, and the second the last that is there.
+fn forgetting(place: Place, outer: Option<VarId>, last: Option<VarId>) -> Option<Forget>
+    ensures { result ≡ forget place (number_seen outer) (number_seen last) }
 {
-    matches!(kind, Type::Heap(_))
-}
-
-/// A field or an element is written.
-fn using(mention: Option<Mention>) -> Action
-    ensures { result ≡ used mention }
-{
-    match mention {
-        Some(mention) => Action::Use(mention),
-        None => Action::Nothing,
+    let last = last?;
+    if outer == Some(last) {
+        return None;
     }
+    Some(Forget { place, last, outer })
 }
 
-/// What a variable has is freed.
-fn deleting(mention: Option<Mention>) -> Action
-    ensures { result ≡ deleted mention }
+/// What goes out of scope at a `break` or a `continue` of the loop before which this variable is the last in scope.
+fn leaving(locals: &Locals<'_>, place: Place, around: Option<VarId>) -> Option<Forget>
+    ensures { (text : List ℕ) (f : Frame) → IsFrame text f locals.now → result ≡ left place (number_seen around) f }
 {
-    match mention {
-        Some(mention) => Action::Delete(mention),
-        None => Action::Nothing,
-    }
+    forgetting(place, around, locals.last())
 }
 
-/// A field is written.
-fn tell_field(
-    alloc: Global,
-    tokens: &Tokens,
-    locals: &Locals<'_>,
-    variable: Span,
-    value: &Value,
-) -> Result<Statement, AllocError>
-    ensures { IfOk result (Tells tokens.now.text.items locals.now (λ f. told (value_reads tokens.now.text.items f (value_tree value.now)) (used (mention tokens.now.text.items f.locals variable)))) }
-{
-    let mut reads = Vec::new(alloc);
-    add_value_reads(tokens, locals, value, &mut reads)?;
-    let action = using(locals.mention(tokens, variable));
-    Ok(Statement { reads, action })
-}
-
-/// Adds what is read where an element is written: its index, and then the value.
-fn add_element_reads(
-    tokens: &Tokens,
-    locals: &Locals<'_>,
-    index: &Expression,
-    value: &Value,
-    found: &mut Vec<Mention>,
-) -> Result<(), AllocError>
-    ensures { OnOk result (AddsReads tokens.now.text.items locals.now (λ f. reads tokens.now.text.items f.locals (expression_tree index.now) ++ value_reads tokens.now.text.items f (value_tree value.now)) found.old.items found.new.items) }
-{
-    add_reads(tokens, locals, index, found)?;
-    add_value_reads(tokens, locals, value, found)
-}
-
-/// An element is written.
-fn tell_element(
-    alloc: Global,
-    tokens: &Tokens,
-    locals: &Locals<'_>,
-    variable: Span,
-    index: &Expression,
-    value: &Value,
-) -> Result<Statement, AllocError>
-    ensures { IfOk result (Tells tokens.now.text.items locals.now (λ f. told (reads tokens.now.text.items f.locals (expression_tree index.now) ++ value_reads tokens.now.text.items f (value_tree value.now)) (used (mention tokens.now.text.items f.locals variable)))) }
-{
-    let mut reads = Vec::new(alloc);
-    add_element_reads(tokens, locals, index, value, &mut reads)?;
-    let action = using(locals.mention(tokens, variable));
-    Ok(Statement { reads, action })
-}
-
-/// What an assignment comes to.
-fn tell_assign(
-    alloc: Global,
-    tokens: &Tokens,
-    locals: &Locals<'_>,
-    target: &Target,
-    value: &Value,
-) -> Result<Statement, AllocError>
-    ensures { IfOk result (Tells tokens.now.text.items locals.now (λ f. written tokens.now.text.items f (target_tree target.now) (value_tree value.now))) }
-{
-    match target {
-        Target::Variable(name) => {
-            let target = locals.mention(tokens, *name);
-            tell_assigned(alloc, tokens, locals, target, value)
-        }
-        Target::Field { variable, .. } => tell_field(alloc, tokens, locals, *variable, value),
-        Target::Element { variable, index } => {
-            tell_element(alloc, tokens, locals, *variable, index, value)
-        }
-    }
-}
-
-/// The variable that a declaration brings, where it is one of the exchange heap.
-fn declared_mention(locals: &Locals<'_>, declare: &Declare) -> Option<Mention>
-    ensures { (text : List ℕ) (f : Frame) → IsFrame text f locals.now → result ≡ option_map (mention_of declare.now.name) (next_number (is_heap declare.now.kind) f) }
-{
-    let variable = locals.next_number(is_heap(declare.kind))?;
-    Some(Mention {
-        variable,
-        place: declare.name.place,
-    })
-}
-
-/// What a declaration comes to: where it has a value, the variable takes it.
-fn tell_declare(
-    alloc: Global,
-    tokens: &Tokens,
-    locals: &Locals<'_>,
-    declare: &Declare,
-) -> Result<Statement, AllocError>
-    ensures { IfOk result (Tells tokens.now.text.items locals.now (λ f. first_value tokens.now.text.items f declare.now.name (next_number (is_heap declare.now.kind) f) (option_map value_tree declare.now.value))) }
-{
-    match &declare.value {
-        Some(value) => {
-            let target = declared_mention(locals, declare);
-            tell_assigned(alloc, tokens, locals, target, value)
-        }
-        None => Ok(unread(alloc, Action::Nothing)),
-    }
-}
-
-/// What a statement comes to. One that holds others, a call, a send and a switch come to nothing yet.
-fn tell(
-    alloc: Global,
-    tokens: &Tokens,
-    locals: &Locals<'_>,
-    statement: &syntax::Statement,
-) -> Result<Statement, AllocError>
-    ensures { IfOk result (Tells tokens.now.text.items locals.now (λ f. statement_told tokens.now.text.items f (statement_tree statement.now))) }
-{
-    match statement {
-        syntax::Statement::Declare(declare) => tell_declare(alloc, tokens, locals, declare),
-        syntax::Statement::Assign(assign) => {
-            tell_assign(alloc, tokens, locals, &assign.target, &assign.value)
-        }
-        syntax::Statement::Delete(name) => {
-            Ok(unread(alloc, deleting(locals.mention(tokens, *name))))
-        }
-        syntax::Statement::Return { word, .. } => {
-            let scope = locals.len();
-            let place = word.place;
-            Ok(unread(alloc, Action::Return { place, scope }))
-        }
-        _ => Ok(unread(alloc, Action::Nothing)),
-    }
-}
-
-/// Declares the variable that a statement declares, if it is a declaration.
-fn declare_in<'a>(
+/// What a statement that holds no others comes to, and what it declares.
+fn tell_alone<'a>(
     alloc: Global,
     tokens: &'a Tokens,
     locals: &mut Locals<'a>,
     statement: &syntax::Statement,
-) -> Result<(), AllocError>
-    ensures { (f : Frame) → IsFrame tokens.now.text.items f locals.old → OnOk result (IsFrame tokens.now.text.items (frame_behind tokens.now.text.items f (statement_tree statement.now)) locals.new) }
+) -> Result<Simple, AllocError>
+    ensures { (f : Frame) → IsFrame tokens.now.text.items f locals.old → IfOk result (λ s. IsTold tokens.now.text.items (record { what = simple_told tokens.now.text.items f (statement_tree statement.now); frame = frame_behind tokens.now.text.items f (statement_tree statement.now) }) (simple_seen s) locals.new) }
+{
+    let simple = tell_simple(alloc, tokens, locals, statement)?;
+    declare_in(alloc, tokens, locals, statement)?;
+    Ok(simple)
+}
+
+/// What a statement comes to, in a loop before which this variable is the last in scope.
+#[cycle(statements)]
+fn tell_statement<'a>(
+    alloc: Global,
+    tokens: &'a Tokens,
+    locals: &mut Locals<'a>,
+    around: Option<VarId>,
+    statement: &syntax::Statement,
+) -> Result<Statement, AllocError>
+    ensures { (f : Frame) → IsFrame tokens.now.text.items f locals.old → IfOk result (λ s. IsTold tokens.now.text.items (statement_told tokens.now.text.items (number_seen around) (statement_tree statement.now) f) (statement_seen s) locals.new) }
 {
     match statement {
-        syntax::Statement::Declare(declare) => {
-            let heap = is_heap(declare.kind);
-            locals.declare(alloc, tokens, declare.name, heap, Role::Local)
+        syntax::Statement::Block(block) => {
+            let block = tell_block(alloc, tokens, locals, around, block)?;
+            Ok(Statement::Block(block))
         }
-        _ => Ok(()),
+        syntax::Statement::If(branches) => {
+            let branches = tell_if(alloc, tokens, locals, around, branches)?;
+            Ok(Statement::If(branches))
+        }
+        syntax::Statement::While(test) => {
+            let inside = locals.last();
+            let test = tell_test(alloc, tokens, locals, inside, test)?;
+            Ok(Statement::While(test))
+        }
+        syntax::Statement::Break(word) => {
+            let action = Action::Break(leaving(locals, word.place, around));
+            Ok(Statement::Simple(unread(alloc, action)))
+        }
+        syntax::Statement::Continue(word) => {
+            let action = Action::Continue(leaving(locals, word.place, around));
+            Ok(Statement::Simple(unread(alloc, action)))
+        }
+        syntax::Statement::Declare(_)
+        | syntax::Statement::Assign(_)
+        | syntax::Statement::Call(_)
+        | syntax::Statement::Start { .. }
+        | syntax::Statement::Delete(_)
+        | syntax::Statement::NewChannel(_)
+        | syntax::Statement::Return { .. }
+        | syntax::Statement::Switch(_) => {
+            let simple = tell_alone(alloc, tokens, locals, statement)?;
+            Ok(Statement::Simple(simple))
+        }
     }
 }
 
 /// What these statements come to, one after another. A variable is in scope behind its declaration.
+#[cycle(statements)]
 pub(crate) fn tell_statements<'a>(
     alloc: Global,
     tokens: &'a Tokens,
     locals: &mut Locals<'a>,
+    around: Option<VarId>,
     statements: &[syntax::Statement],
 ) -> Result<Vec<Statement>, AllocError>
-    ensures { (f : Frame) → IsFrame tokens.now.text.items f locals.old → IfOk result (λ list. IsBody tokens.now.text.items (statements_told tokens.now.text.items (statement_row (map statement_tree statements.now)) f) list.items locals.new) }
+    ensures { (f : Frame) → IsFrame tokens.now.text.items f locals.old → IfOk result (λ list. IsTold tokens.now.text.items (statements_told tokens.now.text.items (number_seen around) (statement_row (map statement_tree statements.now)) f) (seen.statement_row (map statement_seen list.items)) locals.new) }
 {
     let mut told = Vec::new(alloc);
     for statement in statements {
-        told.push(tell(alloc, tokens, locals, statement)?)?;
-        declare_in(alloc, tokens, locals, statement)?;
+        told.push(tell_statement(alloc, tokens, locals, around, statement)?)?;
     }
     Ok(told)
+}
+
+/// What a block comes to. What it declares is in scope there alone.
+#[cycle(statements)]
+fn tell_block<'a>(
+    alloc: Global,
+    tokens: &'a Tokens,
+    locals: &mut Locals<'a>,
+    around: Option<VarId>,
+    block: &syntax::Block,
+) -> Result<Block, AllocError>
+    ensures { (f : Frame) → IsFrame tokens.now.text.items f locals.old → IfOk result (λ b. IsTold tokens.now.text.items (block_told tokens.now.text.items (number_seen around) (block_tree block.now) f) (block_seen b) locals.new) }
+{
+    let outer = locals.len();
+    let last = locals.last();
+    let statements = tell_statements(alloc, tokens, locals, around, &block.statements)?;
+    let forget = forgetting(block.close.place, last, locals.last());
+    locals.leave(tokens, outer, last);
+    Ok(Block { statements, forget })
+}
+
+/// What a condition comes to, with its block.
+#[cycle(statements)]
+fn tell_test<'a>(
+    alloc: Global,
+    tokens: &'a Tokens,
+    locals: &mut Locals<'a>,
+    around: Option<VarId>,
+    test: &syntax::Test,
+) -> Result<Test, AllocError>
+    ensures { (f : Frame) → IsFrame tokens.now.text.items f locals.old → IfOk result (λ t. IsTold tokens.now.text.items (test_told tokens.now.text.items (number_seen around) (test_tree test.now) f) (test_seen t) locals.new) }
+{
+    let mut reads = Vec::new(alloc);
+    add_reads(tokens, locals, &test.test, &mut reads)?;
+    let body = tell_block(alloc, tokens, locals, around, &test.body)?;
+    Ok(Test {
+        place: test.word.place,
+        reads,
+        ways: ways_of(&test.test),
+        body,
+    })
+}
+
+/// What conditions in a row come to, each with its block.
+#[cycle(statements)]
+fn tell_tests<'a>(
+    alloc: Global,
+    tokens: &'a Tokens,
+    locals: &mut Locals<'a>,
+    around: Option<VarId>,
+    tests: &[syntax::Test],
+) -> Result<Vec<Test>, AllocError>
+    ensures { (f : Frame) → IsFrame tokens.now.text.items f locals.old → IfOk result (λ list. IsTold tokens.now.text.items (walked (test_told tokens.now.text.items (number_seen around)) (map test_tree tests.now) f) (map test_seen list.items) locals.new) }
+{
+    let mut told = Vec::new(alloc);
+    for test in tests {
+        told.push(tell_test(alloc, tokens, locals, around, test)?)?;
+    }
+    Ok(told)
+}
+
+/// What a last block comes to, if there is one.
+#[cycle(statements)]
+fn tell_otherwise<'a>(
+    alloc: Global,
+    tokens: &'a Tokens,
+    locals: &mut Locals<'a>,
+    around: Option<VarId>,
+    otherwise: &Option<syntax::Block>,
+) -> Result<Option<Block>, AllocError>
+    ensures { (f : Frame) → IsFrame tokens.now.text.items f locals.old → IfOk result (λ b. IsTold tokens.now.text.items (others_told tokens.now.text.items (number_seen around) (last_other (option_map block_tree otherwise.now)) f) (seen.last_other (option_map block_seen b)) locals.new) }
+{
+    match otherwise {
+        Some(block) => {
+            let block = tell_block(alloc, tokens, locals, around, block)?;
+            Ok(Some(block))
+        }
+        None => Ok(None),
+    }
+}
+
+/// What an `if` comes to.
+#[cycle(statements)]
+fn tell_if<'a>(
+    alloc: Global,
+    tokens: &'a Tokens,
+    locals: &mut Locals<'a>,
+    around: Option<VarId>,
+    branches: &syntax::If,
+) -> Result<If, AllocError>
+    ensures { (f : Frame) → IsFrame tokens.now.text.items f locals.old → IfOk result (λ i. IsTold tokens.now.text.items (follow seen.If (test_told tokens.now.text.items (number_seen around) (if_tree branches.now).first f) (others_told tokens.now.text.items (number_seen around) (if_tree branches.now).others)) (seen.If (if_seen i).first (if_seen i).others) locals.new) }
+{
+    let first = tell_test(alloc, tokens, locals, around, &branches.first)?;
+    let others = tell_tests(alloc, tokens, locals, around, &branches.others)?;
+    let otherwise = tell_otherwise(alloc, tokens, locals, around, &branches.otherwise)?;
+    Ok(If {
+        first,
+        others,
+        otherwise,
+    })
 }

@@ -1,17 +1,18 @@
 //! The first form in a text that is not analysed yet.
 
 ghost use Rattle.std.specs.Prelude.{◌≡◌, map, option_map};
-ghost use Rattle.syntax.specs.StatementTrees as stated;
-ghost use Rattle.syntax.specs.StatementTrees.{statement_tree, statement_row, declare_tree};
+ghost use Rattle.syntax.specs.StatementTrees.{statement_tree, statement_row, declare_tree, block_tree, if_tree, last_other};
 ghost use Rattle.syntax.specs.Trees.{method_tree, item_tree};
 ghost use Rattle.syntax.specs.Values.{value_tree};
-ghost use Rattle.syntax.specs.ExpressionTrees.{target_tree};
+ghost use Rattle.syntax.specs.ExpressionTrees.{target_tree, expression_tree};
 ghost use Rattle.resolving.specs.Methods.{not_yet};
-ghost use Rattle.resolving.specs.Unknown.{type_place, unknown_type, unknown_value, target_place, unknown_statement, unknown_statements, unknown_params, unknown_result, unknown_method, unknown_methods};
+ghost use Rattle.resolving.specs.Unknown.{type_place, unknown_type, unknown_value, target_place, or_else, unknown_declare, unknown_returned, unknown_statement, unknown_statements, unknown_block, unknown_test, unknown_others, unknown_params, unknown_result, unknown_method, unknown_methods};
 
 use crate::methods::methods_of;
 use source::{Place, Span};
-use syntax::{Declare, Heap, Item, Method, Parameter, Statement, Target, Type, Value};
+use syntax::{
+    Block, Declare, Expression, Heap, If, Item, Method, Parameter, Statement, Target, Type, Value,
+};
 
 /// Where a type begins, or this place where the tree keeps none.
 fn type_place(other: Place, kind: Type) -> Place
@@ -69,7 +70,7 @@ fn unknown_first(place: Place, value: &Option<Value>) -> Option<Place>
 }
 
 fn unknown_declare(declare: &Declare) -> Option<Place>
-    ensures { result ≡ unknown_statement (stated.Declare (declare_tree declare.now)) }
+    ensures { result ≡ unknown_declare (declare_tree declare.now) }
 {
     match unknown_type(declare.kind) {
         Some(place) => Some(place),
@@ -80,30 +81,39 @@ fn unknown_declare(declare: &Declare) -> Option<Place>
     }
 }
 
-/// The place of a statement that is not analysed yet.
+/// An expression that a method gives, behind the `return` at this place.
+fn unknown_returned(place: Place, value: &Option<Expression>) -> Option<Place>
+    ensures { result ≡ unknown_returned place (option_map expression_tree value.now) }
+{
+    match value {
+        Some(_) => Some(place),
+        None => None,
+    }
+}
+
+/// The first place in a statement that is not analysed yet.
+#[cycle(statements)]
 fn unknown_statement(statement: &Statement) -> Option<Place>
     ensures { result ≡ unknown_statement (statement_tree statement.now) }
 {
     match statement {
-        Statement::Block(block) => Some(block.close.place),
+        Statement::Block(block) => unknown_block(block),
         Statement::Declare(declare) => unknown_declare(declare),
         Statement::Assign(assign) => unknown_value(target_place(&assign.target), &assign.value),
         Statement::Call(call) => Some(call.name.place),
         Statement::Start { word, .. } => Some(word.place),
         Statement::Delete(_) => None,
         Statement::NewChannel(channel) => Some(channel.contract.place),
-        Statement::If(branches) => Some(branches.first.word.place),
-        Statement::While(test) => Some(test.word.place),
-        Statement::Break(word) => Some(word.place),
-        Statement::Continue(word) => Some(word.place),
-        Statement::Return { word, value } => match value {
-            Some(_) => Some(word.place),
-            None => None,
-        },
+        Statement::If(branches) => unknown_if(branches),
+        Statement::While(test) => unknown_block(&test.body),
+        Statement::Break(_) => None,
+        Statement::Continue(_) => None,
+        Statement::Return { word, value } => unknown_returned(word.place, value),
         Statement::Switch(switch) => Some(switch.word.place),
     }
 }
 
+#[cycle(statements)]
 fn unknown_statements(statements: &[Statement]) -> Option<Place>
     ensures { result ≡ unknown_statements (statement_row (map statement_tree statements.now)) }
 {
@@ -113,6 +123,38 @@ fn unknown_statements(statements: &[Statement]) -> Option<Place>
         }
     }
     None
+}
+
+#[cycle(statements)]
+fn unknown_block(block: &Block) -> Option<Place>
+    ensures { result ≡ unknown_block (block_tree block.now) }
+{
+    unknown_statements(&block.statements)
+}
+
+#[cycle(statements)]
+fn unknown_otherwise(otherwise: &Option<Block>) -> Option<Place>
+    ensures { result ≡ unknown_others (last_other (option_map block_tree otherwise.now)) }
+{
+    match otherwise {
+        Some(block) => unknown_block(block),
+        None => None,
+    }
+}
+
+#[cycle(statements)]
+fn unknown_if(branches: &If) -> Option<Place>
+    ensures { result ≡ or_else (unknown_test (if_tree branches.now).first) (unknown_others (if_tree branches.now).others) }
+{
+    if let Some(place) = unknown_block(&branches.first.body) {
+        return Some(place);
+    }
+    for test in &branches.others {
+        if let Some(place) = unknown_block(&test.body) {
+            return Some(place);
+        }
+    }
+    unknown_otherwise(&branches.otherwise)
 }
 
 fn unknown_params(params: &[Parameter]) -> Option<Place>
@@ -145,7 +187,7 @@ fn unknown_method(method: &Method) -> Option<Place>
     if let Some(place) = unknown_params(&method.params) {
         return Some(place);
     }
-    unknown_statements(&method.body.statements)
+    unknown_block(&method.body)
 }
 
 fn unknown_methods(methods: &[Method]) -> Option<Place>

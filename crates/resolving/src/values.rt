@@ -3,7 +3,7 @@
 ghost use Rattle.std.specs.Prelude.{◌≡◌, [], IfOk, OnOk};
 ghost use Rattle.syntax.specs.ExpressionTrees.{expression_tree};
 ghost use Rattle.syntax.specs.Values.{value_tree, made_tree};
-ghost use Rattle.resolved.specs.Methods.{statement_seen};
+ghost use Rattle.resolved.specs.Statements.{simple_seen};
 ghost use Rattle.resolving.specs.Steps.{AddsReads, Tells};
 ghost use Rattle.resolving.specs.Frames.{IsFrame};
 ghost use Rattle.resolving.specs.Locals.{Frame};
@@ -12,16 +12,16 @@ ghost use Rattle.resolving.specs.Told.{told, lone, moved, made_reads, value_read
 use crate::alone::name_alone;
 use crate::locals::Locals;
 use crate::reads::add_reads;
-use resolved::{Action, Mention, Statement};
+use resolved::{Action, Mention, Simple};
 use source::Tokens;
 use std::alloc::{AllocError, Global};
 use syntax::{Expression, Made, Value};
 
 /// A statement that reads nothing.
-pub(crate) fn unread(alloc: Global, action: Action) -> Statement
-    ensures { statement_seen result ≡ told [] action }
+pub(crate) fn unread(alloc: Global, action: Action) -> Simple
+    ensures { simple_seen result ≡ told [] action }
 {
-    Statement {
+    Simple {
         reads: Vec::new(alloc),
         action,
     }
@@ -83,12 +83,12 @@ fn tell_new(
     locals: &Locals<'_>,
     target: Mention,
     made: &Made,
-) -> Result<Statement, AllocError>
+) -> Result<Simple, AllocError>
     ensures { IfOk result (Tells tokens.now.text.items locals.now (λ f. told (made_reads tokens.now.text.items f (made_tree made.now)) (Action.New target))) }
 {
     let mut reads = Vec::new(alloc);
     add_made_reads(tokens, locals, made, &mut reads)?;
-    Ok(Statement {
+    Ok(Simple {
         reads,
         action: Action::New(target),
     })
@@ -101,7 +101,7 @@ pub(crate) fn tell_taken(
     locals: &Locals<'_>,
     target: Mention,
     value: &Value,
-) -> Result<Statement, AllocError>
+) -> Result<Simple, AllocError>
     ensures { IfOk result (Tells tokens.now.text.items locals.now (λ f. taken tokens.now.text.items f target (value_tree value.now))) }
 {
     match value {
@@ -120,12 +120,12 @@ fn tell_scalar(
     tokens: &Tokens,
     locals: &Locals<'_>,
     value: &Value,
-) -> Result<Statement, AllocError>
+) -> Result<Simple, AllocError>
     ensures { IfOk result (Tells tokens.now.text.items locals.now (λ f. told (value_reads tokens.now.text.items f (value_tree value.now)) Action.Nothing)) }
 {
     let mut reads = Vec::new(alloc);
     add_value_reads(tokens, locals, value, &mut reads)?;
-    Ok(Statement {
+    Ok(Simple {
         reads,
         action: Action::Nothing,
     })
@@ -138,7 +138,7 @@ pub(crate) fn tell_assigned(
     locals: &Locals<'_>,
     target: Option<Mention>,
     value: &Value,
-) -> Result<Statement, AllocError>
+) -> Result<Simple, AllocError>
     ensures { IfOk result (Tells tokens.now.text.items locals.now (λ f. assigned tokens.now.text.items f target (value_tree value.now))) }
 {
     match target {

@@ -1,2 +1,3 @@
-pub mod EndLemmas
 pub mod ProgramLemmas
+pub mod ScopeLemmas
+pub mod GivenLemmas

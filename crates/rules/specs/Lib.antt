@@ -1,6 +1,7 @@
 pub mod Checks
 pub mod Programs
 pub mod Rows
+pub mod Scopes
 pub mod RuleTable
 pub mod Steps
 pub mod Texts

@@ -1,15 +1,18 @@
 -- The rule table: for each instruction its checks in order, and the row after it. The first check that fails is the finding
 -- of the step.
-use Rattle.std.specs.Prelude.{ℕ, ◌==◌, Bool, true, false, not, ◌&&◌, List, [], ◌∷◌, Option, Some, None, slice_get, set, take, if◌then◌else◌}
+use Rattle.std.specs.Prelude.{ℕ, ◌==◌, Bool, true, false, not, ◌&&◌, List, [], ◌∷◌, Option, Some, None, map, slice_get, set, if◌then◌else◌}
 use Rattle.std.specs.Option.{option_map_or}
 use Rattle.source.specs.Findings.{FindingParts}
 use Rattle.source.specs.declared.place.Place.{Place}
-use Rattle.resolved.specs.Methods.{MethodSeen, VariableSeen}
+use Rattle.resolved.specs.Methods.{MethodSeen}
 use Rattle.resolved.specs.declared.method.Role.{Role}
 use Rattle.resolved.specs.declared.method.Role.TheVariants as role
 use Rattle.resolved.specs.declared.statement.Mention.{Mention}
-use Rattle.flow.specs.Graphs.{Instruction, Use, New, Move, Delete, Return}
-use Rattle.rules.specs.Rows.{leaf_at, is_owned, is_something}
+use Rattle.flow.specs.Graphs.{Instruction, Use, New, Move, Delete, Branch, Forget, Return}
+use Rattle.flow.specs.declared.graph.Branches.{Branches}
+use Rattle.flow.specs.declared.graph.Branches.TheVariants.{Either, Only}
+use Rattle.rules.specs.Rows.{leaf_at, is_owned}
+use Rattle.rules.specs.Scopes.{declared_between}
 use Rattle.rules.specs.Texts.{not_owned, overwritten, still_owned, lent, twice}
 use Rattle.rules.specs.declared.row.Leaf.{Leaf}
 use Rattle.rules.specs.declared.row.Leaf.TheVariants.{Nothing, Block}
@@ -40,6 +43,11 @@ abbrev pub is_lent_role : Role → Bool
 is_lent_role role.Lent = true
 is_lent_role _ = false
 
+-- where a condition goes on
+abbrev pub ways : Branches → List Leaf → List Pair
+ways (Either inside past) row = (inside, row) ∷ (past, row) ∷ []
+ways (Only point) row = (point, row) ∷ []
+
 module _ (m : MethodSeen) where
   -- the name of a variable, and whether it is lent
   abbrev pub name_of : ℕ → List ℕ
@@ -61,12 +69,14 @@ module _ (m : MethodSeen) where
   abbrev pub is_another : Mention → Mention → Check
   is_another target x = refused (target.variable.0 == x.variable.0) (twice (name_of x.variable.0) x.place)
 
-  -- the checks of a method's end: a variable that is not lent has nothing
-  abbrev pub given_back : Place → List VariableSeen → List Leaf → List Check
-  given_back place [] leaves = []
-  given_back place variables [] = []
-  given_back place (v ∷ variables) (leaf ∷ leaves) =
-      refused (not (is_lent_role v.role) && is_something leaf) (still_owned v.name place) ∷ given_back place variables leaves
+  -- whether a variable still has something; what is lent is not the method's to give back
+  abbrev pub is_kept : List Leaf → ℕ → Bool
+  is_kept row v = not (is_lent v) && is_owned row v
+
+  -- The checks of variables that go out of scope, in order of declaration: they have nothing. None of them is lent but where the
+  -- method ends, since its parameters are in scope until then.
+  abbrev pub given_back : List Leaf → Place → List ℕ → List Check
+  given_back row place variables = map (λ v. refused (is_kept row v) (still_owned (name_of v) place)) variables
 
   -- a line for each instruction
   abbrev pub instruction_outcome : Instruction → List Leaf → Step Pair FindingParts
@@ -76,4 +86,6 @@ module _ (m : MethodSeen) where
       checked (is_another v w ∷ is_not_lent w ∷ has_something row w ∷ is_not_lent v ∷ has_nothing row v ∷ [])
       ((next, set (set row v.variable.0 (leaf_at row w.variable.0)) w.variable.0 Nothing) ∷ [])
   instruction_outcome (Delete v next) row = checked (is_not_lent v ∷ has_something row v ∷ []) ((next, set row v.variable.0 Nothing) ∷ [])
-  instruction_outcome (Return place scope) row = checked (given_back place (take scope m.variables) row) []
+  instruction_outcome (Branch place branches) row = Goes (ways branches row)
+  instruction_outcome (Forget f next) row = checked (given_back row f.place (declared_between m f.outer (Some f.last))) ((next, row) ∷ [])
+  instruction_outcome (Return place scope) row = checked (given_back row place (declared_between m None scope)) []

@@ -1,14 +1,18 @@
 //! The checks of the rule table: each answers the finding where it fails.
 
-ghost use Rattle.std.specs.Prelude.{◌≡◌, IfOk};
-ghost use Rattle.resolved.specs.Methods.{method_seen, variable_seen};
+ghost use Rattle.std.specs.Prelude.{◌≡◌, List, [], ◌∷◌, IfOk, option_map};
+ghost use Rattle.source.specs.Findings.{finding_parts};
+ghost use Rattle.resolved.specs.Methods.{method_seen};
 ghost use Rattle.rules.specs.Checks as checks;
 ghost use Rattle.rules.specs.Checks.{check_seen};
 ghost use Rattle.rules.specs.Rows.{leaves_of};
 ghost use Rattle.rules.specs.RuleTable as table;
+ghost use Rattle.rules.specs.RuleTable.{Pair, checked, given_back};
+ghost use Rattle.rules.specs.Texts as texts;
+ghost use Rattle.rules.specs.Scopes.{declared_between, is_this, outer_of};
 
-use crate::row::{Leaf, Row};
-use resolved::{Mention, Method, Role, VarId, Variable};
+use crate::row::Row;
+use resolved::{Mention, Method, Role, VarId};
 use source::texts::{given_twice, is_lent, not_owned, overwritten, still_owned};
 use source::{Finding, Memory, Place};
 use std::alloc::Global;
@@ -110,18 +114,95 @@ pub(crate) fn is_another(
     Ok(Some(finding))
 }
 
-/// That a variable which is not lent has nothing where its method ends.
+/// Whether a variable still has something that is not lent.
+fn is_kept(method: &Method, row: &Row, variable: VarId) -> bool
+    ensures { result ≡ table.is_kept (method_seen method.now) (leaves_of row.now) variable.0 }
+{
+    !lends(method, variable) && row.owns(variable)
+}
+
+/// The variable of the exchange heap before this one in scope.
+fn outer_of(method: &Method, variable: VarId) -> Option<VarId>
+    ensures { result ≡ outer_of (method_seen method.now).variables variable.0 }
+{
+    method.variables.get(variable.0)?.outer
+}
+
+/// Whether the second is there and the same variable.
+fn is_this(variable: VarId, other: Option<VarId>) -> bool
+    ensures { result ≡ is_this variable other }
+{
+    match other {
+        Some(other) => variable.0 == other.0,
+        None => false,
+    }
+}
+
+/// This variable if it still has something, and else the one that was found before.
+fn kept_or(method: &Method, row: &Row, variable: VarId, before: Option<VarId>) -> Option<VarId>
+    ensures { option_map (λ v. v.0) result ≡ checks.kept_or (checks.if_kept (method_seen method.now) (leaves_of row.now) variable.0) (option_map (λ v. v.0) before) }
+{
+    if is_kept(method, row, variable) {
+        Some(variable)
+    } else {
+        before
+    }
+}
+
+/// The first variable, in order of declaration, that still has something: of those in scope where `last` is the last one,
+/// without those in scope where `outer` is.
+fn first_kept(
+    method: &Method,
+    row: &Row,
+    outer: Option<VarId>,
+    last: Option<VarId>,
+) -> Option<VarId>
+    ensures { option_map (λ v. v.0) result ≡ checks.first_kept (method_seen method.now) (leaves_of row.now) (declared_between (method_seen method.now) outer last) }
+{
+    let mut first = None;
+    let mut at = last;
+    for _ in 0..method.variables.len() {
+        let Some(variable) = at else {
+            return first;
+        };
+        if is_this(variable, outer) {
+            return first;
+        }
+        first = kept_or(method, row, variable, first);
+        at = outer_of(method, variable);
+    }
+    first
+}
+
+/// That a variable still has something at this place.
+fn told_owned(
+    alloc: Global,
+    method: &Method,
+    place: Place,
+    variable: VarId,
+) -> Result<Finding, Memory>
+    ensures { IfOk result (λ finding. finding_parts finding ≡ texts.still_owned (table.name_of (method_seen method.now) variable.0) place) }
+{
+    still_owned(alloc, place, name_of(method, variable))
+}
+
+/// That the variables which go out of scope at this place have nothing: those in scope where `last` is the last one, without
+/// those in scope where `outer` is.
 pub(crate) fn is_given_back(
     alloc: Global,
+    method: &Method,
+    row: &Row,
     place: Place,
-    variable: &Variable,
-    leaf: Leaf,
+    outer: Option<VarId>,
+    last: Option<VarId>,
 ) -> Result<Option<Finding>, Memory>
-    ensures { IfOk result (λ found. check_seen found ≡ checks.is_given_back place (variable_seen variable.now) leaf) }
+    ensures { IfOk result (λ found. (after : List Pair) → checked (given_back (method_seen method.now) (leaves_of row.now) place (declared_between (method_seen method.now) outer last)) after ≡ checked (check_seen found ∷ []) after) }
 {
-    if is_lent_role(variable.role) || !leaf.is_something() {
-        return Ok(None);
+    match first_kept(method, row, outer, last) {
+        Some(variable) => {
+            let finding = told_owned(alloc, method, place, variable)?;
+            Ok(Some(finding))
+        }
+        None => Ok(None),
     }
-    let finding = still_owned(alloc, place, &variable.name)?;
-    Ok(Some(finding))
 }

@@ -2,17 +2,18 @@
 //! fails is the finding.
 
 ghost use Rattle.std.specs.Prelude.{◌≡◌, IfOk, [], ◌∷◌};
+ghost use Rattle.flow.specs.Graphs as graphs;
 ghost use Rattle.flow.specs.Graphs.{Use, New, Move, Delete, Return, instruction_seen};
 ghost use Rattle.resolved.specs.Methods.{method_seen};
 ghost use Rattle.rules.specs.Rows.{leaves_of};
-ghost use Rattle.rules.specs.RuleTable.{Goes, instruction_outcome};
+ghost use Rattle.rules.specs.RuleTable.{Goes, ways, instruction_outcome};
 ghost use Rattle.rules.specs.Steps.{outcome_seen};
 
 use crate::checks::{has_nothing, has_something, is_another, is_given_back, is_not_lent};
 use crate::outcome::Outcome;
 use crate::row::{Leaf, Row};
-use flow::Instr;
-use resolved::{Mention, Method};
+use flow::{Branches, Instr};
+use resolved::{Forget, Mention, Method, VarId};
 use source::{Memory, Place};
 use std::alloc::Global;
 
@@ -34,6 +35,8 @@ pub(crate) fn applied(
             next,
         } => move_(alloc, method, row, *target, *source, *next),
         Instr::Delete { at, next } => delete(alloc, method, row, *at, *next),
+        Instr::Branch { branches, .. } => branch(alloc, row, *branches),
+        Instr::Forget { forget, next } => forget_(alloc, method, row, *forget, *next),
         Instr::Return { place, scope } => return_(alloc, method, row, *place, *scope),
     }
 }
@@ -138,20 +141,51 @@ fn delete(
     goes(alloc, next, after)
 }
 
+/// A condition. The row stays as it is, each way that it can go.
+fn branch(alloc: Global, row: &Row, branches: Branches) -> Result<Outcome, Memory>
+    ensures { IfOk result (λ o. outcome_seen o ≡ Goes (ways branches (leaves_of row.now))) }
+{
+    let mut pairs = Vec::new(alloc);
+    match branches {
+        Branches::Either { inside, past } => {
+            pairs.push((inside, row.copied(alloc)?))?;
+            pairs.push((past, row.copied(alloc)?))?;
+        }
+        Branches::Only(point) => pairs.push((point, row.copied(alloc)?))?,
+    }
+    Ok(Outcome::Next(pairs))
+}
+
+/// Variables go out of scope; they have nothing.
+fn forget_(
+    alloc: Global,
+    method: &Method,
+    row: &Row,
+    forget: Forget,
+    next: usize,
+) -> Result<Outcome, Memory>
+    ensures { IfOk result (λ o. outcome_seen o ≡ instruction_outcome (method_seen method.now) (graphs.Forget forget next) (leaves_of row.now)) }
+{
+    let last = Some(forget.last);
+    if let Some(finding) = is_given_back(alloc, method, row, forget.place, forget.outer, last)? {
+        return Ok(Outcome::Found(finding));
+    }
+    let after = row.copied(alloc)?;
+    goes(alloc, next, after)
+}
+
 /// The method ends. Of the variables in scope, those that are not lent have nothing.
 fn return_(
     alloc: Global,
     method: &Method,
     row: &Row,
     place: Place,
-    scope: usize,
+    scope: Option<VarId>,
 ) -> Result<Outcome, Memory>
     ensures { IfOk result (λ o. outcome_seen o ≡ instruction_outcome (method_seen method.now) (Return place scope) (leaves_of row.now)) }
 {
-    for (variable, leaf) in method.variables.iter().take(scope).zip(&row.leaves) {
-        if let Some(finding) = is_given_back(alloc, place, variable, *leaf)? {
-            return Ok(Outcome::Found(finding));
-        }
+    match is_given_back(alloc, method, row, place, None, scope)? {
+        Some(finding) => Ok(Outcome::Found(finding)),
+        None => Ok(Outcome::Next(Vec::new(alloc))),
     }
-    Ok(Outcome::Next(Vec::new(alloc)))
 }

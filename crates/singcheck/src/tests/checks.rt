@@ -21,6 +21,22 @@ const HANDED_ON: &str =
 
 const HANDED_ON_ANSWER: &str = "ok: 0 contracts, 2 methods\n";
 
+/// Freed on one way of an `if`.
+const FREED_ON_ONE_WAY: &str =
+    "rep struct D { int n; }\nclass K {\nstatic void F(bool b) {\nD* in ExHeap p = new[ExHeap] D();\nif (b) { delete p; }\n}\n}";
+
+/// Freed on both.
+const FREED_ON_BOTH_WAYS: &str =
+    "rep struct D { int n; }\nclass K {\nstatic void F(bool b) {\nD* in ExHeap p = new[ExHeap] D();\nif (b) { delete p; } else { delete p; }\n}\n}";
+
+/// Kept where a loop is left.
+const KEPT_AT_A_BREAK: &str =
+    "rep struct D { int n; }\nclass K {\nstatic void F(bool b) {\nwhile (b) {\nD* in ExHeap p = new[ExHeap] D();\nif (b) { break; }\ndelete p;\n}\n}\n}";
+
+/// Freed each time a loop turns.
+const FREED_IN_A_LOOP: &str =
+    "rep struct D { int n; }\nclass K {\nstatic void F(bool b) {\nD* in ExHeap p = new[ExHeap] D();\nwhile (b) { delete p; }\n}\n}";
+
 /// A gate that counts the methods before which it was entered, as long as they come in order from 0.
 #[derive(Drop)]
 struct InOrder {
@@ -63,6 +79,40 @@ fn checks_as_worked_out(rt: HostRuntime) -> Result<(), Fail> {
             "class K {",
             Status::Found,
             "1:10 S05 unexpected end\nfindings: 1\n",
+        ),
+    ];
+    for (text, wanted, answer) in rows.iter() {
+        for workers in [1, 2, 64] {
+            let (status, bytes) = answer_to(rt.alloc(), text, workers)?;
+            assert!(rt; status == *wanted, "{text}");
+            assert!(rt; bytes.as_slice() == answer.as_bytes(), "{text}");
+        }
+    }
+    Ok(())
+}
+
+#[test]
+fn follows_every_way(rt: HostRuntime) -> Result<(), Fail> {
+    let rows = [
+        (
+            FREED_ON_ONE_WAY,
+            Status::Found,
+            "6:1 A08 p still owned\nfindings: 1\n",
+        ),
+        (
+            FREED_ON_BOTH_WAYS,
+            Status::Empty,
+            "ok: 0 contracts, 1 methods\n",
+        ),
+        (
+            KEPT_AT_A_BREAK,
+            Status::Found,
+            "6:10 A08 p still owned\nfindings: 1\n",
+        ),
+        (
+            FREED_IN_A_LOOP,
+            Status::Found,
+            "5:20 A01 p not owned\n6:1 A08 p still owned\nfindings: 2\n",
         ),
     ];
     for (text, wanted, answer) in rows.iter() {

@@ -5,7 +5,7 @@ ghost use Rattle.rules.specs.Programs.{methods_of};
 
 use analyse::tasks;
 use flow::{Instr, lower};
-use resolved::{Action, Mention, Method, MethodId, Role, Statement, VarId, Variable};
+use resolved::{Action, Mention, Method, MethodId, Role, Simple, Statement, VarId, Variable};
 use rules::{Leaf, MOST_LEAVES, MOST_STATES, Outcome, Program, Row, entry, step};
 use source::{Memory, Place};
 use std::alloc::Global;
@@ -18,18 +18,24 @@ fn mention(variable: usize, col: u32) -> Mention {
     }
 }
 
-fn variable(alloc: Global, name: &str, role: Role) -> Result<Variable, Memory> {
+fn variable(
+    alloc: Global,
+    name: &str,
+    role: Role,
+    outer: Option<VarId>,
+) -> Result<Variable, Memory> {
     Ok(Variable {
         name: Vec::from_slice(alloc, name.as_bytes())?,
         role,
+        outer,
     })
 }
 
 /// A method that claims `p`, moves it to `q`, frees `q` and reads `q`.
 fn freed_and_read(alloc: Global) -> Result<Method, Memory> {
     let mut variables = Vec::new(alloc);
-    variables.push(variable(alloc, "p", Role::Claimed)?)?;
-    variables.push(variable(alloc, "q", Role::Local)?)?;
+    variables.push(variable(alloc, "p", Role::Claimed, None)?)?;
+    variables.push(variable(alloc, "q", Role::Local, Some(VarId(0)))?)?;
     let mut reads = Vec::new(alloc);
     reads.push(mention(1, 30))?;
     let mut statements = Vec::new(alloc);
@@ -39,23 +45,20 @@ fn freed_and_read(alloc: Global) -> Result<Method, Memory> {
     };
     statements.push(plain(alloc, moved))?;
     statements.push(plain(alloc, Action::Delete(mention(1, 20))))?;
-    statements.push(Statement {
-        reads,
-        action: Action::Nothing,
-    })?;
+    let action = Action::Nothing;
+    statements.push(Statement::Simple(Simple { reads, action }))?;
     Ok(Method {
         name: Place { line: 1, col: 1 },
         variables,
         statements,
+        scope: Some(VarId(1)),
         close: Place { line: 1, col: 40 },
     })
 }
 
 fn plain(alloc: Global, action: Action) -> Statement {
-    Statement {
-        reads: Vec::new(alloc),
-        action,
-    }
+    let reads = Vec::new(alloc);
+    Statement::Simple(Simple { reads, action })
 }
 
 fn only(alloc: Global) -> Result<Program, Memory>
@@ -92,10 +95,10 @@ fn is_move(instruction: Option<&Instr>, variable: usize, point: usize) -> bool {
     }
 }
 
-/// Whether it ends the method there, with so many variables in scope.
-fn is_return(instruction: Option<&Instr>, col: u32, many: usize) -> bool {
+/// Whether it ends the method there, with this variable the last in scope.
+fn is_return(instruction: Option<&Instr>, col: u32, last: usize) -> bool {
     match instruction {
-        Some(Instr::Return { place, scope }) => place.col == col && *scope == many,
+        Some(Instr::Return { place, scope }) => place.col == col && *scope == Some(VarId(last)),
         _ => false,
     }
 }
@@ -106,7 +109,7 @@ fn lays_a_method_from_its_end(rt: HostRuntime) -> Result<(), Fail> {
     assert!(rt; graph.first == 3);
     let laid = &graph.instructions;
     assert!(rt; laid.len() == 4);
-    assert!(rt; is_return(laid.get(0), 40, 2));
+    assert!(rt; is_return(laid.get(0), 40, 1));
     assert!(rt; is_use(laid.get(1), 1, 0));
     assert!(rt; is_delete(laid.get(2), 1, 1));
     assert!(rt; is_move(laid.get(3), 0, 2));

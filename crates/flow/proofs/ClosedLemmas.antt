@@ -1,0 +1,51 @@
+-- A method goes on at points of its graph.
+use Rattle.std.proofs.Common.{◌≡◌, ℕ, ◌<◌, length, length-append, arith, subst, sym}
+use Rattle.resolved.specs.Methods.{MethodSeen}
+use Rattle.resolved.specs.Statements as stated
+use Rattle.resolved.specs.Statements.{StatementSeen, StatementsSeen, BlockSeen, TestSeen, OthersSeen}
+use Rattle.flow.specs.Graphs.{GraphSeen, Return}
+use Rattle.flow.specs.Lowering.{Lays, one, parts, reads, forgets, acts, statement, statements, block, condition, others, method, graph_of}
+use Rattle.flow.specs.Within.{IsClosed}
+use Rattle.flow.proofs.WithinLemmas.{AllBelow, StaysBelow, nothing_stays, both_stay, parts_stay, turns_stay, reads_stay, forgets_stay, return_stays, acts_stay}
+
+mutual
+  -- a statement stays below a bound where the end of its loop and the condition lie below it
+  statement_stays : (x : StatementSeen) (n exit again : ℕ) → exit < n → again < n → StaysBelow n (statement x exit again)
+  statement_stays (stated.Simple mentions does) n exit again e a = both_stay n (reads mentions) (acts does exit again) (reads_stay n mentions) (acts_stay n does exit again e a)
+  statement_stays (stated.Block b) n exit again e a = block_stays b n exit again e a
+  statement_stays (stated.If first rest) n exit again e a = condition_stays first n (others rest exit again) exit again e a (others_stay rest n exit again e a)
+  statement_stays (stated.While (stated.Test place mentions w body)) n exit again e a = turns_stay n place w (reads mentions) (block body) (reads_stay n mentions) (block_stays body n)
+
+  -- statements in a row
+  statements_stay : (xs : StatementsSeen) (n exit again : ℕ) → exit < n → again < n → StaysBelow n (statements xs exit again)
+  statements_stay stated.NoStatement n exit again e a = nothing_stays n
+  statements_stay (stated.MoreStatements x xs) n exit again e a = both_stay n (statement x exit again) (statements xs exit again) (statement_stays x n exit again e a) (statements_stay xs n exit again e a)
+
+  -- a block
+  block_stays : (b : BlockSeen) (n exit again : ℕ) → exit < n → again < n → StaysBelow n (block b exit again)
+  block_stays (stated.Braces xs f) n exit again e a = both_stay n (statements xs exit again) (forgets f) (statements_stay xs n exit again e a) (forgets_stay n f)
+
+  -- a condition and its block, where what is done otherwise stays below
+  condition_stays : (t : TestSeen) (n : ℕ) (otherwise : Lays) (exit again : ℕ) → exit < n → again < n → StaysBelow n otherwise → StaysBelow n (condition t otherwise exit again)
+  condition_stays (stated.Test place mentions w body) n otherwise exit again e a o =
+      both_stay n (reads mentions) (parts place w (block body exit again) otherwise) (reads_stay n mentions) (parts_stay n place w (block body exit again) otherwise (block_stays body n exit again e a) o)
+
+  -- what is done where a condition is false
+  others_stay : (x : OthersSeen) (n exit again : ℕ) → exit < n → again < n → StaysBelow n (others x exit again)
+  others_stay stated.NoOther n exit again e a = nothing_stays n
+  others_stay (stated.Else b) n exit again e a = block_stays b n exit again e a
+  others_stay (stated.ElseIf t rest) n exit again e a = condition_stays t n (others rest exit again) exit again e a (others_stay rest n exit again e a)
+
+-- The graph of a method is closed. Outside of loops a `break` and a `continue` go on at point 0, where the last Return stands.
+pub closed : (m : MethodSeen) → IsClosed (graph_of m)
+closed m =
+    let last = one (λ next. Return m.close m.scope) in
+    let body = statements m.statements 0 0 in
+    let n = length (method m 0 0).instructions in
+    let some_point : 0 < n = omega (arith, length-append (last 0 0).instructions (body 1 0).instructions) in
+    let all : AllBelow n (method m 0 0) = (both_stay n body last (statements_stay m.statements n 0 0 some_point some_point) (return_stays n m.close m.scope)).stays 0 0 some_point (omega arith) in
+    record { begins = all.begins; within = all.within }
+
+-- so is a graph that is that of a method
+pub closed_as : (g : GraphSeen) (m : MethodSeen) → g ≡ graph_of m → IsClosed g
+closed_as g m is = subst IsClosed (sym is) (closed m)

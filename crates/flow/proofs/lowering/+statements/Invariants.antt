@@ -1,0 +1,17 @@
+use Rattle.std.proofs.Common.{length, map, reverse}
+use Rattle.std.specs.Option.{option_map}
+use Rattle.resolved.specs.Statements.{statement_seen, statement_row, block_seen, test_seen, other_row}
+use Rattle.resolved.specs.declared.statement as made
+use Rattle.flow.specs.Growths.{Behind}
+use Rattle.flow.specs.Lowering.{statements, others}
+use Rattle.flow.proofs.lowering.+statements.Given as goal
+
+abbrev pub invariant-lay_if-loop-test : goal.invariant-lay_if-loop-test
+invariant-lay_if-loop-test l =
+    Behind (made.If.out-If l.branches).others.items l.test-iterator.iter.rest.now (map (λ t. t.now) (reverse l.yielded)) l.fn.instructions.items l.instructions.items l.other
+    (λ done. others (other_row (map test_seen done) (option_map block_seen (made.If.out-If l.branches).otherwise)) l.exits.end l.exits.again (length l.fn.instructions.items) l.next)
+
+abbrev pub invariant-lay_statements-loop-statement : goal.invariant-lay_statements-loop-statement
+invariant-lay_statements-loop-statement l =
+    Behind l.statements l.statement-iterator.iter.rest.now (map (λ s. s.now) (reverse l.yielded)) l.fn.instructions.items l.instructions.items l.entry
+    (λ done. statements (statement_row (map statement_seen done)) l.exits.end l.exits.again (length l.fn.instructions.items) l.next)

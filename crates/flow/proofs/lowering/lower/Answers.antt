@@ -1,0 +1,7 @@
+use Rattle.std.proofs.Common.{rules}
+use Rattle.resolved.specs.Methods.{method_seen}
+use Rattle.flow.proofs.ClosedLemmas.{closed_as}
+use Rattle.flow.proofs.lowering.lower.Goals as goal
+
+pub returns-clause-closed : goal.returns-clause-closed
+returns-clause-closed c = closed_as _ (method_seen c.args.method.now) (search rules)

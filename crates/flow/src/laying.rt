@@ -1,0 +1,130 @@
+//! Instructions and simple statements, laid on top of those that are laid already.
+
+ghost use Rattle.std.specs.Prelude.{◌≡◌, IfOk, [], ◌∷◌, ◌++◌, length};
+ghost use Rattle.resolved.specs.Statements.{simple_seen};
+ghost use Rattle.flow.specs.Growths.{Grew};
+ghost use Rattle.flow.specs.Lowering as laid;
+
+use crate::graph::{Branches, Instr};
+use resolved::{Action, Forget, Mention, Simple, Ways};
+use source::{Memory, Place};
+use std::alloc::Global;
+
+/// Where a `break` and a `continue` go on.
+#[derive(Clone, Copy, Debug)]
+pub(crate) struct Exits {
+    pub(crate) end: usize,
+    pub(crate) again: usize,
+}
+
+/// Where a condition goes on, by the ways that it can go.
+pub(crate) fn branches(ways: Ways, inside: usize, past: usize) -> Branches
+    ensures { result ≡ laid.branches ways inside past }
+{
+    match ways {
+        Ways::Either => Branches::Either { inside, past },
+        Ways::Body => Branches::Only(inside),
+        Ways::Past => Branches::Only(past),
+    }
+}
+
+/// Lays one more instruction. The answer is its point.
+pub(crate) fn lay(instructions: &mut Vec<Instr>, instruction: Instr) -> Result<usize, Memory>
+    ensures { IfOk result (λ at. (instructions.new.items ≡ instructions.old.items ++ instruction ∷ []) × (at ≡ length instructions.old.items)) }
+{
+    let at = instructions.len();
+    instructions.push(instruction)?;
+    Ok(at)
+}
+
+/// Lays a condition's Branch. The answer is its point.
+pub(crate) fn lay_branches(
+    instructions: &mut Vec<Instr>,
+    place: Place,
+    ways: Ways,
+    inside: usize,
+    past: usize,
+) -> Result<usize, Memory>
+    ensures { IfOk result (λ at. (instructions.new.items ≡ instructions.old.items ++ Instr.Branch place (laid.branches ways inside past) ∷ []) × (at ≡ length instructions.old.items)) }
+{
+    let branches = branches(ways, inside, past);
+    lay(instructions, Instr::Branch { place, branches })
+}
+
+/// Lays a `Use` for each of these mentions.
+pub(crate) fn lay_reads(
+    instructions: &mut Vec<Instr>,
+    mentions: &[Mention],
+    next: usize,
+) -> Result<usize, Memory>
+    ensures { IfOk result (λ entry. Grew instructions.old.items instructions.new.items entry (laid.reads mentions.now (length instructions.old.items) next)) }
+{
+    let mut entry = next;
+    for mention in mentions.iter().rev() {
+        let read = Instr::Use {
+            at: *mention,
+            next: entry,
+        };
+        entry = lay(instructions, read)?;
+    }
+    Ok(entry)
+}
+
+/// Lays that variables go out of scope, if there are some.
+pub(crate) fn lay_forget(
+    instructions: &mut Vec<Instr>,
+    forget: Option<Forget>,
+    next: usize,
+) -> Result<usize, Memory>
+    ensures { IfOk result (λ entry. Grew instructions.old.items instructions.new.items entry (laid.forgets forget (length instructions.old.items) next)) }
+{
+    match forget {
+        Some(forget) => lay(instructions, Instr::Forget { forget, next }),
+        None => Ok(next),
+    }
+}
+
+/// Lays what a simple statement does behind its reads.
+fn lay_action(
+    alloc: Global,
+    instructions: &mut Vec<Instr>,
+    action: Action,
+    exits: Exits,
+    next: usize,
+) -> Result<usize, Memory>
+    ensures { IfOk result (λ entry. Grew instructions.old.items instructions.new.items entry (laid.acts action exits.end exits.again (length instructions.old.items) next)) }
+{
+    let instruction = match action {
+        Action::Nothing => return Ok(next),
+        Action::Break(forget) => return lay_forget(instructions, forget, exits.end),
+        Action::Continue(forget) => return lay_forget(instructions, forget, exits.again),
+        Action::Use(at) => Instr::Use { at, next },
+        Action::New(target) => Instr::New {
+            target,
+            arguments: Vec::new(alloc),
+            next,
+        },
+        Action::Move { target, source } => Instr::Move {
+            target,
+            source,
+            next,
+        },
+        Action::Delete(at) => Instr::Delete { at, next },
+        Action::Return { place, scope } => Instr::Return { place, scope },
+    };
+    lay(instructions, instruction)
+}
+
+/// Lays a simple statement: what it does, and on top of it what it reads.
+pub(crate) fn lay_simple(
+    alloc: Global,
+    instructions: &mut Vec<Instr>,
+    simple: &Simple,
+    exits: Exits,
+    next: usize,
+) -> Result<usize, Memory>
+    ensures { IfOk result (λ entry. Grew instructions.old.items instructions.new.items entry (laid.statement (simple_seen simple.now) exits.end exits.again (length instructions.old.items) next)) }
+{
+    let behind = lay_action(alloc, instructions, simple.action, exits, next)?;
+    lay_reads(instructions, &simple.reads, behind)
+}

@@ -1,0 +1,91 @@
+-- Statements without where they lie in memory.
+use Rattle.std.specs.Prelude.{List, [], ◌∷◌, map, Option, Some, None}
+use Rattle.source.specs.declared.place.Place.{Place}
+use Rattle.resolved.specs.declared.statement as made
+use Rattle.resolved.specs.declared.statement.Action.{Action}
+use Rattle.resolved.specs.declared.statement.Forget.{Forget}
+use Rattle.resolved.specs.declared.statement.Mention.{Mention}
+use Rattle.resolved.specs.declared.statement.Ways.{Ways}
+use Rattle.resolved.specs.declared.statement.Statement.TheOpen as layer
+
+mutual
+  -- a statement: a simple one reads, and then does what it does
+  pub data StatementSeen : Type 0 where
+    Simple : List Mention → Action → StatementSeen
+    Block : BlockSeen → StatementSeen
+    If : TestSeen → OthersSeen → StatementSeen
+    While : TestSeen → StatementSeen
+
+  -- statements in a row
+  pub data StatementsSeen : Type 0 where
+    NoStatement : StatementsSeen
+    MoreStatements : StatementSeen → StatementsSeen → StatementsSeen
+
+  -- statements, and what goes out of scope behind them
+  pub data BlockSeen : Type 0 where
+    Braces : StatementsSeen → Option Forget → BlockSeen
+
+  -- a condition: its place, what it reads, which ways it can go; and its block
+  pub data TestSeen : Type 0 where
+    Test : Place → List Mention → Ways → BlockSeen → TestSeen
+
+  -- what stands behind the first block of an `if`
+  pub data OthersSeen : Type 0 where
+    NoOther : OthersSeen
+    Else : BlockSeen → OthersSeen
+    ElseIf : TestSeen → OthersSeen → OthersSeen
+
+-- the parts of an `if`
+pub record IfSeen : Type 0 where
+  pub first : TestSeen
+  pub others : OthersSeen
+
+-- lists as rows
+
+abbrev pub statement_row : List StatementSeen → StatementsSeen
+statement_row [] = NoStatement
+statement_row (x ∷ xs) = MoreStatements x (statement_row xs)
+
+-- the last block, if there is one
+abbrev pub last_other : Option BlockSeen → OthersSeen
+last_other None = NoOther
+last_other (Some b) = Else b
+
+-- further conditions in order, and then the last block
+abbrev pub other_row : List TestSeen → Option BlockSeen → OthersSeen
+other_row [] last = last_other last
+other_row (t ∷ ts) last = ElseIf t (other_row ts last)
+
+-- One layer in memory, with what it holds in its places.
+
+abbrev pub simple_seen : made.Simple.Simple → StatementSeen
+simple_seen s = Simple s.reads.items s.action
+
+abbrev pub statement_step : layer.Statement-F StatementSeen BlockSeen IfSeen TestSeen → StatementSeen
+statement_step (layer.Simple s) = simple_seen s
+statement_step (layer.Block b) = Block b
+statement_step (layer.If i) = If i.first i.others
+statement_step (layer.While t) = While t
+
+abbrev pub block_step : layer.Block-F StatementSeen BlockSeen IfSeen TestSeen → BlockSeen
+block_step b = Braces (statement_row b.statements.items) b.forget
+
+abbrev pub if_step : layer.If-F StatementSeen BlockSeen IfSeen TestSeen → IfSeen
+if_step i = record { first = i.first; others = other_row i.others.items i.otherwise }
+
+abbrev pub test_step : layer.Test-F StatementSeen BlockSeen IfSeen TestSeen → TestSeen
+test_step t = Test t.place t.reads.items t.ways t.body
+
+-- What lies in memory.
+
+abbrev pub statement_seen : made.Statement.Statement → StatementSeen
+statement_seen = made.Statement.fold-Statement StatementSeen BlockSeen IfSeen TestSeen statement_step block_step if_step test_step
+
+abbrev pub block_seen : made.Block.Block → BlockSeen
+block_seen = made.Block.fold-Block StatementSeen BlockSeen IfSeen TestSeen statement_step block_step if_step test_step
+
+abbrev pub if_seen : made.If.If → IfSeen
+if_seen = made.If.fold-If StatementSeen BlockSeen IfSeen TestSeen statement_step block_step if_step test_step
+
+abbrev pub test_seen : made.Test.Test → TestSeen
+test_seen = made.Test.fold-Test StatementSeen BlockSeen IfSeen TestSeen statement_step block_step if_step test_step

@@ -1,0 +1,96 @@
+-- Variables that go out of scope.
+use Rattle.std.proofs.Common.{◌≡◌, ℕ, zero, suc, ◌-◌, ◌<◌, ◌≤◌, List, [], ◌∷◌, ◌++◌, length, map, take, Option, None, sym, refl, ap, ◌∙◌, subst, arith, append_assoc, append-nil}
+use Rattle.std.proofs.Math.ListN.{length-append}
+use Rattle.std.proofs.Math.Seq.{take-append_seam}
+use Rattle.std.proofs.lemmas.List.{map-append, length-map}
+use Rattle.names.specs.Firsts.{first_of}
+use Rattle.names.specs.Tables.{IsTable}
+use Rattle.names.specs.Words.{word_at, words_at}
+use Rattle.resolved.specs.Methods.{variable_seen}
+use Rattle.resolving.specs.Frames.{AreApart, IsFrame, local_seen, number_seen, words_in}
+use Rattle.resolving.specs.Locals as model
+use Rattle.resolving.specs.Locals.{Frame}
+use Rattle.resolving.specs.declared.locals.Local.{Local}
+use Rattle.resolving.specs.declared.locals.Locals.{Locals}
+
+-- one more word, which is none of those before it
+pub apart_push : (before words : List (List ℕ)) (w : List ℕ) → AreApart before words → first_of (before ++ words) w ≡ None → AreApart before (words ++ w ∷ [])
+apart_push before [] w h new = (subst (λ l. first_of l w ≡ None) (append-nil before) new, tt)
+apart_push before (v ∷ words) w h new = (h.0, apart_push (before ++ v ∷ []) words w h.1 (subst (λ l. first_of l w ≡ None) (sym (append_assoc before (v ∷ []) words)) new))
+
+-- what holds without the last word
+record Popped (before words : List (List ℕ)) (w : List ℕ) : Type 0 where
+  rest : AreApart before words
+  last : first_of (before ++ words) w ≡ None
+
+apart_pop : (before words : List (List ℕ)) (w : List ℕ) → AreApart before (words ++ w ∷ []) → Popped before words w
+apart_pop before [] w h = record { rest = tt; last = subst (λ l. first_of l w ≡ None) (sym (append-nil before)) h.0 }
+apart_pop before (v ∷ words) w h =
+    let r = apart_pop (before ++ v ∷ []) words w h.1 in
+    record { rest = (h.0, r.rest); last = subst (λ l. first_of l w ≡ None) (append_assoc before (v ∷ []) words) r.last }
+
+-- the words of the variables and one more
+pub words_push : (text : List ℕ) (locals : List model.Local) (l : model.Local) → words_in text (locals ++ l ∷ []) ≡ words_in text locals ++ word_at text l.name ∷ []
+words_push text locals l =
+    ap (words_at text) (map-append (λ (x : model.Local). x.name) locals (l ∷ []))
+    ∙ map-append (word_at text) (map (λ (x : model.Local). x.name) locals) (l.name ∷ [])
+
+-- a frame with these variables in scope, and this one the last of the exchange heap
+abbrev pub scoped : List model.Local → Option ℕ → Frame → Frame
+scoped locals last f = record { locals = locals; last = last; variables = f.variables }
+
+-- the last variable goes out of scope
+popped_to : (text : List ℕ) (f : Frame) (l m : Locals) (front : List model.Local) (x : model.Local) → IsFrame text f l → f.locals ≡ front ++ x ∷ [] → map local_seen m.list.items ≡ front → m.last ≡ l.last → m.variables.items ≡ l.variables.items
+    → ((words : List (List ℕ)) → IsTable (words ++ word_at text x.name ∷ []) l.names → first_of words (word_at text x.name) ≡ None → IsTable words m.names)
+    → IsFrame text (scoped front f.last f) m
+popped_to text f l m front x h is list last variables table =
+    let words = ap (words_in text) is ∙ words_push text front x in
+    let apart = apart_pop [] (words_in text front) (word_at text x.name) (subst (AreApart []) words h.apart) in
+    record {
+      list = list;
+      names = table (words_in text front) (subst (λ w. IsTable w l.names) words h.names) apart.last;
+      apart = apart.rest;
+      last = ap number_seen last ∙ h.last;
+      variables = ap (map variable_seen) variables ∙ h.variables;
+    }
+
+front_of : {X : Type 0} (xs front : List X) (x : X) → xs ≡ front ++ x ∷ [] → take (length xs - 1) xs ≡ front
+front_of xs front x is =
+    let size = ap length is ∙ length-append front (x ∷ []) in
+    let n : length xs - 1 ≡ length front = omega (arith, size) in
+    ap (λ k. take k xs) n ∙ ap (take (length front)) is ∙ take-append_seam front (x ∷ [])
+
+-- the same, with the words as the code reads them
+pub frame_popped : (text : List ℕ) (f : Frame) (l m : Locals) (items : List Local) (x : Local) (word : List ℕ) → IsFrame text f l → l.list.items ≡ items ++ x ∷ [] → m.list.items ≡ items → m.last ≡ l.last → m.variables.items ≡ l.variables.items → word ≡ word_at text x.name
+    → ((words : List (List ℕ)) → IsTable (words ++ word ∷ []) l.names → first_of words word ≡ None → IsTable words m.names)
+    → IsFrame text (scoped (take (length f.locals - 1) f.locals) f.last f) m
+frame_popped text f l m items x word h is list last variables at table =
+    let split = sym h.list ∙ ap (map local_seen) is ∙ map-append local_seen items (x ∷ []) in
+    subst (λ k. IsFrame text (scoped k f.last f) m) (sym (front_of f.locals (map local_seen items) (local_seen x) split))
+    (popped_to text f l m (map local_seen items) (local_seen x) h split (ap (map local_seen) list) last variables
+    (subst (λ q. (words : List (List ℕ)) → IsTable (words ++ q ∷ []) l.names → first_of words q ≡ None → IsTable words m.names) at table))
+
+take_fewer : {X : Type 0} (m n : ℕ) (xs : List X) → m ≤ n → take m (take n xs) ≡ take m xs
+take_fewer zero n xs le = refl
+take_fewer (suc m) zero xs le = absurd (omega (arith, le))
+take_fewer (suc m) (suc n) [] le = refl
+take_fewer (suc m) (suc n) (x ∷ xs) le = ap (λ l. x ∷ l) (take_fewer m n xs (omega (arith, le)))
+
+-- of the variables in scope when a scope is left, so many are still there
+pub record Leaving (text : List ℕ) (outer : ℕ) (f : Frame) (l : Locals) : Type 0 where
+  pub frame : IsFrame text (scoped (take (length l.list.items) f.locals) f.last f) l
+  pub stays : take outer (take (length l.list.items) f.locals) ≡ take outer f.locals
+
+-- one variable fewer
+pub leaves_more : (text : List ℕ) (outer : ℕ) (f : Frame) (l m : Locals) → (let n = length l.list.items in
+    Leaving text outer f l → length m.list.items ≡ n - 1 → outer < n
+    → IsFrame text (scoped (take (length (take n f.locals) - 1) (take n f.locals)) f.last f) m
+    → Leaving text outer f m)
+leaves_more text outer f l m before fewer more h =
+    let n = length l.list.items in
+    let many = ap length (sym before.frame.list) ∙ length-map l.list.items local_seen in
+    let last : length (take n f.locals) - 1 ≡ length m.list.items = omega (arith, many, fewer) in
+    record {
+      frame = subst (λ k. IsFrame text (scoped k f.last f) m) (ap (λ i. take i (take n f.locals)) last ∙ take_fewer (length m.list.items) n f.locals (omega (arith, fewer))) h;
+      stays = take_fewer outer (length m.list.items) f.locals (omega (arith, fewer, more));
+    }

@@ -1,0 +1,17 @@
+use Rattle.std.proofs.Common.{sym, ◌∙◌}
+use Rattle.syntax.specs.Operators.{Or}
+use Rattle.syntax.specs.ExpressionTrees.{unmarked, expression_tree, conjunction_tree}
+use Rattle.syntax.specs.declared.expression.Expression as expressions
+use Rattle.resolving.proofs.ExpressionTwins.{expression_seen}
+use Rattle.resolving.proofs.AloneLemmas.{chain_is_more, chain_is_first}
+use Rattle.resolving.proofs.alone.atom_alone.Goals as goal
+
+pub returns-then-not-is_empty : goal.returns-then-not-is_empty
+returns-then-not-is_empty c =
+    let e = expressions.out-Expression c.args.expression.now in
+    chain_is_more Or (unmarked conjunction_tree) (conjunction_tree e.first) e.others.items _ (expression_tree c.args.expression.now) (expression_seen c.args.expression.now) e.others.ok.0 (sym c.is_empty.ensures ∙ c.if-not-is_empty.true)
+
+pub returns : goal.returns
+returns c =
+    let e = expressions.out-Expression c.args.expression.now in
+    chain_is_first Or (unmarked conjunction_tree) (conjunction_tree e.first) e.others.items _ (expression_tree c.args.expression.now) (expression_seen c.args.expression.now) e.others.ok.0 (sym c.is_empty.ensures ∙ c.if-not-is_empty.false) c.in_conjunction.ensures
