@@ -3,15 +3,17 @@ use Rattle.std.proofs.Common.{◌≡◌, ℕ, ◌<◌, length, length-append, ar
 use Rattle.resolved.specs.Methods.{MethodSeen}
 use Rattle.resolved.specs.Statements as stated
 use Rattle.resolved.specs.Statements.{StatementSeen, StatementsSeen, BlockSeen, TestSeen, OthersSeen}
-use Rattle.flow.specs.Graphs.{GraphSeen, Return}
-use Rattle.flow.specs.Lowering.{Lays, one, parts, reads, forgets, acts, statement, statements, block, condition, others, method, graph_of}
+use Rattle.flow.specs.Graphs.{GraphSeen}
+use Rattle.flow.specs.Lowering.{Lays, one, parts, reads, forgets, acts, statement, statements, block, condition, others, method, ending, graph_of}
 use Rattle.flow.specs.Within.{IsClosed}
-use Rattle.flow.proofs.WithinLemmas.{AllBelow, StaysBelow, nothing_stays, both_stay, parts_stay, turns_stay, reads_stay, forgets_stay, return_stays, acts_stay}
+use Rattle.flow.proofs.WithinLemmas.{AllBelow, StaysBelow, nothing_stays, both_stay, parts_stay, turns_stay, reads_stay, forgets_stay, ending_stays, called_stay, started_stay, acts_stay}
 
 mutual
   -- a statement stays below a bound where the end of its loop and the condition lie below it
   statement_stays : (x : StatementSeen) (n exit again : ℕ) → exit < n → again < n → StaysBelow n (statement x exit again)
   statement_stays (stated.Simple mentions does) n exit again e a = both_stay n (reads mentions) (acts does exit again) (reads_stay n mentions) (acts_stay n does exit again e a)
+  statement_stays (stated.Call c) n exit again e a = called_stay n c
+  statement_stays (stated.Start c) n exit again e a = started_stay n c
   statement_stays (stated.Block b) n exit again e a = block_stays b n exit again e a
   statement_stays (stated.If first rest) n exit again e a = condition_stays first n (others rest exit again) exit again e a (others_stay rest n exit again e a)
   statement_stays (stated.While (stated.Test place mentions w body)) n exit again e a = turns_stay n place w (reads mentions) (block body) (reads_stay n mentions) (block_stays body n)
@@ -39,11 +41,11 @@ mutual
 -- The graph of a method is closed. Outside of loops a `break` and a `continue` go on at point 0, where the last Return stands.
 pub closed : (m : MethodSeen) → IsClosed (graph_of m)
 closed m =
-    let last = one (λ next. Return m.close m.scope) in
+    let last = one (λ next. ending m) in
     let body = statements m.statements 0 0 in
     let n = length (method m 0 0).instructions in
     let some_point : 0 < n = omega (arith, length-append (last 0 0).instructions (body 1 0).instructions) in
-    let all : AllBelow n (method m 0 0) = (both_stay n body last (statements_stay m.statements n 0 0 some_point some_point) (return_stays n m.close m.scope)).stays 0 0 some_point (omega arith) in
+    let all : AllBelow n (method m 0 0) = (both_stay n body last (statements_stay m.statements n 0 0 some_point some_point) (ending_stays n m)).stays 0 0 some_point (omega arith) in
     record { begins = all.begins; within = all.within }
 
 -- so is a graph that is that of a method

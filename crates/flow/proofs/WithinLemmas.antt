@@ -1,8 +1,10 @@
 -- What is laid below a bound goes on below it.
-use Rattle.std.proofs.Common.{ℕ, ◌+◌, ◌<◌, ◌≤◌, List, [], ◌∷◌, ◌++◌, length, length-append, arith, Option, None, Some}
+use Rattle.std.proofs.Common.{ℕ, Bool, true, false, ◌+◌, ◌<◌, ◌≤◌, List, [], ◌∷◌, ◌++◌, length, length-append, arith, Option, None, Some, if◌then◌else◌}
 use Rattle.std.specs.List.{All}
 use Rattle.std.proofs.lemmas.List.Elements.{All-nil, All-cons, All-append}
 use Rattle.source.specs.declared.place.Place.{Place}
+use Rattle.resolved.specs.Methods.{MethodSeen}
+use Rattle.resolved.specs.Statements.{CallSeen}
 use Rattle.resolved.specs.declared.method.VarId.{VarId}
 use Rattle.resolved.specs.declared.statement.Action.{Action}
 use Rattle.resolved.specs.declared.statement.Action.TheVariants as action
@@ -10,8 +12,8 @@ use Rattle.resolved.specs.declared.statement as made
 use Rattle.resolved.specs.declared.statement.Mention.{Mention}
 use Rattle.resolved.specs.declared.statement.Ways.{Ways}
 use Rattle.resolved.specs.declared.statement.Ways.TheVariants as ways_of
-use Rattle.flow.specs.Graphs.{Instruction, Use, New, Move, Delete, Branch, Forget, Return}
-use Rattle.flow.specs.Lowering.{Laid, Lays, nothing, one, both, gone, branches, parts, turns, reads, forgets, acts}
+use Rattle.flow.specs.Graphs.{Instruction, Use, New, Move, Delete, Branch, Forget, Call, Start, Return, Stop}
+use Rattle.flow.specs.Lowering.{Laid, Lays, nothing, one, both, gone, branches, parts, turns, reads, forgets, acts, called, started, ending}
 use Rattle.flow.specs.Within.{goes_on}
 
 -- an instruction goes on below a bound
@@ -108,9 +110,28 @@ pub forgets_stay : (n : ℕ) (f : Option made.Forget.Forget) → StaysBelow n (f
 forgets_stay n None = nothing_stays n
 forgets_stay n (Some f) = one_stays n (Forget f) (one_point n)
 
--- a Return goes on nowhere
-pub return_stays : (n : ℕ) (place : Place) (scope : Option VarId) → StaysBelow n (one (λ next. Return place scope))
-return_stays n place scope = one_stays n (λ next. Return place scope) (λ next h. All-nil (λ p. p < n))
+-- a Return and a Stop go on nowhere
+pub return_stays : (n : ℕ) (place : Place) (value : Option Mention) (scope : Option VarId) → StaysBelow n (one (λ next. Return place value scope))
+return_stays n place value scope = one_stays n (λ next. Return place value scope) (λ next h. All-nil (λ p. p < n))
+
+pub stop_stays : (n : ℕ) (place : Place) → StaysBelow n (one (λ next. Stop place))
+stop_stays n place = one_stays n (λ next. Stop place) (λ next h. All-nil (λ p. p < n))
+
+one_of : (b : Bool) (n : ℕ) (place : Place) (scope : Option VarId) → StaysBelow n (one (λ next. if b then Stop place else Return place None scope))
+one_of true n place scope = stop_stays n place
+one_of false n place scope = return_stays n place None scope
+
+-- the end of a method
+pub ending_stays : (n : ℕ) (m : MethodSeen) → StaysBelow n (one (λ next. ending m))
+ending_stays n m = one_of m.gives n m.close m.scope
+
+-- a call and a start
+pub called_stay : (n : ℕ) (c : CallSeen) → StaysBelow n (called c)
+called_stay n c = both_stay n (reads c.reads) (both (one (Call c.place c.method c.arguments c.target)) (reads c.behind)) (reads_stay n c.reads)
+    (both_stay n (one (Call c.place c.method c.arguments c.target)) (reads c.behind) (one_stays n (Call c.place c.method c.arguments c.target) (one_point n)) (reads_stay n c.behind))
+
+pub started_stay : (n : ℕ) (c : CallSeen) → StaysBelow n (started c)
+started_stay n c = both_stay n (reads c.reads) (one (Start c.place c.method c.arguments)) (reads_stay n c.reads) (one_stays n (Start c.place c.method c.arguments) (one_point n))
 
 -- what a simple statement does
 pub acts_stay : (n : ℕ) (does : Action) (exit again : ℕ) → exit < n → again < n → StaysBelow n (acts does exit again)
@@ -121,4 +142,4 @@ acts_stay n (action.Move target source) exit again e a = one_stays n (Move targe
 acts_stay n (action.Delete m) exit again e a = one_stays n (Delete m) (one_point n)
 acts_stay n (action.Break f) exit again e a = gone_stays n exit (forgets f) e (forgets_stay n f)
 acts_stay n (action.Continue f) exit again e a = gone_stays n again (forgets f) a (forgets_stay n f)
-acts_stay n (action.Return place scope) exit again e a = return_stays n place scope
+acts_stay n (action.Return place value scope) exit again e a = return_stays n place value scope

@@ -1,6 +1,8 @@
 -- Graphs without where they lie in memory.
 use Rattle.std.specs.Prelude.{ℕ, List, map, Option}
 use Rattle.source.specs.declared.place.Place.{Place}
+use Rattle.resolved.specs.declared.call.Argument.{Argument}
+use Rattle.resolved.specs.declared.method.MethodId.{MethodId}
 use Rattle.resolved.specs.declared.method.VarId.{VarId}
 use Rattle.resolved.specs.declared.statement.Mention.{Mention}
 use Rattle.resolved.specs.declared.statement as stated
@@ -16,7 +18,10 @@ pub data Instruction : Type 0 where
   Delete : (at : Mention) (next : ℕ) → Instruction
   Branch : (place : Place) (branches : Branches) → Instruction
   Forget : (forget : stated.Forget.Forget) (next : ℕ) → Instruction
-  Return : (place : Place) (scope : Option VarId) → Instruction
+  Call : (place : Place) (method : MethodId) (arguments : List Argument) (target : Option Mention) (next : ℕ) → Instruction
+  Start : (place : Place) (method : MethodId) (arguments : List Argument) (next : ℕ) → Instruction
+  Return : (place : Place) (value : Option Mention) (scope : Option VarId) → Instruction
+  Stop : (place : Place) → Instruction
 
 abbrev pub instruction_seen : made.Instr.Instr → Instruction
 instruction_seen (instr.Use at next) = Use at next
@@ -25,7 +30,10 @@ instruction_seen (instr.Move target source next) = Move target source next
 instruction_seen (instr.Delete at next) = Delete at next
 instruction_seen (instr.Branch place branches) = Branch place branches
 instruction_seen (instr.Forget forget next) = Forget forget next
-instruction_seen (instr.Return place scope) = Return place scope
+instruction_seen (instr.Call place method arguments target next) = Call place method arguments.items target next
+instruction_seen (instr.Start place method arguments next) = Start place method arguments.items next
+instruction_seen (instr.Return place value scope) = Return place value scope
+instruction_seen (instr.Stop place) = Stop place
 
 -- a graph: its instructions by their points, and the point at which it begins
 pub record GraphSeen : Type 0 where

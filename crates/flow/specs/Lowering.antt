@@ -1,16 +1,16 @@
 -- What a method is lowered to. It is laid from its end on, so that each instruction knows where it goes on.
-use Rattle.std.specs.Prelude.{ℕ, ◌+◌, List, [], ◌∷◌, ◌++◌, length, Option, None, Some}
+use Rattle.std.specs.Prelude.{ℕ, ◌+◌, List, [], ◌∷◌, ◌++◌, length, Option, None, Some, if◌then◌else◌}
 use Rattle.source.specs.declared.place.Place.{Place}
 use Rattle.resolved.specs.Methods.{MethodSeen}
 use Rattle.resolved.specs.Statements as stated
-use Rattle.resolved.specs.Statements.{StatementSeen, StatementsSeen, BlockSeen, TestSeen, OthersSeen}
+use Rattle.resolved.specs.Statements.{CallSeen, StatementSeen, StatementsSeen, BlockSeen, TestSeen, OthersSeen}
 use Rattle.resolved.specs.declared.statement.Action.{Action}
 use Rattle.resolved.specs.declared.statement.Action.TheVariants as action
 use Rattle.resolved.specs.declared.statement as made
 use Rattle.resolved.specs.declared.statement.Mention.{Mention}
 use Rattle.resolved.specs.declared.statement.Ways.{Ways}
 use Rattle.resolved.specs.declared.statement.Ways.TheVariants as ways_of
-use Rattle.flow.specs.Graphs.{Instruction, Use, New, Move, Delete, Branch, Forget, Return, GraphSeen}
+use Rattle.flow.specs.Graphs.{Instruction, Use, New, Move, Delete, Branch, Forget, Call, Start, Return, Stop, GraphSeen}
 use Rattle.flow.specs.declared.graph.Branches.{Branches}
 use Rattle.flow.specs.declared.graph.Branches.TheVariants.{Either, Only}
 
@@ -86,11 +86,20 @@ acts (action.Move target source) exit again = one (Move target source)
 acts (action.Delete m) exit again = one (Delete m)
 acts (action.Break f) exit again = gone exit (forgets f)
 acts (action.Continue f) exit again = gone again (forgets f)
-acts (action.Return place scope) exit again = one (λ next. Return place scope)
+acts (action.Return place value scope) exit again = one (λ next. Return place value scope)
+
+-- a call: what its arguments read, the call, and what is used behind it
+abbrev pub called : CallSeen → Lays
+called c = both (reads c.reads) (both (one (Call c.place c.method c.arguments c.target)) (reads c.behind))
+
+abbrev pub started : CallSeen → Lays
+started c = both (reads c.reads) (one (Start c.place c.method c.arguments))
 
 abbrev mutual
   pub statement : StatementSeen → (exit again : ℕ) → Lays
   statement (stated.Simple mentions does) exit again = both (reads mentions) (acts does exit again)
+  statement (stated.Call c) exit again = called c
+  statement (stated.Start c) exit again = started c
   statement (stated.Block b) exit again = block b exit again
   statement (stated.If first rest) exit again = condition first (others rest exit again) exit again
   statement (stated.While (stated.Test place mentions w body)) exit again = turns place w (reads mentions) (block body)
@@ -113,9 +122,12 @@ abbrev mutual
   others (stated.Else b) exit again = block b exit again
   others (stated.ElseIf t rest) exit again = condition t (others rest exit again) exit again
 
--- At the end of a method stands a Return, which looks at all variables in scope there.
+-- At the end of a method stands a Return, which looks at all variables in scope there; where the method gives something, a Stop.
+abbrev pub ending : MethodSeen → Instruction
+ending m = if m.gives then Stop m.close else Return m.close None m.scope
+
 abbrev pub method : MethodSeen → Lays
-method m = both (statements m.statements 0 0) (one (λ next. Return m.close m.scope))
+method m = both (statements m.statements 0 0) (one (λ next. ending m))
 
 abbrev pub graph_of : MethodSeen → GraphSeen
 graph_of m = record { instructions = (method m 0 0).instructions; first = (method m 0 0).entry }

@@ -1,9 +1,9 @@
 -- Where a method goes on behind its instructions.
 use Rattle.std.specs.Prelude.{ℕ, ◌<◌, List, [], ◌∷◌, length, All}
-use Rattle.flow.specs.Graphs.{Instruction, Use, New, Move, Delete, Branch, Forget, Return, GraphSeen}
+use Rattle.flow.specs.Graphs.{Instruction, Use, New, Move, Delete, Branch, Forget, Call, Start, Return, Stop, GraphSeen}
 use Rattle.flow.specs.declared.graph.Branches.TheVariants.{Either, Only}
 
--- the points at which a method goes on behind an instruction; behind a Return there is none
+-- the points at which a method goes on behind an instruction; behind a Return and a Stop there is none
 abbrev pub goes_on : Instruction → List ℕ
 goes_on (Use at next) = next ∷ []
 goes_on (New target arguments next) = next ∷ []
@@ -12,7 +12,10 @@ goes_on (Delete at next) = next ∷ []
 goes_on (Branch place (Either inside past)) = inside ∷ past ∷ []
 goes_on (Branch place (Only point)) = point ∷ []
 goes_on (Forget forget next) = next ∷ []
-goes_on (Return place scope) = []
+goes_on (Call place method arguments target next) = next ∷ []
+goes_on (Start place method arguments next) = next ∷ []
+goes_on (Return place value scope) = []
+goes_on (Stop place) = []
 
 -- a graph begins at one of its points, and each of its instructions goes on at its points alone
 pub record IsClosed (g : GraphSeen) : Type 0 where

@@ -1,6 +1,6 @@
 //! Instructions, and where each goes on.
 
-use resolved::{Forget, Mention, VarId};
+use resolved::{Argument, Forget, Mention, MethodId, VarId};
 use source::Place;
 
 /// Where a condition goes on.
@@ -47,10 +47,32 @@ pub enum Instr {
         forget: Forget,
         next: usize,
     },
-    /// The method ends where this is the last variable of the exchange heap in scope, if there is one.
+    /// Calls a method: what is given for each parameter of the exchange heap, and the variable that takes the block which it
+    /// gives, if it gives one.
+    Call {
+        place: Place,
+        method: MethodId,
+        arguments: Vec<Argument>,
+        target: Option<Mention>,
+        next: usize,
+    },
+    /// Starts a method as a process of its own.
+    Start {
+        place: Place,
+        method: MethodId,
+        arguments: Vec<Argument>,
+        next: usize,
+    },
+    /// The method ends, and gives what this variable has, if there is one. The last variable of the exchange heap in scope, if
+    /// there is one, names all of them.
     Return {
         place: Place,
+        value: Option<Mention>,
         scope: Option<VarId>,
+    },
+    /// The end of a method that ought to have given something.
+    Stop {
+        place: Place,
     },
 }
 

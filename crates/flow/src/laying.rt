@@ -1,12 +1,12 @@
 //! Instructions and simple statements, laid on top of those that are laid already.
 
 ghost use Rattle.std.specs.Prelude.{◌≡◌, IfOk, [], ◌∷◌, ◌++◌, length};
-ghost use Rattle.resolved.specs.Statements.{simple_seen};
+ghost use Rattle.resolved.specs.Statements.{call_seen, simple_seen};
 ghost use Rattle.flow.specs.Growths.{Grew};
 ghost use Rattle.flow.specs.Lowering as laid;
 
 use crate::graph::{Branches, Instr};
-use resolved::{Action, Forget, Mention, Simple, Ways};
+use resolved::{Action, Call, Forget, Mention, Simple, Ways};
 use source::{Memory, Place};
 use std::alloc::Global;
 
@@ -110,7 +110,15 @@ fn lay_action(
             next,
         },
         Action::Delete(at) => Instr::Delete { at, next },
-        Action::Return { place, scope } => Instr::Return { place, scope },
+        Action::Return {
+            place,
+            value,
+            scope,
+        } => Instr::Return {
+            place,
+            value,
+            scope,
+        },
     };
     lay(instructions, instruction)
 }
@@ -127,4 +135,44 @@ pub(crate) fn lay_simple(
 {
     let behind = lay_action(alloc, instructions, simple.action, exits, next)?;
     lay_reads(instructions, &simple.reads, behind)
+}
+
+/// Lays a call: what is used behind it, the call, and on top of it what its arguments read.
+pub(crate) fn lay_call(
+    alloc: Global,
+    instructions: &mut Vec<Instr>,
+    call: &Call,
+    next: usize,
+) -> Result<usize, Memory>
+    ensures { IfOk result (λ entry. Grew instructions.old.items instructions.new.items entry (laid.called (call_seen call.now) (length instructions.old.items) next)) }
+{
+    let next = lay_reads(instructions, &call.behind, next)?;
+    let instruction = Instr::Call {
+        place: call.place,
+        method: call.method,
+        arguments: Vec::from_slice(alloc, &call.arguments)?,
+        target: call.target,
+        next,
+    };
+    let at = lay(instructions, instruction)?;
+    lay_reads(instructions, &call.reads, at)
+}
+
+/// Lays a start, and on top of it what its arguments read.
+pub(crate) fn lay_start(
+    alloc: Global,
+    instructions: &mut Vec<Instr>,
+    call: &Call,
+    next: usize,
+) -> Result<usize, Memory>
+    ensures { IfOk result (λ entry. Grew instructions.old.items instructions.new.items entry (laid.started (call_seen call.now) (length instructions.old.items) next)) }
+{
+    let instruction = Instr::Start {
+        place: call.place,
+        method: call.method,
+        arguments: Vec::from_slice(alloc, &call.arguments)?,
+        next,
+    };
+    let at = lay(instructions, instruction)?;
+    lay_reads(instructions, &call.reads, at)
 }

@@ -5,14 +5,16 @@ ghost use Rattle.resolved.specs.Methods.{method_seen};
 ghost use Rattle.resolved.specs.Statements as stated;
 ghost use Rattle.resolved.specs.Statements.{statement_seen, statement_row, block_seen, test_seen, if_seen, other_row};
 ghost use Rattle.flow.specs.declared.graph.Instr.{Instr};
-ghost use Rattle.flow.specs.Graphs.{graph_seen};
+ghost use Rattle.flow.specs.Graphs.{graph_seen, instruction_seen};
 ghost use Rattle.flow.specs.Growths.{Grew};
 ghost use Rattle.flow.specs.Lowering as laid;
 ghost use Rattle.flow.specs.Lowering.{Lays, graph_of};
 ghost use Rattle.flow.specs.Within.{IsClosed};
 
 use crate::graph::{Graph, Instr};
-use crate::laying::{Exits, branches, lay, lay_branches, lay_forget, lay_reads, lay_simple};
+use crate::laying::{
+    Exits, branches, lay, lay_branches, lay_call, lay_forget, lay_reads, lay_simple, lay_start,
+};
 use resolved::{Block, If, Method, Statement, Test};
 use source::Memory;
 use std::alloc::Global;
@@ -22,7 +24,7 @@ use std::alloc::Global;
 /// A statement reads first, a `Use` for each mention of a variable of the exchange heap before `.` or `[`, in order of the
 /// text, and then does what it does; a statement that only changes scalars is its reads alone. A condition reads and then
 /// goes on at its block or behind it; what goes out of scope is forgotten behind a block, at a `break` and at a `continue`.
-/// At the end of the method stands a `Return`, which looks at all its variables in scope. Instructions that nothing leads to
+/// A call reads, calls, and then uses what it is written into. At the end of the method stands a `Return`, which looks at all its variables in scope, or a `Stop` where the method gives something. Instructions that nothing leads to
 /// are laid all the same.
 ///
 /// The method begins at a point of the graph, and each instruction goes on at such points alone.
@@ -33,17 +35,28 @@ pub fn lower(alloc: Global, method: &Method) -> Result<Graph, Memory>
     ensures closed { IfOk result (λ g. IsClosed (graph_seen g)) }
 {
     let mut instructions = Vec::new(alloc);
-    let end = Instr::Return {
-        place: method.close,
-        scope: method.scope,
-    };
-    let last = lay(&mut instructions, end)?;
+    let last = lay(&mut instructions, ending(method))?;
     let nowhere = Exits { end: 0, again: 0 };
     let first = lay_statements(alloc, &mut instructions, &method.statements, nowhere, last)?;
     Ok(Graph {
         instructions,
         first,
     })
+}
+
+/// What stands at the end of a method.
+fn ending(method: &Method) -> Instr
+    ensures { instruction_seen result ≡ laid.ending (method_seen method.now) }
+{
+    let place = method.close;
+    if method.gives {
+        return Instr::Stop { place };
+    }
+    Instr::Return {
+        place,
+        value: None,
+        scope: method.scope,
+    }
 }
 
 /// Lays these statements, behind which the method goes on at `next`. The answer is the point at which they begin.
@@ -77,6 +90,8 @@ fn lay_statement(
 {
     match statement {
         Statement::Simple(simple) => lay_simple(alloc, instructions, simple, exits, next),
+        Statement::Call(call) => lay_call(alloc, instructions, call, next),
+        Statement::Start(call) => lay_start(alloc, instructions, call, next),
         Statement::Block(block) => lay_block(alloc, instructions, block, exits, next),
         Statement::If(branches) => lay_if(alloc, instructions, branches, exits, next),
         Statement::While(test) => lay_while(alloc, instructions, test, next),

@@ -1,6 +1,7 @@
 pub mod PositionLemmas
 pub mod TableLemmas
 pub mod ScopeLemmas
+pub mod ClassLemmas
 pub mod AddLemmas
 pub mod TwiceLemmas
 pub mod NumberLemmas

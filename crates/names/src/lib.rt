@@ -48,4 +48,5 @@ pub use fault::NameFaults;
 pub use limits::{MOST_CONTRACTS, MOST_METHODS, MOST_PARAMETERS, MOST_STATES, MOST_VARIABLES};
 pub use resolved::{Contract, ContractId, Edge, Message, MessageId, Resolved, State, StateId};
 pub use resolving::resolve;
+pub use scope::Scope;
 pub use tables::Table;

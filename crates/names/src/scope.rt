@@ -4,7 +4,7 @@ ghost use Rattle.std.specs.Prelude.{◌≡◌, IfOk, map, Option, option_map, op
 ghost use Rattle.std.specs.Option.{option_copied};
 ghost use Rattle.syntax.specs.Trees.{item_tree, definition_tree};
 ghost use Rattle.names.specs.Declarations.{first_among};
-ghost use Rattle.names.specs.Program.{Program, contract_named, struct_named, class_named, item_at, item_names, as_contract, as_struct, defined_name};
+ghost use Rattle.names.specs.Program.{Program, contract_named, struct_named, class_named, item_at, item_names, as_contract, as_struct, as_class, defined_name};
 ghost use Rattle.names.specs.Expressions.{field_named};
 ghost use Rattle.names.specs.Scopes.{AllMembers};
 
@@ -15,9 +15,10 @@ use source::{Span, Tokens};
 use std::alloc::{AllocError, Global};
 use syntax::{Definition, Field, Item};
 
-/// What the items of a text declare, in order, and where each of their names is declared first.
+/// The items of a text by their names: what they declare, in order, and where each of their names is declared first. A name
+/// means the first item that declares it.
 #[derive(Debug, Drop)]
-pub(crate) struct Scope<'a> {
+pub struct Scope<'a> {
     pub(crate) tokens: &'a Tokens,
     pub(crate) items: &'a [Item],
     pub(crate) names: Table<'a>,
@@ -29,11 +30,9 @@ impl<'a> Scope<'a> {
     ghost use Rattle.names.specs.Scopes.{IsScope, IsContract, IsClass, as_declared, as_fields, as_methods};
 
     /// What these items declare.
-    pub(crate) fn of(
-        alloc: Global,
-        tokens: &'a Tokens,
-        items: &'a [Item],
-    ) -> Result<Scope<'a>, AllocError>
+    ///
+    /// `AllocError` is answered where a growth was refused.
+    pub fn of(alloc: Global, tokens: &'a Tokens, items: &'a [Item]) -> Result<Scope<'a>, AllocError>
         ensures { IfOk result (IsScope (record { text = tokens.now.text.items; items = map item_tree items.now })) }
     {
         let names = names_of_items(alloc, items)?;
@@ -89,6 +88,23 @@ impl<'a> Scope<'a> {
     {
         let place = self.place(name)?;
         self.methods_at(place)
+    }
+
+    /// How many items stand before the first item of this name, if it is a class.
+    pub fn class_place(&self, name: Span) -> Option<usize>
+        ensures { (p : Program) → IsScope p self.now → result ≡ option_map (λ c. c.0) (class_named p name) }
+    {
+        let place = self.place(name)?;
+        let _methods = self.methods_at(place)?;
+        Some(place)
+    }
+
+    /// How many methods stand before the first one of this name in the class that is the item at this place.
+    pub fn method_place(&self, class: usize, name: Span) -> Option<usize>
+        ensures { (p : Program) → IsScope p self.now → result ≡ option_and_then (λ c. first_among p.text (map (λ m. m.name) c.1.methods) name) (item_at as_class p class) }
+    {
+        let methods = self.methods_at(class)?;
+        methods.place(self.tokens, name)
     }
 
     /// How many items stand before the first item of this name.

@@ -1,5 +1,5 @@
 -- Methods without where they lie in memory.
-use Rattle.std.specs.Prelude.{ℕ, List, map, Option, option_map}
+use Rattle.std.specs.Prelude.{ℕ, Bool, List, map, Option}
 use Rattle.source.specs.declared.place.Place.{Place}
 use Rattle.resolved.specs.Statements.{StatementsSeen, statement_row, statement_seen}
 use Rattle.resolved.specs.declared.method as made
@@ -15,9 +15,11 @@ pub record VariableSeen : Type 0 where
 abbrev pub variable_seen : made.Variable.Variable → VariableSeen
 variable_seen v = record { name = v.name.items; role = v.role; outer = v.outer }
 
--- a method: where its name stands, its variables, its statements, the last variable in scope behind them, where its body ends
+-- a method: where its name stands, whether it gives something, its variables, its statements, the
+-- last variable in scope behind them, where its body ends
 pub record MethodSeen : Type 0 where
   pub name : Place
+  pub gives : Bool
   pub variables : List VariableSeen
   pub statements : StatementsSeen
   pub scope : Option VarId
@@ -26,6 +28,7 @@ pub record MethodSeen : Type 0 where
 abbrev pub method_seen : made.Method.Method → MethodSeen
 method_seen m = record {
   name = m.name;
+  gives = m.gives;
   variables = map variable_seen m.variables.items;
   statements = statement_row (map statement_seen m.statements.items);
   scope = m.scope;

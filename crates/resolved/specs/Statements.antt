@@ -1,6 +1,9 @@
 -- Statements without where they lie in memory.
-use Rattle.std.specs.Prelude.{List, [], ◌∷◌, map, Option, Some, None}
+use Rattle.std.specs.Prelude.{List, [], ◌∷◌, Option, Some, None}
 use Rattle.source.specs.declared.place.Place.{Place}
+use Rattle.resolved.specs.declared.call as called
+use Rattle.resolved.specs.declared.call.Argument.{Argument}
+use Rattle.resolved.specs.declared.method.MethodId.{MethodId}
 use Rattle.resolved.specs.declared.statement as made
 use Rattle.resolved.specs.declared.statement.Action.{Action}
 use Rattle.resolved.specs.declared.statement.Forget.{Forget}
@@ -8,10 +11,24 @@ use Rattle.resolved.specs.declared.statement.Mention.{Mention}
 use Rattle.resolved.specs.declared.statement.Ways.{Ways}
 use Rattle.resolved.specs.declared.statement.Statement.TheOpen as layer
 
+-- a call or a start: what it reads, its place, the method, what is given, what takes what it gives, and what is used behind it
+pub record CallSeen : Type 0 where
+  pub reads : List Mention
+  pub place : Place
+  pub method : MethodId
+  pub arguments : List Argument
+  pub target : Option Mention
+  pub behind : List Mention
+
+abbrev pub call_seen : called.Call.Call → CallSeen
+call_seen c = record { reads = c.reads.items; place = c.place; method = c.method; arguments = c.arguments.items; target = c.target; behind = c.behind.items }
+
 mutual
   -- a statement: a simple one reads, and then does what it does
   pub data StatementSeen : Type 0 where
     Simple : List Mention → Action → StatementSeen
+    Call : CallSeen → StatementSeen
+    Start : CallSeen → StatementSeen
     Block : BlockSeen → StatementSeen
     If : TestSeen → OthersSeen → StatementSeen
     While : TestSeen → StatementSeen
@@ -63,6 +80,8 @@ simple_seen s = Simple s.reads.items s.action
 
 abbrev pub statement_step : layer.Statement-F StatementSeen BlockSeen IfSeen TestSeen → StatementSeen
 statement_step (layer.Simple s) = simple_seen s
+statement_step (layer.Call c) = Call (call_seen c)
+statement_step (layer.Start c) = Start (call_seen c)
 statement_step (layer.Block b) = Block b
 statement_step (layer.If i) = If i.first i.others
 statement_step (layer.While t) = While t

@@ -31,11 +31,13 @@ pub struct Variable {
     pub outer: Option<VarId>,
 }
 
-/// A method: where its name stands, its variables of the exchange heap in order of declaration, its statements in order, the
-/// last variable of the exchange heap in scope behind them, and where its body ends.
+/// A method: where its name stands, whether it gives something, its variables of the exchange heap in order of declaration,
+/// parameters first, its statements in order, the last variable of the exchange heap in scope behind them, and where its body
+/// ends.
 #[derive(Debug, Drop)]
 pub struct Method {
     pub name: Place,
+    pub gives: bool,
     pub variables: Vec<Variable>,
     pub statements: Vec<Statement>,
     pub scope: Option<VarId>,

@@ -1,5 +1,6 @@
 //! Statements with a number for each variable of the exchange heap; scalars are forgotten.
 
+use crate::call::Call;
 use crate::method::VarId;
 use source::Place;
 
@@ -29,15 +30,23 @@ pub enum Action {
     /// The variable takes a new block.
     New(Mention),
     /// The target takes what the source has.
-    Move { target: Mention, source: Mention },
+    Move {
+        target: Mention,
+        source: Mention,
+    },
     /// What the variable has is freed.
     Delete(Mention),
     /// The innermost loop ends. What it and what stands in it has declared goes out of scope.
     Break(Option<Forget>),
     /// The innermost loop goes back to its test, likewise.
     Continue(Option<Forget>),
-    /// The method ends. The last variable of the exchange heap in scope, if there is one, names them all.
-    Return { place: Place, scope: Option<VarId> },
+    /// The method ends, and gives what this variable has, if there is one. The last variable of the exchange heap in scope
+    /// names all of them.
+    Return {
+        place: Place,
+        value: Option<Mention>,
+        scope: Option<VarId>,
+    },
 }
 
 /// A statement that holds no others: the variables whose blocks its expressions read, in order of the text, and then what it
@@ -53,6 +62,10 @@ pub struct Simple {
 #[derive(Debug, Drop)]
 pub enum Statement {
     Simple(Simple),
+    /// A method runs and comes back.
+    Call(Call),
+    /// A method runs as a process of its own.
+    Start(Call),
     Block(Block),
     If(If),
     While(Test),

@@ -5,6 +5,7 @@ use Rattle.syntax.specs.StatementTrees as trees
 use Rattle.syntax.specs.StatementTrees.{StatementTree}
 use Rattle.syntax.specs.declared.class as made
 use Rattle.names.specs.Kinds.{is_heap}
+use Rattle.names.specs.Program.{Program}
 use Rattle.resolved.specs.Statements as seen
 use Rattle.resolved.specs.Statements.{StatementSeen}
 use Rattle.resolving.specs.Frames.{IsFrame}
@@ -38,13 +39,13 @@ pub walks_all : {S T X : Type 0} (text : List ℕ) (go : T → Frame → Told X)
     → IsTold text (walked (λ s. go (tree s)) (take i ss) f) done l → IsTold text (walked go (map tree ss) f) done l
 walks_all text go tree ss i f done l le h = subst (λ t. IsTold text t done l) (ap (λ ys. walked (λ s. go (tree s)) ys f) (take_all i ss le) ∙ walked_map go tree ss f) h
 
-row_walked : (text : List ℕ) (loop : Loop) (xs : List StatementTree) (f : Frame) → remade seen.statement_row (walked (statement_told text loop) xs f) ≡ statements_told text loop (trees.statement_row xs) f
-row_walked text loop [] f = refl
-row_walked text loop (x ∷ xs) f = ap (remade (seen.MoreStatements (statement_told text loop x f).what)) (row_walked text loop xs (statement_told text loop x f).frame)
+row_walked : (p : Program) (class : ℕ) (loop : Loop) (xs : List StatementTree) (f : Frame) → remade seen.statement_row (walked (statement_told p class loop) xs f) ≡ statements_told p class loop (trees.statement_row xs) f
+row_walked p class loop [] f = refl
+row_walked p class loop (x ∷ xs) f = ap (remade (seen.MoreStatements (statement_told p class loop x f).what)) (row_walked p class loop xs (statement_told p class loop x f).frame)
 
 -- statements as a row
-pub row_told : (text : List ℕ) (loop : Loop) (xs : List StatementTree) (f : Frame) (done : List StatementSeen) (l : Locals) → IsTold text (walked (statement_told text loop) xs f) done l → IsTold text (statements_told text loop (trees.statement_row xs) f) (seen.statement_row done) l
-row_told text loop xs f done l h = subst (λ t. IsTold text t (seen.statement_row done) l) (row_walked text loop xs f) (record { is = ap seen.statement_row h.is; frame = h.frame })
+pub row_told : (p : Program) (class : ℕ) (loop : Loop) (xs : List StatementTree) (f : Frame) (done : List StatementSeen) (l : Locals) → IsTold p.text (walked (statement_told p class loop) xs f) done l → IsTold p.text (statements_told p class loop (trees.statement_row xs) f) (seen.statement_row done) l
+row_told p class loop xs f done l h = subst (λ t. IsTold p.text t (seen.statement_row done) l) (row_walked p class loop xs f) (record { is = ap seen.statement_row h.is; frame = h.frame })
 
 parameters_push : (text : List ℕ) (params : List made.Parameter.Parameter) (x : made.Parameter.Parameter) (f : Frame) → parameters_frame text (params ++ x ∷ []) f ≡ declared text x.name (is_heap x.kind) (role_of x) (parameters_frame text params f)
 parameters_push text [] x f = refl

@@ -5,6 +5,7 @@ use Rattle.source.specs.declared.token.Span.{Span}
 use Rattle.syntax.specs.StatementTrees as trees
 use Rattle.syntax.specs.StatementTrees.{StatementTree, StatementTrees, BlockTree, TestTree, OtherTrees}
 use Rattle.names.specs.Kinds.{is_heap}
+use Rattle.names.specs.Program.{Program}
 use Rattle.resolved.specs.declared.method.Role.{Role}
 use Rattle.resolved.specs.declared.method.Role.TheVariants as role
 use Rattle.resolving.specs.Locals.{Local, Frame, local_named, entered, declared}
@@ -43,33 +44,33 @@ declared_extends : (text : List ℕ) (name : Span) (heap : Bool) (role : Role) (
 declared_extends text name true role f = entered_extends text name (Some (length f.variables)) f _ refl
 declared_extends text name false role f = entered_extends text name None f _ refl
 
-block_same : (text : List ℕ) (loop : Loop) (b : BlockTree) (f : Frame) → (block_told text loop b f).frame.locals ≡ f.locals
-block_same text loop (trees.Braces statements close) f = refl
+block_same : (p : Program) (class : ℕ) (loop : Loop) (b : BlockTree) (f : Frame) → (block_told p class loop b f).frame.locals ≡ f.locals
+block_same p class loop (trees.Braces statements close) f = refl
 
-test_same : (text : List ℕ) (loop : Loop) (t : TestTree) (f : Frame) → (test_told text loop t f).frame.locals ≡ f.locals
-test_same text loop (trees.Test word left test body) f = block_same text loop body f
+test_same : (p : Program) (class : ℕ) (loop : Loop) (t : TestTree) (f : Frame) → (test_told p class loop t f).frame.locals ≡ f.locals
+test_same p class loop (trees.Test word left test body) f = block_same p class loop body f
 
-others_same : (text : List ℕ) (loop : Loop) (others : OtherTrees) (f : Frame) → (others_told text loop others f).frame.locals ≡ f.locals
-others_same text loop trees.NoOther f = refl
-others_same text loop (trees.Else b) f = block_same text loop b f
-others_same text loop (trees.ElseIf t others) f = others_same text loop others (test_told text loop t f).frame ∙ test_same text loop t f
+others_same : (p : Program) (class : ℕ) (loop : Loop) (others : OtherTrees) (f : Frame) → (others_told p class loop others f).frame.locals ≡ f.locals
+others_same p class loop trees.NoOther f = refl
+others_same p class loop (trees.Else b) f = block_same p class loop b f
+others_same p class loop (trees.ElseIf t others) f = others_same p class loop others (test_told p class loop t f).frame ∙ test_same p class loop t f
 
-statement_extends : (text : List ℕ) (loop : Loop) (x : StatementTree) (f : Frame) → Extends f (statement_told text loop x f).frame
-statement_extends text loop (trees.Block b) f = same_extends f _ (block_same text loop b f)
-statement_extends text loop (trees.Declare d) f = declared_extends text d.name (is_heap d.kind) role.Local f
-statement_extends text loop (trees.Assign a) f = same_extends f _ refl
-statement_extends text loop (trees.Call c) f = same_extends f _ refl
-statement_extends text loop (trees.Start word c) f = same_extends f _ refl
-statement_extends text loop (trees.Delete name) f = same_extends f _ refl
-statement_extends text loop (trees.NewChannel n) f = same_extends f _ refl
-statement_extends text loop (trees.If first others) f = same_extends f _ (others_same text loop others (test_told text loop first f).frame ∙ test_same text loop first f)
-statement_extends text loop (trees.While test) f = same_extends f _ (test_same text f.last test f)
-statement_extends text loop (trees.Break word) f = same_extends f _ refl
-statement_extends text loop (trees.Continue word) f = same_extends f _ refl
-statement_extends text loop (trees.Return word value) f = same_extends f _ refl
-statement_extends text loop (trees.Switch word first cases close) f = same_extends f _ refl
+statement_extends : (p : Program) (class : ℕ) (loop : Loop) (x : StatementTree) (f : Frame) → Extends f (statement_told p class loop x f).frame
+statement_extends p class loop (trees.Block b) f = same_extends f _ (block_same p class loop b f)
+statement_extends p class loop (trees.Declare d) f = declared_extends p.text d.name (is_heap d.kind) role.Local f
+statement_extends p class loop (trees.Assign a) f = same_extends f _ refl
+statement_extends p class loop (trees.Call c) f = same_extends f _ refl
+statement_extends p class loop (trees.Start word c) f = same_extends f _ refl
+statement_extends p class loop (trees.Delete name) f = same_extends f _ refl
+statement_extends p class loop (trees.NewChannel n) f = same_extends f _ refl
+statement_extends p class loop (trees.If first others) f = same_extends f _ (others_same p class loop others (test_told p class loop first f).frame ∙ test_same p class loop first f)
+statement_extends p class loop (trees.While test) f = same_extends f _ (test_same p class f.last test f)
+statement_extends p class loop (trees.Break word) f = same_extends f _ refl
+statement_extends p class loop (trees.Continue word) f = same_extends f _ refl
+statement_extends p class loop (trees.Return word value) f = same_extends f _ refl
+statement_extends p class loop (trees.Switch word first cases close) f = same_extends f _ refl
 
 -- so it is behind statements in a row
-pub statements_extend : (text : List ℕ) (loop : Loop) (xs : StatementTrees) (f : Frame) → Extends f (statements_told text loop xs f).frame
-statements_extend text loop trees.NoStatement f = same_extends f f refl
-statements_extend text loop (trees.MoreStatements x xs) f = extends_then f _ _ (statement_extends text loop x f) (statements_extend text loop xs (statement_told text loop x f).frame)
+pub statements_extend : (p : Program) (class : ℕ) (loop : Loop) (xs : StatementTrees) (f : Frame) → Extends f (statements_told p class loop xs f).frame
+statements_extend p class loop trees.NoStatement f = same_extends f f refl
+statements_extend p class loop (trees.MoreStatements x xs) f = extends_then f _ _ (statement_extends p class loop x f) (statements_extend p class loop xs (statement_told p class loop x f).frame)

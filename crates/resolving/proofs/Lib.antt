@@ -10,3 +10,8 @@ pub mod BodyLemmas
 pub mod KeepLemmas
 pub mod BlockLemmas
 pub mod TellLemmas
+pub mod ItemLemmas
+pub mod FormTwins
+pub mod CountLemmas
+pub mod CalleeLemmas
+pub mod PlainLemmas

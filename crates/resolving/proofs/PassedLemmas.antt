@@ -11,7 +11,8 @@ use Rattle.syntax.specs.declared.statement as stated
 use Rattle.syntax.specs.declared.statement.Statement.TheFolds as folds
 use Rattle.syntax.specs.declared.tree as tree
 use Rattle.names.specs.Methods.{methods_in}
-use Rattle.resolving.specs.Methods.{all_methods, not_yet}
+use Rattle.resolving.specs.Callees.{all_methods}
+use Rattle.resolving.specs.Methods.{not_yet}
 use Rattle.resolving.specs.Passed.{first_place}
 use Rattle.resolving.specs.Unknown.{or_else, unknown_type, unknown_statement, unknown_statements, unknown_block, unknown_test, unknown_others, unknown_params, unknown_method, unknown_methods}
 

@@ -1,12 +1,17 @@
 -- What statements come to, in memory and without it, a form at a time.
-use Rattle.std.proofs.Common.{◌≡◌, Option, Some, None, Vec, map}
+use Rattle.std.proofs.Common.{◌≡◌, Option, Some, None, Vec, map, sym, ap, ◌∙◌}
 use Rattle.std.specs.Global.{Global}
 use Rattle.std.specs.Option.{option_map}
+use Rattle.source.specs.declared.place.Place.{Place}
 use Rattle.resolved.specs.Statements as seen
 use Rattle.resolved.specs.Statements.{StatementSeen, BlockSeen, IfSeen, TestSeen, statement_seen, block_seen, if_seen, test_seen, statement_step, block_step, if_step, test_step, statement_row, other_row}
 use Rattle.resolved.specs.declared.statement as made
 use Rattle.resolved.specs.declared.statement.Forget.{Forget}
+use Rattle.resolved.specs.declared.statement.Mention.{Mention}
+use Rattle.resolved.specs.declared.statement.Ways.{Ways}
 use Rattle.resolved.specs.declared.statement.Statement.TheFolds as folds
+use Rattle.resolved.specs.declared.statement.Statement.TheOpen as layer
+use Rattle.resolved.specs.declared.statement.Statement.TheVariants as variants
 
 -- a block
 pub block_made : (statements : Vec made.Statement.Statement Global) (forget : Option Forget) → block_seen (made.Block.roll-Block (record { statements = statements; forget = forget })) ≡ seen.Braces (statement_row (map statement_seen statements.items)) forget
@@ -16,3 +21,19 @@ block_made statements forget = folds.fold-roll-Block StatementSeen BlockSeen IfS
 pub if_made : (first : made.Test.Test) (others : Vec made.Test.Test Global) (o : Option made.Block.Block) → if_seen (made.If.roll-If (record { first = first; others = others; otherwise = o })) ≡ record { first = test_seen first; others = other_row (map test_seen others.items) (option_map block_seen o) }
 if_made first others None = folds.fold-roll-If StatementSeen BlockSeen IfSeen TestSeen statement_step block_step if_step test_step (record { first = first; others = others; otherwise = None })
 if_made first others (Some b) = folds.fold-roll-If StatementSeen BlockSeen IfSeen TestSeen statement_step block_step if_step test_step (record { first = first; others = others; otherwise = Some b })
+
+-- a condition with its block
+pub test_made : (place : Place) (reads : Vec Mention Global) (ways : Ways) (body : made.Block.Block) → test_seen (made.Test.roll-Test (record { place = place; reads = reads; ways = ways; body = body })) ≡ seen.Test place reads.items ways (block_seen body)
+test_made place reads ways body = folds.fold-roll-Test StatementSeen BlockSeen IfSeen TestSeen statement_step block_step if_step test_step (record { place = place; reads = reads; ways = ways; body = body })
+
+-- a statement that is a block
+pub of_block : (b : made.Block.Block) → statement_seen (variants.Block b) ≡ seen.Block (block_seen b)
+of_block b = ap statement_seen (sym (variants.rolls-Block b)) ∙ folds.fold-roll-Statement StatementSeen BlockSeen IfSeen TestSeen statement_step block_step if_step test_step (layer.Block b)
+
+-- one that is an `if`
+pub of_if : (i : made.If.If) → statement_seen (variants.If i) ≡ seen.If (if_seen i).first (if_seen i).others
+of_if i = ap statement_seen (sym (variants.rolls-If i)) ∙ folds.fold-roll-Statement StatementSeen BlockSeen IfSeen TestSeen statement_step block_step if_step test_step (layer.If i)
+
+-- one that is a `while`
+pub of_while : (t : made.Test.Test) → statement_seen (variants.While t) ≡ seen.While (test_seen t)
+of_while t = ap statement_seen (sym (variants.rolls-While t)) ∙ folds.fold-roll-Statement StatementSeen BlockSeen IfSeen TestSeen statement_step block_step if_step test_step (layer.While t)

@@ -2,14 +2,25 @@
 use Rattle.std.proofs.Common.{◌≡◌, Option, Some, None, Vec, map, sym, ap, ◌∙◌}
 use Rattle.std.specs.Global.{Global}
 use Rattle.std.specs.Option.{option_map}
+use Rattle.source.specs.declared.token.Span.{Span}
+use Rattle.syntax.specs.ExpressionTrees.{expression_tree}
+use Rattle.syntax.specs.Values.{call_tree}
 use Rattle.syntax.specs.StatementTrees as trees
-use Rattle.syntax.specs.StatementTrees.{StatementTree, BlockTree, CaseTree, IfTree, SwitchTree, TestTree, statement_tree, block_tree, if_tree, test_tree, statement_step, block_step, case_step, if_step, switch_step, test_step, statement_row, other_row}
+use Rattle.syntax.specs.StatementTrees.{StatementTree, BlockTree, CaseTree, IfTree, SwitchTree, TestTree, statement_tree, block_tree, if_tree, switch_tree, test_tree, statement_step, block_step, case_step, if_step, switch_step, test_step, statement_row, case_row, other_row, declare_tree, assign_tree}
+use Rattle.syntax.specs.declared.expression.Expression.{Expression}
+use Rattle.syntax.specs.declared.value.Call.{Call}
 use Rattle.syntax.specs.declared.statement as made
+use Rattle.syntax.specs.declared.statement.Statement.TheOpen as layer
 use Rattle.syntax.specs.declared.statement.Statement.TheFolds as folds
+use Rattle.syntax.specs.declared.statement.Statement.TheVariants as variants
 
 -- a block
 pub block_is : (b : made.Block.Block) → block_tree b ≡ trees.Braces (statement_row (map statement_tree b.statements.items)) b.close
 block_is = folds.fold_out-Block StatementTree BlockTree CaseTree IfTree SwitchTree TestTree statement_step block_step case_step if_step switch_step test_step
+
+-- a condition with its block
+pub test_is : (t : made.Test.Test) → test_tree t ≡ trees.Test t.word t.«open» (expression_tree t.test) (block_tree t.body)
+test_is = folds.fold_out-Test StatementTree BlockTree CaseTree IfTree SwitchTree TestTree statement_step block_step case_step if_step switch_step test_step
 
 if_made : (first : made.Test.Test) (others : Vec made.Test.Test Global) (o : Option made.Block.Block) → if_tree (made.If.roll-If (record { first = first; others = others; otherwise = o })) ≡ record { first = test_tree first; others = other_row (map test_tree others.items) (option_map block_tree o) }
 if_made first others None = folds.fold-roll-If StatementTree BlockTree CaseTree IfTree SwitchTree TestTree statement_step block_step case_step if_step switch_step test_step (record { first = first; others = others; otherwise = None })
@@ -18,3 +29,47 @@ if_made first others (Some b) = folds.fold-roll-If StatementTree BlockTree CaseT
 -- an `if`
 pub if_is : (i : made.If.If) → if_tree i ≡ record { first = test_tree (made.If.out-If i).first; others = other_row (map test_tree (made.If.out-If i).others.items) (option_map block_tree (made.If.out-If i).otherwise) }
 if_is i = ap if_tree (sym (made.If.roll-out-If i)) ∙ if_made (made.If.out-If i).first (made.If.out-If i).others (made.If.out-If i).otherwise
+
+-- a statement that is a block
+pub of_block : (b : made.Block.Block) → statement_tree (variants.Block b) ≡ trees.Block (block_tree b)
+of_block b = ap statement_tree (sym (variants.rolls-Block b)) ∙ folds.fold-roll-Statement StatementTree BlockTree CaseTree IfTree SwitchTree TestTree statement_step block_step case_step if_step switch_step test_step (layer.Block b)
+
+-- one that is an `if`
+pub of_if : (i : made.If.If) → statement_tree (variants.If i) ≡ trees.If (if_tree i).first (if_tree i).others
+of_if i = ap statement_tree (sym (variants.rolls-If i)) ∙ folds.fold-roll-Statement StatementTree BlockTree CaseTree IfTree SwitchTree TestTree statement_step block_step case_step if_step switch_step test_step (layer.If i)
+
+-- one that is a `while`
+pub of_while : (t : made.Test.Test) → statement_tree (variants.While t) ≡ trees.While (test_tree t)
+of_while t = ap statement_tree (sym (variants.rolls-While t)) ∙ folds.fold-roll-Statement StatementTree BlockTree CaseTree IfTree SwitchTree TestTree statement_step block_step case_step if_step switch_step test_step (layer.While t)
+
+-- a declaration
+pub of_declare : (d : made.Declare.Declare) → statement_tree (variants.Declare d) ≡ trees.Declare (declare_tree d)
+of_declare d = ap statement_tree (sym (variants.rolls-Declare d)) ∙ folds.fold-roll-Statement StatementTree BlockTree CaseTree IfTree SwitchTree TestTree statement_step block_step case_step if_step switch_step test_step (layer.Declare d)
+
+-- an assignment
+pub of_assign : (a : made.Assign.Assign) → statement_tree (variants.Assign a) ≡ trees.Assign (assign_tree a)
+of_assign a = ap statement_tree (sym (variants.rolls-Assign a)) ∙ folds.fold-roll-Statement StatementTree BlockTree CaseTree IfTree SwitchTree TestTree statement_step block_step case_step if_step switch_step test_step (layer.Assign a)
+
+-- a call
+pub of_call : (c : Call) → statement_tree (variants.Call c) ≡ trees.Call (call_tree c)
+of_call c = ap statement_tree (sym (variants.rolls-Call c)) ∙ folds.fold-roll-Statement StatementTree BlockTree CaseTree IfTree SwitchTree TestTree statement_step block_step case_step if_step switch_step test_step (layer.Call c)
+
+-- a start
+pub of_start : (word : Span) (c : Call) → statement_tree (variants.Start word c) ≡ trees.Start word (call_tree c)
+of_start word c = ap statement_tree (sym (variants.rolls-Start word c)) ∙ folds.fold-roll-Statement StatementTree BlockTree CaseTree IfTree SwitchTree TestTree statement_step block_step case_step if_step switch_step test_step (layer.Start word c)
+
+-- a `delete`
+pub of_delete : (name : Span) → statement_tree (variants.Delete name) ≡ trees.Delete name
+of_delete name = ap statement_tree (sym (variants.rolls-Delete name)) ∙ folds.fold-roll-Statement StatementTree BlockTree CaseTree IfTree SwitchTree TestTree statement_step block_step case_step if_step switch_step test_step (layer.Delete name)
+
+-- a new channel
+pub of_channel : (n : made.NewChannel.NewChannel) → statement_tree (variants.NewChannel n) ≡ trees.NewChannel n
+of_channel n = ap statement_tree (sym (variants.rolls-NewChannel n)) ∙ folds.fold-roll-Statement StatementTree BlockTree CaseTree IfTree SwitchTree TestTree statement_step block_step case_step if_step switch_step test_step (layer.NewChannel n)
+
+-- a `return`
+pub of_return : (word : Span) (value : Option Expression) → statement_tree (variants.Return word value) ≡ trees.Return word (option_map expression_tree value)
+of_return word value = ap statement_tree (sym (variants.rolls-Return word value)) ∙ folds.fold-roll-Statement StatementTree BlockTree CaseTree IfTree SwitchTree TestTree statement_step block_step case_step if_step switch_step test_step (layer.Return word value)
+
+-- a switch
+pub of_switch : (s : made.Switch.Switch) → statement_tree (variants.Switch s) ≡ trees.Switch (switch_tree s).word (switch_tree s).first (case_row (switch_tree s).others) (switch_tree s).close
+of_switch s = ap statement_tree (sym (variants.rolls-Switch s)) ∙ folds.fold-roll-Statement StatementTree BlockTree CaseTree IfTree SwitchTree TestTree statement_step block_step case_step if_step switch_step test_step (layer.Switch s)

@@ -1,6 +1,9 @@
 pub mod Locals
 pub mod Reads
+pub mod Callees
+pub mod Counts
 pub mod Told
+pub mod Around
 pub mod Unknown
 pub mod Methods
 pub mod Frames

@@ -1,6 +1,6 @@
 -- The methods of a program with a number for each variable of the exchange heap.
-use Rattle.std.specs.Prelude.{◌≡◌, ℕ, List, [], ◌∷◌, map, if◌then◌else◌, Option, None, Some, option_map}
-use Rattle.std.specs.List.{flat_map}
+use Rattle.std.specs.Prelude.{◌≡◌, ℕ, List, [], ◌∷◌, map, if◌then◌else◌, Option, None, Some, is_some, option_map}
+use Rattle.std.specs.List.{enumerate_from, flat_map}
 use Rattle.source.specs.declared.place.Place.{Place}
 use Rattle.syntax.specs.StatementTrees as stated
 use Rattle.syntax.specs.StatementTrees.{BlockTree}
@@ -8,10 +8,12 @@ use Rattle.syntax.specs.Trees.{ItemTree, MethodTree}
 use Rattle.syntax.specs.declared.class as made
 use Rattle.names.specs.Kinds.{is_heap}
 use Rattle.names.specs.Methods.{methods_in}
+use Rattle.names.specs.Program.{Program}
 use Rattle.resolved.specs.Methods.{MethodSeen}
 use Rattle.resolved.specs.Statements.{StatementsSeen}
 use Rattle.resolved.specs.declared.method.Role.{Role}
 use Rattle.resolved.specs.declared.method.Role.TheVariants.{Lent, Claimed}
+use Rattle.resolving.specs.Callees.{all_methods}
 use Rattle.resolving.specs.Locals.{Frame, declared, number_of}
 use Rattle.resolving.specs.Told.{Told, statements_told}
 use Rattle.resolving.specs.Unknown.{unknown_methods}
@@ -30,8 +32,8 @@ abbrev pub no_variables : Frame
 no_variables = record { locals = []; last = None; variables = [] }
 
 -- A method body ends with its method: nothing is forgotten there.
-abbrev pub body_told : List ℕ → BlockTree → Frame → Told StatementsSeen
-body_told text (stated.Braces statements close) f = statements_told text None statements f
+abbrev pub body_told : Program → ℕ → BlockTree → Frame → Told StatementsSeen
+body_told p class (stated.Braces statements close) f = statements_told p class None statements f
 
 abbrev pub closing : BlockTree → Place
 closing (stated.Braces statements close) = close.place
@@ -39,21 +41,24 @@ closing (stated.Braces statements close) = close.place
 abbrev pub method_with : MethodTree → Told StatementsSeen → MethodSeen
 method_with m body = record {
   name = m.name.place;
+  gives = is_some m.result;
   variables = body.frame.variables;
   statements = body.what;
   scope = option_map number_of body.frame.last;
   close = closing m.body;
 }
 
-abbrev pub method_told : List ℕ → MethodTree → MethodSeen
-method_told text m = method_with m (body_told text m.body (parameters_frame text m.params no_variables))
+-- a method of the class that is the item at this place
+abbrev pub method_told : Program → ℕ → MethodTree → MethodSeen
+method_told p class m = method_with m (body_told p class m.body (parameters_frame p.text m.params no_variables))
 
--- the methods of all classes, in order of the text
-abbrev pub all_methods : List ItemTree → List MethodTree
-all_methods items = flat_map (λ i. methods_in i.definition) items
+-- the methods of the item at this place
+abbrev pub item_told : Program → ℕ × ItemTree → List MethodSeen
+item_told p i = map (method_told p i.0) (methods_in i.1.definition)
 
-abbrev pub methods_told : List ℕ → List ItemTree → List MethodSeen
-methods_told text items = map (method_told text) (all_methods items)
+-- the methods of a program, in order of the text
+abbrev pub methods_told : Program → List MethodSeen
+methods_told p = flat_map (item_told p) (enumerate_from 0 p.items)
 
 -- the place of what is not analysed yet, if there is something
 abbrev pub not_yet : List ItemTree → Option Place

@@ -1,8 +1,9 @@
 -- What a step of the walk adds, and what it makes, whatever variables are in scope.
-use Rattle.std.specs.Prelude.{◌≡◌, ℕ, List, [], ◌∷◌, ◌++◌}
-use Rattle.resolved.specs.Statements.{StatementSeen, simple_seen}
+use Rattle.std.specs.Prelude.{◌≡◌, ℕ, List, [], ◌∷◌, ◌++◌, Option, option_map}
+use Rattle.resolved.specs.Statements.{CallSeen, StatementSeen, call_seen, statement_seen}
 use Rattle.resolved.specs.declared.statement.Mention.{Mention}
-use Rattle.resolved.specs.declared.statement.Simple.{Simple}
+use Rattle.resolved.specs.declared.statement.Statement.{Statement}
+use Rattle.resolved.specs.declared.call.Call.{Call}
 use Rattle.resolving.specs.Frames.{IsFrame}
 use Rattle.resolving.specs.Locals.{Frame}
 use Rattle.resolving.specs.Told.{Told, follow}
@@ -12,9 +13,13 @@ use Rattle.resolving.specs.declared.locals.Locals.{Locals}
 pub record AddsReads (text : List ℕ) (locals : Locals) (read : Frame → List Mention) (old new : List Mention) : Type 0 where
   pub all : (f : Frame) → IsFrame text f locals → new ≡ old ++ read f
 
--- a simple statement is what this one comes to
-pub record Tells (text : List ℕ) (locals : Locals) (told : Frame → StatementSeen) (s : Simple) : Type 0 where
-  pub all : (f : Frame) → IsFrame text f locals → simple_seen s ≡ told f
+-- a statement is what this one comes to
+pub record Tells (text : List ℕ) (locals : Locals) (told : Frame → StatementSeen) (s : Statement) : Type 0 where
+  pub all : (f : Frame) → IsFrame text f locals → statement_seen s ≡ told f
+
+-- a call, if there is one, is what this one comes to
+pub record TellsCall (text : List ℕ) (locals : Locals) (told : Frame → Option CallSeen) (c : Option Call) : Type 0 where
+  pub all : (f : Frame) → IsFrame text f locals → option_map call_seen c ≡ told f
 
 -- a piece is what this one comes to, and the frame behind it is the one that stands now
 pub record IsTold (text : List ℕ) {X : Type 0} (t : Told X) (what : X) (locals : Locals) : Type 0 where

@@ -2,11 +2,13 @@
 #![tactic(auto)]
 
 mod alone;
+mod around;
+mod calls;
 mod fault;
 mod locals;
 mod methods;
+mod plain;
 mod reads;
-mod simple;
 mod statements;
 mod unknown;
 mod values;

@@ -1,6 +1,6 @@
 //! The variables in scope, and the numbers of those of the exchange heap.
 
-ghost use Rattle.std.specs.Prelude.{◌≡◌, ◌-◌, ℕ, List, [], length, map, take, OnOk, option_map};
+ghost use Rattle.std.specs.Prelude.{◌≡◌, ◌-◌, ℕ, List, [], length, map, take, OnOk, is_some, option_map};
 ghost use Rattle.resolved.specs.Methods.{variable_seen};
 ghost use Rattle.resolving.specs.Frames.{IsFrame, local_seen, number_seen};
 ghost use Rattle.resolving.specs.Methods.{no_variables};
@@ -69,6 +69,13 @@ impl<'a> Locals<'a> {
         let place = self.names.find(tokens.slice(name))?;
         let local = self.list.get(place)?;
         Some(*local)
+    }
+
+    /// Whether a variable in scope has this name.
+    pub(crate) fn is_in_scope(&self, tokens: &Tokens, name: Span) -> bool
+        ensures { (f : Frame) → IsFrame tokens.now.text.items f self.now → result ≡ is_some (local_named tokens.now.text.items f.locals name) }
+    {
+        self.find(tokens, name).is_some()
     }
 
     /// A name, where it means a variable of the exchange heap.

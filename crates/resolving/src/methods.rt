@@ -1,21 +1,26 @@
 //! The methods of a program.
 
-ghost use Rattle.std.specs.Prelude.{◌≡◌, ◌≤◌, ◌++◌, [], None, length, map, IfErr, IfOk, OnOk};
-ghost use Rattle.syntax.specs.Trees.{program_tree, item_tree, definition_tree, method_tree};
+ghost use Rattle.std.specs.Prelude.{◌≡◌, ◌≤◌, ◌++◌, ℕ, List, [], None, length, map, IfErr, IfOk, OnOk};
+ghost use Rattle.syntax.specs.Trees.{ItemTree, program_tree, item_tree, definition_tree, method_tree};
 ghost use Rattle.names.specs.Findings.{program_findings};
 ghost use Rattle.names.specs.Methods.{methods_in};
 ghost use Rattle.names.specs.Program.{program_of};
 ghost use Rattle.names.specs.declared.limits.TheConstants.{MOST_METHODS};
 ghost use Rattle.resolved.specs.Methods.{method_seen};
+ghost use Rattle.names.specs.Scopes.{IsScope};
+ghost use Rattle.resolving.specs.Around.{IsAround, counts, program_in};
+ghost use Rattle.resolving.specs.Callees.{all_methods};
 ghost use Rattle.resolving.specs.Frames.{IsFrame};
 ghost use Rattle.resolving.specs.Locals.{Frame};
 ghost use Rattle.resolving.specs.Methods.{IsFault, methods_told, not_yet, role_of, parameters_frame, method_told};
 
+use crate::around::Around;
 use crate::fault::MethodFault;
 use crate::locals::Locals;
-use crate::simple::is_heap;
+use crate::plain::is_heap;
 use crate::statements::tell_statements;
 use crate::unknown::find_unknown;
+use names::Scope;
 use resolved::{Method, Role};
 use source::Tokens;
 use std::alloc::{AllocError, Global};
@@ -52,16 +57,19 @@ fn declare_parameters<'a>(
 fn resolve_method(
     alloc: Global,
     tokens: &Tokens,
+    around: &Around<'_, '_>,
     method: &syntax::Method,
 ) -> Result<Method, AllocError>
-    ensures { IfOk result (λ m. method_seen m ≡ method_told tokens.now.text.items (method_tree method.now)) }
+    ensures { (items : List ItemTree) (own : ℕ) → IsAround (program_in tokens.now.text.items items) own around.now → IfOk result (λ m. method_seen m ≡ method_told (program_in tokens.now.text.items items) own (method_tree method.now)) }
 {
     let mut locals = Locals::new(alloc);
     declare_parameters(alloc, tokens, &mut locals, &method.params)?;
-    let statements = tell_statements(alloc, tokens, &mut locals, None, &method.body.statements)?;
+    let body = &method.body.statements;
+    let statements = tell_statements(alloc, tokens, around, &mut locals, None, body)?;
     let scope = locals.last();
     Ok(Method {
         name: method.name.place,
+        gives: method.result.is_some(),
         variables: locals.into_variables(),
         statements,
         scope,
@@ -83,24 +91,54 @@ pub(crate) fn methods_of(definition: &Definition) -> &[syntax::Method]
 fn add_methods(
     alloc: Global,
     tokens: &Tokens,
+    around: &Around<'_, '_>,
     methods: &[syntax::Method],
     resolved: &mut Vec<Method>,
 ) -> Result<(), AllocError>
-    ensures { OnOk result (map method_seen resolved.new.items ≡ map method_seen resolved.old.items ++ map (method_told tokens.now.text.items) (map method_tree methods.now)) }
+    ensures { (items : List ItemTree) (own : ℕ) → IsAround (program_in tokens.now.text.items items) own around.now → OnOk result (map method_seen resolved.new.items ≡ map method_seen resolved.old.items ++ map (method_told (program_in tokens.now.text.items items) own) (map method_tree methods.now)) }
 {
     for method in methods {
-        resolved.push(resolve_method(alloc, tokens, method)?)?;
+        resolved.push(resolve_method(alloc, tokens, around, method)?)?;
     }
     Ok(())
 }
 
-/// The methods of these items, resolved, in order of the text.
-fn resolve_items(alloc: Global, tokens: &Tokens, items: &[Item]) -> Result<Vec<Method>, AllocError>
-    ensures { IfOk result (λ methods. map method_seen methods.items ≡ methods_told tokens.now.text.items (map item_tree items.now)) }
+/// How many methods stand before each of these items.
+fn count_methods(alloc: Global, items: &[Item]) -> Result<Vec<usize>, AllocError>
+    requires few { length (all_methods (map item_tree items.now)) ≤ MOST_METHODS }
+    ensures { IfOk result (λ before. before.items ≡ counts (map item_tree items.now)) }
 {
-    let mut resolved = Vec::new(alloc);
+    let mut before = Vec::new(alloc);
+    let mut sum = 0;
     for item in items {
-        add_methods(alloc, tokens, methods_of(&item.definition), &mut resolved)?;
+        before.push(sum)?;
+        sum += methods_of(&item.definition).len();
+    }
+    Ok(before)
+}
+
+/// The methods of these items, resolved, in order of the text.
+fn resolve_items<'a>(
+    alloc: Global,
+    tokens: &Tokens,
+    scope: &Scope<'a>,
+    items: &'a [Item],
+) -> Result<Vec<Method>, AllocError>
+    requires scope { IsScope (program_in tokens.now.text.items (map item_tree items.now)) scope.now }
+    requires few { length (all_methods (map item_tree items.now)) ≤ MOST_METHODS }
+    ensures { IfOk result (λ methods. map method_seen methods.items ≡ methods_told (program_in tokens.now.text.items (map item_tree items.now))) }
+{
+    let before = count_methods(alloc, items)?;
+    let mut resolved = Vec::new(alloc);
+    for (class, item) in items.iter().enumerate() {
+        let around = Around {
+            scope,
+            items,
+            before: &before,
+            class,
+        };
+        let methods = methods_of(&item.definition);
+        add_methods(alloc, tokens, &around, methods, &mut resolved)?;
     }
     Ok(resolved)
 }
@@ -117,13 +155,14 @@ pub fn resolve_methods(
 ) -> Result<Vec<Method>, MethodFault>
     requires clean { program_findings (program_of tokens.now.text.items tree.now) ≡ [] }
     ensures known { OnOk result (not_yet (program_tree tree.now) ≡ None) }
-    ensures resolved { IfOk result (λ methods. map method_seen methods.items ≡ methods_told tokens.now.text.items (program_tree tree.now)) }
+    ensures resolved { IfOk result (λ methods. map method_seen methods.items ≡ methods_told (program_of tokens.now.text.items tree.now)) }
     ensures few { IfOk result (λ methods. length methods.items ≤ MOST_METHODS) }
     ensures fault { IfErr result (IsFault (program_tree tree.now)) }
 {
     if let Some(place) = find_unknown(&tree.items) {
         return Err(MethodFault::NotYet(place));
     }
-    let methods = resolve_items(alloc, tokens, &tree.items)?;
+    let scope = Scope::of(alloc, tokens, &tree.items)?;
+    let methods = resolve_items(alloc, tokens, &scope, &tree.items)?;
     Ok(methods)
 }

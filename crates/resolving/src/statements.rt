@@ -2,19 +2,22 @@
 
 ghost use Rattle.std.specs.Prelude.{◌≡◌, ℕ, List, map, IfOk, option_map};
 ghost use Rattle.resolved.specs.Statements as seen;
-ghost use Rattle.resolved.specs.Statements.{simple_seen, statement_seen, block_seen, test_seen, if_seen};
+ghost use Rattle.resolved.specs.Statements.{statement_seen, block_seen, test_seen, if_seen};
+ghost use Rattle.resolving.specs.Around.{IsAround, program_in};
 ghost use Rattle.resolving.specs.Frames.{IsFrame, number_seen};
 ghost use Rattle.resolving.specs.Locals.{Frame, forget};
 ghost use Rattle.resolving.specs.Steps.{IsTold, walked};
-ghost use Rattle.resolving.specs.Told.{follow, left, simple_told, frame_behind, statement_told, statements_told, block_told, test_told, others_told};
+ghost use Rattle.resolving.specs.Told.{follow, left, plain_told, frame_behind, statement_told, statements_told, block_told, test_told, others_told};
+ghost use Rattle.syntax.specs.Trees.{ItemTree};
 ghost use Rattle.syntax.specs.StatementTrees.{statement_tree, statement_row, block_tree, test_tree, if_tree, last_other};
 
 use crate::alone::ways_of;
+use crate::around::Around;
 use crate::locals::Locals;
+use crate::plain::{declare_in, tell_plain};
 use crate::reads::add_reads;
-use crate::simple::{declare_in, tell_simple};
 use crate::values::unread;
-use resolved::{Action, Block, Forget, If, Simple, Statement, Test, VarId};
+use resolved::{Action, Block, Forget, If, Statement, Test, VarId};
 use source::{Place, Tokens};
 use std::alloc::{AllocError, Global};
 
@@ -30,24 +33,25 @@ fn forgetting(place: Place, outer: Option<VarId>, last: Option<VarId>) -> Option
 }
 
 /// What goes out of scope at a `break` or a `continue` of the loop before which this variable is the last in scope.
-fn leaving(locals: &Locals<'_>, place: Place, around: Option<VarId>) -> Option<Forget>
-    ensures { (text : List ℕ) (f : Frame) → IsFrame text f locals.now → result ≡ left place (number_seen around) f }
+fn leaving(locals: &Locals<'_>, place: Place, before: Option<VarId>) -> Option<Forget>
+    ensures { (text : List ℕ) (f : Frame) → IsFrame text f locals.now → result ≡ left place (number_seen before) f }
 {
-    forgetting(place, around, locals.last())
+    forgetting(place, before, locals.last())
 }
 
 /// What a statement that holds no others comes to, and what it declares.
 fn tell_alone<'a>(
     alloc: Global,
     tokens: &'a Tokens,
+    around: &Around<'_, '_>,
     locals: &mut Locals<'a>,
     statement: &syntax::Statement,
-) -> Result<Simple, AllocError>
-    ensures { (f : Frame) → IsFrame tokens.now.text.items f locals.old → IfOk result (λ s. IsTold tokens.now.text.items (record { what = simple_told tokens.now.text.items f (statement_tree statement.now); frame = frame_behind tokens.now.text.items f (statement_tree statement.now) }) (simple_seen s) locals.new) }
+) -> Result<Statement, AllocError>
+    ensures { (items : List ItemTree) (own : ℕ) (f : Frame) → IsAround (program_in tokens.now.text.items items) own around.now → IsFrame tokens.now.text.items f locals.old → IfOk result (λ s. IsTold tokens.now.text.items (record { what = plain_told (program_in tokens.now.text.items items) own f (statement_tree statement.now); frame = frame_behind (program_in tokens.now.text.items items) own f (statement_tree statement.now) }) (statement_seen s) locals.new) }
 {
-    let simple = tell_simple(alloc, tokens, locals, statement)?;
+    let told = tell_plain(alloc, tokens, around, locals, statement)?;
     declare_in(alloc, tokens, locals, statement)?;
-    Ok(simple)
+    Ok(told)
 }
 
 /// What a statement comes to, in a loop before which this variable is the last in scope.
@@ -55,33 +59,32 @@ fn tell_alone<'a>(
 fn tell_statement<'a>(
     alloc: Global,
     tokens: &'a Tokens,
+    around: &Around<'_, '_>,
     locals: &mut Locals<'a>,
-    around: Option<VarId>,
+    before: Option<VarId>,
     statement: &syntax::Statement,
 ) -> Result<Statement, AllocError>
-    ensures { (f : Frame) → IsFrame tokens.now.text.items f locals.old → IfOk result (λ s. IsTold tokens.now.text.items (statement_told tokens.now.text.items (number_seen around) (statement_tree statement.now) f) (statement_seen s) locals.new) }
+    ensures { (items : List ItemTree) (own : ℕ) (f : Frame) → IsAround (program_in tokens.now.text.items items) own around.now → IsFrame tokens.now.text.items f locals.old → IfOk result (λ s. IsTold tokens.now.text.items (statement_told (program_in tokens.now.text.items items) own (number_seen before) (statement_tree statement.now) f) (statement_seen s) locals.new) }
 {
     match statement {
         syntax::Statement::Block(block) => {
-            let block = tell_block(alloc, tokens, locals, around, block)?;
+            let block = tell_block(alloc, tokens, around, locals, before, block)?;
             Ok(Statement::Block(block))
         }
         syntax::Statement::If(branches) => {
-            let branches = tell_if(alloc, tokens, locals, around, branches)?;
+            let branches = tell_if(alloc, tokens, around, locals, before, branches)?;
             Ok(Statement::If(branches))
         }
         syntax::Statement::While(test) => {
             let inside = locals.last();
-            let test = tell_test(alloc, tokens, locals, inside, test)?;
+            let test = tell_test(alloc, tokens, around, locals, inside, test)?;
             Ok(Statement::While(test))
         }
         syntax::Statement::Break(word) => {
-            let action = Action::Break(leaving(locals, word.place, around));
-            Ok(Statement::Simple(unread(alloc, action)))
+            Ok(unread(alloc, Action::Break(leaving(locals, word.place, before))))
         }
         syntax::Statement::Continue(word) => {
-            let action = Action::Continue(leaving(locals, word.place, around));
-            Ok(Statement::Simple(unread(alloc, action)))
+            Ok(unread(alloc, Action::Continue(leaving(locals, word.place, before))))
         }
         syntax::Statement::Declare(_)
         | syntax::Statement::Assign(_)
@@ -90,10 +93,7 @@ fn tell_statement<'a>(
         | syntax::Statement::Delete(_)
         | syntax::Statement::NewChannel(_)
         | syntax::Statement::Return { .. }
-        | syntax::Statement::Switch(_) => {
-            let simple = tell_alone(alloc, tokens, locals, statement)?;
-            Ok(Statement::Simple(simple))
-        }
+        | syntax::Statement::Switch(_) => { tell_alone(alloc, tokens, around, locals, statement) }
     }
 }
 
@@ -102,15 +102,16 @@ fn tell_statement<'a>(
 pub(crate) fn tell_statements<'a>(
     alloc: Global,
     tokens: &'a Tokens,
+    around: &Around<'_, '_>,
     locals: &mut Locals<'a>,
-    around: Option<VarId>,
+    before: Option<VarId>,
     statements: &[syntax::Statement],
 ) -> Result<Vec<Statement>, AllocError>
-    ensures { (f : Frame) → IsFrame tokens.now.text.items f locals.old → IfOk result (λ list. IsTold tokens.now.text.items (statements_told tokens.now.text.items (number_seen around) (statement_row (map statement_tree statements.now)) f) (seen.statement_row (map statement_seen list.items)) locals.new) }
+    ensures { (items : List ItemTree) (own : ℕ) (f : Frame) → IsAround (program_in tokens.now.text.items items) own around.now → IsFrame tokens.now.text.items f locals.old → IfOk result (λ list. IsTold tokens.now.text.items (statements_told (program_in tokens.now.text.items items) own (number_seen before) (statement_row (map statement_tree statements.now)) f) (seen.statement_row (map statement_seen list.items)) locals.new) }
 {
     let mut told = Vec::new(alloc);
     for statement in statements {
-        told.push(tell_statement(alloc, tokens, locals, around, statement)?)?;
+        told.push(tell_statement(alloc, tokens, around, locals, before, statement)?)?;
     }
     Ok(told)
 }
@@ -120,15 +121,16 @@ pub(crate) fn tell_statements<'a>(
 fn tell_block<'a>(
     alloc: Global,
     tokens: &'a Tokens,
+    around: &Around<'_, '_>,
     locals: &mut Locals<'a>,
-    around: Option<VarId>,
+    before: Option<VarId>,
     block: &syntax::Block,
 ) -> Result<Block, AllocError>
-    ensures { (f : Frame) → IsFrame tokens.now.text.items f locals.old → IfOk result (λ b. IsTold tokens.now.text.items (block_told tokens.now.text.items (number_seen around) (block_tree block.now) f) (block_seen b) locals.new) }
+    ensures { (items : List ItemTree) (own : ℕ) (f : Frame) → IsAround (program_in tokens.now.text.items items) own around.now → IsFrame tokens.now.text.items f locals.old → IfOk result (λ b. IsTold tokens.now.text.items (block_told (program_in tokens.now.text.items items) own (number_seen before) (block_tree block.now) f) (block_seen b) locals.new) }
 {
     let outer = locals.len();
     let last = locals.last();
-    let statements = tell_statements(alloc, tokens, locals, around, &block.statements)?;
+    let statements = tell_statements(alloc, tokens, around, locals, before, &block.statements)?;
     let forget = forgetting(block.close.place, last, locals.last());
     locals.leave(tokens, outer, last);
     Ok(Block { statements, forget })
@@ -139,15 +141,16 @@ fn tell_block<'a>(
 fn tell_test<'a>(
     alloc: Global,
     tokens: &'a Tokens,
+    around: &Around<'_, '_>,
     locals: &mut Locals<'a>,
-    around: Option<VarId>,
+    before: Option<VarId>,
     test: &syntax::Test,
 ) -> Result<Test, AllocError>
-    ensures { (f : Frame) → IsFrame tokens.now.text.items f locals.old → IfOk result (λ t. IsTold tokens.now.text.items (test_told tokens.now.text.items (number_seen around) (test_tree test.now) f) (test_seen t) locals.new) }
+    ensures { (items : List ItemTree) (own : ℕ) (f : Frame) → IsAround (program_in tokens.now.text.items items) own around.now → IsFrame tokens.now.text.items f locals.old → IfOk result (λ t. IsTold tokens.now.text.items (test_told (program_in tokens.now.text.items items) own (number_seen before) (test_tree test.now) f) (test_seen t) locals.new) }
 {
     let mut reads = Vec::new(alloc);
     add_reads(tokens, locals, &test.test, &mut reads)?;
-    let body = tell_block(alloc, tokens, locals, around, &test.body)?;
+    let body = tell_block(alloc, tokens, around, locals, before, &test.body)?;
     Ok(Test {
         place: test.word.place,
         reads,
@@ -161,15 +164,16 @@ fn tell_test<'a>(
 fn tell_tests<'a>(
     alloc: Global,
     tokens: &'a Tokens,
+    around: &Around<'_, '_>,
     locals: &mut Locals<'a>,
-    around: Option<VarId>,
+    before: Option<VarId>,
     tests: &[syntax::Test],
 ) -> Result<Vec<Test>, AllocError>
-    ensures { (f : Frame) → IsFrame tokens.now.text.items f locals.old → IfOk result (λ list. IsTold tokens.now.text.items (walked (test_told tokens.now.text.items (number_seen around)) (map test_tree tests.now) f) (map test_seen list.items) locals.new) }
+    ensures { (items : List ItemTree) (own : ℕ) (f : Frame) → IsAround (program_in tokens.now.text.items items) own around.now → IsFrame tokens.now.text.items f locals.old → IfOk result (λ list. IsTold tokens.now.text.items (walked (test_told (program_in tokens.now.text.items items) own (number_seen before)) (map test_tree tests.now) f) (map test_seen list.items) locals.new) }
 {
     let mut told = Vec::new(alloc);
     for test in tests {
-        told.push(tell_test(alloc, tokens, locals, around, test)?)?;
+        told.push(tell_test(alloc, tokens, around, locals, before, test)?)?;
     }
     Ok(told)
 }
@@ -179,15 +183,16 @@ fn tell_tests<'a>(
 fn tell_otherwise<'a>(
     alloc: Global,
     tokens: &'a Tokens,
+    around: &Around<'_, '_>,
     locals: &mut Locals<'a>,
-    around: Option<VarId>,
+    before: Option<VarId>,
     otherwise: &Option<syntax::Block>,
 ) -> Result<Option<Block>, AllocError>
-    ensures { (f : Frame) → IsFrame tokens.now.text.items f locals.old → IfOk result (λ b. IsTold tokens.now.text.items (others_told tokens.now.text.items (number_seen around) (last_other (option_map block_tree otherwise.now)) f) (seen.last_other (option_map block_seen b)) locals.new) }
+    ensures { (items : List ItemTree) (own : ℕ) (f : Frame) → IsAround (program_in tokens.now.text.items items) own around.now → IsFrame tokens.now.text.items f locals.old → IfOk result (λ b. IsTold tokens.now.text.items (others_told (program_in tokens.now.text.items items) own (number_seen before) (last_other (option_map block_tree otherwise.now)) f) (seen.last_other (option_map block_seen b)) locals.new) }
 {
     match otherwise {
         Some(block) => {
-            let block = tell_block(alloc, tokens, locals, around, block)?;
+            let block = tell_block(alloc, tokens, around, locals, before, block)?;
             Ok(Some(block))
         }
         None => Ok(None),
@@ -199,15 +204,16 @@ fn tell_otherwise<'a>(
 fn tell_if<'a>(
     alloc: Global,
     tokens: &'a Tokens,
+    around: &Around<'_, '_>,
     locals: &mut Locals<'a>,
-    around: Option<VarId>,
+    before: Option<VarId>,
     branches: &syntax::If,
 ) -> Result<If, AllocError>
-    ensures { (f : Frame) → IsFrame tokens.now.text.items f locals.old → IfOk result (λ i. IsTold tokens.now.text.items (follow seen.If (test_told tokens.now.text.items (number_seen around) (if_tree branches.now).first f) (others_told tokens.now.text.items (number_seen around) (if_tree branches.now).others)) (seen.If (if_seen i).first (if_seen i).others) locals.new) }
+    ensures { (items : List ItemTree) (own : ℕ) (f : Frame) → IsAround (program_in tokens.now.text.items items) own around.now → IsFrame tokens.now.text.items f locals.old → IfOk result (λ i. IsTold tokens.now.text.items (follow seen.If (test_told (program_in tokens.now.text.items items) own (number_seen before) (if_tree branches.now).first f) (others_told (program_in tokens.now.text.items items) own (number_seen before) (if_tree branches.now).others)) (seen.If (if_seen i).first (if_seen i).others) locals.new) }
 {
-    let first = tell_test(alloc, tokens, locals, around, &branches.first)?;
-    let others = tell_tests(alloc, tokens, locals, around, &branches.others)?;
-    let otherwise = tell_otherwise(alloc, tokens, locals, around, &branches.otherwise)?;
+    let first = tell_test(alloc, tokens, around, locals, before, &branches.first)?;
+    let others = tell_tests(alloc, tokens, around, locals, before, &branches.others)?;
+    let otherwise = tell_otherwise(alloc, tokens, around, locals, before, &branches.otherwise)?;
     Ok(If {
         first,
         others,

@@ -1,35 +1,49 @@
 //! What a variable takes, and what a value reads.
 
-ghost use Rattle.std.specs.Prelude.{◌≡◌, [], IfOk, OnOk};
+ghost use Rattle.std.specs.Prelude.{◌≡◌, ◌++◌, ℕ, List, [], IfOk, OnOk};
 ghost use Rattle.syntax.specs.ExpressionTrees.{expression_tree};
-ghost use Rattle.syntax.specs.Values.{value_tree, made_tree};
-ghost use Rattle.resolved.specs.Statements.{simple_seen};
+ghost use Rattle.syntax.specs.Trees.{ItemTree};
+ghost use Rattle.syntax.specs.Values as values;
+ghost use Rattle.syntax.specs.Values.{call_tree, value_tree, made_tree};
+ghost use Rattle.resolved.specs.Statements.{statement_seen};
+ghost use Rattle.resolving.specs.Around.{IsAround, program_in};
 ghost use Rattle.resolving.specs.Steps.{AddsReads, Tells};
 ghost use Rattle.resolving.specs.Frames.{IsFrame};
 ghost use Rattle.resolving.specs.Locals.{Frame};
-ghost use Rattle.resolving.specs.Told.{told, lone, moved, made_reads, value_reads, taken, assigned};
+ghost use Rattle.resolving.specs.Reads.{listed, reads};
+ghost use Rattle.resolving.specs.Told.{told, lone, moved, used, made_reads, taken, scalar_taken, assigned, part_taken};
 
 use crate::alone::name_alone;
+use crate::around::Around;
+use crate::calls::tell_call;
 use crate::locals::Locals;
 use crate::reads::add_reads;
-use resolved::{Action, Mention, Simple};
+use resolved::{Action, Mention, Simple, Statement};
 use source::Tokens;
 use std::alloc::{AllocError, Global};
 use syntax::{Expression, Made, Value};
 
-/// A statement that reads nothing.
-pub(crate) fn unread(alloc: Global, action: Action) -> Simple
-    ensures { simple_seen result ≡ told [] action }
+/// A statement that reads these, and then does this.
+fn reading(reads: Vec<Mention>, action: Action) -> Statement
+    ensures { statement_seen result ≡ told reads.items action }
 {
-    Simple {
-        reads: Vec::new(alloc),
-        action,
-    }
+    Statement::Simple(Simple { reads, action })
+}
+
+/// A statement that reads nothing.
+pub(crate) fn unread(alloc: Global, action: Action) -> Statement
+    ensures { statement_seen result ≡ told [] action }
+{
+    reading(Vec::new(alloc), action)
 }
 
 /// The name that an expression is alone, where it means a variable of the exchange heap.
-fn alone(tokens: &Tokens, locals: &Locals<'_>, expression: &Expression) -> Option<Mention>
-    ensures { (f : Frame) → IsFrame tokens.now.text.items f locals.now → result ≡ lone tokens.now.text.items f (expression_tree expression.now) }
+pub(crate) fn alone(
+    tokens: &Tokens,
+    locals: &Locals<'_>,
+    expression: &Expression,
+) -> Option<Mention>
+    ensures { (items : List ItemTree) (own : ℕ) (f : Frame) → IsFrame tokens.now.text.items f locals.now → result ≡ lone (program_in tokens.now.text.items items) own f (expression_tree expression.now) }
 {
     let name = name_alone(expression)?;
     locals.mention(tokens, name)
@@ -45,6 +59,16 @@ fn moving(target: Mention, source: Option<Mention>) -> Action
     }
 }
 
+/// A part of what the variable has is written.
+fn using(whole: Option<Mention>) -> Action
+    ensures { result ≡ used whole }
+{
+    match whole {
+        Some(whole) => Action::Use(whole),
+        None => Action::Nothing,
+    }
+}
+
 /// Adds what is read for what `new` makes: the length of an array.
 fn add_made_reads(
     tokens: &Tokens,
@@ -52,7 +76,7 @@ fn add_made_reads(
     made: &Made,
     found: &mut Vec<Mention>,
 ) -> Result<(), AllocError>
-    ensures { OnOk result (AddsReads tokens.now.text.items locals.now (λ f. made_reads tokens.now.text.items f (made_tree made.now)) found.old.items found.new.items) }
+    ensures { (items : List ItemTree) (own : ℕ) → OnOk result (AddsReads tokens.now.text.items locals.now (λ f. made_reads (program_in tokens.now.text.items items) own f (made_tree made.now)) found.old.items found.new.items) }
 {
     match made {
         Made::Struct { .. } => Ok(()),
@@ -60,57 +84,58 @@ fn add_made_reads(
     }
 }
 
-/// Adds what a value reads.
-pub(crate) fn add_value_reads(
+/// Something is made, and this is done with it, behind what was read before.
+fn tell_made(
     tokens: &Tokens,
     locals: &Locals<'_>,
-    value: &Value,
-    found: &mut Vec<Mention>,
-) -> Result<(), AllocError>
-    ensures { OnOk result (AddsReads tokens.now.text.items locals.now (λ f. value_reads tokens.now.text.items f (value_tree value.now)) found.old.items found.new.items) }
+    mut before: Vec<Mention>,
+    made: &Made,
+    action: Action,
+) -> Result<Statement, AllocError>
+    ensures { (items : List ItemTree) (own : ℕ) → IfOk result (Tells tokens.now.text.items locals.now (λ f. told (before.items ++ made_reads (program_in tokens.now.text.items items) own f (made_tree made.now)) action)) }
 {
-    match value {
-        Value::Expression(expression) => add_reads(tokens, locals, expression, found),
-        Value::Call(_) => Ok(()),
-        Value::New(new) => add_made_reads(tokens, locals, &new.made, found),
-    }
+    add_made_reads(tokens, locals, made, &mut before)?;
+    Ok(reading(before, action))
 }
 
-/// A variable of the exchange heap takes a new block.
-fn tell_new(
-    alloc: Global,
+/// An expression is read, and this is done then, behind what was read before.
+pub(crate) fn tell_read(
     tokens: &Tokens,
     locals: &Locals<'_>,
-    target: Mention,
-    made: &Made,
-) -> Result<Simple, AllocError>
-    ensures { IfOk result (Tells tokens.now.text.items locals.now (λ f. told (made_reads tokens.now.text.items f (made_tree made.now)) (Action.New target))) }
+    mut before: Vec<Mention>,
+    expression: &Expression,
+    action: Action,
+) -> Result<Statement, AllocError>
+    ensures { IfOk result (Tells tokens.now.text.items locals.now (λ f. told (before.items ++ reads tokens.now.text.items f.locals (expression_tree expression.now)) action)) }
 {
-    let mut reads = Vec::new(alloc);
-    add_made_reads(tokens, locals, made, &mut reads)?;
-    Ok(Simple {
-        reads,
-        action: Action::New(target),
-    })
+    add_reads(tokens, locals, expression, &mut before)?;
+    Ok(reading(before, action))
 }
 
 /// A variable of the exchange heap takes a value.
-pub(crate) fn tell_taken(
+fn tell_taken(
     alloc: Global,
     tokens: &Tokens,
+    around: &Around<'_, '_>,
     locals: &Locals<'_>,
     target: Mention,
     value: &Value,
-) -> Result<Simple, AllocError>
-    ensures { IfOk result (Tells tokens.now.text.items locals.now (λ f. taken tokens.now.text.items f target (value_tree value.now))) }
+) -> Result<Statement, AllocError>
+    ensures { (items : List ItemTree) (own : ℕ) → IsAround (program_in tokens.now.text.items items) own around.now → IfOk result (Tells tokens.now.text.items locals.now (λ f. taken (program_in tokens.now.text.items items) own f target (value_tree value.now))) }
 {
     match value {
         Value::Expression(expression) => {
             let source = alone(tokens, locals, expression);
             Ok(unread(alloc, moving(target, source)))
         }
-        Value::Call(_) => Ok(unread(alloc, Action::Nothing)),
-        Value::New(new) => tell_new(alloc, tokens, locals, target, &new.made),
+        Value::Call(call) => {
+            let behind = Vec::new(alloc);
+            tell_call(alloc, tokens, around, locals, call, Some(target), behind)
+        }
+        Value::New(new) => {
+            let reads = Vec::new(alloc);
+            tell_made(tokens, locals, reads, &new.made, Action::New(target))
+        }
     }
 }
 
@@ -118,31 +143,82 @@ pub(crate) fn tell_taken(
 fn tell_scalar(
     alloc: Global,
     tokens: &Tokens,
+    around: &Around<'_, '_>,
     locals: &Locals<'_>,
     value: &Value,
-) -> Result<Simple, AllocError>
-    ensures { IfOk result (Tells tokens.now.text.items locals.now (λ f. told (value_reads tokens.now.text.items f (value_tree value.now)) Action.Nothing)) }
+) -> Result<Statement, AllocError>
+    ensures { (items : List ItemTree) (own : ℕ) → IsAround (program_in tokens.now.text.items items) own around.now → IfOk result (Tells tokens.now.text.items locals.now (λ f. scalar_taken (program_in tokens.now.text.items items) own f (value_tree value.now))) }
 {
-    let mut reads = Vec::new(alloc);
-    add_value_reads(tokens, locals, value, &mut reads)?;
-    Ok(Simple {
-        reads,
-        action: Action::Nothing,
-    })
+    let before = Vec::new(alloc);
+    match value {
+        Value::Expression(expression) => {
+            tell_read(tokens, locals, before, expression, Action::Nothing)
+        }
+        Value::Call(call) => tell_call(alloc, tokens, around, locals, call, None, before),
+        Value::New(new) => tell_made(tokens, locals, before, &new.made, Action::Nothing),
+    }
 }
 
 /// A variable takes a value: one of the exchange heap, or a scalar.
 pub(crate) fn tell_assigned(
     alloc: Global,
     tokens: &Tokens,
+    around: &Around<'_, '_>,
     locals: &Locals<'_>,
     target: Option<Mention>,
     value: &Value,
-) -> Result<Simple, AllocError>
-    ensures { IfOk result (Tells tokens.now.text.items locals.now (λ f. assigned tokens.now.text.items f target (value_tree value.now))) }
+) -> Result<Statement, AllocError>
+    ensures { (items : List ItemTree) (own : ℕ) → IsAround (program_in tokens.now.text.items items) own around.now → IfOk result (Tells tokens.now.text.items locals.now (λ f. assigned (program_in tokens.now.text.items items) own f target (value_tree value.now))) }
 {
     match target {
-        Some(target) => tell_taken(alloc, tokens, locals, target, value),
-        None => tell_scalar(alloc, tokens, locals, value),
+        Some(target) => tell_taken(alloc, tokens, around, locals, target, value),
+        None => tell_scalar(alloc, tokens, around, locals, value),
+    }
+}
+
+/// Adds a variable of the exchange heap, if there is one.
+fn add_listed(mention: Option<Mention>, found: &mut Vec<Mention>) -> Result<(), AllocError>
+    ensures { OnOk result (found.new.items ≡ found.old.items ++ listed mention) }
+{
+    if let Some(mention) = mention {
+        found.push(mention)?;
+    }
+    Ok(())
+}
+
+/// A call gives a scalar that a part of what the variable has takes, behind what its index reads.
+fn tell_part_called(
+    alloc: Global,
+    tokens: &Tokens,
+    around: &Around<'_, '_>,
+    locals: &Locals<'_>,
+    mut index: Vec<Mention>,
+    whole: Option<Mention>,
+    call: &syntax::Call,
+) -> Result<Statement, AllocError>
+    ensures { (items : List ItemTree) (own : ℕ) → IsAround (program_in tokens.now.text.items items) own around.now → IfOk result (Tells tokens.now.text.items locals.now (λ f. part_taken (program_in tokens.now.text.items items) own f index.items whole (values.Call (call_tree call.now)))) }
+{
+    add_listed(whole, &mut index)?;
+    tell_call(alloc, tokens, around, locals, call, None, index)
+}
+
+/// A part of what the variable has takes a value, behind what its index reads.
+pub(crate) fn tell_part(
+    alloc: Global,
+    tokens: &Tokens,
+    around: &Around<'_, '_>,
+    locals: &Locals<'_>,
+    index: Vec<Mention>,
+    whole: Option<Mention>,
+    value: &Value,
+) -> Result<Statement, AllocError>
+    ensures { (items : List ItemTree) (own : ℕ) → IsAround (program_in tokens.now.text.items items) own around.now → IfOk result (Tells tokens.now.text.items locals.now (λ f. part_taken (program_in tokens.now.text.items items) own f index.items whole (value_tree value.now))) }
+{
+    match value {
+        Value::Expression(expression) => {
+            tell_read(tokens, locals, index, expression, using(whole))
+        }
+        Value::Call(call) => { tell_part_called(alloc, tokens, around, locals, index, whole, call) }
+        Value::New(new) => tell_made(tokens, locals, index, &new.made, using(whole)),
     }
 }

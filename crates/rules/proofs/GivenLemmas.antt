@@ -1,8 +1,9 @@
 -- Variables that are given back: the first that still has something is the finding.
-use Rattle.std.proofs.Common.{◌≡◌, ℕ, Bool, true, false, List, [], ◌∷◌, Option, None, Some, if◌then◌else◌, refl, sym, ap, ◌∙◌}
+use Rattle.std.proofs.Common.{◌≡◌, ℕ, Bool, true, false, List, [], ◌∷◌, Option, None, Some, if◌then◌else◌, refl}
 use Rattle.source.specs.Findings.{FindingParts}
 use Rattle.source.specs.declared.place.Place.{Place}
 use Rattle.resolved.specs.Methods.{MethodSeen}
+use Rattle.resolved.specs.declared.statement.Mention.{Mention}
 use Rattle.rules.specs.Checks.{first_kept}
 use Rattle.rules.specs.RuleTable.{Check, Pair, Step, Goes, Fails, checked, given_back, is_kept, name_of, refused}
 use Rattle.rules.specs.Texts.{still_owned}
@@ -18,6 +19,6 @@ one : (m : MethodSeen) (place : Place) (b : Bool) (v : ℕ) (rest : Option ℕ) 
 one m place true v rest checks after h = refl
 one m place false v rest checks after h = h
 
-pub given_is : (m : MethodSeen) (row : List Leaf) (place : Place) (variables : List ℕ) (after : List Pair) → checked (given_back m row place variables) after ≡ given m place (first_kept m row variables) after
-given_is m row place [] after = refl
-given_is m row place (v ∷ variables) after = one m place (is_kept m row v) v (first_kept m row variables) (given_back m row place variables) after (given_is m row place variables after)
+pub given_is : (m : MethodSeen) (row : List Leaf) (place : Place) (spared : Option Mention) (variables : List ℕ) (after : List Pair) → checked (given_back m row place spared variables) after ≡ given m place (first_kept m row spared variables) after
+given_is m row place spared [] after = refl
+given_is m row place spared (v ∷ variables) after = one m place (is_kept m row spared v) v (first_kept m row spared variables) (given_back m row place spared variables) after (given_is m row place spared variables after)

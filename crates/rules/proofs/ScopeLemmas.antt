@@ -2,6 +2,7 @@
 use Rattle.std.proofs.Common.{◌≡◌, ℕ, zero, suc, ◌+◌, ◌-◌, ◌<◌, ◌≤◌, Bool, true, false, List, [], ◌∷◌, ◌++◌, length, Option, None, Some, if◌then◌else◌, refl, sym, ap, ◌∙◌, arith}
 use Rattle.resolved.specs.Methods.{MethodSeen, VariableSeen}
 use Rattle.resolved.specs.declared.method.VarId.{VarId}
+use Rattle.resolved.specs.declared.statement.Mention.{Mention}
 use Rattle.rules.specs.Checks.{first_kept, if_kept, kept_or}
 use Rattle.rules.specs.RuleTable.{is_kept}
 use Rattle.rules.specs.Scopes.{between, is_this, outer_of}
@@ -19,13 +20,13 @@ choice : (b : Bool) (v : ℕ) (rest : Option ℕ) → (if b then Some v else res
 choice true v rest = refl
 choice false v rest = refl
 
-kept_append : (m : MethodSeen) (row : List Leaf) (xs : List ℕ) (v : ℕ) → first_kept m row (xs ++ v ∷ []) ≡ kept_or (first_kept m row xs) (if_kept m row v)
-kept_append m row [] v = refl
-kept_append m row (x ∷ xs) v =
-    choice (is_kept m row x) x (first_kept m row (xs ++ v ∷ []))
-    ∙ ap (kept_or (if_kept m row x)) (kept_append m row xs v)
-    ∙ sym (kept_assoc (if_kept m row x) (first_kept m row xs) (if_kept m row v))
-    ∙ ap (λ a. kept_or a (if_kept m row v)) (sym (choice (is_kept m row x) x (first_kept m row xs)))
+kept_append : (m : MethodSeen) (row : List Leaf) (given : Option Mention) (xs : List ℕ) (v : ℕ) → first_kept m row given (xs ++ v ∷ []) ≡ kept_or (first_kept m row given xs) (if_kept m row given v)
+kept_append m row given [] v = refl
+kept_append m row given (x ∷ xs) v =
+    choice (is_kept m row given x) x (first_kept m row given (xs ++ v ∷ []))
+    ∙ ap (kept_or (if_kept m row given x)) (kept_append m row given xs v)
+    ∙ sym (kept_assoc (if_kept m row given x) (first_kept m row given xs) (if_kept m row given v))
+    ∙ ap (λ a. kept_or a (if_kept m row given v)) (sym (choice (is_kept m row given x) x (first_kept m row given xs)))
 
 between_none : (variables : List VariableSeen) (most : ℕ) (outer : Option VarId) → between variables most outer None ≡ []
 between_none variables zero outer = refl
@@ -39,39 +40,39 @@ between_more : (variables : List VariableSeen) (most : ℕ) (outer : Option VarI
 between_more variables most outer v is = ap (λ (b : Bool). if b then [] else between variables most outer (outer_of variables v.0) ++ v.0 ∷ []) is
 
 -- the first of all those is the first of those still to be looked at, and else the one that was found
-abbrev pub Looked : MethodSeen → List Leaf → (outer last at : Option VarId) (done : ℕ) (found : Option ℕ) → Type 0
-Looked m row outer last at done found =
-    first_kept m row (between m.variables (length m.variables) outer last) ≡ kept_or (first_kept m row (between m.variables (length m.variables - done) outer at)) found
+abbrev pub Looked : MethodSeen → List Leaf → Option Mention → (outer last at : Option VarId) (done : ℕ) (found : Option ℕ) → Type 0
+Looked m row given outer last at done found =
+    first_kept m row given (between m.variables (length m.variables) outer last) ≡ kept_or (first_kept m row given (between m.variables (length m.variables - done) outer at)) found
 
-pub looked_first : (m : MethodSeen) (row : List Leaf) (outer last : Option VarId) → Looked m row outer last last 0 None
-looked_first m row outer last =
+pub looked_first : (m : MethodSeen) (row : List Leaf) (given : Option Mention) (outer last : Option VarId) → Looked m row given outer last last 0 None
+looked_first m row given outer last =
     let none : length m.variables - 0 ≡ length m.variables = omega (arith) in
-    sym (kept_none (first_kept m row (between m.variables (length m.variables) outer last))) ∙ ap (λ n. kept_or (first_kept m row (between m.variables n outer last)) None) (sym none)
+    sym (kept_none (first_kept m row given (between m.variables (length m.variables) outer last))) ∙ ap (λ n. kept_or (first_kept m row given (between m.variables n outer last)) None) (sym none)
 
-pub looked_all : (m : MethodSeen) (row : List Leaf) (outer last at : Option VarId) (done : ℕ) (found : Option ℕ) → length m.variables ≤ done → Looked m row outer last at done found → found ≡ first_kept m row (between m.variables (length m.variables) outer last)
-looked_all m row outer last at done found le h =
+pub looked_all : (m : MethodSeen) (row : List Leaf) (given : Option Mention) (outer last at : Option VarId) (done : ℕ) (found : Option ℕ) → length m.variables ≤ done → Looked m row given outer last at done found → found ≡ first_kept m row given (between m.variables (length m.variables) outer last)
+looked_all m row given outer last at done found le h =
     let none : length m.variables - done ≡ 0 = omega (arith, le) in
-    sym (h ∙ ap (λ n. kept_or (first_kept m row (between m.variables n outer at)) found) none)
+    sym (h ∙ ap (λ n. kept_or (first_kept m row given (between m.variables n outer at)) found) none)
 
-pub looked_none : (m : MethodSeen) (row : List Leaf) (outer last at : Option VarId) (done : ℕ) (found : Option ℕ) → at ≡ None → Looked m row outer last at done found → found ≡ first_kept m row (between m.variables (length m.variables) outer last)
-looked_none m row outer last at done found none h =
-    sym (h ∙ ap (λ a. kept_or (first_kept m row (between m.variables (length m.variables - done) outer a)) found) none
-    ∙ ap (λ xs. kept_or (first_kept m row xs) found) (between_none m.variables (length m.variables - done) outer))
+pub looked_none : (m : MethodSeen) (row : List Leaf) (given : Option Mention) (outer last at : Option VarId) (done : ℕ) (found : Option ℕ) → at ≡ None → Looked m row given outer last at done found → found ≡ first_kept m row given (between m.variables (length m.variables) outer last)
+looked_none m row given outer last at done found none h =
+    sym (h ∙ ap (λ a. kept_or (first_kept m row given (between m.variables (length m.variables - done) outer a)) found) none
+    ∙ ap (λ xs. kept_or (first_kept m row given xs) found) (between_none m.variables (length m.variables - done) outer))
 
-pub looked_this : (m : MethodSeen) (row : List Leaf) (outer last at : Option VarId) (v : VarId) (done : ℕ) (found : Option ℕ) → at ≡ Some v → is_this v outer ≡ true → Looked m row outer last at done found → found ≡ first_kept m row (between m.variables (length m.variables) outer last)
-looked_this m row outer last at v done found some is h =
-    sym (h ∙ ap (λ a. kept_or (first_kept m row (between m.variables (length m.variables - done) outer a)) found) some
-    ∙ ap (λ xs. kept_or (first_kept m row xs) found) (between_this m.variables (length m.variables - done) outer v is))
+pub looked_this : (m : MethodSeen) (row : List Leaf) (given : Option Mention) (outer last at : Option VarId) (v : VarId) (done : ℕ) (found : Option ℕ) → at ≡ Some v → is_this v outer ≡ true → Looked m row given outer last at done found → found ≡ first_kept m row given (between m.variables (length m.variables) outer last)
+looked_this m row given outer last at v done found some is h =
+    sym (h ∙ ap (λ a. kept_or (first_kept m row given (between m.variables (length m.variables - done) outer a)) found) some
+    ∙ ap (λ xs. kept_or (first_kept m row given xs) found) (between_this m.variables (length m.variables - done) outer v is))
 
-pub looked_more : (m : MethodSeen) (row : List Leaf) (outer last at : Option VarId) (v : VarId) (done : ℕ) (found more : Option ℕ) → done < length m.variables → at ≡ Some v → is_this v outer ≡ false → more ≡ kept_or (if_kept m row v.0) found → Looked m row outer last at done found → Looked m row outer last (outer_of m.variables v.0) (done + 1) more
-looked_more m row outer last at v done found more lt some is new h =
+pub looked_more : (m : MethodSeen) (row : List Leaf) (given : Option Mention) (outer last at : Option VarId) (v : VarId) (done : ℕ) (found more : Option ℕ) → done < length m.variables → at ≡ Some v → is_this v outer ≡ false → more ≡ kept_or (if_kept m row given v.0) found → Looked m row given outer last at done found → Looked m row given outer last (outer_of m.variables v.0) (done + 1) more
+looked_more m row given outer last at v done found more lt some is new h =
     let left = length m.variables - (done + 1) in
     let one : length m.variables - done ≡ suc left = omega (arith, lt) in
     let rest = between m.variables left outer (outer_of m.variables v.0) in
     h
-    ∙ ap (λ a. kept_or (first_kept m row (between m.variables (length m.variables - done) outer a)) found) some
-    ∙ ap (λ n. kept_or (first_kept m row (between m.variables n outer (Some v))) found) one
-    ∙ ap (λ xs. kept_or (first_kept m row xs) found) (between_more m.variables left outer v is)
-    ∙ ap (λ a. kept_or a found) (kept_append m row rest v.0)
-    ∙ kept_assoc (first_kept m row rest) (if_kept m row v.0) found
-    ∙ ap (kept_or (first_kept m row rest)) (sym new)
+    ∙ ap (λ a. kept_or (first_kept m row given (between m.variables (length m.variables - done) outer a)) found) some
+    ∙ ap (λ n. kept_or (first_kept m row given (between m.variables n outer (Some v))) found) one
+    ∙ ap (λ xs. kept_or (first_kept m row given xs) found) (between_more m.variables left outer v is)
+    ∙ ap (λ a. kept_or a found) (kept_append m row given rest v.0)
+    ∙ kept_assoc (first_kept m row given rest) (if_kept m row given v.0) found
+    ∙ ap (kept_or (first_kept m row given rest)) (sym new)

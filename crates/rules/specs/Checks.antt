@@ -1,25 +1,36 @@
 -- What a check answers, as the rule table has it.
-use Rattle.std.specs.Prelude.{ℕ, List, [], ◌∷◌, Option, None, Some, if◌then◌else◌}
+use Rattle.std.specs.Prelude.{◌≡◌, ℕ, List, [], ◌∷◌, ◌++◌, Option, None, Some, if◌then◌else◌}
 use Rattle.std.specs.Option.{option_map}
 use Rattle.source.specs.Findings.{finding_parts}
 use Rattle.source.specs.declared.finding.Finding.{Finding}
 use Rattle.resolved.specs.Methods.{MethodSeen}
-use Rattle.rules.specs.RuleTable.{Check, is_kept}
+use Rattle.resolved.specs.declared.call.Argument.{Argument}
+use Rattle.resolved.specs.declared.statement.Mention.{Mention}
+use Rattle.rules.specs.RuleTable.{Check, Pair, checked, has_nat, is_kept}
 use Rattle.rules.specs.declared.row.Leaf.{Leaf}
 
 abbrev pub check_seen : Option Finding → Check
 check_seen found = option_map finding_parts found
 
--- the first of these variables that still has something
-abbrev pub first_kept : MethodSeen → List Leaf → List ℕ → Option ℕ
-first_kept m row [] = None
-first_kept m row (v ∷ variables) = if is_kept m row v then Some v else first_kept m row variables
+-- the first of these variables that still has something, but for the one that is given
+abbrev pub first_kept : MethodSeen → List Leaf → Option Mention → List ℕ → Option ℕ
+first_kept m row given [] = None
+first_kept m row given (v ∷ variables) = if is_kept m row given v then Some v else first_kept m row given variables
 
 -- this one, if it still has something
-abbrev pub if_kept : MethodSeen → List Leaf → ℕ → Option ℕ
-if_kept m row v = if is_kept m row v then Some v else None
+abbrev pub if_kept : MethodSeen → List Leaf → Option Mention → ℕ → Option ℕ
+if_kept m row given v = if is_kept m row given v then Some v else None
 
 -- the first of them, and else the other
 abbrev pub kept_or : Option ℕ → Option ℕ → Option ℕ
 kept_or None other = other
 kept_or (Some v) other = Some v
+
+-- the first argument that an earlier one gives too
+abbrev pub first_again : List ℕ → List Argument → Option Mention
+first_again earlier [] = None
+first_again earlier (a ∷ arguments) = if has_nat earlier a.mention.variable.0 then Some a.mention else first_again (a.mention.variable.0 ∷ earlier) arguments
+
+-- What was found stands for these checks, whatever checks come behind them.
+pub record StandsFor (found : Option Finding) (checks : List Check) : Type 0 where
+  pub all : (more : List Check) (after : List Pair) → checked (checks ++ more) after ≡ checked (check_seen found ∷ more) after

@@ -3,7 +3,7 @@ use Rattle.std.specs.Prelude.{ℕ, List, ◌++◌, codes}
 use Rattle.std.specs.Str.Lossy.{utf8_lossy}
 use Rattle.source.specs.Findings.{FindingParts}
 use Rattle.source.specs.declared.place.Place.{Place}
-use Rattle.source.specs.declared.finding.Code.TheVariants.{A01, A07, A08, A10, A11}
+use Rattle.source.specs.declared.finding.Code.TheVariants.{A01, A07, A08, A10, A11, A13}
 
 -- it has nothing
 abbrev pub not_owned : List ℕ → Place → FindingParts
@@ -24,3 +24,7 @@ lent name place = record { place = place; code = A10; text = utf8_lossy name ++ 
 -- it is given away twice at once, or to itself
 abbrev pub twice : List ℕ → Place → FindingParts
 twice name place = record { place = place; code = A11; text = utf8_lossy name ++ codes " twice" }
+
+-- the end of a method that ought to have given something
+abbrev pub no_result : Place → FindingParts
+no_result place = record { place = place; code = A13; text = codes "no result" }

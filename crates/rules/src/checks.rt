@@ -97,6 +97,17 @@ pub(crate) fn is_not_lent(
     Ok(Some(finding))
 }
 
+/// A variable that is given a second time.
+pub(crate) fn given_again(
+    alloc: Global,
+    method: &Method,
+    mention: Mention,
+) -> Result<Finding, Memory>
+    ensures { IfOk result (λ finding. finding_parts finding ≡ texts.twice (table.name_of (method_seen method.now) mention.variable.0) mention.place) }
+{
+    given_twice(alloc, mention.place, name_of(method, mention.variable))
+}
+
 /// That the source is another variable than the target.
 pub(crate) fn is_another(
     alloc: Global,
@@ -114,11 +125,21 @@ pub(crate) fn is_another(
     Ok(Some(finding))
 }
 
-/// Whether a variable still has something that is not lent.
-fn is_kept(method: &Method, row: &Row, variable: VarId) -> bool
-    ensures { result ≡ table.is_kept (method_seen method.now) (leaves_of row.now) variable.0 }
+/// Whether the mention is there and names this variable.
+fn is_named(mention: Option<Mention>, variable: VarId) -> bool
+    ensures { result ≡ table.is_named mention variable.0 }
 {
-    !lends(method, variable) && row.owns(variable)
+    match mention {
+        Some(mention) => mention.variable.0 == variable.0,
+        None => false,
+    }
+}
+
+/// Whether a variable still has something that is not lent, but for the one that is given.
+fn is_kept(method: &Method, row: &Row, given: Option<Mention>, variable: VarId) -> bool
+    ensures { result ≡ table.is_kept (method_seen method.now) (leaves_of row.now) given variable.0 }
+{
+    !is_named(given, variable) && !lends(method, variable) && row.owns(variable)
 }
 
 /// The variable of the exchange heap before this one in scope.
@@ -139,10 +160,16 @@ fn is_this(variable: VarId, other: Option<VarId>) -> bool
 }
 
 /// This variable if it still has something, and else the one that was found before.
-fn kept_or(method: &Method, row: &Row, variable: VarId, before: Option<VarId>) -> Option<VarId>
-    ensures { option_map (λ v. v.0) result ≡ checks.kept_or (checks.if_kept (method_seen method.now) (leaves_of row.now) variable.0) (option_map (λ v. v.0) before) }
+fn kept_or(
+    method: &Method,
+    row: &Row,
+    given: Option<Mention>,
+    variable: VarId,
+    before: Option<VarId>,
+) -> Option<VarId>
+    ensures { option_map (λ v. v.0) result ≡ checks.kept_or (checks.if_kept (method_seen method.now) (leaves_of row.now) given variable.0) (option_map (λ v. v.0) before) }
 {
-    if is_kept(method, row, variable) {
+    if is_kept(method, row, given, variable) {
         Some(variable)
     } else {
         before
@@ -154,10 +181,11 @@ fn kept_or(method: &Method, row: &Row, variable: VarId, before: Option<VarId>) -
 fn first_kept(
     method: &Method,
     row: &Row,
+    given: Option<Mention>,
     outer: Option<VarId>,
     last: Option<VarId>,
 ) -> Option<VarId>
-    ensures { option_map (λ v. v.0) result ≡ checks.first_kept (method_seen method.now) (leaves_of row.now) (declared_between (method_seen method.now) outer last) }
+    ensures { option_map (λ v. v.0) result ≡ checks.first_kept (method_seen method.now) (leaves_of row.now) given (declared_between (method_seen method.now) outer last) }
 {
     let mut first = None;
     let mut at = last;
@@ -168,7 +196,7 @@ fn first_kept(
         if is_this(variable, outer) {
             return first;
         }
-        first = kept_or(method, row, variable, first);
+        first = kept_or(method, row, given, variable, first);
         at = outer_of(method, variable);
     }
     first
@@ -186,19 +214,20 @@ fn told_owned(
     still_owned(alloc, place, name_of(method, variable))
 }
 
-/// That the variables which go out of scope at this place have nothing: those in scope where `last` is the last one, without
-/// those in scope where `outer` is.
+/// That the variables which go out of scope at this place have nothing, but for the one that is given: those in scope where
+/// `last` is the last one, without those in scope where `outer` is.
 pub(crate) fn is_given_back(
     alloc: Global,
     method: &Method,
     row: &Row,
     place: Place,
+    given: Option<Mention>,
     outer: Option<VarId>,
     last: Option<VarId>,
 ) -> Result<Option<Finding>, Memory>
-    ensures { IfOk result (λ found. (after : List Pair) → checked (given_back (method_seen method.now) (leaves_of row.now) place (declared_between (method_seen method.now) outer last)) after ≡ checked (check_seen found ∷ []) after) }
+    ensures { IfOk result (λ found. (after : List Pair) → checked (given_back (method_seen method.now) (leaves_of row.now) place given (declared_between (method_seen method.now) outer last)) after ≡ checked (check_seen found ∷ []) after) }
 {
-    match first_kept(method, row, outer, last) {
+    match first_kept(method, row, given, outer, last) {
         Some(variable) => {
             let finding = told_owned(alloc, method, place, variable)?;
             Ok(Some(finding))

@@ -1,6 +1,7 @@
 //! Rows, and the rule table: what an instruction does to a row, or the finding that it is.
 #![tactic(auto)]
 
+mod arguments;
 mod checks;
 mod outcome;
 mod program;

@@ -6,14 +6,18 @@ ghost use Rattle.flow.specs.Graphs as graphs;
 ghost use Rattle.flow.specs.Graphs.{Use, New, Move, Delete, Return, instruction_seen};
 ghost use Rattle.resolved.specs.Methods.{method_seen};
 ghost use Rattle.rules.specs.Rows.{leaves_of};
-ghost use Rattle.rules.specs.RuleTable.{Goes, ways, instruction_outcome};
+ghost use Rattle.rules.specs.RuleTable.{Goes, Fails, ways, instruction_outcome};
 ghost use Rattle.rules.specs.Steps.{outcome_seen};
+ghost use Rattle.rules.specs.Texts as texts;
+ghost use Rattle.resolved.specs.declared.method.MethodId.{MethodId};
 
+use crate::arguments::{can_give_all, can_return, can_take, claim_all, give_block};
 use crate::checks::{has_nothing, has_something, is_another, is_given_back, is_not_lent};
 use crate::outcome::Outcome;
 use crate::row::{Leaf, Row};
 use flow::{Branches, Instr};
-use resolved::{Forget, Mention, Method, VarId};
+use resolved::{Argument, Forget, Mention, Method, VarId};
+use source::texts::no_result;
 use source::{Memory, Place};
 use std::alloc::Global;
 
@@ -37,7 +41,23 @@ pub(crate) fn applied(
         Instr::Delete { at, next } => delete(alloc, method, row, *at, *next),
         Instr::Branch { branches, .. } => branch(alloc, row, *branches),
         Instr::Forget { forget, next } => forget_(alloc, method, row, *forget, *next),
-        Instr::Return { place, scope } => return_(alloc, method, row, *place, *scope),
+        Instr::Call {
+            arguments,
+            target,
+            next,
+            ..
+        } => call(alloc, method, row, arguments, *target, *next),
+        Instr::Start {
+            arguments,
+            next,
+            ..
+        } => start(alloc, method, row, arguments, *next),
+        Instr::Return {
+            place,
+            value,
+            scope,
+        } => return_(alloc, method, row, *place, *value, *scope),
+        Instr::Stop { place } => stop(alloc, *place),
     }
 }
 
@@ -167,25 +187,86 @@ fn forget_(
     ensures { IfOk result (λ o. outcome_seen o ≡ instruction_outcome (method_seen method.now) (graphs.Forget forget next) (leaves_of row.now)) }
 {
     let last = Some(forget.last);
-    if let Some(finding) = is_given_back(alloc, method, row, forget.place, forget.outer, last)? {
+    if let Some(finding) = is_given_back(
+        alloc,
+        method,
+        row,
+        forget.place,
+        None,
+        forget.outer,
+        last,
+    )? {
         return Ok(Outcome::Found(finding));
     }
     let after = row.copied(alloc)?;
     goes(alloc, next, after)
 }
 
-/// The method ends. Of the variables in scope, those that are not lent have nothing.
+/// A call. What is claimed is gone, what is lent comes back, and what takes a block has one.
+fn call(
+    alloc: Global,
+    method: &Method,
+    row: &Row,
+    arguments: &[Argument],
+    target: Option<Mention>,
+    next: usize,
+) -> Result<Outcome, Memory>
+    ensures { IfOk result (λ o. (place : Place) (callee : MethodId) → outcome_seen o ≡ instruction_outcome (method_seen method.now) (graphs.Call place callee arguments.now target next) (leaves_of row.now)) }
+{
+    if let Some(finding) = can_give_all(alloc, method, row, arguments)? {
+        return Ok(Outcome::Found(finding));
+    }
+    let mut after = row.copied(alloc)?;
+    claim_all(&mut after, arguments);
+    if let Some(finding) = can_take(alloc, method, &after, target)? {
+        return Ok(Outcome::Found(finding));
+    }
+    give_block(&mut after, target);
+    goes(alloc, next, after)
+}
+
+/// The start of a method. What it claims is gone.
+fn start(
+    alloc: Global,
+    method: &Method,
+    row: &Row,
+    arguments: &[Argument],
+    next: usize,
+) -> Result<Outcome, Memory>
+    ensures { IfOk result (λ o. (place : Place) (callee : MethodId) → outcome_seen o ≡ instruction_outcome (method_seen method.now) (graphs.Start place callee arguments.now next) (leaves_of row.now)) }
+{
+    if let Some(finding) = can_give_all(alloc, method, row, arguments)? {
+        return Ok(Outcome::Found(finding));
+    }
+    let mut after = row.copied(alloc)?;
+    claim_all(&mut after, arguments);
+    goes(alloc, next, after)
+}
+
+/// The method ends. What it gives is its own, and of the other variables in scope those that are not lent have nothing.
 fn return_(
     alloc: Global,
     method: &Method,
     row: &Row,
     place: Place,
+    value: Option<Mention>,
     scope: Option<VarId>,
 ) -> Result<Outcome, Memory>
-    ensures { IfOk result (λ o. outcome_seen o ≡ instruction_outcome (method_seen method.now) (Return place scope) (leaves_of row.now)) }
+    ensures { IfOk result (λ o. outcome_seen o ≡ instruction_outcome (method_seen method.now) (Return place value scope) (leaves_of row.now)) }
 {
-    match is_given_back(alloc, method, row, place, None, scope)? {
+    if let Some(finding) = can_return(alloc, method, row, value)? {
+        return Ok(Outcome::Found(finding));
+    }
+    match is_given_back(alloc, method, row, place, value, None, scope)? {
         Some(finding) => Ok(Outcome::Found(finding)),
         None => Ok(Outcome::Next(Vec::new(alloc))),
     }
+}
+
+/// The end of a method that ought to have given something.
+fn stop(alloc: Global, place: Place) -> Result<Outcome, Memory>
+    ensures { IfOk result (λ o. outcome_seen o ≡ Fails (texts.no_result place)) }
+{
+    let finding = no_result(alloc, place)?;
+    Ok(Outcome::Found(finding))
 }

@@ -19,7 +19,7 @@ use Rattle.singcheck.proofs.JudgeLemmas.{none_of}
 pub reported_is : (text bytes : List ℕ) (status : Status) (found : List FindingParts) → AreCheckFindings text found → IsReport found bytes → status ≡ Found → Checks text bytes status
 reported_is text bytes status found are told is = subst (Checks text bytes) (sym is) (record { found = found; are = are; told = told })
 
-pub has_methods : (text : List ℕ) (items : List ItemTree) (contracts : List ContractSeen) (methods : List MethodSeen) → IsSoundProgram text items contracts → not_yet items ≡ None → methods ≡ methods_told text items → HasMethods text contracts methods
+pub has_methods : (text : List ℕ) (items : List ItemTree) (contracts : List ContractSeen) (methods : List MethodSeen) → IsSoundProgram text items contracts → not_yet items ≡ None → methods ≡ methods_told (record { text = text; items = items }) → HasMethods text contracts methods
 has_methods text items contracts methods program known are = record { items = items; program = program; known = known; are = are }
 
 -- what is found in its methods

@@ -21,7 +21,7 @@ one_contracts : Laws → (text : List ℕ) (c d : List ContractSeen) (m n : List
 one_contracts laws text c d m n one other = one.program.are ∙ ap (λ l. resolved_contracts text (contracts_of l)) (one_items laws text c d m n one other) ∙ sym other.program.are
 
 one_methods : Laws → (text : List ℕ) (c d : List ContractSeen) (m n : List MethodSeen) → HasMethods text c m → HasMethods text d n → m ≡ n
-one_methods laws text c d m n one other = one.are ∙ ap (methods_told text) (one_items laws text c d m n one other) ∙ sym other.are
+one_methods laws text c d m n one other = one.are ∙ ap (λ items. methods_told (record { text = text; items = items })) (one_items laws text c d m n one other) ∙ sym other.are
 
 -- what an earlier stage found is not found in a program with which nothing is wrong so far
 before_or_methods : Laws → (text : List ℕ) (found : List FindingParts) (c : List ContractSeen) (m : List MethodSeen) → AreFindings text found → HasMethods text c m → ⊥

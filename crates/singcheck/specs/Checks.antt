@@ -31,7 +31,7 @@ pub record HasMethods (text : List ℕ) (contracts : List ContractSeen) (methods
   pub items : List ItemTree
   pub program : IsSoundProgram text items contracts
   pub known : not_yet items ≡ None
-  pub are : methods ≡ methods_told text items
+  pub are : methods ≡ methods_told (record { text = text; items = items })
 
 -- the first of what is not analysed yet stands there
 pub record IsNotYet (text : List ℕ) (place : Place) : Type 0 where

@@ -248,6 +248,13 @@ pub fn given_twice(alloc: Global, place: Place, variable: &[u8]) -> Result<Findi
     named(alloc, place, Code::A11, variable, " twice")
 }
 
+/// The end of a method that ought to have given something.
+pub fn no_result(alloc: Global, place: Place) -> Result<Finding, Memory>
+    ensures { IfOk result (IsFinding place Code.A13 (codes "no result")) }
+{
+    plain(alloc, place, Code::A13, "no result")
+}
+
 /// More pairs of a point and a row than a method may have, at its name.
 pub fn too_many_pairs(alloc: Global, place: Place) -> Result<Finding, Memory>
     ensures { IfOk result (IsFinding place Code.A14 (codes "too many pairs")) }

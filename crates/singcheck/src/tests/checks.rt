@@ -37,6 +37,14 @@ const KEPT_AT_A_BREAK: &str =
 const FREED_IN_A_LOOP: &str =
     "rep struct D { int n; }\nclass K {\nstatic void F(bool b) {\nD* in ExHeap p = new[ExHeap] D();\nwhile (b) { delete p; }\n}\n}";
 
+/// A claimed block is given twice in one call.
+const CLAIMED_TWICE: &str =
+    "rep struct D { int n; }\nclass K {\nstatic void F([Claims] D* in ExHeap a, [Claims] D* in ExHeap b) { delete a; delete b; }\nstatic void G([Claims] D* in ExHeap x) {\nF(x, x);\n}\n}";
+
+/// A method ends without giving what it owes, and its caller frees what it got.
+const NOTHING_GIVEN: &str =
+    "rep struct D { int n; }\nclass K {\nstatic D* in ExHeap H() { }\nstatic void F() {\nD* in ExHeap p = H();\ndelete p;\n}\n}";
+
 /// A gate that counts the methods before which it was entered, as long as they come in order from 0.
 #[derive(Drop)]
 struct InOrder {
@@ -91,37 +99,47 @@ fn checks_as_worked_out(rt: HostRuntime) -> Result<(), Fail> {
     Ok(())
 }
 
+/// Whether the check of each of these texts has its status and writes its answer, whatever workers are asked for.
+fn all_answered(alloc: Global, rows: &[(&str, Status, &str)]) -> Result<bool, Fail> {
+    for (text, wanted, answer) in rows {
+        for workers in [1, 2, 64] {
+            let (status, bytes) = answer_to(alloc, text, workers)?;
+            if status != *wanted || bytes.as_slice() != answer.as_bytes() {
+                return Ok(false);
+            }
+        }
+    }
+    Ok(true)
+}
+
 #[test]
 fn follows_every_way(rt: HostRuntime) -> Result<(), Fail> {
+    let kept = "6:1 A08 p still owned\nfindings: 1\n";
+    let left = "6:10 A08 p still owned\nfindings: 1\n";
+    let turned = "5:20 A01 p not owned\n6:1 A08 p still owned\nfindings: 2\n";
     let rows = [
-        (
-            FREED_ON_ONE_WAY,
-            Status::Found,
-            "6:1 A08 p still owned\nfindings: 1\n",
-        ),
+        (FREED_ON_ONE_WAY, Status::Found, kept),
         (
             FREED_ON_BOTH_WAYS,
             Status::Empty,
             "ok: 0 contracts, 1 methods\n",
         ),
-        (
-            KEPT_AT_A_BREAK,
-            Status::Found,
-            "6:10 A08 p still owned\nfindings: 1\n",
-        ),
-        (
-            FREED_IN_A_LOOP,
-            Status::Found,
-            "5:20 A01 p not owned\n6:1 A08 p still owned\nfindings: 2\n",
-        ),
+        (KEPT_AT_A_BREAK, Status::Found, left),
+        (FREED_IN_A_LOOP, Status::Found, turned),
     ];
-    for (text, wanted, answer) in rows.iter() {
-        for workers in [1, 2, 64] {
-            let (status, bytes) = answer_to(rt.alloc(), text, workers)?;
-            assert!(rt; status == *wanted, "{text}");
-            assert!(rt; bytes.as_slice() == answer.as_bytes(), "{text}");
-        }
-    }
+    assert!(rt; all_answered(rt.alloc(), &rows)?);
+    Ok(())
+}
+
+#[test]
+fn looks_at_the_heads_of_methods(rt: HostRuntime) -> Result<(), Fail> {
+    let twice = "5:6 A11 x twice\nfindings: 1\n";
+    let nothing = "3:27 A13 no result\nfindings: 1\n";
+    let rows = [
+        (CLAIMED_TWICE, Status::Found, twice),
+        (NOTHING_GIVEN, Status::Found, nothing),
+    ];
+    assert!(rt; all_answered(rt.alloc(), &rows)?);
     Ok(())
 }
 

@@ -49,6 +49,7 @@ fn freed_and_read(alloc: Global) -> Result<Method, Memory> {
     statements.push(Statement::Simple(Simple { reads, action }))?;
     Ok(Method {
         name: Place { line: 1, col: 1 },
+        gives: false,
         variables,
         statements,
         scope: Some(VarId(1)),
@@ -98,7 +99,13 @@ fn is_move(instruction: Option<&Instr>, variable: usize, point: usize) -> bool {
 /// Whether it ends the method there, with this variable the last in scope.
 fn is_return(instruction: Option<&Instr>, col: u32, last: usize) -> bool {
     match instruction {
-        Some(Instr::Return { place, scope }) => place.col == col && *scope == Some(VarId(last)),
+        Some(
+            Instr::Return {
+                place,
+                value,
+                scope,
+            },
+        ) => place.col == col && value.is_none() && *scope == Some(VarId(last)),
         _ => false,
     }
 }

@@ -1,16 +1,23 @@
-use Rattle.std.proofs.Common.{◌∙◌, ap, map}
-use Rattle.std.specs.List.{flat_map}
-use Rattle.std.proofs.lemmas.List.{take_all}
-use Rattle.syntax.specs.Trees.{definition_tree}
-use Rattle.syntax.specs.declared.tree as tree
-use Rattle.names.specs.Methods.{methods_in}
+use Rattle.std.proofs.Common.{◌++◌, ◌∙◌, ap, map, refl, sym}
+use Rattle.syntax.specs.Trees.{item_tree, method_tree}
+use Rattle.resolving.specs.Around.{program_in}
 use Rattle.resolving.specs.Methods.{method_told}
-use Rattle.resolving.proofs.TellLemmas.{items_told}
+use Rattle.resolving.proofs.ItemLemmas.{first_told, items_more, items_all}
 use Rattle.resolving.proofs.methods.resolve_items.Goals as goal
+
+pub loop-class-preserved : goal.loop-class-preserved
+loop-class-preserved c =
+    let items = c.args.items.now in
+    let trees = map item_tree items in
+    let p = program_in c.args.tokens.now.text.items trees in
+    let i = c.loop-class.class in
+    let methods = c.methods_of-methods.result.now in
+    c.in_ok-add_methods.ensures trees i (record { scope = c.requires.scope; items = refl; before = c.deref.ensures.value ∙ c.in_ok-before.ensures; class_is = refl; few = c.requires.few })
+    ∙ ap (λ l. l ++ map (method_told p i) (map method_tree methods)) c.loop-class.invariant
+    ∙ ap (λ ms. first_told p items i ++ map (method_told p i) ms) c.methods_of-methods.ensures
+    ∙ sym (items_more p items i c.index-items-class.result c.loop-class-test.true c.index-items-class.is)
 
 pub returns : goal.returns
 returns c =
-    let text = c.args.tokens.now.text.items in
-    c.loop-item.invariant
-    ∙ ap (flat_map (λ (i : tree.Item.Item). map (method_told text) (methods_in (definition_tree i.definition)))) (take_all c.loop-item.item-index c.args.items.now c.loop-item-test.false)
-    ∙ items_told text c.args.items.now
+    let items = c.args.items.now in
+    c.loop-class.invariant ∙ items_all (program_in c.args.tokens.now.text.items (map item_tree items)) items c.loop-class.class c.loop-class-test.false

@@ -1,4 +1,4 @@
-use Rattle.std.proofs.Common.{◌≡◌, ◌∙◌, sym, ap, [], ◌∷◌}
+use Rattle.std.proofs.Common.{◌∙◌, sym, ap, [], ◌∷◌}
 use Rattle.std.proofs.lemmas.Result.{IfOk-weaker}
 use Rattle.rules.specs.Checks.{check_seen}
 use Rattle.rules.specs.Rows.{leaves_of}

@@ -1,0 +1,69 @@
+-- Statements and targets in memory and as trees, a form at a time.
+use Rattle.std.proofs.Common.{◌≡◌, sym, ap, ◌∙◌, Box}
+use Rattle.std.specs.Global.{Global}
+use Rattle.std.specs.Prelude.{Option, option_map}
+use Rattle.source.specs.declared.token.Span.{Span}
+use Rattle.syntax.specs.Expressions as targets
+use Rattle.syntax.specs.Expressions.{LevelTree, StepOf, AtomTree, TargetTree}
+use Rattle.syntax.specs.ExpressionTrees.{expression_tree, target_tree, atom_of, target_of, conjunction_of, equality_of, equality_step_of, expression_of, relation_of, relation_step_of, sum_of, sum_step_of, term_of, unary_of}
+use Rattle.syntax.specs.Operators.{Joined, Single, Or, And, Equal, Compare, Add, Multiply}
+use Rattle.syntax.specs.StatementTrees as trees
+use Rattle.syntax.specs.StatementTrees.{StatementTree, BlockTree, CaseTree, IfTree, SwitchTree, TestTree, statement_tree, statement_step, block_step, case_step, if_step, switch_step, test_step, declare_tree, assign_tree}
+use Rattle.syntax.specs.Values.{call_tree}
+use Rattle.syntax.specs.declared.expression.Expression.{Expression}
+use Rattle.syntax.specs.declared.expression.Target as target_folds
+use Rattle.syntax.specs.declared.expression.Atom.TheOpen as target_layer
+use Rattle.syntax.specs.declared.expression.Target.TheVariants as target
+use Rattle.syntax.specs.declared.statement as made
+use Rattle.syntax.specs.declared.statement.Statement.TheOpen as layer
+use Rattle.syntax.specs.declared.statement.Statement.TheFolds as folds
+use Rattle.syntax.specs.declared.statement.Statement.TheVariants as variants
+use Rattle.syntax.specs.declared.value.Call.{Call}
+use Rattle.resolved.specs.Statements as seen
+use Rattle.resolved.specs.Statements.{StatementSeen, BlockSeen, IfSeen, TestSeen, statement_seen, call_seen}
+use Rattle.resolved.specs.declared.call.Call as resolved_call
+use Rattle.resolved.specs.declared.statement.Statement.TheOpen as seen_layer
+use Rattle.resolved.specs.declared.statement.Statement.TheFolds as seen_folds
+use Rattle.resolved.specs.declared.statement.Statement.TheVariants as seen_variants
+
+-- the forms of a statement
+
+pub of_declare : (d : made.Declare.Declare) → statement_tree (variants.Declare d) ≡ trees.Declare (declare_tree d)
+of_declare d = ap statement_tree (sym (variants.rolls-Declare d)) ∙ folds.fold-roll-Statement StatementTree BlockTree CaseTree IfTree SwitchTree TestTree statement_step block_step case_step if_step switch_step test_step (layer.Declare d)
+
+pub of_assign : (a : made.Assign.Assign) → statement_tree (variants.Assign a) ≡ trees.Assign (assign_tree a)
+of_assign a = ap statement_tree (sym (variants.rolls-Assign a)) ∙ folds.fold-roll-Statement StatementTree BlockTree CaseTree IfTree SwitchTree TestTree statement_step block_step case_step if_step switch_step test_step (layer.Assign a)
+
+pub of_call : (c : Call) → statement_tree (variants.Call c) ≡ trees.Call (call_tree c)
+of_call c = ap statement_tree (sym (variants.rolls-Call c)) ∙ folds.fold-roll-Statement StatementTree BlockTree CaseTree IfTree SwitchTree TestTree statement_step block_step case_step if_step switch_step test_step (layer.Call c)
+
+pub of_start : (word : Span) (c : Call) → statement_tree (variants.Start word c) ≡ trees.Start word (call_tree c)
+of_start word c = ap statement_tree (sym (variants.rolls-Start word c)) ∙ folds.fold-roll-Statement StatementTree BlockTree CaseTree IfTree SwitchTree TestTree statement_step block_step case_step if_step switch_step test_step (layer.Start word c)
+
+pub of_return : (word : Span) (value : Option Expression) → statement_tree (variants.Return word value) ≡ trees.Return word (option_map expression_tree value)
+of_return word value = ap statement_tree (sym (variants.rolls-Return word value)) ∙ folds.fold-roll-Statement StatementTree BlockTree CaseTree IfTree SwitchTree TestTree statement_step block_step case_step if_step switch_step test_step (layer.Return word value)
+
+-- the forms of a target
+
+pub of_variable : (name : Span) → target_tree (target.Variable name) ≡ targets.Variable name
+of_variable name =
+    ap target_tree (sym (target.rolls-Variable name))
+    ∙ target_folds.fold-roll-Target AtomTree TargetTree (LevelTree (Joined And)) (LevelTree (Joined Equal)) (StepOf Equal) (LevelTree (Joined Or)) (LevelTree (Joined Compare)) (StepOf Compare) (LevelTree (Joined Add)) (StepOf Add) (LevelTree (Joined Multiply)) (LevelTree Single) atom_of target_of conjunction_of equality_of equality_step_of expression_of relation_of relation_step_of sum_of sum_step_of term_of unary_of (target_layer.Variable name)
+
+pub of_field : (name field : Span) → target_tree (target.Field name field) ≡ targets.Field name field
+of_field name field =
+    ap target_tree (sym (target.rolls-Field name field))
+    ∙ target_folds.fold-roll-Target AtomTree TargetTree (LevelTree (Joined And)) (LevelTree (Joined Equal)) (StepOf Equal) (LevelTree (Joined Or)) (LevelTree (Joined Compare)) (StepOf Compare) (LevelTree (Joined Add)) (StepOf Add) (LevelTree (Joined Multiply)) (LevelTree Single) atom_of target_of conjunction_of equality_of equality_step_of expression_of relation_of relation_step_of sum_of sum_step_of term_of unary_of (target_layer.Field name field)
+
+pub of_element : (name : Span) (index : Box Expression Global) → target_tree (target.Element name index) ≡ targets.Element name (expression_tree index.value)
+of_element name index =
+    ap target_tree (sym (target.rolls-Element name index))
+    ∙ target_folds.fold-roll-Target AtomTree TargetTree (LevelTree (Joined And)) (LevelTree (Joined Equal)) (StepOf Equal) (LevelTree (Joined Or)) (LevelTree (Joined Compare)) (StepOf Compare) (LevelTree (Joined Add)) (StepOf Add) (LevelTree (Joined Multiply)) (LevelTree Single) atom_of target_of conjunction_of equality_of equality_step_of expression_of relation_of relation_step_of sum_of sum_step_of term_of unary_of (target_layer.Element name index)
+
+-- the forms of a resolved statement
+
+pub called_is : (c : resolved_call.Call) → statement_seen (seen_variants.Call c) ≡ seen.Call (call_seen c)
+called_is c = ap statement_seen (sym (seen_variants.rolls-Call c)) ∙ seen_folds.fold-roll-Statement StatementSeen BlockSeen IfSeen TestSeen seen.statement_step seen.block_step seen.if_step seen.test_step (seen_layer.Call c)
+
+pub started_is : (c : resolved_call.Call) → statement_seen (seen_variants.Start c) ≡ seen.Start (call_seen c)
+started_is c = ap statement_seen (sym (seen_variants.rolls-Start c)) ∙ seen_folds.fold-roll-Statement StatementSeen BlockSeen IfSeen TestSeen seen.statement_step seen.block_step seen.if_step seen.test_step (seen_layer.Start c)

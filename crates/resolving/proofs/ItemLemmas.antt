@@ -1,0 +1,82 @@
+-- The methods of items, item by item.
+use Rattle.std.proofs.Common.{◌≡◌, ℕ, ◌+◌, ◌<◌, ◌≤◌, List, [], ◌∷◌, ◌++◌, length, map, take, get_or, sym, refl, ap, ◌∙◌, arith, append_assoc, ⊎_elim}
+use Rattle.std.specs.Option.{option_map_or}
+use Rattle.std.specs.List.{enumerate_from, flat_map}
+use Rattle.std.proofs.lemmas.List.{flat_map_more, length-append, length-map, length-take-le, map-append, take_all, take_more}
+use Rattle.std.proofs.lemmas.Option.{slice_get_cases}
+use Rattle.source.specs.declared.token.Span.{Span}
+use Rattle.syntax.specs.Trees.{ItemTree, item_tree}
+use Rattle.syntax.specs.declared.tree.Item.{Item}
+use Rattle.names.specs.Findings.{program_findings}
+use Rattle.names.specs.Found.{limit_passed}
+use Rattle.names.specs.Listed.{past_limit, twice_among}
+use Rattle.names.specs.Methods.{items_findings, method_names, methods_in}
+use Rattle.names.specs.Program.{Program, item_names}
+use Rattle.names.specs.declared.limits.TheConstants.{MOST_METHODS}
+use Rattle.resolved.specs.Methods.{MethodSeen}
+use Rattle.resolving.specs.Callees.{all_methods}
+use Rattle.resolving.specs.Methods.{item_told, method_told}
+
+-- the methods of the first so many items
+abbrev pub first_told : Program → List Item → ℕ → List MethodSeen
+first_told p xs i = flat_map (item_told p) (enumerate_from 0 (map item_tree (take i xs)))
+
+enumerate_push : {X : Type 0} (n : ℕ) (xs : List X) (x : X) → enumerate_from n (xs ++ x ∷ []) ≡ enumerate_from n xs ++ (n + length xs, x) ∷ []
+enumerate_push n [] x = ap (λ k. (k, x) ∷ []) (omega arith)
+enumerate_push n (y ∷ ys) x = ap (λ l. (n, y) ∷ l) (enumerate_push (n + 1) ys x ∙ ap (λ k. enumerate_from (n + 1) ys ++ (k, x) ∷ []) (omega arith))
+
+-- those of one more item
+pub items_more : (p : Program) (xs : List Item) (i : ℕ) (x : Item) → i < length xs → x ≡ get_or xs i x → first_told p xs (i + 1) ≡ first_told p xs i ++ item_told p (i, item_tree x)
+items_more p xs i x lt is =
+    let front = map item_tree (take i xs) in
+    let size : length front ≡ i = length-map (take i xs) item_tree ∙ length-take-le i xs (omega (arith, lt)) in
+    let at : 0 + length front ≡ i = omega (arith, size) in
+    let more = ap (map item_tree) (take_more xs i x lt ∙ ap (λ y. take i xs ++ y ∷ []) (sym is)) ∙ map-append item_tree (take i xs) (x ∷ []) in
+    ap (λ l. flat_map (item_told p) (enumerate_from 0 l)) more
+    ∙ ap (flat_map (item_told p)) (enumerate_push 0 front (item_tree x) ∙ ap (λ k. enumerate_from 0 front ++ (k, item_tree x) ∷ []) at)
+    ∙ sym (flat_map_more (item_told p) [] (enumerate_from 0 front) (i, item_tree x))
+
+-- those of all items
+pub items_all : (p : Program) (xs : List Item) (i : ℕ) → length xs ≤ i → first_told p xs i ≡ flat_map (item_told p) (enumerate_from 0 (map item_tree xs))
+items_all p xs i le = ap (λ l. flat_map (item_told p) (enumerate_from 0 (map item_tree l))) (take_all i xs le)
+
+-- one more that is resolved
+pub seen_more : {S T X : Type 0} (seen : T → X) (go : S → X) (ss : List S) (i : ℕ) (s : S) (old done more : List T) (t : T) → i < length ss → s ≡ get_or ss i s
+    → map seen done ≡ map seen old ++ map go (take i ss) → more ≡ done ++ t ∷ [] → seen t ≡ go s → map seen more ≡ map seen old ++ map go (take (i + 1) ss)
+seen_more seen go ss i s old done more t lt is before new one =
+    let front = map go (take i ss) in
+    let taken = ap (map go) (take_more ss i s lt ∙ ap (λ y. take i ss ++ y ∷ []) (sym is)) ∙ map-append go (take i ss) (s ∷ []) in
+    ap (map seen) new ∙ map-append seen done (t ∷ []) ∙ ap (λ l. l ++ seen t ∷ []) before ∙ ap (λ x. (map seen old ++ front) ++ x ∷ []) one
+    ∙ append_assoc (map seen old) front (go s ∷ []) ∙ ap (λ l. map seen old ++ l) (sym taken)
+
+-- There are as many as the items have.
+pub told_many : (p : Program) (n : ℕ) (items : List ItemTree) → length (flat_map (item_told p) (enumerate_from n items)) ≡ length (all_methods items)
+told_many p n [] = refl
+told_many p n (i ∷ items) =
+    let methods = methods_in i.definition in
+    length-append (map (method_told p n) methods) (flat_map (item_told p) (enumerate_from (n + 1) items))
+    ∙ ap (λ k. k + length (flat_map (item_told p) (enumerate_from (n + 1) items))) (length-map methods (method_told p n))
+    ∙ ap (λ k. length methods + k) (told_many p (n + 1) items) ∙ sym (length-append methods (all_methods items))
+
+nil_left : {X : Type 0} (a b : List X) → a ++ b ≡ [] → a ≡ []
+nil_left [] b none = refl
+nil_left (x ∷ a) b none = cc
+
+nil_right : {X : Type 0} (a b : List X) → a ++ b ≡ [] → b ≡ []
+nil_right [] b none = none
+nil_right (x ∷ a) b none = cc
+
+not_past : (most : ℕ) (names : List Span) → past_limit most names ≡ [] → length names ≤ most
+not_past most names none =
+    ⊎_elim
+    (λ w. let past : limit_passed w.0 ∷ [] ≡ [] = sym (ap (λ o. option_map_or (λ name. limit_passed name ∷ []) o []) w.2) ∙ none in cc)
+    (λ w. w.0)
+    (slice_get_cases names most).1
+
+-- Where nothing is wrong, there are no more than the limit.
+pub few_methods : (p : Program) → program_findings p ≡ [] → length (all_methods p.items) ≤ MOST_METHODS
+few_methods p clean =
+    let items = nil_left (items_findings p) _ clean in
+    let few = not_past MOST_METHODS (method_names p) (nil_right (twice_among p.text (item_names p)) _ items) in
+    let many = length-map (all_methods p.items) (λ m. m.name) in
+    omega (arith, few, many)

@@ -1,0 +1,49 @@
+-- What statements that hold no others come to.
+use Rattle.std.proofs.Common.{◌≡◌, ℕ, List, [], ◌++◌, refl, ap, ◌∙◌}
+use Rattle.std.specs.Prelude.{Result, Ok, Err, IfOk, Option, None, Some, option_map}
+use Rattle.std.specs.Option.{option_map_or}
+use Rattle.std.specs.declared.alloc.AllocError.{AllocError}
+use Rattle.source.specs.declared.place.Place.{Place}
+use Rattle.source.specs.declared.token.Span.{Span}
+use Rattle.syntax.specs.Values.{ValueTree}
+use Rattle.syntax.specs.Expressions.{ExpressionTree}
+use Rattle.resolved.specs.Statements.{StatementSeen, CallSeen, statement_seen, call_seen}
+use Rattle.resolved.specs.declared.call.Call.{Call}
+use Rattle.resolved.specs.declared.method.VarId.{VarId}
+use Rattle.resolved.specs.declared.statement.Action.TheVariants.{Nothing, Return}
+use Rattle.resolved.specs.declared.statement.Mention.{Mention}
+use Rattle.resolved.specs.declared.statement.Statement.{Statement}
+use Rattle.names.specs.Program.{Program}
+use Rattle.resolving.specs.Frames.{IsFrame}
+use Rattle.resolving.specs.Locals.{Frame, mention_of, number_of}
+use Rattle.resolving.specs.Reads.{reads}
+use Rattle.resolving.specs.Steps.{Tells, TellsCall}
+use Rattle.resolving.specs.Told.{told, lone, returned, assigned, first_value}
+use Rattle.resolving.specs.declared.locals.Locals.{Locals}
+
+-- an expression that is given is read, or is a variable of the exchange heap alone
+pub returned_told : (p : Program) (own : ℕ) (locals : Locals) (place : Place) (e : ExpressionTree) (value : Option Mention) (scope : Option VarId) (before : List Mention) (r : Result Statement AllocError)
+    → before ≡ [] → ((f : Frame) → IsFrame p.text f locals → value ≡ lone p own f e) → ((f : Frame) → IsFrame p.text f locals → scope ≡ option_map number_of f.last)
+    → IfOk r (Tells p.text locals (λ f. told (before ++ reads p.text f.locals e) (Return place value scope))) → IfOk r (Tells p.text locals (λ f. returned p own f place (Some e)))
+returned_told p own locals place e value scope before (Err x) none is last h = tt
+returned_told p own locals place e value scope before (Ok s) none is last h = record {
+  all = λ f frame. h.all f frame
+      ∙ ap (λ l. told (l ++ reads p.text f.locals e) (Return place value scope)) none
+      ∙ ap (λ v. told (reads p.text f.locals e) (Return place v scope)) (is f frame)
+      ∙ ap (λ n. told (reads p.text f.locals e) (Return place (lone p own f e) n)) (last f frame);
+}
+
+-- a statement that comes to what another does
+pub told_as : (text : List ℕ) (locals : Locals) (r : Result Statement AllocError) (now want : Frame → StatementSeen) → ((f : Frame) → IsFrame text f locals → now f ≡ want f) → IfOk r (Tells text locals now) → IfOk r (Tells text locals want)
+told_as text locals (Err e) now want same h = tt
+told_as text locals (Ok s) now want same h = record { all = λ f frame. h.all f frame ∙ same f frame }
+
+-- a statement that is a call, or nothing where there is none
+pub call_said : (text : List ℕ) (locals : Locals) (wrap : CallSeen → StatementSeen) (want : Frame → Option CallSeen) (o : Option Call) (s : Statement)
+    → statement_seen s ≡ option_map_or wrap (option_map call_seen o) (told [] Nothing) → TellsCall text locals want o → Tells text locals (λ f. option_map_or wrap (want f) (told [] Nothing)) s
+call_said text locals wrap want o s is h = record { all = λ f frame. is ∙ ap (λ w. option_map_or wrap w (told [] Nothing)) (h.all f frame) }
+
+-- the value of a declaration is assigned
+pub first_assigned : (p : Program) (own : ℕ) (f : Frame) (name : Span) (number : Option ℕ) (v : ValueTree) → assigned p own f (option_map (mention_of name) number) v ≡ first_value p own f name number (Some v)
+first_assigned p own f name None v = refl
+first_assigned p own f name (Some n) v = refl

@@ -1,0 +1,13 @@
+use Rattle.std.proofs.Common.{◌≡◌, ℕ, List, map}
+use Rattle.syntax.specs.ExpressionTrees.{expression_tree}
+use Rattle.syntax.specs.Trees.{ItemTree}
+use Rattle.resolving.specs.Around.{program_in}
+use Rattle.resolving.specs.Frames.{IsFrame}
+use Rattle.resolving.specs.Locals.{Frame}
+use Rattle.resolving.specs.Told.{arguments}
+use Rattle.resolving.proofs.CalleeLemmas.{given_to_end}
+use Rattle.resolving.proofs.calls.arguments_of.Given as goal
+
+abbrev pub invariant-loop-parameter : goal.invariant-loop-parameter
+invariant-loop-parameter l = (items : List ItemTree) (own : ℕ) (f : Frame) → IsFrame l.tokens.text.items f l.locals
+    → given_to_end (program_in l.tokens.text.items items) own f l.given.items l.parameter-iterator ≡ arguments (program_in l.tokens.text.items items) own f l.parameters (map expression_tree l.arguments)

@@ -1,0 +1,44 @@
+use Rattle.std.proofs.Common.{sym, ap, ◌∙◌, ◌++◌, []}
+use Rattle.syntax.specs.ExpressionTrees.{expression_tree, target_tree}
+use Rattle.syntax.specs.Values.{value_tree}
+use Rattle.resolving.specs.Around.{program_in}
+use Rattle.resolving.specs.Reads.{reads}
+use Rattle.resolving.specs.Told.{assigned, part_taken, written}
+use Rattle.resolving.proofs.FormTwins.{of_variable, of_field, of_element}
+use Rattle.resolving.proofs.PlainLemmas.{told_as}
+use Rattle.resolving.proofs.plain.tell_assign.Goals as goal
+
+pub returns-in-Variable : goal.returns-in-Variable
+returns-in-Variable c = λ items own around.
+    let p = program_in c.args.tokens.now.text.items items in
+    let text = c.args.tokens.now.text.items in
+    let locals = c.args.locals.now in
+    let value = value_tree c.args.value.now in
+    told_as text locals c.tell_assigned.result (λ f. assigned p own f c.mention-target.result value) (λ f. written p own f (target_tree c.args.target.now) value)
+    (λ f frame. ap (λ t. assigned p own f t value) (c.mention-target.ensures f frame) ∙ ap (λ t. written p own f t value) (sym (ap target_tree c.in-Variable.is ∙ of_variable c.in-Variable.name)))
+    (c.tell_assigned.ensures items own around)
+
+pub returns-in-Field : goal.returns-in-Field
+returns-in-Field c = λ items own around.
+    let p = program_in c.args.tokens.now.text.items items in
+    let text = c.args.tokens.now.text.items in
+    let locals = c.args.locals.now in
+    let value = value_tree c.args.value.now in
+    told_as text locals c.tell_part.result (λ f. part_taken p own f c.new-index.result.items c.mention-whole.result value) (λ f. written p own f (target_tree c.args.target.now) value)
+    (λ f frame. ap (λ l. part_taken p own f l c.mention-whole.result value) c.new-index.ensures.items ∙ ap (λ w. part_taken p own f [] w value) (c.mention-whole.ensures f frame)
+    ∙ ap (λ t. written p own f t value) (sym (ap target_tree c.in-Field.is ∙ of_field c.in-Field.variable c.in-Field.field)))
+    (c.tell_part.ensures items own around)
+
+pub returns-in_ok-add_reads-in-Element : goal.returns-in_ok-add_reads-in-Element
+returns-in_ok-add_reads-in-Element c = λ items own around.
+    let p = program_in c.args.tokens.now.text.items items in
+    let text = c.args.tokens.now.text.items in
+    let locals = c.args.locals.now in
+    let value = value_tree c.args.value.now in
+    let whole = c.mention-whole-in-Element in
+    told_as text locals c.tell_part-in-Element.result (λ f. part_taken p own f c.add_reads.new.found.items whole.result value) (λ f. written p own f (target_tree c.args.target.now) value)
+    (λ f frame. ap (λ l. part_taken p own f l whole.result value)
+    (c.in_ok-add_reads-in-Element.ensures.all f frame ∙ ap (λ l. l ++ reads text f.locals (expression_tree c.deref.result.now)) c.new-reads.ensures.items ∙ ap (λ e. reads text f.locals (expression_tree e)) c.deref.ensures)
+    ∙ ap (λ w. part_taken p own f (reads text f.locals (expression_tree c.in-Element.index.value)) w value) (whole.ensures f frame)
+    ∙ ap (λ t. written p own f t value) (sym (ap target_tree c.in-Element.is ∙ of_element c.in-Element.variable c.in-Element.index)))
+    (c.tell_part-in-Element.ensures items own around)

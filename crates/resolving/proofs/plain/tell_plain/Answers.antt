@@ -1,0 +1,56 @@
+use Rattle.std.proofs.Common.{sym, ap, ◌∙◌, None, option_map}
+use Rattle.syntax.specs.ExpressionTrees.{expression_tree, target_tree}
+use Rattle.syntax.specs.StatementTrees.{statement_tree}
+use Rattle.syntax.specs.Values.{call_tree, value_tree}
+use Rattle.names.specs.Kinds.{is_heap}
+use Rattle.resolving.specs.Around.{program_in}
+use Rattle.resolving.specs.Locals.{next_number}
+use Rattle.resolving.specs.Told.{called, started, first_value, written, returned, plain_told}
+use Rattle.resolving.proofs.FormTwins.{of_declare, of_assign, of_call, of_start, of_return}
+use Rattle.resolving.proofs.PlainLemmas.{told_as}
+use Rattle.resolving.proofs.plain.tell_plain.Goals as goal
+
+pub returns-in-Declare : goal.returns-in-Declare
+returns-in-Declare c = λ items own around.
+    let p = program_in c.args.tokens.now.text.items items in
+    let text = c.args.tokens.now.text.items in
+    let locals = c.args.locals.now in
+    told_as text locals c.tell_declare.result (λ f. first_value p own f c.in-Declare.declare.name (next_number (is_heap c.in-Declare.declare.kind) f) (option_map value_tree c.in-Declare.declare.value)) (λ f. plain_told p own f (statement_tree c.args.statement.now))
+    (λ f frame. ap (plain_told p own f) (sym (ap statement_tree c.in-Declare.is ∙ of_declare c.in-Declare.declare)))
+    (c.tell_declare.ensures items own around)
+
+pub returns-in-Assign : goal.returns-in-Assign
+returns-in-Assign c = λ items own around.
+    let p = program_in c.args.tokens.now.text.items items in
+    let text = c.args.tokens.now.text.items in
+    let locals = c.args.locals.now in
+    told_as text locals c.tell_assign.result (λ f. written p own f (target_tree c.in-Assign.assign.target) (value_tree c.in-Assign.assign.value)) (λ f. plain_told p own f (statement_tree c.args.statement.now))
+    (λ f frame. ap (plain_told p own f) (sym (ap statement_tree c.in-Assign.is ∙ of_assign c.in-Assign.assign)))
+    (c.tell_assign.ensures items own around)
+
+pub returns-in-Call : goal.returns-in-Call
+returns-in-Call c = λ items own around.
+    let p = program_in c.args.tokens.now.text.items items in
+    let text = c.args.tokens.now.text.items in
+    let locals = c.args.locals.now in
+    told_as text locals c.tell_call.result (λ f. called p own f (call_tree c.in-Call.call) None c.new.result.items) (λ f. plain_told p own f (statement_tree c.args.statement.now))
+    (λ f frame. ap (called p own f (call_tree c.in-Call.call) None) c.new.ensures.items ∙ ap (plain_told p own f) (sym (ap statement_tree c.in-Call.is ∙ of_call c.in-Call.call)))
+    (c.tell_call.ensures items own around)
+
+pub returns-in-Start : goal.returns-in-Start
+returns-in-Start c = λ items own around.
+    let p = program_in c.args.tokens.now.text.items items in
+    let text = c.args.tokens.now.text.items in
+    let locals = c.args.locals.now in
+    told_as text locals c.tell_start.result (λ f. started p own f (call_tree c.in-Start.call)) (λ f. plain_told p own f (statement_tree c.args.statement.now))
+    (λ f frame. ap (plain_told p own f) (sym (ap statement_tree c.in-Start.is ∙ of_start c.in-Start.word c.in-Start.call)))
+    (c.tell_start.ensures items own around)
+
+pub returns-in-Return : goal.returns-in-Return
+returns-in-Return c = λ items own around.
+    let p = program_in c.args.tokens.now.text.items items in
+    let text = c.args.tokens.now.text.items in
+    let locals = c.args.locals.now in
+    told_as text locals c.tell_return.result (λ f. returned p own f c.in-Return.word.place (option_map expression_tree c.in-Return.value)) (λ f. plain_told p own f (statement_tree c.args.statement.now))
+    (λ f frame. ap (plain_told p own f) (sym (ap statement_tree c.in-Return.is ∙ of_return c.in-Return.word c.in-Return.value)))
+    (c.tell_return.ensures items own)

@@ -1,0 +1,25 @@
+use Rattle.std.proofs.Common.{Option, sym, ap}
+use Rattle.syntax.specs.Values.{value_tree}
+use Rattle.resolving.specs.Around.{program_in}
+use Rattle.resolving.specs.Told.{taken, scalar_taken, assigned}
+use Rattle.resolving.proofs.PlainLemmas.{told_as}
+use Rattle.resolved.specs.declared.statement.Mention.{Mention}
+use Rattle.resolving.proofs.values.tell_assigned.Goals as goal
+
+pub returns-in-Some : goal.returns-in-Some
+returns-in-Some c = λ items own around.
+    let p = program_in c.args.tokens.now.text.items items in
+    let text = c.args.tokens.now.text.items in
+    let locals = c.args.locals.now in
+    let value = c.args.value.now in
+    told_as text locals c.tell_taken.result (λ f. taken p own f c.in-Some.target (value_tree value)) (λ f. assigned p own f c.args.target (value_tree value))
+    (λ f frame. ap (λ (t : Option Mention). assigned p own f t (value_tree value)) (sym c.in-Some.is)) (c.tell_taken.ensures items own around)
+
+pub returns-in-None : goal.returns-in-None
+returns-in-None c = λ items own around.
+    let p = program_in c.args.tokens.now.text.items items in
+    let text = c.args.tokens.now.text.items in
+    let locals = c.args.locals.now in
+    let value = c.args.value.now in
+    told_as text locals c.tell_scalar.result (λ f. scalar_taken p own f (value_tree value)) (λ f. assigned p own f c.args.target (value_tree value))
+    (λ f frame. ap (λ (t : Option Mention). assigned p own f t (value_tree value)) (sym c.in-None.is)) (c.tell_scalar.ensures items own around)

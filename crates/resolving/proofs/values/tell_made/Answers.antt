@@ -1,0 +1,8 @@
+use Rattle.std.proofs.Common.{◌∙◌, ap}
+use Rattle.resolving.specs.Told.{told}
+use Rattle.resolving.proofs.values.tell_made.Goals as goal
+
+pub returns : goal.returns
+returns c = λ items own. record {
+  all = λ f frame. c.reading.ensures ∙ ap (λ reads. told reads c.args.action) ((c.in_ok-add_made_reads.ensures items own).all f frame);
+}

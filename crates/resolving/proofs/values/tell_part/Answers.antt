@@ -1,0 +1,29 @@
+use Rattle.std.proofs.Common.{sym, ap, ◌∙◌, ◌++◌}
+use Rattle.syntax.specs.Values as values
+use Rattle.syntax.specs.Values.{call_tree, value_tree, made_tree}
+use Rattle.syntax.specs.declared.value.Value.{Value}
+use Rattle.resolving.specs.Around.{program_in}
+use Rattle.resolving.specs.Told.{told, made_reads, part_taken}
+use Rattle.resolving.proofs.PlainLemmas.{told_as}
+use Rattle.resolving.proofs.values.tell_part.Goals as goal
+
+pub returns-in-Call : goal.returns-in-Call
+returns-in-Call c = λ items own around.
+    let p = program_in c.args.tokens.now.text.items items in
+    let text = c.args.tokens.now.text.items in
+    let locals = c.args.locals.now in
+    let value = c.args.value.now in
+    told_as text locals c.tell_part_called.result (λ f. part_taken p own f c.args.index.items c.args.whole (values.Call (call_tree c.in-Call.call))) (λ f. part_taken p own f c.args.index.items c.args.whole (value_tree value))
+    (λ f frame. ap (λ (v : Value). part_taken p own f c.args.index.items c.args.whole (value_tree v)) (sym c.in-Call.is))
+    (c.tell_part_called.ensures items own around)
+
+pub returns-in-New : goal.returns-in-New
+returns-in-New c = λ items own around.
+    let p = program_in c.args.tokens.now.text.items items in
+    let text = c.args.tokens.now.text.items in
+    let locals = c.args.locals.now in
+    let value = c.args.value.now in
+    let made = made_tree c.in-New.new.made in
+    told_as text locals c.tell_made.result (λ f. told (c.args.index.items ++ made_reads p own f made) c.using-in-New.result) (λ f. part_taken p own f c.args.index.items c.args.whole (value_tree value))
+    (λ f frame. ap (told (c.args.index.items ++ made_reads p own f made)) c.using-in-New.ensures ∙ ap (λ (v : Value). part_taken p own f c.args.index.items c.args.whole (value_tree v)) (sym c.in-New.is))
+    (c.tell_made.ensures items own)

@@ -1,0 +1,29 @@
+use Rattle.std.proofs.Common.{sym, ap, ◌∙◌, ◌++◌, None}
+use Rattle.syntax.specs.Values.{call_tree, value_tree, made_tree}
+use Rattle.syntax.specs.declared.value.Value.{Value}
+use Rattle.resolved.specs.declared.statement.Action.TheVariants.{Nothing}
+use Rattle.resolving.specs.Around.{program_in}
+use Rattle.resolving.specs.Told.{told, called, made_reads, scalar_taken}
+use Rattle.resolving.proofs.PlainLemmas.{told_as}
+use Rattle.resolving.proofs.values.tell_scalar.Goals as goal
+
+pub returns-in-Call : goal.returns-in-Call
+returns-in-Call c = λ items own around.
+    let p = program_in c.args.tokens.now.text.items items in
+    let text = c.args.tokens.now.text.items in
+    let locals = c.args.locals.now in
+    let value = c.args.value.now in
+    told_as text locals c.tell_call.result (λ f. called p own f (call_tree c.in-Call.call) None c.new-before.result.items) (λ f. scalar_taken p own f (value_tree value))
+    (λ f frame. ap (called p own f (call_tree c.in-Call.call) None) c.new-before.ensures.items ∙ ap (λ (v : Value). scalar_taken p own f (value_tree v)) (sym c.in-Call.is))
+    (c.tell_call.ensures items own around)
+
+pub returns-in-New : goal.returns-in-New
+returns-in-New c = λ items own around.
+    let p = program_in c.args.tokens.now.text.items items in
+    let text = c.args.tokens.now.text.items in
+    let locals = c.args.locals.now in
+    let value = c.args.value.now in
+    let made = made_tree c.in-New.new.made in
+    told_as text locals c.tell_made.result (λ f. told (c.new-before.result.items ++ made_reads p own f made) Nothing) (λ f. scalar_taken p own f (value_tree value))
+    (λ f frame. ap (λ l. told (l ++ made_reads p own f made) Nothing) c.new-before.ensures.items ∙ ap (λ (v : Value). scalar_taken p own f (value_tree v)) (sym c.in-New.is))
+    (c.tell_made.ensures items own)

@@ -1,0 +1,37 @@
+use Rattle.std.proofs.Common.{sym, ap, ◌∙◌, ◌++◌, [], Some}
+use Rattle.syntax.specs.Values.{call_tree, value_tree, made_tree}
+use Rattle.syntax.specs.declared.value.Value.{Value}
+use Rattle.resolved.specs.declared.statement.Action.TheVariants.{New}
+use Rattle.resolving.specs.Around.{program_in}
+use Rattle.resolving.specs.Told.{told, called, moved, made_reads, taken}
+use Rattle.resolving.proofs.PlainLemmas.{told_as}
+use Rattle.resolving.proofs.values.tell_taken.Goals as goal
+
+pub returns-in-Expression : goal.returns-in-Expression
+returns-in-Expression c = λ items own around. record {
+  all = λ f frame.
+      let p = program_in c.args.tokens.now.text.items items in
+      c.unread.ensures ∙ ap (told []) (c.moving.ensures ∙ ap (moved c.args.target) (c.alone-source.ensures items own f frame))
+      ∙ ap (λ (v : Value). taken p own f c.args.target (value_tree v)) (sym c.in-Expression.is);
+}
+
+pub returns-in-Call : goal.returns-in-Call
+returns-in-Call c = λ items own around.
+    let p = program_in c.args.tokens.now.text.items items in
+    let text = c.args.tokens.now.text.items in
+    let locals = c.args.locals.now in
+    let value = c.args.value.now in
+    told_as text locals c.tell_call.result (λ f. called p own f (call_tree c.in-Call.call) (Some c.args.target) c.new-behind.result.items) (λ f. taken p own f c.args.target (value_tree value))
+    (λ f frame. ap (called p own f (call_tree c.in-Call.call) (Some c.args.target)) c.new-behind.ensures.items ∙ ap (λ (v : Value). taken p own f c.args.target (value_tree v)) (sym c.in-Call.is))
+    (c.tell_call.ensures items own around)
+
+pub returns-in-New : goal.returns-in-New
+returns-in-New c = λ items own around.
+    let p = program_in c.args.tokens.now.text.items items in
+    let text = c.args.tokens.now.text.items in
+    let locals = c.args.locals.now in
+    let value = c.args.value.now in
+    let made = made_tree c.in-New.new.made in
+    told_as text locals c.tell_made.result (λ f. told (c.new-reads.result.items ++ made_reads p own f made) (New c.args.target)) (λ f. taken p own f c.args.target (value_tree value))
+    (λ f frame. ap (λ l. told (l ++ made_reads p own f made) (New c.args.target)) c.new-reads.ensures.items ∙ ap (λ (v : Value). taken p own f c.args.target (value_tree v)) (sym c.in-New.is))
+    (c.tell_made.ensures items own)

@@ -1,0 +1,242 @@
+//! What calls come to.
+
+ghost use Rattle.std.specs.Prelude.{◌≡◌, ◌++◌, ℕ, List, None, IfOk, OnOk, map, option_map};
+ghost use Rattle.std.specs.List.{flat_map};
+ghost use Rattle.syntax.specs.ExpressionTrees.{expression_tree};
+ghost use Rattle.syntax.specs.Trees.{ItemTree};
+ghost use Rattle.syntax.specs.Values.{call_tree};
+ghost use Rattle.resolved.specs.Statements.{call_seen};
+ghost use Rattle.resolving.specs.Around.{IsAround, callee_seen, program_in};
+ghost use Rattle.resolving.specs.Callees as model;
+ghost use Rattle.resolving.specs.Callees.{method_at, method_of, member_callee, called_name};
+ghost use Rattle.resolving.specs.Frames.{IsFrame};
+ghost use Rattle.resolving.specs.Locals.{Frame, local_named};
+ghost use Rattle.resolving.specs.Reads.{reads};
+ghost use Rattle.resolving.specs.Steps.{AddsReads, Tells, TellsCall};
+ghost use Rattle.resolving.specs.Told as told;
+ghost use Rattle.resolving.specs.Told.{argument_reads, call_told, given};
+
+use crate::around::Around;
+use crate::locals::Locals;
+use crate::methods::methods_of;
+use crate::reads::add_reads;
+use crate::values::{alone, unread};
+use resolved::{Action, Argument, Call, Mention, MethodId, Statement};
+use source::{Span, Tokens};
+use std::alloc::{AllocError, Global};
+use syntax::{Expression, Method, Parameter};
+
+/// A method, and its number.
+#[derive(Clone, Copy)]
+pub(crate) struct Callee<'a> {
+    pub(crate) id: MethodId,
+    pub(crate) method: &'a Method,
+}
+
+/// The first method of this name in the class that is the item at this place.
+fn method_at<'a>(
+    tokens: &Tokens,
+    around: &Around<'_, 'a>,
+    class: usize,
+    name: Span,
+) -> Option<Callee<'a>>
+    ensures { (items : List ItemTree) (own : ℕ) → IsAround (program_in tokens.now.text.items items) own around.now → option_map callee_seen result ≡ method_at (program_in tokens.now.text.items items) class name }
+{
+    let place = around.scope.method_place(class, name)?;
+    let item = around.items.get(class)?;
+    let method = methods_of(&item.definition).get(place)?;
+    let before = *around.before.get(class)?;
+    Some(Callee {
+        id: MethodId((before + place) as u32),
+        method,
+    })
+}
+
+/// The first method of the second name in the class of the first.
+fn method_of<'a>(
+    tokens: &Tokens,
+    around: &Around<'_, 'a>,
+    class: Span,
+    name: Span,
+) -> Option<Callee<'a>>
+    ensures { (items : List ItemTree) (own : ℕ) → IsAround (program_in tokens.now.text.items items) own around.now → option_map callee_seen result ≡ method_of (program_in tokens.now.text.items items) class name }
+{
+    let class = around.scope.class_place(class)?;
+    method_at(tokens, around, class, name)
+}
+
+/// The method that a call by two names means, unless a variable in scope has the first one.
+fn member_callee<'a>(
+    tokens: &Tokens,
+    around: &Around<'_, 'a>,
+    locals: &Locals<'_>,
+    class: Span,
+    name: Span,
+) -> Option<Callee<'a>>
+    ensures { (items : List ItemTree) (own : ℕ) (f : Frame) → IsAround (program_in tokens.now.text.items items) own around.now → IsFrame tokens.now.text.items f locals.now → option_map callee_seen result ≡ member_callee (program_in tokens.now.text.items items) (local_named tokens.now.text.items f.locals class) class name }
+{
+    if locals.is_in_scope(tokens, class) {
+        return None;
+    }
+    method_of(tokens, around, class, name)
+}
+
+/// The method that a call means.
+fn callee_of<'a>(
+    tokens: &Tokens,
+    around: &Around<'_, 'a>,
+    locals: &Locals<'_>,
+    call: &syntax::Call,
+) -> Option<Callee<'a>>
+    ensures { (items : List ItemTree) (own : ℕ) (f : Frame) → IsAround (program_in tokens.now.text.items items) own around.now → IsFrame tokens.now.text.items f locals.now → option_map callee_seen result ≡ model.callee (program_in tokens.now.text.items items) own f.locals (call_tree call.now) }
+{
+    match call.member {
+        Some(name) => member_callee(tokens, around, locals, call.name, name),
+        None => method_at(tokens, around, around.class, call.name),
+    }
+}
+
+/// Where the name of the method stands.
+fn called_name(call: &syntax::Call) -> Span
+    ensures { result ≡ called_name call.now.name call.now.member }
+{
+    match call.member {
+        Some(name) => name,
+        None => call.name,
+    }
+}
+
+/// Adds what arguments read.
+fn add_argument_reads(
+    tokens: &Tokens,
+    locals: &Locals<'_>,
+    arguments: &[Expression],
+    found: &mut Vec<Mention>,
+) -> Result<(), AllocError>
+    ensures { (items : List ItemTree) (own : ℕ) → OnOk result (AddsReads tokens.now.text.items locals.now (λ f. argument_reads (program_in tokens.now.text.items items) own f (map expression_tree arguments.now)) found.old.items found.new.items) }
+{
+    for argument in arguments {
+        add_reads(tokens, locals, argument, found)?;
+    }
+    Ok(())
+}
+
+/// Adds what is given for a parameter, if a variable of the exchange heap stands there alone.
+fn add_given(
+    parameter: Parameter,
+    mention: Option<Mention>,
+    found: &mut Vec<Argument>,
+) -> Result<(), AllocError>
+    ensures { OnOk result (found.new.items ≡ found.old.items ++ given parameter mention) }
+{
+    if let Some(mention) = mention {
+        let claimed = parameter.claims;
+        found.push(Argument { mention, claimed })?;
+    }
+    Ok(())
+}
+
+/// What is given for each parameter of the exchange heap, in order.
+fn arguments_of(
+    alloc: Global,
+    tokens: &Tokens,
+    locals: &Locals<'_>,
+    parameters: &[Parameter],
+    arguments: &[Expression],
+) -> Result<Vec<Argument>, AllocError>
+    ensures { (items : List ItemTree) (own : ℕ) (f : Frame) → IsFrame tokens.now.text.items f locals.now → IfOk result (λ list. list.items ≡ told.arguments (program_in tokens.now.text.items items) own f parameters.now (map expression_tree arguments.now)) }
+{
+    let mut given = Vec::new(alloc);
+    for (parameter, argument) in parameters.iter().zip(arguments) {
+        let mention = alone(tokens, locals, argument);
+        add_given(*parameter, mention, &mut given)?;
+    }
+    Ok(given)
+}
+
+/// What a call of this method comes to.
+fn call_of(
+    alloc: Global,
+    tokens: &Tokens,
+    locals: &Locals<'_>,
+    call: &syntax::Call,
+    callee: Callee<'_>,
+    target: Option<Mention>,
+    behind: Vec<Mention>,
+) -> Result<Call, AllocError>
+    ensures { (items : List ItemTree) (own : ℕ) (f : Frame) → IsFrame tokens.now.text.items f locals.now → IfOk result (λ c. call_seen c ≡ told.call_of (program_in tokens.now.text.items items) own f (call_tree call.now) target behind.items (callee_seen callee.entry)) }
+{
+    let mut reads = Vec::new(alloc);
+    add_argument_reads(tokens, locals, &call.arguments, &mut reads)?;
+    let arguments = arguments_of(
+        alloc,
+        tokens,
+        locals,
+        &callee.method.params,
+        &call.arguments,
+    )?;
+    Ok(Call {
+        reads,
+        place: called_name(call).place,
+        method: callee.id,
+        arguments,
+        target,
+        behind,
+    })
+}
+
+/// What a call comes to, if it is one of a method: what takes what it gives, and what is used behind it.
+fn tell_called(
+    alloc: Global,
+    tokens: &Tokens,
+    around: &Around<'_, '_>,
+    locals: &Locals<'_>,
+    call: &syntax::Call,
+    target: Option<Mention>,
+    behind: Vec<Mention>,
+) -> Result<Option<Call>, AllocError>
+    ensures { (items : List ItemTree) (own : ℕ) → IsAround (program_in tokens.now.text.items items) own around.now → IfOk result (TellsCall tokens.now.text.items locals.now (λ f. call_told (program_in tokens.now.text.items items) own f (call_tree call.now) target behind.items)) }
+{
+    match callee_of(tokens, around, locals, call) {
+        Some(callee) => {
+            let call = call_of(alloc, tokens, locals, call, callee, target, behind)?;
+            Ok(Some(call))
+        }
+        None => Ok(None),
+    }
+}
+
+/// What a call comes to as a statement.
+pub(crate) fn tell_call(
+    alloc: Global,
+    tokens: &Tokens,
+    around: &Around<'_, '_>,
+    locals: &Locals<'_>,
+    call: &syntax::Call,
+    target: Option<Mention>,
+    behind: Vec<Mention>,
+) -> Result<Statement, AllocError>
+    ensures { (items : List ItemTree) (own : ℕ) → IsAround (program_in tokens.now.text.items items) own around.now → IfOk result (Tells tokens.now.text.items locals.now (λ f. told.called (program_in tokens.now.text.items items) own f (call_tree call.now) target behind.items)) }
+{
+    match tell_called(alloc, tokens, around, locals, call, target, behind)? {
+        Some(call) => Ok(Statement::Call(call)),
+        None => Ok(unread(alloc, Action::Nothing)),
+    }
+}
+
+/// What a start comes to.
+pub(crate) fn tell_start(
+    alloc: Global,
+    tokens: &Tokens,
+    around: &Around<'_, '_>,
+    locals: &Locals<'_>,
+    call: &syntax::Call,
+) -> Result<Statement, AllocError>
+    ensures { (items : List ItemTree) (own : ℕ) → IsAround (program_in tokens.now.text.items items) own around.now → IfOk result (Tells tokens.now.text.items locals.now (λ f. told.started (program_in tokens.now.text.items items) own f (call_tree call.now))) }
+{
+    let behind = Vec::new(alloc);
+    match tell_called(alloc, tokens, around, locals, call, None, behind)? {
+        Some(call) => Ok(Statement::Start(call)),
+        None => Ok(unread(alloc, Action::Nothing)),
+    }
+}

@@ -1,0 +1,121 @@
+-- Checks of arguments: what was found stands for them, argument by argument.
+use Rattle.std.proofs.Common.{◌≡◌, ℕ, ◌+◌, ◌<◌, ◌≤◌, Bool, true, false, not, cond, ◌||◌, ◌==◌, List, [], ◌∷◌, ◌++◌, length, drop, slice_index_or, Option, None, Some, if◌then◌else◌, refl, sym, ap, ◌∙◌, append_assoc, arith}
+use Rattle.std.specs.BTreeSet.{BTreeSet, contains, IsEmpty, Updates}
+use Rattle.std.specs.BTreeMap.{is_at}
+use Rattle.std.specs.List.{list_any}
+use Rattle.std.specs.Option.{option_map}
+use Rattle.std.specs.Ordering.{nat_cmp}
+use Rattle.std.proofs.lemmas.Bool.Decides.{nat_tests}
+use Rattle.std.proofs.lemmas.List.{at_drop_all, at_drop_more}
+use Rattle.source.specs.declared.finding.Finding.{Finding}
+use Rattle.resolved.specs.Methods.{MethodSeen}
+use Rattle.resolved.specs.declared.call.Argument.{Argument}
+use Rattle.resolved.specs.declared.statement.Mention.{Mention}
+use Rattle.rules.specs.Checks.{StandsFor, check_seen, first_again}
+use Rattle.rules.specs.RuleTable.{Check, Pair, checked, claimed, given_before, has_nat, name_of, refused}
+use Rattle.rules.specs.Texts.{twice}
+use Rattle.rules.specs.declared.row.Leaf.{Leaf}
+
+-- so many arguments were looked at, the variables of these earlier ones are in the set, and none of them was given before
+pub record Looked (set : BTreeSet ℕ) (arguments : List Argument) (done : ℕ) : Type 0 where
+  pub earlier : List ℕ
+  pub has : (q : ℕ) → contains nat_cmp set q ≡ has_nat earlier q
+  pub same : first_again [] arguments ≡ first_again earlier (drop done arguments)
+
+-- none was looked at
+pub looked_first : (set : BTreeSet ℕ) (arguments : List Argument) → IsEmpty set → Looked set arguments 0
+looked_first set arguments empty = record { earlier = []; has = λ q. ap (list_any (is_at (nat_cmp q))) empty; same = refl }
+
+again_at : (arguments : List Argument) (done : ℕ) (d : Argument) (earlier : List ℕ) (b : Bool) → done < length arguments → has_nat earlier (slice_index_or arguments done d).mention.variable.0 ≡ b
+    → first_again earlier (drop done arguments)
+    ≡ (if b then Some (slice_index_or arguments done d).mention else first_again ((slice_index_or arguments done d).mention.variable.0 ∷ earlier) (drop (done + 1) arguments))
+again_at arguments done d earlier b lt is =
+    let a = slice_index_or arguments done d in
+    at_drop_more (first_again earlier) arguments done d lt ∙ ap (λ (t : Bool). if t then Some a.mention else first_again (a.mention.variable.0 ∷ earlier) (drop (done + 1) arguments)) is
+
+was_there : (added b : Bool) → added ≡ false → added ≡ not b → b ≡ true
+was_there added true old is = refl
+was_there added false old is = sym old ∙ is
+
+was_not : (added b : Bool) → added ≡ true → added ≡ not b → b ≡ false
+was_not added true fresh is = sym fresh ∙ is
+was_not added false fresh is = refl
+
+at_same : (v q : ℕ) → is_at (nat_cmp v) q ≡ (v == q)
+at_same v q = grind (arith, nat_tests)
+
+same_test : (a b c : Bool) → a ≡ b → cond a true c ≡ (b || c)
+same_test a true c is = ap (λ t. cond t true c) is
+same_test a false c is = ap (λ t. cond t true c) is
+
+-- the next one was given before
+pub looked_again : (set : BTreeSet ℕ) (arguments : List Argument) (done : ℕ) (d : Argument) (added : Bool) → done < length arguments → added ≡ false → added ≡ not (contains nat_cmp set (slice_index_or arguments done d).mention.variable.0) → Looked set arguments done → Some (slice_index_or arguments done d).mention ≡ first_again [] arguments
+looked_again set arguments done d added lt old is h =
+    let a = slice_index_or arguments done d in
+    sym (h.same ∙ again_at arguments done d h.earlier true lt (sym (h.has a.mention.variable.0) ∙ was_there added _ old is))
+
+-- the next one was not
+pub looked_more : (set more : BTreeSet ℕ) (arguments : List Argument) (done : ℕ) (d : Argument) (added : Bool) → done < length arguments → added ≡ true → added ≡ not (contains nat_cmp set (slice_index_or arguments done d).mention.variable.0) → Updates nat_cmp set more (slice_index_or arguments done d).mention.variable.0 true → Looked set arguments done → Looked more arguments (done + 1)
+looked_more set more arguments done d added lt fresh is updates h =
+    let v = (slice_index_or arguments done d).mention.variable.0 in
+    record {
+      earlier = v ∷ h.earlier;
+      has = λ q. updates.0 q ∙ same_test (is_at (nat_cmp v) q) (v == q) _ (at_same v q) ∙ ap (λ b. (v == q) || b) (h.has q);
+      same = h.same ∙ again_at arguments done d h.earlier false lt (sym (h.has v) ∙ was_not added _ fresh is);
+    }
+
+-- all were looked at
+pub looked_all : (set : BTreeSet ℕ) (arguments : List Argument) (done : ℕ) → length arguments ≤ done → Looked set arguments done → None ≡ first_again [] arguments
+looked_all set arguments done le h = sym (h.same ∙ at_drop_all (first_again h.earlier) arguments done le)
+
+-- what is said of the one that was given before
+abbrev pub told_again : MethodSeen → Option Mention → Check
+told_again m again = option_map (λ x. twice (name_of m x.variable.0) x.place) again
+
+one : (m : MethodSeen) (b : Bool) (x : Mention) (checks more : List Check) (again : Option Mention) (after : List Pair) → checked (checks ++ more) after ≡ checked (told_again m again ∷ more) after
+    → checked (refused b (twice (name_of m x.variable.0) x.place) ∷ (checks ++ more)) after ≡ checked (told_again m (if b then Some x else again) ∷ more) after
+one m true x checks more again after h = refl
+one m false x checks more again after h = h
+
+-- the first one that was given before is the finding
+pub again_is : (m : MethodSeen) (earlier : List ℕ) (arguments : List Argument) (more : List Check) (after : List Pair) → checked (given_before m earlier arguments ++ more) after ≡ checked (told_again m (first_again earlier arguments) ∷ more) after
+again_is m earlier [] more after = refl
+again_is m earlier (a ∷ arguments) more after =
+    let x = a.mention in
+    one m (has_nat earlier x.variable.0) x (given_before m (x.variable.0 ∷ earlier) arguments) more (first_again (x.variable.0 ∷ earlier) arguments) after (again_is m (x.variable.0 ∷ earlier) arguments more after)
+
+-- what was found stands for the checks that none was given before
+pub again_stands : (m : MethodSeen) (arguments : List Argument) (again : Option Mention) (found : Option Finding) → again ≡ first_again [] arguments → check_seen found ≡ told_again m again → StandsFor found (given_before m [] arguments)
+again_stands m arguments again found is told =
+    record { all = λ more after. again_is m [] arguments more after ∙ ap (λ a. checked (told_again m a ∷ more) after) (sym is) ∙ ap (λ f. checked (f ∷ more) after) (sym told) }
+
+-- of these checks only those are left
+pub record Left (checks left : List Check) : Type 0 where
+  pub all : (more : List Check) (after : List Pair) → checked (checks ++ more) after ≡ checked (left ++ more) after
+
+-- none was looked at
+pub left_all : (checks : List Check) → Left checks checks
+left_all checks = record { all = λ more after. refl }
+
+left_behind : (checks before left rest : List Check) (found : Option Finding) → left ≡ before ++ rest → StandsFor found before → Left checks left
+    → (more : List Check) (after : List Pair) → checked (checks ++ more) after ≡ checked (check_seen found ∷ (rest ++ more)) after
+left_behind checks before left rest found is stands h more after =
+    h.all more after ∙ ap (λ l. checked (l ++ more) after) is ∙ ap (λ l. checked l after) (append_assoc before rest more) ∙ stands.all (rest ++ more) after
+
+-- the first of those that are left went well
+pub left_less : (checks before left rest : List Check) (found : Option Finding) → left ≡ before ++ rest → found ≡ None → StandsFor found before → Left checks left → Left checks rest
+left_less checks before left rest found is none stands h =
+    record { all = λ more after. left_behind checks before left rest found is stands h more after ∙ ap (λ f. checked (check_seen f ∷ (rest ++ more)) after) none }
+
+-- the first of those that are left failed
+pub left_found : (checks before left rest : List Check) (found : Option Finding) (finding : Finding) → left ≡ before ++ rest → found ≡ Some finding → StandsFor found before → Left checks left → StandsFor (Some finding) checks
+left_found checks before left rest found finding is some stands h =
+    record { all = λ more after. left_behind checks before left rest found is stands h more after ∙ ap (λ f. checked (check_seen f ∷ (rest ++ more)) after) some }
+
+-- none is left
+pub left_none : (checks left : List Check) → left ≡ [] → Left checks left → StandsFor None checks
+left_none checks left is h = record { all = λ more after. h.all more after ∙ ap (λ l. checked (l ++ more) after) is }
+
+-- what is claimed of one argument more is gone
+pub claimed_more : (row less : List Leaf) (arguments : List Argument) (done : ℕ) (d : Argument) → done < length arguments → less ≡ claimed row (slice_index_or arguments done d ∷ []) → claimed less (drop (done + 1) arguments) ≡ claimed row (drop done arguments)
+claimed_more row less arguments done d lt is = sym (at_drop_more (claimed row) arguments done d lt ∙ ap (λ r. claimed r (drop (done + 1) arguments)) (sym is))

@@ -1,0 +1,11 @@
+use Rattle.std.proofs.Common.{Some, refl, sym, ap, ◌∙◌}
+use Rattle.resolved.specs.Methods.{method_seen}
+use Rattle.rules.proofs.ArgumentLemmas.{again_stands}
+use Rattle.rules.proofs.arguments.gives_none_again.Goals as goal
+
+pub returns-in_ok-finding-in-Some : goal.returns-in_ok-finding-in-Some
+returns-in_ok-finding-in-Some c =
+    again_stands (method_seen c.args.method.now) c.args.arguments.now _ _ (sym c.in-Some.is ∙ c.in_ok-again.ensures) (ap Some c.in_ok-finding-in-Some.ensures)
+
+pub returns-in-None : goal.returns-in-None
+returns-in-None c = again_stands (method_seen c.args.method.now) c.args.arguments.now _ _ (sym c.in-None.is ∙ c.in_ok-again.ensures) refl
