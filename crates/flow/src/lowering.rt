@@ -21,11 +21,12 @@ use std::alloc::Global;
 
 /// The graph of a method.
 ///
-/// A statement reads first, a `Use` for each mention of a variable of the exchange heap before `.` or `[`, in order of the
-/// text, and then does what it does; a statement that only changes scalars is its reads alone. A condition reads and then
-/// goes on at its block or behind it; what goes out of scope is forgotten behind a block, at a `break` and at a `continue`.
-/// A call reads, calls, and then uses what it is written into. At the end of the method stands a `Return`, which looks at all its variables in scope, or a `Stop` where the method gives something. Instructions that nothing leads to
-/// are laid all the same.
+/// A statement reads first, a `Use` for each mention of a variable of the exchange heap before `.` or `[`, in order of
+/// the text, and then does what it does; a statement that only changes scalars is its reads alone. A condition reads
+/// and then goes on at its block or behind it; what goes out of scope is forgotten behind a block, at a `break` and at
+/// a `continue`. A call reads, calls, and then uses what it is written into. At the end of the method stands a
+/// `Return`, which looks at all its variables in scope, or a `Stop` where the method gives something. Instructions that
+/// nothing leads to are laid all the same.
 ///
 /// The method begins at a point of the graph, and each instruction goes on at such points alone.
 ///
