@@ -2,11 +2,12 @@
 use Rattle.std.proofs.Common.{◌≡◌, ℕ, ◌<◌, length, length-append, arith, subst, sym}
 use Rattle.resolved.specs.Methods.{MethodSeen}
 use Rattle.resolved.specs.Statements as stated
-use Rattle.resolved.specs.Statements.{StatementSeen, StatementsSeen, BlockSeen, TestSeen, OthersSeen}
+use Rattle.resolved.specs.Statements.{StatementSeen, StatementsSeen, BlockSeen, TestSeen, OthersSeen, CasesSeen}
 use Rattle.flow.specs.Graphs.{GraphSeen}
-use Rattle.flow.specs.Lowering.{Lays, one, parts, reads, forgets, acts, statement, statements, block, condition, others, method, ending, graph_of}
+use Rattle.flow.specs.Lowering.{Lays, one, parts, reads, forgets, acts, statement, statements, block, condition, others, cases, method, ending, graph_of}
 use Rattle.flow.specs.Within.{IsClosed}
-use Rattle.flow.proofs.WithinLemmas.{AllBelow, StaysBelow, nothing_stays, both_stay, parts_stay, turns_stay, reads_stay, forgets_stay, ending_stays, called_stay, started_stay, acts_stay}
+use Rattle.flow.proofs.CaseLemmas.{CasesStay, none_stay, case_stays, waits_stay}
+use Rattle.flow.proofs.WithinLemmas.{AllBelow, StaysBelow, nothing_stays, both_stay, parts_stay, turns_stay, reads_stay, forgets_stay, ending_stays, called_stay, started_stay, sent_stays, acts_stay}
 
 mutual
   -- a statement stays below a bound where the end of its loop and the condition lie below it
@@ -14,9 +15,11 @@ mutual
   statement_stays (stated.Simple mentions does) n exit again e a = both_stay n (reads mentions) (acts does exit again) (reads_stay n mentions) (acts_stay n does exit again e a)
   statement_stays (stated.Call c) n exit again e a = called_stay n c
   statement_stays (stated.Start c) n exit again e a = started_stay n c
+  statement_stays (stated.Send s) n exit again e a = sent_stays n s
   statement_stays (stated.Block b) n exit again e a = block_stays b n exit again e a
   statement_stays (stated.If first rest) n exit again e a = condition_stays first n (others rest exit again) exit again e a (others_stay rest n exit again e a)
   statement_stays (stated.While (stated.Test place mentions w body)) n exit again e a = turns_stay n place w (reads mentions) (block body) (reads_stay n mentions) (block_stays body n)
+  statement_stays (stated.Switch place cs) n exit again e a = waits_stay n place (λ end. cases cs end again) (λ end h. cases_stay cs n end again h a)
 
   -- statements in a row
   statements_stay : (xs : StatementsSeen) (n exit again : ℕ) → exit < n → again < n → StaysBelow n (statements xs exit again)
@@ -37,6 +40,12 @@ mutual
   others_stay stated.NoOther n exit again e a = nothing_stays n
   others_stay (stated.Else b) n exit again e a = block_stays b n exit again e a
   others_stay (stated.ElseIf t rest) n exit again e a = condition_stays t n (others rest exit again) exit again e a (others_stay rest n exit again e a)
+
+  -- the cases of a switch
+  cases_stay : (cs : CasesSeen) (n exit again : ℕ) → exit < n → again < n → CasesStay n (cases cs exit again)
+  cases_stay stated.NoCase n exit again e a = none_stay n
+  cases_stay (stated.MoreCases (stated.Case endpoint awaited bound body) rest) n exit again e a =
+      case_stays n endpoint awaited bound (block body exit again) (cases rest exit again) (block_stays body n exit again e a) (cases_stay rest n exit again e a)
 
 -- The graph of a method is closed. Outside of loops a `break` and a `continue` go on at point 0, where the last Return stands.
 pub closed : (m : MethodSeen) → IsClosed (graph_of m)

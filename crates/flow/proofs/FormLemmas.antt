@@ -2,7 +2,7 @@
 use Rattle.std.proofs.Common.{◌≡◌, ℕ, List, [], ◌∷◌, ◌++◌, length, map, sym, subst}
 use Rattle.std.specs.Prelude.{slice_set}
 use Rattle.resolved.specs.Statements as stated
-use Rattle.resolved.specs.Statements.{StatementSeen, BlockSeen, IfSeen, TestSeen, statement_seen, block_seen, test_seen, statement_step, block_step, if_step, test_step, statement_row}
+use Rattle.resolved.specs.Statements.{StatementSeen, BlockSeen, CaseSeen, IfSeen, TestSeen, statement_seen, block_seen, test_seen, statement_step, block_step, case_step, if_step, test_step, statement_row}
 use Rattle.resolved.specs.declared.statement as made
 use Rattle.resolved.specs.declared.statement.Mention.{Mention}
 use Rattle.resolved.specs.declared.statement.Statement.TheFolds as folds
@@ -16,11 +16,11 @@ use Rattle.flow.proofs.GrowthLemmas.{grew_both}
 
 -- a block without where it lies in memory
 block_is : (b : made.Block.Block) → block_seen b ≡ stated.Braces (statement_row (map statement_seen b.statements.items)) b.forget
-block_is = folds.fold_out-Block StatementSeen BlockSeen IfSeen TestSeen statement_step block_step if_step test_step
+block_is = folds.fold_out-Block StatementSeen BlockSeen CaseSeen IfSeen TestSeen statement_step block_step case_step if_step test_step
 
 -- a condition and its block likewise
 test_is : (t : made.Test.Test) → test_seen t ≡ stated.Test t.place t.reads.items t.ways (block_seen t.body)
-test_is = folds.fold_out-Test StatementSeen BlockSeen IfSeen TestSeen statement_step block_step if_step test_step
+test_is = folds.fold_out-Test StatementSeen BlockSeen CaseSeen IfSeen TestSeen statement_step block_step case_step if_step test_step
 
 -- a block: what goes out of scope, and its statements on top of that
 pub block_laid : (b : made.Block.Block) (ss : List made.Statement.Statement) (old mid new : List Instr) (exit again behind entry next : ℕ) → ss ≡ b.statements.items → Grew old mid behind (forgets b.forget (length old) next) → Grew mid new entry (statements (statement_row (map statement_seen ss)) exit again (length mid) behind) → Grew old new entry (block (block_seen b) exit again (length old) next)

@@ -4,3 +4,4 @@ pub mod FormLemmas
 pub mod GrowthLemmas
 pub mod LoopLemmas
 pub mod WithinLemmas
+pub mod CaseLemmas

@@ -4,7 +4,7 @@ use Rattle.std.specs.List.{All}
 use Rattle.std.proofs.lemmas.List.Elements.{All-nil, All-cons, All-append}
 use Rattle.source.specs.declared.place.Place.{Place}
 use Rattle.resolved.specs.Methods.{MethodSeen}
-use Rattle.resolved.specs.Statements.{CallSeen}
+use Rattle.resolved.specs.Statements.{CallSeen, SendSeen}
 use Rattle.resolved.specs.declared.method.VarId.{VarId}
 use Rattle.resolved.specs.declared.statement.Action.{Action}
 use Rattle.resolved.specs.declared.statement.Action.TheVariants as action
@@ -12,8 +12,8 @@ use Rattle.resolved.specs.declared.statement as made
 use Rattle.resolved.specs.declared.statement.Mention.{Mention}
 use Rattle.resolved.specs.declared.statement.Ways.{Ways}
 use Rattle.resolved.specs.declared.statement.Ways.TheVariants as ways_of
-use Rattle.flow.specs.Graphs.{Instruction, Use, New, Move, Delete, Branch, Forget, Call, Start, Return, Stop}
-use Rattle.flow.specs.Lowering.{Laid, Lays, nothing, one, both, gone, branches, parts, turns, reads, forgets, acts, called, started, ending}
+use Rattle.flow.specs.Graphs.{Instruction, Use, New, Move, Delete, NewChannel, Send, Branch, Forget, Call, Start, Return, Stop}
+use Rattle.flow.specs.Lowering.{Laid, Lays, nothing, one, both, gone, branches, parts, turns, reads, forgets, acts, called, started, sent, ending}
 use Rattle.flow.specs.Within.{goes_on}
 
 -- an instruction goes on below a bound
@@ -133,6 +133,10 @@ called_stay n c = both_stay n (reads c.reads) (both (one (Call c.place c.method 
 pub started_stay : (n : ℕ) (c : CallSeen) → StaysBelow n (started c)
 started_stay n c = both_stay n (reads c.reads) (one (Start c.place c.method c.arguments)) (reads_stay n c.reads) (one_stays n (Start c.place c.method c.arguments) (one_point n))
 
+-- a send
+pub sent_stays : (n : ℕ) (s : SendSeen) → StaysBelow n (sent s)
+sent_stays n s = both_stay n (reads s.reads) (one (Send s.place s.endpoint s.message s.payloads)) (reads_stay n s.reads) (one_stays n (Send s.place s.endpoint s.message s.payloads) (one_point n))
+
 -- what a simple statement does
 pub acts_stay : (n : ℕ) (does : Action) (exit again : ℕ) → exit < n → again < n → StaysBelow n (acts does exit again)
 acts_stay n action.Nothing exit again e a = nothing_stays n
@@ -140,6 +144,7 @@ acts_stay n (action.Use m) exit again e a = one_stays n (Use m) (one_point n)
 acts_stay n (action.New m) exit again e a = one_stays n (New m []) (one_point n)
 acts_stay n (action.Move target source) exit again e a = one_stays n (Move target source) (one_point n)
 acts_stay n (action.Delete m) exit again e a = one_stays n (Delete m) (one_point n)
+acts_stay n (action.NewChannel place contract first second) exit again e a = one_stays n (NewChannel place contract first second) (one_point n)
 acts_stay n (action.Break f) exit again e a = gone_stays n exit (forgets f) e (forgets_stay n f)
 acts_stay n (action.Continue f) exit again e a = gone_stays n again (forgets f) a (forgets_stay n f)
 acts_stay n (action.Return place value scope) exit again e a = return_stays n place value scope

@@ -1,7 +1,7 @@
 -- Instructions that are laid behind others.
-use Rattle.std.specs.Prelude.{◌≡◌, ℕ, List, ◌++◌, map}
-use Rattle.flow.specs.Graphs.{instruction_seen}
-use Rattle.flow.specs.Lowering.{Laid}
+use Rattle.std.specs.Prelude.{◌≡◌, ℕ, List, ◌++◌, map, reverse}
+use Rattle.flow.specs.Graphs.{EntranceSeen, instruction_seen}
+use Rattle.flow.specs.Lowering.{Laid, LaidCases}
 use Rattle.flow.specs.declared.graph.Instr.{Instr}
 
 -- the instructions grew by what is laid, which begins at this point
@@ -13,3 +13,13 @@ pub record Grew (old new : List Instr) (entry : ℕ) (laid : Laid) : Type 0 wher
 pub record Behind {A : Type 0} (all rest done : List A) (old new : List Instr) (entry : ℕ) (lays : List A → Laid) : Type 0 where
   pub split : all ≡ rest ++ done
   pub grew : Grew old new entry (lays done)
+
+-- the instructions grew by cases that are laid, and there they begin, the last one first
+pub record GrewCases (old new : List Instr) (pushed : List EntranceSeen) (laid : LaidCases) : Type 0 where
+  pub instructions : map instruction_seen new ≡ map instruction_seen old ++ laid.instructions
+  pub entrances : pushed ≡ reverse laid.entrances
+
+-- of a row of cases, the last ones are laid, and the rest is not
+pub record CasesBehind {A : Type 0} (all rest done : List A) (old new : List Instr) (pushed : List EntranceSeen) (lays : List A → LaidCases) : Type 0 where
+  pub split : all ≡ rest ++ done
+  pub grew : GrewCases old new pushed (lays done)

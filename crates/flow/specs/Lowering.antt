@@ -3,14 +3,14 @@ use Rattle.std.specs.Prelude.{ℕ, ◌+◌, List, [], ◌∷◌, ◌++◌, lengt
 use Rattle.source.specs.declared.place.Place.{Place}
 use Rattle.resolved.specs.Methods.{MethodSeen}
 use Rattle.resolved.specs.Statements as stated
-use Rattle.resolved.specs.Statements.{CallSeen, StatementSeen, StatementsSeen, BlockSeen, TestSeen, OthersSeen}
+use Rattle.resolved.specs.Statements.{CallSeen, SendSeen, StatementSeen, StatementsSeen, BlockSeen, TestSeen, OthersSeen, CasesSeen}
 use Rattle.resolved.specs.declared.statement.Action.{Action}
 use Rattle.resolved.specs.declared.statement.Action.TheVariants as action
 use Rattle.resolved.specs.declared.statement as made
 use Rattle.resolved.specs.declared.statement.Mention.{Mention}
 use Rattle.resolved.specs.declared.statement.Ways.{Ways}
 use Rattle.resolved.specs.declared.statement.Ways.TheVariants as ways_of
-use Rattle.flow.specs.Graphs.{Instruction, Use, New, Move, Delete, Branch, Forget, Call, Start, Return, Stop, GraphSeen}
+use Rattle.flow.specs.Graphs.{EntranceSeen, Instruction, Use, New, Move, Delete, NewChannel, Send, Switch, Branch, Forget, Call, Start, Return, Stop, GraphSeen}
 use Rattle.flow.specs.declared.graph.Branches.{Branches}
 use Rattle.flow.specs.declared.graph.Branches.TheVariants.{Either, Only}
 
@@ -84,6 +84,7 @@ acts (action.Use m) exit again = one (Use m)
 acts (action.New m) exit again = one (New m [])
 acts (action.Move target source) exit again = one (Move target source)
 acts (action.Delete m) exit again = one (Delete m)
+acts (action.NewChannel place contract first second) exit again = one (NewChannel place contract first second)
 acts (action.Break f) exit again = gone exit (forgets f)
 acts (action.Continue f) exit again = gone again (forgets f)
 acts (action.Return place value scope) exit again = one (λ next. Return place value scope)
@@ -95,14 +96,45 @@ called c = both (reads c.reads) (both (one (Call c.place c.method c.arguments c.
 abbrev pub started : CallSeen → Lays
 started c = both (reads c.reads) (one (Start c.place c.method c.arguments))
 
+-- a send: what its arguments read, and the send
+abbrev pub sent : SendSeen → Lays
+sent s = both (reads s.reads) (one (Send s.place s.endpoint s.message s.payloads))
+
+-- the cases of a switch, and where each begins
+pub record LaidCases : Type 0 where
+  pub instructions : List Instruction
+  pub entrances : List EntranceSeen
+
+abbrev pub LaysCases : Type 0
+LaysCases = (from next : ℕ) → LaidCases
+
+-- no cases
+abbrev pub no_cases : LaysCases
+no_cases from next = record { instructions = []; entrances = [] }
+
+-- a case before others; those are laid first
+abbrev pub case_before : (ℕ → EntranceSeen) → Lays → LaysCases → LaysCases
+case_before entrance body others from next =
+    let rest = others from next in
+    let first = body (from + length rest.instructions) next in
+    record { instructions = rest.instructions ++ first.instructions; entrances = entrance first.entry ∷ rest.entrances }
+
+-- a switch on top of its cases, which are told where it ends
+abbrev pub waits : Place → ((exit : ℕ) → LaysCases) → Lays
+waits place cases from next =
+    let all = cases next from next in
+    record { instructions = all.instructions ++ Switch place all.entrances ∷ []; entry = from + length all.instructions }
+
 abbrev mutual
   pub statement : StatementSeen → (exit again : ℕ) → Lays
   statement (stated.Simple mentions does) exit again = both (reads mentions) (acts does exit again)
   statement (stated.Call c) exit again = called c
   statement (stated.Start c) exit again = started c
+  statement (stated.Send s) exit again = sent s
   statement (stated.Block b) exit again = block b exit again
   statement (stated.If first rest) exit again = condition first (others rest exit again) exit again
   statement (stated.While (stated.Test place mentions w body)) exit again = turns place w (reads mentions) (block body)
+  statement (stated.Switch place cs) exit again = waits place (λ end. cases cs end again)
 
   pub statements : StatementsSeen → (exit again : ℕ) → Lays
   statements stated.NoStatement exit again = nothing
@@ -121,6 +153,12 @@ abbrev mutual
   others stated.NoOther exit again = nothing
   others (stated.Else b) exit again = block b exit again
   others (stated.ElseIf t rest) exit again = condition t (others rest exit again) exit again
+
+  -- the cases of a switch, which a `break` leaves to where the switch ends
+  pub cases : CasesSeen → (exit again : ℕ) → LaysCases
+  cases stated.NoCase exit again = no_cases
+  cases (stated.MoreCases (stated.Case endpoint awaited bound body) rest) exit again =
+      case_before (λ point. record { endpoint = endpoint; awaited = awaited; bound = bound; next = point }) (block body exit again) (cases rest exit again)
 
 -- At the end of a method stands a Return, which looks at all variables in scope there; where the method gives something, a Stop.
 abbrev pub ending : MethodSeen → Instruction

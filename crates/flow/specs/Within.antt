@@ -1,6 +1,6 @@
 -- Where a method goes on behind its instructions.
-use Rattle.std.specs.Prelude.{ℕ, ◌<◌, List, [], ◌∷◌, length, All}
-use Rattle.flow.specs.Graphs.{Instruction, Use, New, Move, Delete, Branch, Forget, Call, Start, Return, Stop, GraphSeen}
+use Rattle.std.specs.Prelude.{ℕ, ◌<◌, List, [], ◌∷◌, length, map, All}
+use Rattle.flow.specs.Graphs.{Instruction, Use, New, Move, Delete, NewChannel, Send, Switch, Branch, Forget, Call, Start, Return, Stop, GraphSeen}
 use Rattle.flow.specs.declared.graph.Branches.TheVariants.{Either, Only}
 
 -- the points at which a method goes on behind an instruction; behind a Return and a Stop there is none
@@ -9,6 +9,9 @@ goes_on (Use at next) = next ∷ []
 goes_on (New target arguments next) = next ∷ []
 goes_on (Move target source next) = next ∷ []
 goes_on (Delete at next) = next ∷ []
+goes_on (NewChannel place contract first second next) = next ∷ []
+goes_on (Send place endpoint message payloads next) = next ∷ []
+goes_on (Switch place cases) = map (λ c. c.next) cases
 goes_on (Branch place (Either inside past)) = inside ∷ past ∷ []
 goes_on (Branch place (Only point)) = point ∷ []
 goes_on (Forget forget next) = next ∷ []

@@ -1,6 +1,7 @@
 //! Instructions, and where each goes on.
 
-use resolved::{Argument, Forget, Mention, MethodId, VarId};
+use names::{ContractId, MessageId};
+use resolved::{Argument, Awaited, Forget, Mention, MethodId, VarId};
 use source::Place;
 
 /// Where a condition goes on.
@@ -10,6 +11,16 @@ pub enum Branches {
     Either { inside: usize, past: usize },
     /// At this point alone: the condition is just `true` or just `false`.
     Only(usize),
+}
+
+/// A case of a switch: its endpoint, what it waits for there, the variables that take what the message brings for each of its
+/// parameters of the exchange heap, in order, and the point at which the method goes on then.
+#[derive(Debug, Drop)]
+pub struct Entrance {
+    pub endpoint: Mention,
+    pub awaited: Awaited,
+    pub bound: Vec<VarId>,
+    pub next: usize,
 }
 
 /// An instruction, and the point at which the method goes on behind it. A point is the number of an instruction in its graph.
@@ -36,6 +47,27 @@ pub enum Instr {
     Delete {
         at: Mention,
         next: usize,
+    },
+    /// Two variables take the two ends of a new channel of a contract.
+    NewChannel {
+        place: Place,
+        contract: ContractId,
+        first: Mention,
+        second: Mention,
+        next: usize,
+    },
+    /// A message goes to the other end of a channel: what is given for each of its parameters of the exchange heap.
+    Send {
+        place: Place,
+        endpoint: Mention,
+        message: MessageId,
+        payloads: Vec<Mention>,
+        next: usize,
+    },
+    /// Waits for a message at one of the endpoints of these cases, or for the end of their peers.
+    Switch {
+        place: Place,
+        cases: Vec<Entrance>,
     },
     /// A condition, at its `if` or `while`.
     Branch {

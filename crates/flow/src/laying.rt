@@ -1,12 +1,13 @@
 //! Instructions and simple statements, laid on top of those that are laid already.
 
 ghost use Rattle.std.specs.Prelude.{◌≡◌, IfOk, [], ◌∷◌, ◌++◌, length};
-ghost use Rattle.resolved.specs.Statements.{call_seen, simple_seen};
+ghost use Rattle.resolved.specs.Statements.{call_seen, send_seen, simple_seen};
+ghost use Rattle.flow.specs.Graphs.{entrance_seen};
 ghost use Rattle.flow.specs.Growths.{Grew};
 ghost use Rattle.flow.specs.Lowering as laid;
 
-use crate::graph::{Branches, Instr};
-use resolved::{Action, Call, Forget, Mention, Simple, Ways};
+use crate::graph::{Branches, Entrance, Instr};
+use resolved::{Action, Call, Case, Forget, Mention, Send, Simple, Ways};
 use source::{Memory, Place};
 use std::alloc::Global;
 
@@ -110,6 +111,18 @@ fn lay_action(
             next,
         },
         Action::Delete(at) => Instr::Delete { at, next },
+        Action::NewChannel {
+            place,
+            contract,
+            first,
+            second,
+        } => Instr::NewChannel {
+            place,
+            contract,
+            first,
+            second,
+            next,
+        },
         Action::Return {
             place,
             value,
@@ -175,4 +188,37 @@ pub(crate) fn lay_start(
     };
     let at = lay(instructions, instruction)?;
     lay_reads(instructions, &call.reads, at)
+}
+
+/// Lays a send, and on top of it what its arguments read.
+pub(crate) fn lay_send(
+    alloc: Global,
+    instructions: &mut Vec<Instr>,
+    send: &Send,
+    next: usize,
+) -> Result<usize, Memory>
+    ensures { IfOk result (λ entry. Grew instructions.old.items instructions.new.items entry (laid.sent (send_seen send.now) (length instructions.old.items) next)) }
+{
+    let instruction = Instr::Send {
+        place: send.place,
+        endpoint: send.endpoint,
+        message: send.message,
+        payloads: Vec::from_slice(alloc, &send.payloads)?,
+        next,
+    };
+    let at = lay(instructions, instruction)?;
+    lay_reads(instructions, &send.reads, at)
+}
+
+/// Where a case begins.
+pub(crate) fn entrance_of(alloc: Global, case: &Case, next: usize) -> Result<Entrance, Memory>
+    ensures { IfOk result (λ e. entrance_seen e ≡ record { endpoint = case.now.endpoint; awaited = case.now.awaited; bound = case.now.bound.items; next = next }) }
+{
+    let bound = Vec::from_slice(alloc, &case.bound)?;
+    Ok(Entrance {
+        endpoint: case.endpoint,
+        awaited: case.awaited,
+        bound,
+        next,
+    })
 }

@@ -5,5 +5,5 @@ mod graph;
 mod laying;
 mod lowering;
 
-pub use graph::{Branches, Graph, Instr};
+pub use graph::{Branches, Entrance, Graph, Instr};
 pub use lowering::lower;

@@ -3,7 +3,7 @@
 ghost use Rattle.std.specs.Prelude.{◌≡◌, ℕ, List, IfOk, [], length, map, option_map};
 ghost use Rattle.resolved.specs.Methods.{method_seen};
 ghost use Rattle.resolved.specs.Statements as stated;
-ghost use Rattle.resolved.specs.Statements.{statement_seen, statement_row, block_seen, test_seen, if_seen, other_row};
+ghost use Rattle.resolved.specs.Statements.{statement_seen, statement_row, block_seen, test_seen, if_seen, other_row, case_seen, case_row};
 ghost use Rattle.flow.specs.declared.graph.Instr.{Instr};
 ghost use Rattle.flow.specs.Graphs.{graph_seen, instruction_seen};
 ghost use Rattle.flow.specs.Growths.{Grew};
@@ -13,10 +13,11 @@ ghost use Rattle.flow.specs.Within.{IsClosed};
 
 use crate::graph::{Graph, Instr};
 use crate::laying::{
-    Exits, branches, lay, lay_branches, lay_call, lay_forget, lay_reads, lay_simple, lay_start,
+    Exits, branches, entrance_of, lay, lay_branches, lay_call, lay_forget, lay_reads, lay_send,
+    lay_simple, lay_start,
 };
-use resolved::{Block, If, Method, Statement, Test};
-use source::Memory;
+use resolved::{Block, Case, If, Method, Statement, Test};
+use source::{Memory, Place};
 use std::alloc::Global;
 
 /// The graph of a method.
@@ -24,7 +25,8 @@ use std::alloc::Global;
 /// A statement reads first, a `Use` for each mention of a variable of the exchange heap before `.` or `[`, in order of
 /// the text, and then does what it does; a statement that only changes scalars is its reads alone. A condition reads
 /// and then goes on at its block or behind it; what goes out of scope is forgotten behind a block, at a `break` and at
-/// a `continue`. A call reads, calls, and then uses what it is written into. At the end of the method stands a
+/// a `continue`. A call reads, calls, and then uses what it is written into. A switch stands before its cases, behind each
+/// of which the method goes on where the switch ends; a `break` leaves a case for there too. At the end of the method stands a
 /// `Return`, which looks at all its variables in scope, or a `Stop` where the method gives something. Instructions that
 /// nothing leads to are laid all the same.
 ///
@@ -93,9 +95,13 @@ fn lay_statement(
         Statement::Simple(simple) => lay_simple(alloc, instructions, simple, exits, next),
         Statement::Call(call) => lay_call(alloc, instructions, call, next),
         Statement::Start(call) => lay_start(alloc, instructions, call, next),
+        Statement::Send(send) => lay_send(alloc, instructions, send, next),
         Statement::Block(block) => lay_block(alloc, instructions, block, exits, next),
         Statement::If(branches) => lay_if(alloc, instructions, branches, exits, next),
         Statement::While(test) => lay_while(alloc, instructions, test, next),
+        Statement::Switch { place, cases } => {
+            lay_switch(alloc, instructions, *place, cases, exits.again, next)
+        }
     }
 }
 
@@ -189,4 +195,30 @@ fn lay_while(
         branches: branches(test.ways, body, next),
     };
     Ok(head)
+}
+
+/// Lays the cases of a switch, the last one first, and on top of them the switch.
+#[cycle(statements)]
+fn lay_switch(
+    alloc: Global,
+    instructions: &mut Vec<Instr>,
+    place: Place,
+    cases: &[Case],
+    again: usize,
+    next: usize,
+) -> Result<usize, Memory>
+    ensures { IfOk result (λ entry. (exit : ℕ) → Grew instructions.old.items instructions.new.items entry (laid.statement (stated.Switch place (case_row (map case_seen cases.now))) exit again (length instructions.old.items) next)) }
+{
+    let exits = Exits { end: next, again };
+    let mut entrances = Vec::new(alloc);
+    for case in cases.iter().rev() {
+        let entry = lay_block(alloc, instructions, &case.body, exits, next)?;
+        entrances.push(entrance_of(alloc, case, entry)?)?;
+    }
+    entrances.reverse();
+    let switch = Instr::Switch {
+        place,
+        cases: entrances,
+    };
+    lay(instructions, switch)
 }

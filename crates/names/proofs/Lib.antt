@@ -32,3 +32,4 @@ pub mod ReadyLemmas
 pub mod FewLemmas
 pub mod ApartLemmas
 pub mod TypeLemmas
+pub mod PlaceLemmas

@@ -14,6 +14,7 @@ pub mod Numbered
 pub mod Resolving
 pub mod Shapes
 pub mod Program
+pub mod Places
 pub mod Kinds
 pub mod Variables
 pub mod Expressions

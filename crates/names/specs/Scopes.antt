@@ -6,6 +6,7 @@ use Rattle.syntax.specs.declared.tree.Type.TheVariants as type
 use Rattle.syntax.specs.Trees.{ItemTree, DefinitionTree, Contract, Struct, Class, ContractTree, StructTree, ClassTree, MethodTree, item_tree, method_tree}
 use Rattle.names.specs.Declarations.{names_of_messages, names_of_states, messages_of, states_of}
 use Rattle.names.specs.Kinds.{type_kind}
+use Rattle.names.specs.Numbered.{places_named}
 use Rattle.names.specs.Outlines.{IsOutline}
 use Rattle.names.specs.Program.{Program, item_names}
 use Rattle.names.specs.Tables.{IsTable}
@@ -21,11 +22,12 @@ use Rattle.names.specs.declared.noted.NotedKinds.{NotedKinds}
 use Rattle.names.specs.declared.scope.Scope.{Scope}
 use Rattle.names.specs.declared.starts.Callee.{Callee}
 
--- what a contract declares, and the tables of it
+-- what a contract declares, the tables of it, and where its named states stand among all
 pub record IsDeclared (text : List ℕ) (c : ContractTree) (d : Declared) : Type 0 where
   pub outline : IsOutline c d.outline
   pub messages : IsTable (words_at text (names_of_messages (messages_of c))) d.messages
   pub states : IsTable (words_at text (names_of_states (states_of c))) d.states
+  pub named : d.named.items ≡ places_named (states_of c)
 
 -- the fields of a struct, and the table of them
 pub record AreFields (text : List ℕ) (s : StructTree) (f : Fields) : Type 0 where

@@ -6,7 +6,8 @@ use syntax::{Scalar, Side};
 
 /// What a variable holds, or an expression gives. An item is named by how many items stand before it in the text.
 #[derive(Clone, Copy, Debug, PartialEq, Eq)]
-pub(crate) enum Kind {
+pub enum Kind {
+    /// A number or a truth value.
     Scalar(Scalar),
     /// A pointer to a struct.
     Pointer(usize),

@@ -25,6 +25,7 @@ mod noted;
 mod numbering;
 mod operands;
 mod outline;
+mod places;
 mod positions;
 mod resolved;
 mod resolving;
@@ -45,6 +46,7 @@ mod variables;
 mod wholes;
 
 pub use fault::NameFaults;
+pub use kinds::Kind;
 pub use limits::{MOST_CONTRACTS, MOST_METHODS, MOST_PARAMETERS, MOST_STATES, MOST_VARIABLES};
 pub use resolved::{Contract, ContractId, Edge, Message, MessageId, Resolved, State, StateId};
 pub use resolving::resolve;

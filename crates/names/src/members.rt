@@ -10,17 +10,20 @@ ghost use Rattle.names.specs.Values.{message_written, method_named};
 
 use crate::outline::Outline;
 use crate::starts::{Callee, startable_methods};
+use crate::state_names::state_names;
 use crate::tables::Table;
 use source::{Span, Tokens};
 use std::alloc::{AllocError, Global};
 use syntax::{Class, Contract, Definition, Field, Message, Method, Struct};
 
-/// What a contract declares, and where each of its names is declared first.
+/// What a contract declares, where each of its names is declared first, and where its named states stand among all of its
+/// states.
 #[derive(Debug, Drop)]
 pub(crate) struct Declared<'a> {
     pub(crate) outline: Outline<'a>,
     pub(crate) messages: Table<'a>,
     pub(crate) states: Table<'a>,
+    pub(crate) named: Vec<usize>,
 }
 
 /// The fields of a struct, and where each of their names is declared first.
@@ -116,10 +119,12 @@ impl<'a> Declared<'a> {
         let states = outline.state_names(alloc)?;
         let messages = Table::of(alloc, tokens, &messages)?;
         let states = Table::of(alloc, tokens, &states)?;
+        let named = state_names(alloc, &outline.states)?.named;
         Ok(Declared {
             outline,
             messages,
             states,
+            named,
         })
     }
 
@@ -129,6 +134,13 @@ impl<'a> Declared<'a> {
     {
         let place = self.messages.find(word)?;
         self.outline.messages.get(place).copied()
+    }
+
+    /// Where the named state at this place stands among all of its states.
+    pub(crate) fn named_place(&self, place: usize) -> Option<usize>
+        ensures { result ≡ slice_get self.now.named.items place }
+    {
+        self.named.get(place).copied()
     }
 }
 

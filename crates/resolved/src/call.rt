@@ -1,7 +1,8 @@
-//! Calls with a number for each variable of the exchange heap.
+//! Calls and sends with a number for each variable of the exchange heap.
 
 use crate::method::MethodId;
 use crate::statement::Mention;
+use names::MessageId;
 use source::Place;
 
 /// What is given for a parameter of the exchange heap: the variable, and whether the parameter is claimed.
@@ -26,4 +27,17 @@ pub struct Call {
     /// What is used behind the call where a field or an element takes the scalar that the method gives: what its index reads,
     /// and then the variable that it is a part of.
     pub behind: Vec<Mention>,
+}
+
+/// A send of a message.
+#[derive(Debug, Drop)]
+pub struct Send {
+    /// What its arguments read, in order of the text.
+    pub reads: Vec<Mention>,
+    /// Where the word stands that is made of `Send` and the name of the message.
+    pub place: Place,
+    pub endpoint: Mention,
+    pub message: MessageId,
+    /// What is given for each parameter of the exchange heap, in order.
+    pub payloads: Vec<Mention>,
 }

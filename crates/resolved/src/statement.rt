@@ -1,7 +1,8 @@
 //! Statements with a number for each variable of the exchange heap; scalars are forgotten.
 
-use crate::call::Call;
+use crate::call::{Call, Send};
 use crate::method::VarId;
+use names::{ContractId, MessageId};
 use source::Place;
 
 /// A variable of the exchange heap where it is named.
@@ -36,7 +37,14 @@ pub enum Action {
     },
     /// What the variable has is freed.
     Delete(Mention),
-    /// The innermost loop ends. What it and what stands in it has declared goes out of scope.
+    /// Two variables take the two ends of a new channel of a contract. The place is that of the word `NewChannel`.
+    NewChannel {
+        place: Place,
+        contract: ContractId,
+        first: Mention,
+        second: Mention,
+    },
+    /// The innermost loop or switch ends. What it and what stands in it has declared goes out of scope.
     Break(Option<Forget>),
     /// The innermost loop goes back to its test, likewise.
     Continue(Option<Forget>),
@@ -66,9 +74,13 @@ pub enum Statement {
     Call(Call),
     /// A method runs as a process of its own.
     Start(Call),
+    /// A message goes to the other end of a channel.
+    Send(Send),
     Block(Block),
     If(If),
     While(Test),
+    /// Waits for a message at one of its endpoints, or for the end of their peers. The place is that of the word `switch`.
+    Switch { place: Place, cases: Vec<Case> },
 }
 
 /// Statements in a row, and what goes out of scope behind them.
@@ -108,4 +120,25 @@ pub struct If {
     pub first: Test,
     pub others: Vec<Test>,
     pub otherwise: Option<Block>,
+}
+
+/// What a case waits for at its endpoint.
+#[derive(Clone, Copy, Debug, PartialEq, Eq)]
+pub enum Awaited {
+    /// A message.
+    Message(MessageId),
+    /// That the other end is gone, and nothing is left to be received.
+    Closed,
+}
+
+/// A case of a switch: where its endpoint is named, what it waits for there, the variables that take what the message brings for
+/// each of its parameters of the exchange heap, in order, and what is done then. What goes out of scope behind it, at the place of
+/// the token that follows, has these variables too.
+#[cycle(statement)]
+#[derive(Debug, Drop)]
+pub struct Case {
+    pub endpoint: Mention,
+    pub awaited: Awaited,
+    pub bound: Vec<VarId>,
+    pub body: Block,
 }

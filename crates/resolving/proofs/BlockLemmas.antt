@@ -20,7 +20,7 @@ use Rattle.resolving.specs.Frames.{IsFrame, number_seen}
 use Rattle.resolving.specs.Locals.{Frame, number_of, forget}
 use Rattle.resolving.specs.Reads.{reads, ways}
 use Rattle.resolving.specs.Steps.{IsTold, walked}
-use Rattle.resolving.specs.Told.{Told, Loop, follow, made, ended, plain_told, frame_behind, block_told, statement_told, test_told, others_told}
+use Rattle.resolving.specs.Told.{Told, Staying, follow, made, ended, plain_told, frame_behind, block_told, statement_told, test_told, others_told}
 use Rattle.resolving.specs.declared.locals.Locals.{Locals}
 use Rattle.resolving.proofs.ScopeLemmas.{scoped}
 use Rattle.resolving.proofs.SeenTwins.{test_made}
@@ -39,24 +39,28 @@ pub made_told : {X Y : Type 0} (text : List ℕ) (make : X → Y) (t : Told X) (
 made_told text make t what l h = record { is = ap make h.is; frame = h.frame }
 
 -- a statement in other words, before and behind
-pub told_as : (p : Program) (class : ℕ) (loop : Loop) (f : Frame) {s s' : StatementTree} {what what' : StatementSeen} {l : Locals} → s ≡ s' → what ≡ what' → IsTold p.text (statement_told p class loop s' f) what' l → IsTold p.text (statement_told p class loop s f) what l
-told_as p class loop f {s} {s'} {what} {what'} {l} is seen_is told = subst (λ t. IsTold p.text (statement_told p class loop t f) what l) (sym is) (subst (λ w. IsTold p.text (statement_told p class loop s' f) w l) (sym seen_is) told)
+pub told_as : (p : Program) (class : ℕ) (stays : Staying) (f : Frame) {s s' : StatementTree} {what what' : StatementSeen} {l : Locals} → s ≡ s' → what ≡ what' → IsTold p.text (statement_told p class stays s' f) what' l → IsTold p.text (statement_told p class stays s f) what l
+told_as p class stays f {s} {s'} {what} {what'} {l} is seen_is told = subst (λ t. IsTold p.text (statement_told p class stays t f) what l) (sym is) (subst (λ w. IsTold p.text (statement_told p class stays s' f) w l) (sym seen_is) told)
 
 -- one that holds no others
 abbrev pub as_alone : Program → ℕ → Frame → StatementTree → Told StatementSeen
 as_alone p class f s = record { what = plain_told p class f s; frame = frame_behind p class f s }
 
+-- a statement holds no others
+pub record IsAlone (p : Program) (class : ℕ) (stays : Staying) (f : Frame) (s : StatementTree) : Type 0 where
+  pub is : statement_told p class stays s f ≡ as_alone p class f s
+
 -- the same in other words
-pub alone_as : (p : Program) (class : ℕ) (loop : Loop) (f : Frame) {s s' : StatementTree} → s ≡ s' → statement_told p class loop s' f ≡ as_alone p class f s' → statement_told p class loop s f ≡ as_alone p class f s
-alone_as p class loop f {s} {s'} is alone = ap (λ t. statement_told p class loop t f) is ∙ alone ∙ sym (ap (as_alone p class f) is)
+pub alone_as : (p : Program) (class : ℕ) (stays : Staying) (f : Frame) {s s' : StatementTree} → s ≡ s' → statement_told p class stays s' f ≡ as_alone p class f s' → IsAlone p class stays f s
+alone_as p class stays f {s} {s'} same alone = record { is = ap (λ t. statement_told p class stays t f) same ∙ alone ∙ sym (ap (as_alone p class f) same) }
 
 -- a condition, part by part
-pub test_ends : (p : Program) (class : ℕ) (loop : Loop) (f : Frame) (test : stated.Test.Test) (found : Vec Mention Global) (way : Ways) (body : found_block.Block) (l : Locals)
-    → found.items ≡ reads p.text f.locals (expression_tree test.test) → way ≡ ways (expression_tree test.test) → IsTold p.text (block_told p class loop (block_tree test.body) f) (block_seen body) l
-    → IsTold p.text (test_told p class loop (test_tree test) f) (test_seen (found_test.roll-Test (record { place = test.word.place; reads = found; ways = way; body = body }))) l
-test_ends p class loop f test found way body l read goes told =
+pub test_ends : (p : Program) (class : ℕ) (stays : Staying) (f : Frame) (test : stated.Test.Test) (found : Vec Mention Global) (way : Ways) (body : found_block.Block) (l : Locals)
+    → found.items ≡ reads p.text f.locals (expression_tree test.test) → way ≡ ways (expression_tree test.test) → IsTold p.text (block_told p class stays (block_tree test.body) f) (block_seen body) l
+    → IsTold p.text (test_told p class stays (test_tree test) f) (test_seen (found_test.roll-Test (record { place = test.word.place; reads = found; ways = way; body = body }))) l
+test_ends p class stays f test found way body l read goes told =
     let tree = expression_tree test.test in
-    subst (λ t. IsTold p.text (test_told p class loop t f) (test_seen (found_test.roll-Test (record { place = test.word.place; reads = found; ways = way; body = body }))) l) (sym (test_is test)) (record {
+    subst (λ t. IsTold p.text (test_told p class stays t f) (test_seen (found_test.roll-Test (record { place = test.word.place; reads = found; ways = way; body = body }))) l) (sym (test_is test)) (record {
       is = test_made test.word.place found way body ∙ ap (λ r. seen.Test test.word.place r way (block_seen body)) read ∙ ap (λ w. seen.Test test.word.place (reads p.text f.locals tree) w (block_seen body)) goes
           ∙ ap (seen.Test test.word.place (reads p.text f.locals tree) (ways tree)) told.is;
       frame = told.frame;
@@ -80,23 +84,23 @@ block_ends text place f t what l m outer last behind gone kept size here there f
 abbrev others_end : List TestSeen → Option BlockSeen → Frame → Told seen.OthersSeen
 others_end tests last f = record { what = seen.other_row tests last; frame = f }
 
-others_walked : (p : Program) (class : ℕ) (loop : Loop) (ts : List TestTree) (last : Option BlockTree) (f : Frame) (b : Option BlockSeen) → (let t = walked (test_told p class loop) ts f in let o = others_told p class loop (trees.last_other last) t.frame in
-    seen.last_other b ≡ o.what → others_end t.what b o.frame ≡ others_told p class loop (trees.other_row ts last) f)
-others_walked p class loop [] last f b is = ap (λ (w : seen.OthersSeen). record { what = w; frame = (others_told p class loop (trees.last_other last) f).frame }) is
-others_walked p class loop (t ∷ ts) last f b is = ap (made (seen.ElseIf (test_told p class loop t f).what)) (others_walked p class loop ts last (test_told p class loop t f).frame b is)
+others_walked : (p : Program) (class : ℕ) (stays : Staying) (ts : List TestTree) (last : Option BlockTree) (f : Frame) (b : Option BlockSeen) → (let t = walked (test_told p class stays) ts f in let o = others_told p class stays (trees.last_other last) t.frame in
+    seen.last_other b ≡ o.what → others_end t.what b o.frame ≡ others_told p class stays (trees.other_row ts last) f)
+others_walked p class stays [] last f b is = ap (λ (w : seen.OthersSeen). record { what = w; frame = (others_told p class stays (trees.last_other last) f).frame }) is
+others_walked p class stays (t ∷ ts) last f b is = ap (made (seen.ElseIf (test_told p class stays t f).what)) (others_walked p class stays ts last (test_told p class stays t f).frame b is)
 
 -- an `if`, part by part
-pub if_told : (p : Program) (class : ℕ) (loop : Loop) (first : TestTree) (ts : List TestTree) (last : Option BlockTree) (f : Frame) (x : TestSeen) (xs : List TestSeen) (b : Option BlockSeen) (l m n : Locals)
-    → IsTold p.text (test_told p class loop first f) x l
-    → ((g : Frame) → IsFrame p.text g l → IsTold p.text (walked (test_told p class loop) ts g) xs m)
-    → ((g : Frame) → IsFrame p.text g m → IsTold p.text (others_told p class loop (trees.last_other last) g) (seen.last_other b) n)
-    → IsTold p.text (follow seen.If (test_told p class loop first f) (others_told p class loop (trees.other_row ts last))) (seen.If x (seen.other_row xs b)) n
-if_told p class loop first ts last f x xs b l m n one more end =
-    let behind = (test_told p class loop first f).frame in
+pub if_told : (p : Program) (class : ℕ) (stays : Staying) (first : TestTree) (ts : List TestTree) (last : Option BlockTree) (f : Frame) (x : TestSeen) (xs : List TestSeen) (b : Option BlockSeen) (l m n : Locals)
+    → IsTold p.text (test_told p class stays first f) x l
+    → ((g : Frame) → IsFrame p.text g l → IsTold p.text (walked (test_told p class stays) ts g) xs m)
+    → ((g : Frame) → IsFrame p.text g m → IsTold p.text (others_told p class stays (trees.last_other last) g) (seen.last_other b) n)
+    → IsTold p.text (follow seen.If (test_told p class stays first f) (others_told p class stays (trees.other_row ts last))) (seen.If x (seen.other_row xs b)) n
+if_told p class stays first ts last f x xs b l m n one more end =
+    let behind = (test_told p class stays first f).frame in
     let second = more behind one.frame in
-    let third = end (walked (test_told p class loop) ts behind).frame second.frame in
-    let all = others_walked p class loop ts last behind b third.is in
-    subst (λ t. IsTold p.text (made (seen.If (test_told p class loop first f).what) t) (seen.If x (seen.other_row xs b)) n) all (record {
-      is = ap (λ y. seen.If y (seen.other_row xs b)) one.is ∙ ap (λ ys. seen.If (test_told p class loop first f).what (seen.other_row ys b)) second.is;
+    let third = end (walked (test_told p class stays) ts behind).frame second.frame in
+    let all = others_walked p class stays ts last behind b third.is in
+    subst (λ t. IsTold p.text (made (seen.If (test_told p class stays first f).what) t) (seen.If x (seen.other_row xs b)) n) all (record {
+      is = ap (λ y. seen.If y (seen.other_row xs b)) one.is ∙ ap (λ ys. seen.If (test_told p class stays first f).what (seen.other_row ys b)) second.is;
       frame = third.frame;
     })

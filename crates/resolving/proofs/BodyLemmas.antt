@@ -4,15 +4,14 @@ use Rattle.std.proofs.lemmas.List.{take_more, take_all, map-append}
 use Rattle.syntax.specs.StatementTrees as trees
 use Rattle.syntax.specs.StatementTrees.{StatementTree}
 use Rattle.syntax.specs.declared.class as made
-use Rattle.names.specs.Kinds.{is_heap}
 use Rattle.names.specs.Program.{Program}
 use Rattle.resolved.specs.Statements as seen
 use Rattle.resolved.specs.Statements.{StatementSeen}
 use Rattle.resolving.specs.Frames.{IsFrame}
 use Rattle.resolving.specs.Locals.{Frame, declared}
-use Rattle.resolving.specs.Methods.{role_of, parameters_frame}
+use Rattle.resolving.specs.Methods.{parameter_declaration, parameters_frame}
 use Rattle.resolving.specs.Steps.{IsTold, walked}
-use Rattle.resolving.specs.Told.{Told, Loop, follow, made as remade, statement_told, statements_told}
+use Rattle.resolving.specs.Told.{Told, Staying, follow, made as remade, statement_told, statements_told}
 use Rattle.resolving.specs.declared.locals.Locals.{Locals}
 
 walked_push : {T X : Type 0} (go : T → Frame → Told X) (ts : List T) (t : T) (f : Frame) → walked go (ts ++ t ∷ []) f ≡ follow (λ xs x. xs ++ x ∷ []) (walked go ts f) (go t)
@@ -39,19 +38,19 @@ pub walks_all : {S T X : Type 0} (text : List ℕ) (go : T → Frame → Told X)
     → IsTold text (walked (λ s. go (tree s)) (take i ss) f) done l → IsTold text (walked go (map tree ss) f) done l
 walks_all text go tree ss i f done l le h = subst (λ t. IsTold text t done l) (ap (λ ys. walked (λ s. go (tree s)) ys f) (take_all i ss le) ∙ walked_map go tree ss f) h
 
-row_walked : (p : Program) (class : ℕ) (loop : Loop) (xs : List StatementTree) (f : Frame) → remade seen.statement_row (walked (statement_told p class loop) xs f) ≡ statements_told p class loop (trees.statement_row xs) f
-row_walked p class loop [] f = refl
-row_walked p class loop (x ∷ xs) f = ap (remade (seen.MoreStatements (statement_told p class loop x f).what)) (row_walked p class loop xs (statement_told p class loop x f).frame)
+row_walked : (p : Program) (class : ℕ) (stays : Staying) (xs : List StatementTree) (f : Frame) → remade seen.statement_row (walked (statement_told p class stays) xs f) ≡ statements_told p class stays (trees.statement_row xs) f
+row_walked p class stays [] f = refl
+row_walked p class stays (x ∷ xs) f = ap (remade (seen.MoreStatements (statement_told p class stays x f).what)) (row_walked p class stays xs (statement_told p class stays x f).frame)
 
 -- statements as a row
-pub row_told : (p : Program) (class : ℕ) (loop : Loop) (xs : List StatementTree) (f : Frame) (done : List StatementSeen) (l : Locals) → IsTold p.text (walked (statement_told p class loop) xs f) done l → IsTold p.text (statements_told p class loop (trees.statement_row xs) f) (seen.statement_row done) l
-row_told p class loop xs f done l h = subst (λ t. IsTold p.text t (seen.statement_row done) l) (row_walked p class loop xs f) (record { is = ap seen.statement_row h.is; frame = h.frame })
+pub row_told : (p : Program) (class : ℕ) (stays : Staying) (xs : List StatementTree) (f : Frame) (done : List StatementSeen) (l : Locals) → IsTold p.text (walked (statement_told p class stays) xs f) done l → IsTold p.text (statements_told p class stays (trees.statement_row xs) f) (seen.statement_row done) l
+row_told p class stays xs f done l h = subst (λ t. IsTold p.text t (seen.statement_row done) l) (row_walked p class stays xs f) (record { is = ap seen.statement_row h.is; frame = h.frame })
 
-parameters_push : (text : List ℕ) (params : List made.Parameter.Parameter) (x : made.Parameter.Parameter) (f : Frame) → parameters_frame text (params ++ x ∷ []) f ≡ declared text x.name (is_heap x.kind) (role_of x) (parameters_frame text params f)
-parameters_push text [] x f = refl
-parameters_push text (y ∷ params) x f = parameters_push text params x (declared text y.name (is_heap y.kind) (role_of y) f)
+parameters_push : (p : Program) (params : List made.Parameter.Parameter) (x : made.Parameter.Parameter) (f : Frame) → parameters_frame p (params ++ x ∷ []) f ≡ declared p.text (parameter_declaration p x) (parameters_frame p params f)
+parameters_push p [] x f = refl
+parameters_push p (y ∷ params) x f = parameters_push p params x (declared p.text (parameter_declaration p y) f)
 
 -- one more parameter
-pub parameters_more : (text : List ℕ) (params : List made.Parameter.Parameter) (i : ℕ) (d : made.Parameter.Parameter) (f : Frame) → i < length params
-    → parameters_frame text (take (i + 1) params) f ≡ declared text (get_or params i d).name (is_heap (get_or params i d).kind) (role_of (get_or params i d)) (parameters_frame text (take i params) f)
-parameters_more text params i d f lt = ap (λ l. parameters_frame text l f) (take_more params i d lt) ∙ parameters_push text (take i params) (get_or params i d) f
+pub parameters_more : (p : Program) (params : List made.Parameter.Parameter) (i : ℕ) (d : made.Parameter.Parameter) (f : Frame) → i < length params
+    → parameters_frame p (take (i + 1) params) f ≡ declared p.text (parameter_declaration p (get_or params i d)) (parameters_frame p (take i params) f)
+parameters_more p params i d f lt = ap (λ l. parameters_frame p l f) (take_more params i d lt) ∙ parameters_push p (take i params) (get_or params i d) f

@@ -20,7 +20,7 @@ use Rattle.syntax.specs.declared.statement.Statement.TheFolds as folds
 use Rattle.syntax.specs.declared.statement.Statement.TheVariants as variants
 use Rattle.syntax.specs.declared.value.Call.{Call}
 use Rattle.resolved.specs.Statements as seen
-use Rattle.resolved.specs.Statements.{StatementSeen, BlockSeen, IfSeen, TestSeen, statement_seen, call_seen}
+use Rattle.resolved.specs.Statements.{StatementSeen, BlockSeen, CaseSeen, IfSeen, TestSeen, statement_seen, call_seen}
 use Rattle.resolved.specs.declared.call.Call as resolved_call
 use Rattle.resolved.specs.declared.statement.Statement.TheOpen as seen_layer
 use Rattle.resolved.specs.declared.statement.Statement.TheFolds as seen_folds
@@ -63,7 +63,7 @@ of_element name index =
 -- the forms of a resolved statement
 
 pub called_is : (c : resolved_call.Call) → statement_seen (seen_variants.Call c) ≡ seen.Call (call_seen c)
-called_is c = ap statement_seen (sym (seen_variants.rolls-Call c)) ∙ seen_folds.fold-roll-Statement StatementSeen BlockSeen IfSeen TestSeen seen.statement_step seen.block_step seen.if_step seen.test_step (seen_layer.Call c)
+called_is c = ap statement_seen (sym (seen_variants.rolls-Call c)) ∙ seen_folds.fold-roll-Statement StatementSeen BlockSeen CaseSeen IfSeen TestSeen seen.statement_step seen.block_step seen.case_step seen.if_step seen.test_step (seen_layer.Call c)
 
 pub started_is : (c : resolved_call.Call) → statement_seen (seen_variants.Start c) ≡ seen.Start (call_seen c)
-started_is c = ap statement_seen (sym (seen_variants.rolls-Start c)) ∙ seen_folds.fold-roll-Statement StatementSeen BlockSeen IfSeen TestSeen seen.statement_step seen.block_step seen.if_step seen.test_step (seen_layer.Start c)
+started_is c = ap statement_seen (sym (seen_variants.rolls-Start c)) ∙ seen_folds.fold-roll-Statement StatementSeen BlockSeen CaseSeen IfSeen TestSeen seen.statement_step seen.block_step seen.case_step seen.if_step seen.test_step (seen_layer.Start c)

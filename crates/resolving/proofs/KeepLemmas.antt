@@ -1,15 +1,17 @@
 -- What stood in scope before a statement stands in front behind it.
 use Rattle.std.proofs.Common.{◌≡◌, ℕ, Bool, true, false, List, [], ◌∷◌, ◌++◌, length, take, if◌then◌else◌, Option, Some, None, sym, refl, ap, ◌∙◌, append_assoc, append-nil}
 use Rattle.std.specs.Prelude.{is_some}
-use Rattle.source.specs.declared.token.Span.{Span}
+use Rattle.source.specs.declared.place.Place.{Place}
 use Rattle.syntax.specs.StatementTrees as trees
-use Rattle.syntax.specs.StatementTrees.{StatementTree, StatementTrees, BlockTree, TestTree, OtherTrees}
-use Rattle.names.specs.Kinds.{is_heap}
+use Rattle.syntax.specs.StatementTrees.{StatementTree, StatementTrees, BlockTree, TestTree, OtherTrees, CaseTree, CaseTrees}
+use Rattle.syntax.specs.declared.statement as made
+use Rattle.syntax.specs.declared.tree as tree
 use Rattle.names.specs.Program.{Program}
-use Rattle.resolved.specs.declared.method.Role.{Role}
-use Rattle.resolved.specs.declared.method.Role.TheVariants as role
-use Rattle.resolving.specs.Locals.{Local, Frame, local_named, entered, declared}
-use Rattle.resolving.specs.Told.{Loop, statement_told, statements_told, block_told, test_told, others_told}
+use Rattle.resolved.specs.declared.kind.Kind.{Kind}
+use Rattle.resolving.specs.Binds.{bind_declaration, bind_told, binds_told}
+use Rattle.resolving.specs.Locals.{Local, Frame, local_named, entered, declared, declared_as}
+use Rattle.resolving.specs.Told.{Staying, declaration_of, in_loop, in_switch, behind_case, statement_told, statements_told, block_told, test_told, others_told, case_told, cases_told}
+use Rattle.resolving.specs.declared.locals.Declaration.{Declaration}
 
 -- the second has what is in scope in the first, and more behind it
 pub record Extends (f g : Frame) : Type 0 where
@@ -34,43 +36,62 @@ one_more : (b : Bool) (ls : List Local) (l : Local) → (if b then ls else ls ++
 one_more true ls l = sym (append-nil ls)
 one_more false ls l = refl
 
-entered_extends : (text : List ℕ) (name : Span) (number : Option ℕ) (f g : Frame) → g.locals ≡ entered text name number f.locals → Extends f g
-entered_extends text name number f g is = record {
-  more = if is_some (local_named text f.locals name) then [] else record { name = name; number = number } ∷ [];
-  is = is ∙ one_more (is_some (local_named text f.locals name)) f.locals (record { name = name; number = number });
+entered_extends : (text : List ℕ) (d : Declaration) (number : Option ℕ) (f g : Frame) → g.locals ≡ entered text d number f.locals → Extends f g
+entered_extends text d number f g is = record {
+  more = if is_some (local_named text f.locals d.name) then [] else record { name = d.name; kind = d.kind; number = number } ∷ [];
+  is = is ∙ one_more (is_some (local_named text f.locals d.name)) f.locals (record { name = d.name; kind = d.kind; number = number });
 }
 
-declared_extends : (text : List ℕ) (name : Span) (heap : Bool) (role : Role) (f : Frame) → Extends f (declared text name heap role f)
-declared_extends text name true role f = entered_extends text name (Some (length f.variables)) f _ refl
-declared_extends text name false role f = entered_extends text name None f _ refl
+held_extends : (text : List ℕ) (d : Declaration) (held : Option Kind) (f : Frame) → Extends f (declared_as text d held f)
+held_extends text d (Some held) f = entered_extends text d (Some (length f.variables)) f _ refl
+held_extends text d None f = entered_extends text d None f _ refl
 
-block_same : (p : Program) (class : ℕ) (loop : Loop) (b : BlockTree) (f : Frame) → (block_told p class loop b f).frame.locals ≡ f.locals
-block_same p class loop (trees.Braces statements close) f = refl
+declared_extends : (text : List ℕ) (d : Declaration) (f : Frame) → Extends f (declared text d f)
+declared_extends text d f = held_extends text d d.held f
 
-test_same : (p : Program) (class : ℕ) (loop : Loop) (t : TestTree) (f : Frame) → (test_told p class loop t f).frame.locals ≡ f.locals
-test_same p class loop (trees.Test word left test body) f = block_same p class loop body f
+block_same : (p : Program) (class : ℕ) (stays : Staying) (b : BlockTree) (f : Frame) → (block_told p class stays b f).frame.locals ≡ f.locals
+block_same p class stays (trees.Braces statements close) f = refl
 
-others_same : (p : Program) (class : ℕ) (loop : Loop) (others : OtherTrees) (f : Frame) → (others_told p class loop others f).frame.locals ≡ f.locals
-others_same p class loop trees.NoOther f = refl
-others_same p class loop (trees.Else b) f = block_same p class loop b f
-others_same p class loop (trees.ElseIf t others) f = others_same p class loop others (test_told p class loop t f).frame ∙ test_same p class loop t f
+test_same : (p : Program) (class : ℕ) (stays : Staying) (t : TestTree) (f : Frame) → (test_told p class stays t f).frame.locals ≡ f.locals
+test_same p class stays (trees.Test word left test body) f = block_same p class stays body f
 
-statement_extends : (p : Program) (class : ℕ) (loop : Loop) (x : StatementTree) (f : Frame) → Extends f (statement_told p class loop x f).frame
-statement_extends p class loop (trees.Block b) f = same_extends f _ (block_same p class loop b f)
-statement_extends p class loop (trees.Declare d) f = declared_extends p.text d.name (is_heap d.kind) role.Local f
-statement_extends p class loop (trees.Assign a) f = same_extends f _ refl
-statement_extends p class loop (trees.Call c) f = same_extends f _ refl
-statement_extends p class loop (trees.Start word c) f = same_extends f _ refl
-statement_extends p class loop (trees.Delete name) f = same_extends f _ refl
-statement_extends p class loop (trees.NewChannel n) f = same_extends f _ refl
-statement_extends p class loop (trees.If first others) f = same_extends f _ (others_same p class loop others (test_told p class loop first f).frame ∙ test_same p class loop first f)
-statement_extends p class loop (trees.While test) f = same_extends f _ (test_same p class f.last test f)
-statement_extends p class loop (trees.Break word) f = same_extends f _ refl
-statement_extends p class loop (trees.Continue word) f = same_extends f _ refl
-statement_extends p class loop (trees.Return word value) f = same_extends f _ refl
-statement_extends p class loop (trees.Switch word first cases close) f = same_extends f _ refl
+others_same : (p : Program) (class : ℕ) (stays : Staying) (others : OtherTrees) (f : Frame) → (others_told p class stays others f).frame.locals ≡ f.locals
+others_same p class stays trees.NoOther f = refl
+others_same p class stays (trees.Else b) f = block_same p class stays b f
+others_same p class stays (trees.ElseIf t others) f = others_same p class stays others (test_told p class stays t f).frame ∙ test_same p class stays t f
+
+case_same : (p : Program) (class : ℕ) (stays : Staying) (behind : Place) (c : CaseTree) (f : Frame) → (case_told p class stays behind c f).frame.locals ≡ f.locals
+case_same p class stays behind (trees.Case word endpoint awaited opened binds statements) f = refl
+
+cases_same : (p : Program) (class : ℕ) (stays : Staying) (cases : CaseTrees) (close : Place) (f : Frame) → (cases_told p class stays cases close f).frame.locals ≡ f.locals
+cases_same p class stays trees.NoCase close f = refl
+cases_same p class stays (trees.MoreCases c cases) close f = cases_same p class stays cases close (case_told p class stays (behind_case cases close) c f).frame ∙ case_same p class stays (behind_case cases close) c f
+
+statement_extends : (p : Program) (class : ℕ) (stays : Staying) (x : StatementTree) (f : Frame) → Extends f (statement_told p class stays x f).frame
+statement_extends p class stays (trees.Block b) f = same_extends f _ (block_same p class stays b f)
+statement_extends p class stays (trees.Declare d) f = declared_extends p.text (declaration_of p d) f
+statement_extends p class stays (trees.Assign a) f = same_extends f _ refl
+statement_extends p class stays (trees.Call c) f = same_extends f _ refl
+statement_extends p class stays (trees.Start word c) f = same_extends f _ refl
+statement_extends p class stays (trees.Delete name) f = same_extends f _ refl
+statement_extends p class stays (trees.NewChannel n) f = same_extends f _ refl
+statement_extends p class stays (trees.If first others) f = same_extends f _ (others_same p class stays others (test_told p class stays first f).frame ∙ test_same p class stays first f)
+statement_extends p class stays (trees.While test) f = same_extends f _ (test_same p class (in_loop f) test f)
+statement_extends p class stays (trees.Break word) f = same_extends f _ refl
+statement_extends p class stays (trees.Continue word) f = same_extends f _ refl
+statement_extends p class stays (trees.Return word value) f = same_extends f _ refl
+statement_extends p class stays (trees.Switch word first cases close) f = same_extends f _ (cases_same p class (in_switch stays f) (trees.MoreCases first cases) close.place f)
 
 -- so it is behind statements in a row
-pub statements_extend : (p : Program) (class : ℕ) (loop : Loop) (xs : StatementTrees) (f : Frame) → Extends f (statements_told p class loop xs f).frame
-statements_extend p class loop trees.NoStatement f = same_extends f f refl
-statements_extend p class loop (trees.MoreStatements x xs) f = extends_then f _ _ (statement_extends p class loop x f) (statements_extend p class loop xs (statement_told p class loop x f).frame)
+pub statements_extend : (p : Program) (class : ℕ) (stays : Staying) (xs : StatementTrees) (f : Frame) → Extends f (statements_told p class stays xs f).frame
+statements_extend p class stays trees.NoStatement f = same_extends f f refl
+statements_extend p class stays (trees.MoreStatements x xs) f = extends_then f _ _ (statement_extends p class stays x f) (statements_extend p class stays xs (statement_told p class stays x f).frame)
+
+binds_extend : (p : Program) (params : List tree.Param.Param) (binds : List made.Bind.Bind) (f : Frame) → Extends f (binds_told p params binds f).frame
+binds_extend p params [] f = same_extends f f refl
+binds_extend p [] (b ∷ binds) f = extends_then f _ _ (declared_extends p.text (bind_declaration p None b) f) (binds_extend p [] binds (bind_told p None b f).frame)
+binds_extend p (x ∷ params) (b ∷ binds) f = extends_then f _ _ (declared_extends p.text (bind_declaration p (Some x) b) f) (binds_extend p params binds (bind_told p (Some x) b f).frame)
+
+-- and behind what a case binds, with the statements behind it
+pub case_extends : (p : Program) (class : ℕ) (stays : Staying) (params : List tree.Param.Param) (binds : List made.Bind.Bind) (xs : StatementTrees) (f : Frame) → Extends f (statements_told p class stays xs (binds_told p params binds f).frame).frame
+case_extends p class stays params binds xs f = extends_then f _ _ (binds_extend p params binds f) (statements_extend p class stays xs (binds_told p params binds f).frame)

@@ -8,12 +8,14 @@ use Rattle.source.specs.declared.token.Span.{Span}
 use Rattle.names.specs.Firsts.{first_of}
 use Rattle.names.specs.Tables.{IsTable}
 use Rattle.names.specs.Words.{word_at, same_word}
+use Rattle.names.specs.declared.kinds.Kind.TheVariants.{Missing}
 use Rattle.resolved.specs.Methods.{variable_seen}
-use Rattle.resolved.specs.declared.method.Role.{Role}
+use Rattle.resolved.specs.declared.kind.Kind.{Kind}
 use Rattle.resolved.specs.declared.method.VarId.{VarId}
 use Rattle.resolving.specs.Frames.{AreApart, IsFrame, local_seen, number_seen, words_in}
 use Rattle.resolving.specs.Locals as model
 use Rattle.resolving.specs.Locals.{Frame, local_named, number_of, entered, counted, declared_heap}
+use Rattle.resolving.specs.declared.locals.Declaration.{Declaration}
 use Rattle.resolving.specs.declared.locals.Locals.{Locals}
 use Rattle.resolving.proofs.ScopeLemmas.{apart_push, scoped, words_push}
 
@@ -26,8 +28,8 @@ pub local_found : (text : List ℕ) (f : Frame) (l : Locals) (name : Span) (plac
     → option_map local_seen (option_and_then (slice_get l.list.items) place) ≡ local_named text f.locals name
 local_found text f l name place h is = local_at text f l h place ∙ ap (option_and_then (slice_get f.locals)) is
 
-abbrev here : Span → Option ℕ → model.Local
-here name number = record { name = name; number = number }
+abbrev here : Declaration → Option ℕ → model.Local
+here d number = record { name = d.name; kind = d.kind; number = number }
 
 some_there : (text : List ℕ) (locals : List model.Local) (name : Span) (o : Option ℕ) → first_of (words_in text locals) (word_at text name) ≡ o → is_some (option_and_then (slice_get locals) o) ≡ is_some o
 some_there text locals name None is = refl
@@ -35,7 +37,7 @@ some_there text locals name (Some k) is =
     let at = position-Some (same_word (word_at text name)) (words_in text locals) k [] is in
     let many = length-map (map (λ (x : model.Local). x.name) locals) (word_at text) ∙ length-map locals (λ (x : model.Local). x.name) in
     let lt : k < length locals = omega (arith, at.0, many) in
-    ap is_some (slice_get-get_or locals k (here name None) lt)
+    ap is_some (slice_get-get_or locals k (record { name = name; kind = Missing; number = None }) lt)
 
 -- a variable of a name is in scope where the name is among theirs
 is_named : (text : List ℕ) (locals : List model.Local) (name : Span) → is_some (local_named text locals name) ≡ is_some (first_of (words_in text locals) (word_at text name))
@@ -45,45 +47,45 @@ none_is : (o : Option ℕ) → is_some o ≡ false → o ≡ None
 none_is None h = refl
 none_is (Some n) h = cc
 
-abbrev entered_if : Bool → Span → Option ℕ → Frame → Frame
-entered_if taken name number f = scoped (if taken then f.locals else f.locals ++ here name number ∷ []) f.last f
+abbrev entered_if : Bool → Declaration → Option ℕ → Frame → Frame
+entered_if taken d number f = scoped (if taken then f.locals else f.locals ++ here d number ∷ []) f.last f
 
 -- a name that is taken already
-pub entered_taken : (text : List ℕ) (f : Frame) (l : Locals) (name : Span) (number : Option ℕ) (word : List ℕ) (found : Option ℕ) → IsFrame text f l → word ≡ word_at text name
-    → ((words : List (List ℕ)) → IsTable words l.names → found ≡ first_of words word) → is_some found ≡ true → IsFrame text (scoped (entered text name number f.locals) f.last f) l
-entered_taken text f l name number word found h at is taken =
-    let there = is_named text f.locals name ∙ ap (λ w. is_some (first_of (words_in text f.locals) w)) (sym at) ∙ sym (ap is_some (is (words_in text f.locals) h.names)) ∙ taken in
-    subst (λ b. IsFrame text (entered_if b name number f) l) (sym there) h
+pub entered_taken : (text : List ℕ) (f : Frame) (l : Locals) (d : Declaration) (number : Option ℕ) (word : List ℕ) (found : Option ℕ) → IsFrame text f l → word ≡ word_at text d.name
+    → ((words : List (List ℕ)) → IsTable words l.names → found ≡ first_of words word) → is_some found ≡ true → IsFrame text (scoped (entered text d number f.locals) f.last f) l
+entered_taken text f l d number word found h at is taken =
+    let there = is_named text f.locals d.name ∙ ap (λ w. is_some (first_of (words_in text f.locals) w)) (sym at) ∙ sym (ap is_some (is (words_in text f.locals) h.names)) ∙ taken in
+    subst (λ b. IsFrame text (entered_if b d number f) l) (sym there) h
 
 -- a new name
-pub entered_new : (text : List ℕ) (f : Frame) (l m : Locals) (name : Span) (number : Option VarId) (word : List ℕ) (found : Option ℕ) → IsFrame text f l → word ≡ word_at text name
+pub entered_new : (text : List ℕ) (f : Frame) (l m : Locals) (d : Declaration) (number : Option VarId) (word : List ℕ) (found : Option ℕ) → IsFrame text f l → word ≡ word_at text d.name
     → ((words : List (List ℕ)) → IsTable words l.names → found ≡ first_of words word) → is_some found ≡ false
     → ((words : List (List ℕ)) → IsTable words l.names → first_of words word ≡ None → length l.list.items ≡ length words → IsTable (words ++ word ∷ []) m.names)
-    → m.list.items ≡ l.list.items ++ record { name = name; number = number } ∷ [] → m.last ≡ l.last → m.variables.items ≡ l.variables.items
-    → IsFrame text (scoped (entered text name (number_seen number) f.locals) f.last f) m
-entered_new text f l m name number word found h at is taken table list last variables =
+    → m.list.items ≡ l.list.items ++ record { name = d.name; kind = d.kind; number = number } ∷ [] → m.last ≡ l.last → m.variables.items ≡ l.variables.items
+    → IsFrame text (scoped (entered text d (number_seen number) f.locals) f.last f) m
+entered_new text f l m d number word found h at is taken table list last variables =
     let words = words_in text f.locals in
     let found_none : first_of words word ≡ None = sym (is words h.names) ∙ none_is found taken in
-    let none : first_of words (word_at text name) ≡ None = subst (λ x. first_of words x ≡ None) at found_none in
-    let there = is_named text f.locals name ∙ ap is_some none in
+    let none : first_of words (word_at text d.name) ≡ None = subst (λ x. first_of words x ≡ None) at found_none in
+    let there = is_named text f.locals d.name ∙ ap is_some none in
     let many = length-map (map (λ (x : model.Local). x.name) f.locals) (word_at text) ∙ length-map f.locals (λ (x : model.Local). x.name) in
     let size = ap length (sym h.list) ∙ length-map l.list.items local_seen in
-    let more = words_push text f.locals (here name (number_seen number)) in
-    subst (λ b. IsFrame text (entered_if b name (number_seen number) f) m) (sym there) (record {
-      list = ap (map local_seen) list ∙ map-append local_seen l.list.items (record { name = name; number = number } ∷ []) ∙ ap (λ x. x ++ here name (number_seen number) ∷ []) h.list;
+    let more = words_push text f.locals (here d (number_seen number)) in
+    subst (λ b. IsFrame text (entered_if b d (number_seen number) f) m) (sym there) (record {
+      list = ap (map local_seen) list ∙ map-append local_seen l.list.items (record { name = d.name; kind = d.kind; number = number } ∷ []) ∙ ap (λ x. x ++ here d (number_seen number) ∷ []) h.list;
       names = subst (λ x. IsTable x m.names) (sym more) (subst (λ x. IsTable (words ++ x ∷ []) m.names) at (table words h.names found_none (sym (many ∙ size))));
-      apart = subst (AreApart []) (sym more) (apart_push [] words (word_at text name) h.apart none);
+      apart = subst (AreApart []) (sym more) (apart_push [] words (word_at text d.name) h.apart none);
       last = ap number_seen last ∙ h.last;
       variables = ap (map _) variables ∙ h.variables;
     })
 
 -- one of the exchange heap that is in scope and counted is the last of them
-pub heap_declared : (text : List ℕ) (f : Frame) (l m : Locals) (name : Span) (role : Role) (n : ℕ) → IsFrame text f l → n ≡ length l.variables.items
-    → IsFrame text (record { locals = entered text name (Some n) f.locals; last = f.last; variables = counted text name role f.last f.variables }) m
-    → IsFrame text (declared_heap text name role f) (record { names = m.names; list = m.list; last = Some (number_of n); variables = m.variables })
-heap_declared text f l m name role n h is both =
+pub heap_declared : (text : List ℕ) (f : Frame) (l m : Locals) (d : Declaration) (held : Kind) (n : ℕ) → IsFrame text f l → n ≡ length l.variables.items
+    → IsFrame text (record { locals = entered text d (Some n) f.locals; last = f.last; variables = counted text d held f.last f.variables }) m
+    → IsFrame text (declared_heap text d held f) (record { names = m.names; list = m.list; last = Some (number_of n); variables = m.variables })
+heap_declared text f l m d held n h is both =
     let many : n ≡ length f.variables = is ∙ sym (length-map l.variables.items variable_seen) ∙ ap length h.variables in
-    subst (λ k. IsFrame text (record { locals = entered text name (Some k) f.locals; last = Some k; variables = counted text name role f.last f.variables }) (record { names = m.names; list = m.list; last = Some (number_of n); variables = m.variables })) many (record {
+    subst (λ k. IsFrame text (record { locals = entered text d (Some k) f.locals; last = Some k; variables = counted text d held f.last f.variables }) (record { names = m.names; list = m.list; last = Some (number_of n); variables = m.variables })) many (record {
       list = both.list;
       names = both.names;
       apart = both.apart;

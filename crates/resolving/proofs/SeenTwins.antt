@@ -4,8 +4,10 @@ use Rattle.std.specs.Global.{Global}
 use Rattle.std.specs.Option.{option_map}
 use Rattle.source.specs.declared.place.Place.{Place}
 use Rattle.resolved.specs.Statements as seen
-use Rattle.resolved.specs.Statements.{StatementSeen, BlockSeen, IfSeen, TestSeen, statement_seen, block_seen, if_seen, test_seen, statement_step, block_step, if_step, test_step, statement_row, other_row}
+use Rattle.resolved.specs.Statements.{StatementSeen, BlockSeen, CaseSeen, IfSeen, TestSeen, statement_seen, block_seen, case_seen, if_seen, test_seen, statement_step, block_step, case_step, if_step, test_step, statement_row, case_row, other_row}
+use Rattle.resolved.specs.declared.method.VarId.{VarId}
 use Rattle.resolved.specs.declared.statement as made
+use Rattle.resolved.specs.declared.statement.Awaited.{Awaited}
 use Rattle.resolved.specs.declared.statement.Forget.{Forget}
 use Rattle.resolved.specs.declared.statement.Mention.{Mention}
 use Rattle.resolved.specs.declared.statement.Ways.{Ways}
@@ -15,25 +17,33 @@ use Rattle.resolved.specs.declared.statement.Statement.TheVariants as variants
 
 -- a block
 pub block_made : (statements : Vec made.Statement.Statement Global) (forget : Option Forget) → block_seen (made.Block.roll-Block (record { statements = statements; forget = forget })) ≡ seen.Braces (statement_row (map statement_seen statements.items)) forget
-block_made statements forget = folds.fold-roll-Block StatementSeen BlockSeen IfSeen TestSeen statement_step block_step if_step test_step (record { statements = statements; forget = forget })
+block_made statements forget = folds.fold-roll-Block StatementSeen BlockSeen CaseSeen IfSeen TestSeen statement_step block_step case_step if_step test_step (record { statements = statements; forget = forget })
 
 -- an `if`
 pub if_made : (first : made.Test.Test) (others : Vec made.Test.Test Global) (o : Option made.Block.Block) → if_seen (made.If.roll-If (record { first = first; others = others; otherwise = o })) ≡ record { first = test_seen first; others = other_row (map test_seen others.items) (option_map block_seen o) }
-if_made first others None = folds.fold-roll-If StatementSeen BlockSeen IfSeen TestSeen statement_step block_step if_step test_step (record { first = first; others = others; otherwise = None })
-if_made first others (Some b) = folds.fold-roll-If StatementSeen BlockSeen IfSeen TestSeen statement_step block_step if_step test_step (record { first = first; others = others; otherwise = Some b })
+if_made first others None = folds.fold-roll-If StatementSeen BlockSeen CaseSeen IfSeen TestSeen statement_step block_step case_step if_step test_step (record { first = first; others = others; otherwise = None })
+if_made first others (Some b) = folds.fold-roll-If StatementSeen BlockSeen CaseSeen IfSeen TestSeen statement_step block_step case_step if_step test_step (record { first = first; others = others; otherwise = Some b })
 
 -- a condition with its block
 pub test_made : (place : Place) (reads : Vec Mention Global) (ways : Ways) (body : made.Block.Block) → test_seen (made.Test.roll-Test (record { place = place; reads = reads; ways = ways; body = body })) ≡ seen.Test place reads.items ways (block_seen body)
-test_made place reads ways body = folds.fold-roll-Test StatementSeen BlockSeen IfSeen TestSeen statement_step block_step if_step test_step (record { place = place; reads = reads; ways = ways; body = body })
+test_made place reads ways body = folds.fold-roll-Test StatementSeen BlockSeen CaseSeen IfSeen TestSeen statement_step block_step case_step if_step test_step (record { place = place; reads = reads; ways = ways; body = body })
+
+-- a case
+pub case_made : (endpoint : Mention) (awaited : Awaited) (bound : Vec VarId Global) (body : made.Block.Block) → case_seen (made.Case.roll-Case (record { endpoint = endpoint; awaited = awaited; bound = bound; body = body })) ≡ seen.Case endpoint awaited bound.items (block_seen body)
+case_made endpoint awaited bound body = folds.fold-roll-Case StatementSeen BlockSeen CaseSeen IfSeen TestSeen statement_step block_step case_step if_step test_step (record { endpoint = endpoint; awaited = awaited; bound = bound; body = body })
 
 -- a statement that is a block
 pub of_block : (b : made.Block.Block) → statement_seen (variants.Block b) ≡ seen.Block (block_seen b)
-of_block b = ap statement_seen (sym (variants.rolls-Block b)) ∙ folds.fold-roll-Statement StatementSeen BlockSeen IfSeen TestSeen statement_step block_step if_step test_step (layer.Block b)
+of_block b = ap statement_seen (sym (variants.rolls-Block b)) ∙ folds.fold-roll-Statement StatementSeen BlockSeen CaseSeen IfSeen TestSeen statement_step block_step case_step if_step test_step (layer.Block b)
 
 -- one that is an `if`
 pub of_if : (i : made.If.If) → statement_seen (variants.If i) ≡ seen.If (if_seen i).first (if_seen i).others
-of_if i = ap statement_seen (sym (variants.rolls-If i)) ∙ folds.fold-roll-Statement StatementSeen BlockSeen IfSeen TestSeen statement_step block_step if_step test_step (layer.If i)
+of_if i = ap statement_seen (sym (variants.rolls-If i)) ∙ folds.fold-roll-Statement StatementSeen BlockSeen CaseSeen IfSeen TestSeen statement_step block_step case_step if_step test_step (layer.If i)
 
 -- one that is a `while`
 pub of_while : (t : made.Test.Test) → statement_seen (variants.While t) ≡ seen.While (test_seen t)
-of_while t = ap statement_seen (sym (variants.rolls-While t)) ∙ folds.fold-roll-Statement StatementSeen BlockSeen IfSeen TestSeen statement_step block_step if_step test_step (layer.While t)
+of_while t = ap statement_seen (sym (variants.rolls-While t)) ∙ folds.fold-roll-Statement StatementSeen BlockSeen CaseSeen IfSeen TestSeen statement_step block_step case_step if_step test_step (layer.While t)
+
+-- one that is a switch
+pub of_switch : (place : Place) (cases : Vec made.Case.Case Global) → statement_seen (variants.Switch place cases) ≡ seen.Switch place (case_row (map case_seen cases.items))
+of_switch place cases = ap statement_seen (sym (variants.rolls-Switch place cases)) ∙ folds.fold-roll-Statement StatementSeen BlockSeen CaseSeen IfSeen TestSeen statement_step block_step case_step if_step test_step (layer.Switch place cases)

@@ -6,7 +6,7 @@ use Rattle.source.specs.declared.token.Span.{Span}
 use Rattle.syntax.specs.ExpressionTrees.{expression_tree}
 use Rattle.syntax.specs.Values.{call_tree}
 use Rattle.syntax.specs.StatementTrees as trees
-use Rattle.syntax.specs.StatementTrees.{StatementTree, BlockTree, CaseTree, IfTree, SwitchTree, TestTree, statement_tree, block_tree, if_tree, switch_tree, test_tree, statement_step, block_step, case_step, if_step, switch_step, test_step, statement_row, case_row, other_row, declare_tree, assign_tree}
+use Rattle.syntax.specs.StatementTrees.{StatementTree, BlockTree, CaseTree, IfTree, SwitchTree, TestTree, statement_tree, block_tree, case_tree, if_tree, switch_tree, test_tree, statement_step, block_step, case_step, if_step, switch_step, test_step, statement_row, case_row, other_row, declare_tree, assign_tree}
 use Rattle.syntax.specs.declared.expression.Expression.{Expression}
 use Rattle.syntax.specs.declared.value.Call.{Call}
 use Rattle.syntax.specs.declared.statement as made
@@ -17,6 +17,14 @@ use Rattle.syntax.specs.declared.statement.Statement.TheVariants as variants
 -- a block
 pub block_is : (b : made.Block.Block) → block_tree b ≡ trees.Braces (statement_row (map statement_tree b.statements.items)) b.close
 block_is = folds.fold_out-Block StatementTree BlockTree CaseTree IfTree SwitchTree TestTree statement_step block_step case_step if_step switch_step test_step
+
+-- a case
+pub case_is : (c : made.Case.Case) → case_tree c ≡ trees.Case c.word c.endpoint c.message c.«open» c.binds.items (statement_row (map statement_tree c.statements.items))
+case_is = folds.fold_out-Case StatementTree BlockTree CaseTree IfTree SwitchTree TestTree statement_step block_step case_step if_step switch_step test_step
+
+-- a switch
+pub switch_is : (s : made.Switch.Switch) → switch_tree s ≡ record { word = (made.Switch.out-Switch s).word; first = case_tree (made.Switch.out-Switch s).first; others = map case_tree (made.Switch.out-Switch s).others.items; close = (made.Switch.out-Switch s).close }
+switch_is = folds.fold_out-Switch StatementTree BlockTree CaseTree IfTree SwitchTree TestTree statement_step block_step case_step if_step switch_step test_step
 
 -- a condition with its block
 pub test_is : (t : made.Test.Test) → test_tree t ≡ trees.Test t.word t.«open» (expression_tree t.test) (block_tree t.body)

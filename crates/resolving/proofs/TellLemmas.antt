@@ -1,6 +1,6 @@
 -- What declarations and methods come to.
 use Rattle.std.proofs.Common.{◌≡◌, ℕ, List, map, sym, ap, ◌∙◌}
-use Rattle.std.specs.Prelude.{Bool, Option, None, is_some, option_map}
+use Rattle.std.specs.Prelude.{Bool, Option, is_some, option_map}
 use Rattle.source.specs.declared.place.Place.{Place}
 use Rattle.syntax.specs.StatementTrees.{BlockTree, statement_tree, statement_row}
 use Rattle.syntax.specs.Trees.{MethodTree, method_tree}
@@ -9,36 +9,40 @@ use Rattle.names.specs.Program.{Program}
 use Rattle.resolved.specs.Methods.{MethodSeen, VariableSeen, method_seen, variable_seen}
 use Rattle.resolved.specs.Statements as seen
 use Rattle.resolved.specs.Statements.{StatementsSeen, statement_seen}
+use Rattle.resolved.specs.declared.kind.Kind.{Kind}
 use Rattle.resolved.specs.declared.method.Method.{Method}
 use Rattle.resolved.specs.declared.method.VarId.{VarId}
 use Rattle.resolving.specs.Frames.{IsFrame}
+use Rattle.resolving.specs.Kinds.{result_held}
 use Rattle.resolving.specs.Locals.{Frame, number_of}
 use Rattle.resolving.specs.Methods.{no_variables, parameters_frame, method_told}
 use Rattle.resolving.specs.Steps.{IsTold}
-use Rattle.resolving.specs.Told.{statements_told}
+use Rattle.resolving.specs.Told.{outside, statements_told}
 use Rattle.resolving.specs.declared.locals.Locals.{Locals}
 use Rattle.resolving.proofs.StatementTwins.{block_is}
 
-method_of : Place → Bool → List VariableSeen → StatementsSeen → Option VarId → Place → MethodSeen
-method_of name gives variables statements scope close = record { name = name; gives = gives; variables = variables; statements = statements; scope = scope; close = close }
+method_of : Place → Bool → Option Kind → List VariableSeen → StatementsSeen → Option VarId → Place → MethodSeen
+method_of name gives result variables statements scope close = record { name = name; gives = gives; result = result; variables = variables; statements = statements; scope = scope; close = close }
 
 with_body : made.Method.Method → BlockTree → MethodTree
 with_body m b = record { access = m.access; result = m.result; name = m.name; open_paren = m.«open»; params = m.params.items; body = b }
 
 -- a method is what its parts come to
-pub method_is : (p : Program) (class : ℕ) (m : made.Method.Method) (r : Method) (l : Locals) → r.name ≡ m.name.place → r.gives ≡ is_some m.result → r.close ≡ m.body.close.place
-    → IsTold p.text (statements_told p class None (statement_row (map statement_tree m.body.statements.items)) (parameters_frame p.text m.params.items no_variables)) (seen.statement_row (map statement_seen r.statements.items)) l
+pub method_is : (p : Program) (class : ℕ) (m : made.Method.Method) (r : Method) (l : Locals) → r.name ≡ m.name.place → r.gives ≡ is_some m.result → r.result ≡ result_held p m.result → r.close ≡ m.body.close.place
+    → IsTold p.text (statements_told p class outside (statement_row (map statement_tree m.body.statements.items)) (parameters_frame p m.params.items no_variables)) (seen.statement_row (map statement_seen r.statements.items)) l
     → ((t : List ℕ) (f : Frame) → IsFrame t f l → map variable_seen r.variables.items ≡ f.variables) → ((t : List ℕ) (f : Frame) → IsFrame t f l → r.scope ≡ option_map number_of f.last)
     → method_seen r ≡ method_told p class (method_tree m)
 unfolding method_of with_body
-method_is p class m r l name gives close body variables scope =
-    let b = statements_told p class None (statement_row (map statement_tree m.body.statements.items)) (parameters_frame p.text m.params.items no_variables) in
+method_is p class m r l name gives result close body variables scope =
+    let b = statements_told p class outside (statement_row (map statement_tree m.body.statements.items)) (parameters_frame p m.params.items no_variables) in
     let statements = seen.statement_row (map statement_seen r.statements.items) in
     let heap = map variable_seen r.variables.items in
-    ap (λ n. method_of n r.gives heap statements r.scope r.close) name
-    ∙ ap (λ g. method_of m.name.place g heap statements r.scope r.close) gives
-    ∙ ap (λ v. method_of m.name.place (is_some m.result) v statements r.scope r.close) (variables p.text b.frame body.frame)
-    ∙ ap (λ s. method_of m.name.place (is_some m.result) b.frame.variables s r.scope r.close) body.is
-    ∙ ap (λ o. method_of m.name.place (is_some m.result) b.frame.variables b.what o r.close) (scope p.text b.frame body.frame)
-    ∙ ap (λ c. method_of m.name.place (is_some m.result) b.frame.variables b.what (option_map number_of b.frame.last) c) close
+    let held = result_held p m.result in
+    ap (λ n. method_of n r.gives r.result heap statements r.scope r.close) name
+    ∙ ap (λ g. method_of m.name.place g r.result heap statements r.scope r.close) gives
+    ∙ ap (λ k. method_of m.name.place (is_some m.result) k heap statements r.scope r.close) result
+    ∙ ap (λ v. method_of m.name.place (is_some m.result) held v statements r.scope r.close) (variables p.text b.frame body.frame)
+    ∙ ap (λ s. method_of m.name.place (is_some m.result) held b.frame.variables s r.scope r.close) body.is
+    ∙ ap (λ o. method_of m.name.place (is_some m.result) held b.frame.variables b.what o r.close) (scope p.text b.frame body.frame)
+    ∙ ap (λ c. method_of m.name.place (is_some m.result) held b.frame.variables b.what (option_map number_of b.frame.last) c) close
     ∙ ap (λ (k : BlockTree). method_told p class (with_body m k)) (sym (block_is m.body))

@@ -8,7 +8,9 @@ use Rattle.resolved.specs.declared.method.VarId.{VarId}
 use Rattle.resolving.specs.Locals as model
 use Rattle.resolving.specs.Locals.{Frame}
 use Rattle.resolving.specs.declared.locals.Local.{Local}
+use Rattle.resolving.specs.Told as told
 use Rattle.resolving.specs.declared.locals.Locals.{Locals}
+use Rattle.resolving.specs.declared.staying.Staying.{Staying}
 
 -- a number without its type
 abbrev pub number_seen : Option VarId → Option ℕ
@@ -16,7 +18,7 @@ number_seen number = option_map (λ v. v.0) number
 
 -- a variable without its memory
 abbrev pub local_seen : Local → model.Local
-local_seen l = record { name = l.name; number = number_seen l.number }
+local_seen l = record { name = l.name; kind = l.kind; number = number_seen l.number }
 
 -- the names of the variables in scope, as they are written
 abbrev pub words_in : List ℕ → List model.Local → List (List ℕ)
@@ -34,3 +36,7 @@ pub record IsFrame (text : List ℕ) (f : Frame) (l : Locals) : Type 0 where
   pub apart : AreApart [] (words_in text f.locals)
   pub last : number_seen l.last ≡ f.last
   pub variables : map variable_seen l.variables.items ≡ f.variables
+
+-- what stays in scope where a loop or a switch is left
+abbrev pub staying_seen : Staying → told.Staying
+staying_seen s = record { at_break = number_seen s.at_break; at_continue = number_seen s.at_continue }

@@ -2,6 +2,10 @@ pub mod Locals
 pub mod Reads
 pub mod Callees
 pub mod Counts
+pub mod Kinds
+pub mod Messages
+pub mod Pieces
+pub mod Binds
 pub mod Told
 pub mod Around
 pub mod Unknown

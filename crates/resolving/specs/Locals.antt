@@ -4,15 +4,18 @@ use Rattle.source.specs.declared.place.Place.{Place}
 use Rattle.source.specs.declared.token.Span.{Span}
 use Rattle.names.specs.Declarations.{first_among}
 use Rattle.names.specs.Words.{word_at}
+use Rattle.names.specs.declared.kinds as names
 use Rattle.resolved.specs.Methods.{VariableSeen}
-use Rattle.resolved.specs.declared.method.Role.{Role}
+use Rattle.resolved.specs.declared.kind.Kind.{Kind}
 use Rattle.resolved.specs.declared.method.VarId.{VarId}
 use Rattle.resolved.specs.declared.statement.Forget.{Forget}
 use Rattle.resolved.specs.declared.statement.Mention.{Mention}
+use Rattle.resolving.specs.declared.locals.Declaration.{Declaration}
 
--- a variable in scope: its name, and its number where it is one of the exchange heap
+-- a variable in scope: its name, its kind, and its number where it is one of the exchange heap
 pub record Local : Type 0 where
   pub name : Span
+  pub kind : names.Kind.Kind
   pub number : Option ℕ
 
 -- the variables in scope, the last one of the exchange heap among them, and those of the exchange heap that the method has
@@ -39,30 +42,34 @@ mention text locals name = option_map (mention_of name) (number_named text local
 
 -- A variable comes into scope, unless one there has its name; one of the exchange heap has the next number, and knows the last
 -- one before it in scope.
-abbrev pub next_number : Bool → Frame → Option ℕ
-next_number heap f = if heap then Some (length f.variables) else None
+abbrev pub next_number : Option Kind → Frame → Option ℕ
+next_number held f = option_map (λ k. length f.variables) held
 
 abbrev pub number_of : ℕ → VarId
 number_of n = record { 0 = n }
 
-abbrev pub entered : List ℕ → Span → Option ℕ → List Local → List Local
-entered text name number locals = if is_some (local_named text locals name) then locals else locals ++ record { name = name; number = number } ∷ []
+abbrev pub entered : List ℕ → Declaration → Option ℕ → List Local → List Local
+entered text d number locals = if is_some (local_named text locals d.name) then locals else locals ++ record { name = d.name; kind = d.kind; number = number } ∷ []
 
-abbrev pub counted : List ℕ → Span → Role → Option ℕ → List VariableSeen → List VariableSeen
-counted text name role last variables = variables ++ record { name = word_at text name; role = role; outer = option_map number_of last } ∷ []
+abbrev pub counted : List ℕ → Declaration → Kind → Option ℕ → List VariableSeen → List VariableSeen
+counted text d held last variables = variables ++ record { name = word_at text d.name; kind = held; role = d.role; outer = option_map number_of last } ∷ []
 
-abbrev pub declared_heap : List ℕ → Span → Role → Frame → Frame
-declared_heap text name role f = record {
-  locals = entered text name (Some (length f.variables)) f.locals;
+abbrev pub declared_heap : List ℕ → Declaration → Kind → Frame → Frame
+declared_heap text d held f = record {
+  locals = entered text d (Some (length f.variables)) f.locals;
   last = Some (length f.variables);
-  variables = counted text name role f.last f.variables;
+  variables = counted text d held f.last f.variables;
 }
 
-abbrev pub declared_scalar : List ℕ → Span → Frame → Frame
-declared_scalar text name f = record { locals = entered text name None f.locals; last = f.last; variables = f.variables }
+abbrev pub declared_scalar : List ℕ → Declaration → Frame → Frame
+declared_scalar text d f = record { locals = entered text d None f.locals; last = f.last; variables = f.variables }
 
-abbrev pub declared : List ℕ → Span → Bool → Role → Frame → Frame
-declared text name heap role f = if heap then declared_heap text name role f else declared_scalar text name f
+abbrev pub declared_as : List ℕ → Declaration → Option Kind → Frame → Frame
+declared_as text d None f = declared_scalar text d f
+declared_as text d (Some held) f = declared_heap text d held f
+
+abbrev pub declared : List ℕ → Declaration → Frame → Frame
+declared text d f = declared_as text d d.held f
 
 -- What a block declares is in scope there alone.
 abbrev pub closed : Frame → Frame → Frame

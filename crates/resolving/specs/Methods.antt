@@ -1,12 +1,12 @@
 -- The methods of a program with a number for each variable of the exchange heap.
-use Rattle.std.specs.Prelude.{◌≡◌, ℕ, List, [], ◌∷◌, map, if◌then◌else◌, Option, None, Some, is_some, option_map}
+use Rattle.std.specs.Prelude.{ℕ, List, [], ◌∷◌, map, if◌then◌else◌, Option, None, is_some, option_map}
 use Rattle.std.specs.List.{enumerate_from, flat_map}
 use Rattle.source.specs.declared.place.Place.{Place}
 use Rattle.syntax.specs.StatementTrees as stated
 use Rattle.syntax.specs.StatementTrees.{BlockTree}
 use Rattle.syntax.specs.Trees.{ItemTree, MethodTree}
 use Rattle.syntax.specs.declared.class as made
-use Rattle.names.specs.Kinds.{is_heap}
+use Rattle.names.specs.Kinds.{type_kind}
 use Rattle.names.specs.Methods.{methods_in}
 use Rattle.names.specs.Program.{Program}
 use Rattle.resolved.specs.Methods.{MethodSeen}
@@ -15,33 +15,37 @@ use Rattle.resolved.specs.declared.method.Role.{Role}
 use Rattle.resolved.specs.declared.method.Role.TheVariants.{Lent, Claimed}
 use Rattle.resolving.specs.Callees.{all_methods}
 use Rattle.resolving.specs.Locals.{Frame, declared, number_of}
-use Rattle.resolving.specs.Told.{Told, statements_told}
+use Rattle.resolving.specs.Kinds.{type_held, result_held}
+use Rattle.resolving.specs.Told.{Told, outside, statements_told}
+use Rattle.resolving.specs.declared.locals.Declaration.{Declaration}
 use Rattle.resolving.specs.Unknown.{unknown_methods}
-use Rattle.resolving.specs.declared.fault.MethodFault.{MethodFault}
-use Rattle.resolving.specs.declared.fault.MethodFault.TheVariants as fault
 
 abbrev pub role_of : made.Parameter.Parameter → Role
 role_of x = if x.claims then Claimed else Lent
 
 -- parameters are variables of the method
-abbrev pub parameters_frame : List ℕ → List made.Parameter.Parameter → Frame → Frame
-parameters_frame text [] f = f
-parameters_frame text (x ∷ params) f = parameters_frame text params (declared text x.name (is_heap x.kind) (role_of x) f)
+abbrev pub parameter_declaration : Program → made.Parameter.Parameter → Declaration
+parameter_declaration p x = record { name = x.name; kind = type_kind p x.kind; held = type_held p x.kind; role = role_of x }
+
+abbrev pub parameters_frame : Program → List made.Parameter.Parameter → Frame → Frame
+parameters_frame p [] f = f
+parameters_frame p (x ∷ params) f = parameters_frame p params (declared p.text (parameter_declaration p x) f)
 
 abbrev pub no_variables : Frame
 no_variables = record { locals = []; last = None; variables = [] }
 
 -- A method body ends with its method: nothing is forgotten there.
 abbrev pub body_told : Program → ℕ → BlockTree → Frame → Told StatementsSeen
-body_told p class (stated.Braces statements close) f = statements_told p class None statements f
+body_told p class (stated.Braces statements close) f = statements_told p class outside statements f
 
 abbrev pub closing : BlockTree → Place
 closing (stated.Braces statements close) = close.place
 
-abbrev pub method_with : MethodTree → Told StatementsSeen → MethodSeen
-method_with m body = record {
+abbrev pub method_with : Program → MethodTree → Told StatementsSeen → MethodSeen
+method_with p m body = record {
   name = m.name.place;
   gives = is_some m.result;
+  result = result_held p m.result;
   variables = body.frame.variables;
   statements = body.what;
   scope = option_map number_of body.frame.last;
@@ -50,7 +54,7 @@ method_with m body = record {
 
 -- a method of the class that is the item at this place
 abbrev pub method_told : Program → ℕ → MethodTree → MethodSeen
-method_told p class m = method_with m (body_told p class m.body (parameters_frame p.text m.params no_variables))
+method_told p class m = method_with p m (body_told p class m.body (parameters_frame p m.params no_variables))
 
 -- the methods of the item at this place
 abbrev pub item_told : Program → ℕ × ItemTree → List MethodSeen
@@ -63,8 +67,3 @@ methods_told p = flat_map (item_told p) (enumerate_from 0 p.items)
 -- the place of what is not analysed yet, if there is something
 abbrev pub not_yet : List ItemTree → Option Place
 not_yet items = unknown_methods (all_methods items)
-
--- a fault names what is not analysed yet; want of memory says nothing
-abbrev pub IsFault : List ItemTree → MethodFault → Type 0
-IsFault items (fault.NotYet place) = not_yet items ≡ Some place
-IsFault items fault.Memory = Unit {0}

@@ -1,9 +1,11 @@
 -- What a step of the walk adds, and what it makes, whatever variables are in scope.
 use Rattle.std.specs.Prelude.{◌≡◌, ℕ, List, [], ◌∷◌, ◌++◌, Option, option_map}
-use Rattle.resolved.specs.Statements.{CallSeen, StatementSeen, call_seen, statement_seen}
+use Rattle.resolved.specs.Statements.{CallSeen, SendSeen, StatementSeen, call_seen, send_seen, statement_seen}
 use Rattle.resolved.specs.declared.statement.Mention.{Mention}
 use Rattle.resolved.specs.declared.statement.Statement.{Statement}
 use Rattle.resolved.specs.declared.call.Call.{Call}
+use Rattle.resolved.specs.declared.call.Send.{Send}
+use Rattle.resolved.specs.declared.method.VarId.{VarId}
 use Rattle.resolving.specs.Frames.{IsFrame}
 use Rattle.resolving.specs.Locals.{Frame}
 use Rattle.resolving.specs.Told.{Told, follow}
@@ -20,6 +22,15 @@ pub record Tells (text : List ℕ) (locals : Locals) (told : Frame → Statement
 -- a call, if there is one, is what this one comes to
 pub record TellsCall (text : List ℕ) (locals : Locals) (told : Frame → Option CallSeen) (c : Option Call) : Type 0 where
   pub all : (f : Frame) → IsFrame text f locals → option_map call_seen c ≡ told f
+
+-- a send, if there is one, is what this one comes to
+pub record TellsSend (text : List ℕ) (locals : Locals) (told : Frame → Option SendSeen) (s : Option Send) : Type 0 where
+  pub all : (f : Frame) → IsFrame text f locals → option_map send_seen s ≡ told f
+
+-- the numbers that a piece brings are added, and the frame behind it is the one that stands now
+pub record IsBound (text : List ℕ) (old new : List VarId) (locals : Locals) (t : Told (List VarId)) : Type 0 where
+  pub adds : new ≡ old ++ t.what
+  pub frame : IsFrame text t.frame locals
 
 -- a piece is what this one comes to, and the frame behind it is the one that stands now
 pub record IsTold (text : List ℕ) {X : Type 0} (t : Told X) (what : X) (locals : Locals) : Type 0 where

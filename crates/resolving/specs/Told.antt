@@ -1,5 +1,4 @@
--- What a statement comes to: what it reads, and what it does then, or the statements that it holds. A send, a new channel and a
--- switch come to nothing yet.
+-- What a statement comes to: what it reads, and what it does then, or the statements that it holds.
 use Rattle.std.specs.Prelude.{ℕ, List, [], ◌∷◌, ◌++◌, Option, Some, None, option_and_then, option_map}
 use Rattle.std.specs.List.{flat_map}
 use Rattle.std.specs.Option.{option_map_or}
@@ -8,23 +7,36 @@ use Rattle.source.specs.declared.token.Span.{Span}
 use Rattle.syntax.specs.Expressions as trees
 use Rattle.syntax.specs.Expressions.{TargetTree, ExpressionTree}
 use Rattle.syntax.specs.StatementTrees as stated
-use Rattle.syntax.specs.StatementTrees.{StatementTree, StatementTrees, BlockTree, TestTree, OtherTrees, DeclareTree}
+use Rattle.syntax.specs.StatementTrees.{StatementTree, StatementTrees, BlockTree, TestTree, OtherTrees, DeclareTree, CaseTree, CaseTrees}
 use Rattle.syntax.specs.Values as values
 use Rattle.syntax.specs.Values.{ValueTree, CallTree, MadeTree}
 use Rattle.syntax.specs.declared.class as declared_class
+use Rattle.syntax.specs.declared.statement as statement
+use Rattle.syntax.specs.declared.statement.Awaited.TheVariants as waits
+use Rattle.syntax.specs.declared.tree as tree
+use Rattle.names.specs.Cases.{bound_params}
+use Rattle.names.specs.Kinds.{type_kind}
 use Rattle.names.specs.Program.{Program}
-use Rattle.names.specs.Kinds.{is_heap}
+use Rattle.names.specs.declared.resolved.ContractId.{ContractId}
+use Rattle.names.specs.declared.resolved.MessageId.{MessageId}
 use Rattle.resolved.specs.Statements as seen
-use Rattle.resolved.specs.Statements.{CallSeen, StatementSeen, StatementsSeen, BlockSeen, TestSeen, OthersSeen}
+use Rattle.resolved.specs.Statements.{CallSeen, SendSeen, StatementSeen, StatementsSeen, BlockSeen, TestSeen, OthersSeen, CaseSeen, CasesSeen}
 use Rattle.resolved.specs.declared.call.Argument.{Argument}
 use Rattle.resolved.specs.declared.method.Role.TheVariants.{Local}
 use Rattle.resolved.specs.declared.statement.Action.{Action}
-use Rattle.resolved.specs.declared.statement.Action.TheVariants.{Nothing, Use, New, Move, Delete, Break, Continue, Return}
+use Rattle.resolved.specs.declared.statement.Action.TheVariants.{Nothing, Use, New, Move, Delete, NewChannel, Break, Continue, Return}
+use Rattle.resolved.specs.declared.statement.Awaited.{Awaited}
+use Rattle.resolved.specs.declared.statement.Awaited.TheVariants.{Message, Closed}
 use Rattle.resolved.specs.declared.statement.Forget.{Forget}
 use Rattle.resolved.specs.declared.statement.Mention.{Mention}
 use Rattle.resolving.specs.Locals.{Frame, mention, mention_of, declared, next_number, number_of, closed, forget}
 use Rattle.resolving.specs.Callees.{Callee, callee, called_name}
+use Rattle.resolving.specs.Binds.{binds_told}
+use Rattle.resolving.specs.Kinds.{contract_named, type_held}
+use Rattle.resolving.specs.Messages.{Meant, message_named, message_sent, end_contract}
+pub use Rattle.resolving.specs.Pieces.{Told, made, follow}
 use Rattle.resolving.specs.Reads.{reads, lone_name, listed, ways}
+use Rattle.resolving.specs.declared.locals.Declaration.{Declaration}
 
 -- a simple statement: what it reads, and what it does then
 abbrev pub told : List Mention → Action → StatementSeen
@@ -48,6 +60,14 @@ deleted (Some m) = Delete m
 abbrev pub given : declared_class.Parameter.Parameter → Option Mention → List Argument
 given x None = []
 given x (Some m) = record { mention = m; claimed = x.claims } ∷ []
+
+-- a declaration; its variable is in scope behind it
+abbrev pub declaration_of : Program → DeclareTree → Declaration
+declaration_of p d = record { name = d.name; kind = type_kind p d.kind; held = type_held p d.kind; role = Local }
+
+-- the message that a call by two names sends, where the first one means an endpoint
+abbrev pub meant_by : Program → Frame → CallTree → Span → Option Meant
+meant_by p f c word = option_and_then (λ n. message_sent p n word) (end_contract p f.locals c.name)
 
 module _ (p : Program) (class : ℕ) (f : Frame) where
   -- the name that an expression is alone, where it means a variable of the exchange heap
@@ -84,6 +104,39 @@ module _ (p : Program) (class : ℕ) (f : Frame) where
 
   abbrev pub started : CallTree → StatementSeen
   started c = option_map_or seen.Start (call_told c None []) (told [] Nothing)
+
+  -- what is given for the parameters of a message that are of the exchange heap, in order
+  abbrev pub payloads : List ExpressionTree → List Mention
+  payloads es = flat_map (λ e. listed (lone e)) es
+
+  -- a send of this message on this endpoint
+  abbrev pub send_of : Span → CallTree → Mention → Meant → SendSeen
+  send_of word c endpoint m = record { reads = argument_reads c.arguments; place = word.place; endpoint = endpoint; message = m.id; payloads = payloads c.arguments }
+
+  -- a call by two names that sends this message
+  abbrev pub sent : CallTree → Span → Meant → Option SendSeen
+  sent c word m = option_map (λ e. send_of word c e m) (mention p.text f.locals c.name)
+
+  abbrev pub sent_by : CallTree → Span → Option SendSeen
+  sent_by c word = option_and_then (sent c word) (meant_by p f c word)
+
+  -- a call that stands alone, where it is a send
+  abbrev pub send_told : CallTree → Option SendSeen
+  send_told c = option_and_then (sent_by c) c.member
+
+  -- a call that stands alone
+  abbrev pub stated_call : CallTree → StatementSeen
+  stated_call c = option_map_or seen.Send (send_told c) (called c None [])
+
+  -- two variables take the ends of a new channel of the contract of this number
+  abbrev pub channel_of : statement.NewChannel.NewChannel → ContractId → Option Action
+  channel_of n contract = option_and_then (λ v. option_map (NewChannel n.word.place contract v) (mention p.text f.locals n.second)) (mention p.text f.locals n.first)
+
+  abbrev pub channel_found : statement.NewChannel.NewChannel → Option Action
+  channel_found n = option_and_then (channel_of n) (contract_named p n.contract)
+
+  abbrev pub channel : statement.NewChannel.NewChannel → Action
+  channel n = option_map_or (λ a. a) (channel_found n) Nothing
 
   -- the length of a new array is read
   abbrev pub made_reads : MadeTree → List Mention
@@ -131,66 +184,103 @@ module _ (p : Program) (class : ℕ) (f : Frame) where
 
   -- a statement that holds no others
   abbrev pub plain_told : StatementTree → StatementSeen
-  plain_told (stated.Declare d) = first_value d.name (next_number (is_heap d.kind) f) d.value
+  plain_told (stated.Declare d) = first_value d.name (next_number (type_held p d.kind) f) d.value
   plain_told (stated.Assign a) = written a.target a.value
-  plain_told (stated.Call c) = called c None []
+  plain_told (stated.Call c) = stated_call c
   plain_told (stated.Start word c) = started c
   plain_told (stated.Delete name) = told [] (deleted (mention p.text f.locals name))
+  plain_told (stated.NewChannel n) = told [] (channel n)
   plain_told (stated.Return word value) = returned word.place value
   plain_told _ = told [] Nothing
 
   -- the frame behind it
   abbrev pub frame_behind : StatementTree → Frame
-  frame_behind (stated.Declare d) = declared p.text d.name (is_heap d.kind) Local f
+  frame_behind (stated.Declare d) = declared p.text (declaration_of p d) f
   frame_behind _ = f
 
--- what a piece of a method comes to, and the frame behind it
-pub record Told (X : Type 0) : Type 0 where
-  pub what : X
-  pub frame : Frame
+-- The last variable of the exchange heap in scope that stays at a `break`, and at a `continue`: what is declared behind it goes
+-- out of scope. Outside of loops and switches there is none.
+pub record Staying : Type 0 where
+  pub at_break : Option ℕ
+  pub at_continue : Option ℕ
 
--- the same made into something else
-abbrev pub made : {X Y : Type 0} → (X → Y) → Told X → Told Y
-made make t = record { what = make t.what; frame = t.frame }
+abbrev pub outside : Staying
+outside = record { at_break = None; at_continue = None }
 
--- one piece, and then another in the frame behind it
-abbrev pub follow : {X Y Z : Type 0} → (X → Y → Z) → Told X → (Frame → Told Y) → Told Z
-follow make t next = made (make t.what) (next t.frame)
+abbrev pub in_loop : Frame → Staying
+in_loop f = record { at_break = f.last; at_continue = f.last }
 
--- The last variable of the exchange heap in scope where the innermost loop begins: what is declared behind it goes out of scope
--- at a `break`. Outside of loops there is none.
-abbrev pub Loop : Type 0
-Loop = Option ℕ
+abbrev pub in_switch : Staying → Frame → Staying
+in_switch s f = record { at_break = f.last; at_continue = s.at_continue }
 
 -- a block that ends there: what it declares goes out of scope
 abbrev pub ended : Place → Frame → Told StatementsSeen → Told BlockSeen
 ended place outer t = record { what = seen.Braces t.what (forget place outer.last t.frame.last); frame = closed outer t.frame }
 
--- what goes out of scope at a `break` or a `continue`
-abbrev pub left : Place → Loop → Frame → Option Forget
-left place loop f = forget place loop f.last
+-- what goes out of scope where that variable is the last that stays
+abbrev pub left : Place → Option ℕ → Frame → Option Forget
+left place stays f = forget place stays f.last
+
+-- the endpoint of a case
+abbrev pub case_endpoint : Program → Frame → Span → Mention
+case_endpoint p f name = option_map_or (λ m. m) (mention p.text f.locals name) (mention_of name 0)
+
+-- the message that a case waits for
+abbrev pub awaited_message : Program → Frame → Span → statement.Awaited.Awaited → Option Meant
+awaited_message p f name (waits.Message word) = option_and_then (λ n. message_named p n word) (end_contract p f.locals name)
+awaited_message p f name (waits.Closed word) = None
+
+-- its number, and 0 where there is none
+abbrev pub meant_number : Option Meant → MessageId
+meant_number m = option_map_or (λ x. x.id) m (record { 0 = 0 })
+
+abbrev pub awaited_as : statement.Awaited.Awaited → Option Meant → Awaited
+awaited_as (waits.Message word) m = Message (meant_number m)
+awaited_as (waits.Closed word) m = Closed
+
+-- the parameters whose values a case binds
+abbrev pub awaited_params : Option Meant → List tree.Param.Param
+awaited_params m = bound_params (option_map (λ x. x.message) m)
+
+-- where the token stands that follows a case: the next case, or the end of the switch
+abbrev pub behind_case : CaseTrees → Place → Place
+behind_case stated.NoCase close = close
+behind_case (stated.MoreCases (stated.Case word endpoint awaited opened binds statements) cases) close = word.place
 
 module _ (p : Program) (class : ℕ) where
   abbrev mutual
-    pub statement_told : Loop → StatementTree → Frame → Told StatementSeen
-    statement_told loop (stated.Block b) f = made seen.Block (block_told loop b f)
-    statement_told loop (stated.If first others) f = follow seen.If (test_told loop first f) (others_told loop others)
-    statement_told loop (stated.While test) f = made seen.While (test_told f.last test f)
-    statement_told loop (stated.Break word) f = record { what = told [] (Break (left word.place loop f)); frame = f }
-    statement_told loop (stated.Continue word) f = record { what = told [] (Continue (left word.place loop f)); frame = f }
-    statement_told loop s f = record { what = plain_told p class f s; frame = frame_behind p class f s }
+    pub statement_told : Staying → StatementTree → Frame → Told StatementSeen
+    statement_told stays (stated.Block b) f = made seen.Block (block_told stays b f)
+    statement_told stays (stated.If first others) f = follow seen.If (test_told stays first f) (others_told stays others)
+    statement_told stays (stated.While test) f = made seen.While (test_told (in_loop f) test f)
+    statement_told stays (stated.Break word) f = record { what = told [] (Break (left word.place stays.at_break f)); frame = f }
+    statement_told stays (stated.Continue word) f = record { what = told [] (Continue (left word.place stays.at_continue f)); frame = f }
+    statement_told stays (stated.Switch word first cases close) f =
+        made (seen.Switch word.place) (follow seen.MoreCases (case_told (in_switch stays f) (behind_case cases close.place) first f) (cases_told (in_switch stays f) cases close.place))
+    statement_told stays s f = record { what = plain_told p class f s; frame = frame_behind p class f s }
 
-    pub statements_told : Loop → StatementTrees → Frame → Told StatementsSeen
-    statements_told loop stated.NoStatement f = record { what = seen.NoStatement; frame = f }
-    statements_told loop (stated.MoreStatements x xs) f = follow seen.MoreStatements (statement_told loop x f) (statements_told loop xs)
+    pub statements_told : Staying → StatementTrees → Frame → Told StatementsSeen
+    statements_told stays stated.NoStatement f = record { what = seen.NoStatement; frame = f }
+    statements_told stays (stated.MoreStatements x xs) f = follow seen.MoreStatements (statement_told stays x f) (statements_told stays xs)
 
-    pub block_told : Loop → BlockTree → Frame → Told BlockSeen
-    block_told loop (stated.Braces statements close) f = ended close.place f (statements_told loop statements f)
+    pub block_told : Staying → BlockTree → Frame → Told BlockSeen
+    block_told stays (stated.Braces statements close) f = ended close.place f (statements_told stays statements f)
 
-    pub test_told : Loop → TestTree → Frame → Told TestSeen
-    test_told loop (stated.Test word left test body) f = made (seen.Test word.place (reads p.text f.locals test) (ways test)) (block_told loop body f)
+    pub test_told : Staying → TestTree → Frame → Told TestSeen
+    test_told stays (stated.Test word left test body) f = made (seen.Test word.place (reads p.text f.locals test) (ways test)) (block_told stays body f)
 
-    pub others_told : Loop → OtherTrees → Frame → Told OthersSeen
-    others_told loop stated.NoOther f = record { what = seen.NoOther; frame = f }
-    others_told loop (stated.Else b) f = made seen.Else (block_told loop b f)
-    others_told loop (stated.ElseIf t others) f = follow seen.ElseIf (test_told loop t f) (others_told loop others)
+    pub others_told : Staying → OtherTrees → Frame → Told OthersSeen
+    others_told stays stated.NoOther f = record { what = seen.NoOther; frame = f }
+    others_told stays (stated.Else b) f = made seen.Else (block_told stays b f)
+    others_told stays (stated.ElseIf t others) f = follow seen.ElseIf (test_told stays t f) (others_told stays others)
+
+    -- a case, behind which that token follows; what it binds and declares is in scope there alone
+    pub case_told : Staying → Place → CaseTree → Frame → Told CaseSeen
+    case_told stays behind (stated.Case word endpoint awaited opened binds statements) f =
+        let m : Option Meant = awaited_message p f endpoint awaited in
+        follow (seen.Case (case_endpoint p f endpoint) (awaited_as awaited m)) (binds_told p (awaited_params m) binds f) (λ g. ended behind f (statements_told stays statements g))
+
+    -- cases in a row, to the end of their switch
+    pub cases_told : Staying → CaseTrees → Place → Frame → Told CasesSeen
+    cases_told stays stated.NoCase close f = record { what = seen.NoCase; frame = f }
+    cases_told stays (stated.MoreCases c cases) close f = follow seen.MoreCases (case_told stays (behind_case cases close) c f) (cases_told stays cases close)

@@ -1,7 +1,6 @@
 //! What calls come to.
 
 ghost use Rattle.std.specs.Prelude.{◌≡◌, ◌++◌, ℕ, List, None, IfOk, OnOk, map, option_map};
-ghost use Rattle.std.specs.List.{flat_map};
 ghost use Rattle.syntax.specs.ExpressionTrees.{expression_tree};
 ghost use Rattle.syntax.specs.Trees.{ItemTree};
 ghost use Rattle.syntax.specs.Values.{call_tree};
@@ -45,9 +44,9 @@ fn method_at<'a>(
     let place = around.scope.method_place(class, name)?;
     let item = around.items.get(class)?;
     let method = methods_of(&item.definition).get(place)?;
-    let before = *around.before.get(class)?;
+    let before = around.before.get(class)?;
     Some(Callee {
-        id: MethodId((before + place) as u32),
+        id: MethodId((before.methods + place) as u32),
         method,
     })
 }
@@ -107,7 +106,7 @@ fn called_name(call: &syntax::Call) -> Span
 }
 
 /// Adds what arguments read.
-fn add_argument_reads(
+pub(crate) fn add_argument_reads(
     tokens: &Tokens,
     locals: &Locals<'_>,
     arguments: &[Expression],

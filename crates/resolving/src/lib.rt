@@ -4,14 +4,19 @@
 mod alone;
 mod around;
 mod calls;
-mod fault;
+mod cases;
+mod counts;
+mod kinds;
 mod locals;
+mod messages;
 mod methods;
 mod plain;
 mod reads;
+mod sends;
 mod statements;
+mod staying;
 mod unknown;
 mod values;
 
-pub use fault::MethodFault;
 pub use methods::resolve_methods;
+pub use unknown::first_unknown;

@@ -1,20 +1,34 @@
 //! The variables in scope, and the numbers of those of the exchange heap.
 
-ghost use Rattle.std.specs.Prelude.{◌≡◌, ◌-◌, ℕ, List, [], length, map, take, OnOk, is_some, option_map};
+ghost use Rattle.std.specs.Prelude.{◌≡◌, ◌-◌, ℕ, List, length, map, take, OnOk, is_some, option_map};
+ghost use Rattle.syntax.specs.Trees.{ItemTree};
 ghost use Rattle.resolved.specs.Methods.{variable_seen};
+ghost use Rattle.resolving.specs.Around.{program_in};
 ghost use Rattle.resolving.specs.Frames.{IsFrame, local_seen, number_seen};
+ghost use Rattle.resolving.specs.Messages.{contract_of, end_contract};
 ghost use Rattle.resolving.specs.Methods.{no_variables};
 ghost use Rattle.resolving.specs.Locals.{Frame, local_named, mention, next_number, number_of, entered, counted, declared, declared_heap};
 
 use names::Table;
-use resolved::{Mention, Role, VarId, Variable};
+use resolved::{Kind, Mention, Role, VarId, Variable};
 use source::{Span, Tokens};
 use std::alloc::{AllocError, Global};
 
-/// A variable: the name that declares it, and its number where it is one of the exchange heap.
+/// A variable that is declared: its name, the kind of its type, what it holds where it is one of the exchange heap, and how its
+/// method comes to it.
+#[derive(Clone, Copy, Debug)]
+pub(crate) struct Declaration {
+    pub(crate) name: Span,
+    pub(crate) kind: names::Kind,
+    pub(crate) held: Option<Kind>,
+    pub(crate) role: Role,
+}
+
+/// A variable in scope: the name that declares it, the kind of its type, and its number where it is one of the exchange heap.
 #[derive(Clone, Copy, Debug)]
 pub(crate) struct Local {
     name: Span,
+    kind: names::Kind,
     number: Option<VarId>,
 }
 
@@ -89,14 +103,20 @@ impl<'a> Locals<'a> {
         })
     }
 
-    /// The number of a variable that is declared next, where it is one of the exchange heap.
-    pub(crate) fn next_number(&self, heap: bool) -> Option<VarId>
-        ensures { (text : List ℕ) (f : Frame) → IsFrame text f self.now → number_seen result ≡ next_number heap f }
+    /// The place of the contract of the endpoint that a name means.
+    pub(crate) fn contract(&self, tokens: &Tokens, name: Span) -> Option<usize>
+        ensures { (items : List ItemTree) (f : Frame) → IsFrame tokens.now.text.items f self.now → result ≡ end_contract (program_in tokens.now.text.items items) f.locals name }
     {
-        if heap {
-            Some(VarId(self.variables.len()))
-        } else {
-            None
+        contract_of(self.find(tokens, name)?.kind)
+    }
+
+    /// The number of a variable that is declared next, where it is one of the exchange heap and holds this.
+    pub(crate) fn next_number(&self, held: Option<Kind>) -> Option<VarId>
+        ensures { (text : List ℕ) (f : Frame) → IsFrame text f self.now → number_seen result ≡ next_number held f }
+    {
+        match held {
+            Some(_) => Some(VarId(self.variables.len())),
+            None => None,
         }
     }
 
@@ -105,16 +125,13 @@ impl<'a> Locals<'a> {
         &mut self,
         alloc: Global,
         tokens: &'a Tokens,
-        name: Span,
-        heap: bool,
-        role: Role,
+        declaration: Declaration,
     ) -> Result<(), AllocError>
-        ensures { (f : Frame) → IsFrame tokens.now.text.items f self.old → OnOk result (IsFrame tokens.now.text.items (declared tokens.now.text.items name heap role f) self.new) }
+        ensures { (f : Frame) → IsFrame tokens.now.text.items f self.old → OnOk result (IsFrame tokens.now.text.items (declared tokens.now.text.items declaration f) self.new) }
     {
-        if heap {
-            self.declare_heap(alloc, tokens, name, role)
-        } else {
-            self.enter(tokens, name, None)
+        match declaration.held {
+            Some(held) => self.declare_heap(alloc, tokens, declaration, held),
+            None => self.enter(tokens, declaration, None),
         }
     }
 
@@ -123,14 +140,14 @@ impl<'a> Locals<'a> {
         &mut self,
         alloc: Global,
         tokens: &'a Tokens,
-        name: Span,
-        role: Role,
+        declaration: Declaration,
+        held: Kind,
     ) -> Result<(), AllocError>
-        ensures { (f : Frame) → IsFrame tokens.now.text.items f self.old → OnOk result (IsFrame tokens.now.text.items (declared_heap tokens.now.text.items name role f) self.new) }
+        ensures { (f : Frame) → IsFrame tokens.now.text.items f self.old → OnOk result (IsFrame tokens.now.text.items (declared_heap tokens.now.text.items declaration held f) self.new) }
     {
         let number = VarId(self.variables.len());
-        self.enter(tokens, name, Some(number))?;
-        self.count(alloc, tokens, name, role)?;
+        self.enter(tokens, declaration, Some(number))?;
+        self.count(alloc, tokens, declaration, held)?;
         self.last = Some(number);
         Ok(())
     }
@@ -139,17 +156,19 @@ impl<'a> Locals<'a> {
     fn enter(
         &mut self,
         tokens: &'a Tokens,
-        name: Span,
+        declaration: Declaration,
         number: Option<VarId>,
     ) -> Result<(), AllocError>
-        ensures { (f : Frame) → IsFrame tokens.now.text.items f self.old → OnOk result (IsFrame tokens.now.text.items (record { locals = entered tokens.now.text.items name (number_seen number) f.locals; last = f.last; variables = f.variables }) self.new) }
+        ensures { (f : Frame) → IsFrame tokens.now.text.items f self.old → OnOk result (IsFrame tokens.now.text.items (record { locals = entered tokens.now.text.items declaration (number_seen number) f.locals; last = f.last; variables = f.variables }) self.new) }
     {
+        let name = declaration.name;
+        let kind = declaration.kind;
         let word = tokens.slice(name);
         if self.names.find(word).is_some() {
             return Ok(());
         }
         self.names.add(word, self.list.len())?;
-        self.list.push(Local { name, number })?;
+        self.list.push(Local { name, kind, number })?;
         Ok(())
     }
 
@@ -158,14 +177,19 @@ impl<'a> Locals<'a> {
         &mut self,
         alloc: Global,
         tokens: &Tokens,
-        name: Span,
-        role: Role,
+        declaration: Declaration,
+        kind: Kind,
     ) -> Result<(), AllocError>
-        ensures { (f : Frame) → IsFrame tokens.now.text.items f self.old → OnOk result (IsFrame tokens.now.text.items (record { locals = f.locals; last = f.last; variables = counted tokens.now.text.items name role f.last f.variables }) self.new) }
+        ensures { (f : Frame) → IsFrame tokens.now.text.items f self.old → OnOk result (IsFrame tokens.now.text.items (record { locals = f.locals; last = f.last; variables = counted tokens.now.text.items declaration kind f.last f.variables }) self.new) }
     {
-        let name = Vec::from_slice(alloc, tokens.slice(name))?;
+        let name = Vec::from_slice(alloc, tokens.slice(declaration.name))?;
         let outer = self.last;
-        self.variables.push(Variable { name, role, outer })?;
+        self.variables.push(Variable {
+            name,
+            kind,
+            role: declaration.role,
+            outer,
+        })?;
         Ok(())
     }
 
@@ -188,5 +212,15 @@ impl<'a> Locals<'a> {
             Some(local) => self.names.remove(tokens.slice(local.name)),
             None => {}
         }
+    }
+}
+
+/// The place of the contract of a kind that is an endpoint's.
+fn contract_of(kind: names::Kind) -> Option<usize>
+    ensures { result ≡ contract_of kind }
+{
+    match kind {
+        names::Kind::Endpoint(place, _) => Some(place),
+        _ => None,
     }
 }

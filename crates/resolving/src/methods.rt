@@ -1,28 +1,29 @@
 //! The methods of a program.
 
-ghost use Rattle.std.specs.Prelude.{◌≡◌, ◌≤◌, ◌++◌, ℕ, List, [], None, length, map, IfErr, IfOk, OnOk};
-ghost use Rattle.syntax.specs.Trees.{ItemTree, program_tree, item_tree, definition_tree, method_tree};
+ghost use Rattle.std.specs.Prelude.{◌≡◌, ◌≤◌, ◌<◌, ◌^◌, ◌++◌, ℕ, List, [], length, map, IfOk, OnOk};
+ghost use Rattle.syntax.specs.Trees.{ItemTree, contracts_of, program_tree, item_tree, definition_tree, method_tree};
 ghost use Rattle.names.specs.Findings.{program_findings};
 ghost use Rattle.names.specs.Methods.{methods_in};
-ghost use Rattle.names.specs.Program.{program_of};
+ghost use Rattle.names.specs.Program.{Program, program_of};
+ghost use Rattle.names.specs.Resolution.{contract_seen, resolved_contracts};
 ghost use Rattle.names.specs.declared.limits.TheConstants.{MOST_METHODS};
 ghost use Rattle.resolved.specs.Methods.{method_seen};
 ghost use Rattle.names.specs.Scopes.{IsScope};
-ghost use Rattle.resolving.specs.Around.{IsAround, counts, program_in};
+ghost use Rattle.resolving.specs.Around.{IsAround, program_in};
 ghost use Rattle.resolving.specs.Callees.{all_methods};
 ghost use Rattle.resolving.specs.Frames.{IsFrame};
 ghost use Rattle.resolving.specs.Locals.{Frame};
-ghost use Rattle.resolving.specs.Methods.{IsFault, methods_told, not_yet, role_of, parameters_frame, method_told};
+ghost use Rattle.resolving.specs.Methods.{methods_told, role_of, parameter_declaration, parameters_frame, method_told};
 
 use crate::around::Around;
-use crate::fault::MethodFault;
-use crate::locals::Locals;
-use crate::plain::is_heap;
+use crate::counts::count_items;
+use crate::kinds::{result_held, type_held};
+use crate::locals::{Declaration, Locals};
 use crate::statements::tell_statements;
-use crate::unknown::find_unknown;
-use names::Scope;
+use crate::staying::Staying;
+use names::{Resolved, Scope};
 use resolved::{Method, Role};
-use source::Tokens;
+use source::{Memory, Tokens};
 use std::alloc::{AllocError, Global};
 use syntax::{Definition, Item, Parameter, Tree};
 
@@ -37,18 +38,30 @@ fn role_of(parameter: Parameter) -> Role
     }
 }
 
+/// What a parameter declares.
+fn parameter_declaration(around: &Around<'_, '_>, parameter: Parameter) -> Declaration
+    ensures { (p : Program) (own : ℕ) → IsAround p own around.now → result ≡ parameter_declaration p parameter }
+{
+    Declaration {
+        name: parameter.name,
+        kind: around.scope.kind(parameter.kind),
+        held: type_held(around, parameter.kind),
+        role: role_of(parameter),
+    }
+}
+
 /// Declares the parameters of a method.
 fn declare_parameters<'a>(
     alloc: Global,
     tokens: &'a Tokens,
+    around: &Around<'_, '_>,
     locals: &mut Locals<'a>,
     params: &[Parameter],
 ) -> Result<(), AllocError>
-    ensures { (f : Frame) → IsFrame tokens.now.text.items f locals.old → OnOk result (IsFrame tokens.now.text.items (parameters_frame tokens.now.text.items params.now f) locals.new) }
+    ensures { (items : List ItemTree) (own : ℕ) (f : Frame) → IsAround (program_in tokens.now.text.items items) own around.now → IsFrame tokens.now.text.items f locals.old → OnOk result (IsFrame tokens.now.text.items (parameters_frame (program_in tokens.now.text.items items) params.now f) locals.new) }
 {
     for parameter in params {
-        let heap = is_heap(parameter.kind);
-        locals.declare(alloc, tokens, parameter.name, heap, role_of(*parameter))?;
+        locals.declare(alloc, tokens, parameter_declaration(around, *parameter))?;
     }
     Ok(())
 }
@@ -63,13 +76,14 @@ fn resolve_method(
     ensures { (items : List ItemTree) (own : ℕ) → IsAround (program_in tokens.now.text.items items) own around.now → IfOk result (λ m. method_seen m ≡ method_told (program_in tokens.now.text.items items) own (method_tree method.now)) }
 {
     let mut locals = Locals::new(alloc);
-    declare_parameters(alloc, tokens, &mut locals, &method.params)?;
+    declare_parameters(alloc, tokens, around, &mut locals, &method.params)?;
     let body = &method.body.statements;
-    let statements = tell_statements(alloc, tokens, around, &mut locals, None, body)?;
+    let statements = tell_statements(alloc, tokens, around, &mut locals, Staying::outside(), body)?;
     let scope = locals.last();
     Ok(Method {
         name: method.name.place,
         gives: method.result.is_some(),
+        result: result_held(around, method.result),
         variables: locals.into_variables(),
         statements,
         scope,
@@ -103,37 +117,27 @@ fn add_methods(
     Ok(())
 }
 
-/// How many methods stand before each of these items.
-fn count_methods(alloc: Global, items: &[Item]) -> Result<Vec<usize>, AllocError>
-    requires few { length (all_methods (map item_tree items.now)) ≤ MOST_METHODS }
-    ensures { IfOk result (λ before. before.items ≡ counts (map item_tree items.now)) }
-{
-    let mut before = Vec::new(alloc);
-    let mut sum = 0;
-    for item in items {
-        before.push(sum)?;
-        sum += methods_of(&item.definition).len();
-    }
-    Ok(before)
-}
-
 /// The methods of these items, resolved, in order of the text.
 fn resolve_items<'a>(
     alloc: Global,
     tokens: &Tokens,
     scope: &Scope<'a>,
+    contracts: &Resolved,
     items: &'a [Item],
 ) -> Result<Vec<Method>, AllocError>
+    requires contracts { map contract_seen contracts.now.contracts.items ≡ resolved_contracts tokens.now.text.items (contracts_of (map item_tree items.now)) }
+    requires room { length contracts.now.contracts.items < 2 ^ 32 }
     requires scope { IsScope (program_in tokens.now.text.items (map item_tree items.now)) scope.now }
     requires few { length (all_methods (map item_tree items.now)) ≤ MOST_METHODS }
     ensures { IfOk result (λ methods. map method_seen methods.items ≡ methods_told (program_in tokens.now.text.items (map item_tree items.now))) }
 {
-    let before = count_methods(alloc, items)?;
+    let before = count_items(alloc, items)?;
     let mut resolved = Vec::new(alloc);
     for (class, item) in items.iter().enumerate() {
         let around = Around {
             scope,
             items,
+            resolved: contracts,
             before: &before,
             class,
         };
@@ -144,25 +148,23 @@ fn resolve_items<'a>(
 }
 
 /// The methods of a program in order of the text, in which each variable of the exchange heap is a number and each scalar is
-/// forgotten. A use means the variable in scope of its name; nothing is wrong with the names and kinds of the program.
+/// forgotten. A use means the variable in scope of its name; nothing is wrong with the names and kinds of the program, and these
+/// are its contracts, with their names resolved.
 ///
-/// `NotYet` is answered where a method holds a statement, a parameter or a result type that is not analysed yet, with the
-/// first place that the tree keeps of the first of these; `Memory` where a growth was refused.
+/// `Memory` is answered where a growth was refused.
 pub fn resolve_methods(
     alloc: Global,
     tree: &Tree,
     tokens: &Tokens,
-) -> Result<Vec<Method>, MethodFault>
+    contracts: &Resolved,
+) -> Result<Vec<Method>, Memory>
+    requires contracts { map contract_seen contracts.now.contracts.items ≡ resolved_contracts tokens.now.text.items (contracts_of (program_tree tree.now)) }
+    requires room { length contracts.now.contracts.items < 2 ^ 32 }
     requires clean { program_findings (program_of tokens.now.text.items tree.now) ≡ [] }
-    ensures known { OnOk result (not_yet (program_tree tree.now) ≡ None) }
     ensures resolved { IfOk result (λ methods. map method_seen methods.items ≡ methods_told (program_of tokens.now.text.items tree.now)) }
     ensures few { IfOk result (λ methods. length methods.items ≤ MOST_METHODS) }
-    ensures fault { IfErr result (IsFault (program_tree tree.now)) }
 {
-    if let Some(place) = find_unknown(&tree.items) {
-        return Err(MethodFault::NotYet(place));
-    }
     let scope = Scope::of(alloc, tokens, &tree.items)?;
-    let methods = resolve_items(alloc, tokens, &scope, &tree.items)?;
+    let methods = resolve_items(alloc, tokens, &scope, contracts, &tree.items)?;
     Ok(methods)
 }

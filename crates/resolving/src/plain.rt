@@ -2,32 +2,28 @@
 
 ghost use Rattle.std.specs.Prelude.{◌≡◌, ℕ, List, IfOk, OnOk, option_map};
 ghost use Rattle.syntax.specs.ExpressionTrees.{expression_tree, target_tree};
-ghost use Rattle.syntax.specs.StatementTrees.{statement_tree};
+ghost use Rattle.syntax.specs.StatementTrees.{declare_tree, statement_tree};
 ghost use Rattle.syntax.specs.Trees.{ItemTree};
 ghost use Rattle.syntax.specs.Values.{value_tree};
-ghost use Rattle.names.specs.Kinds.{is_heap};
+ghost use Rattle.names.specs.Program.{Program};
 ghost use Rattle.resolving.specs.Around.{IsAround, program_in};
 ghost use Rattle.resolving.specs.Frames.{IsFrame};
+ghost use Rattle.resolving.specs.Kinds.{type_held};
 ghost use Rattle.resolving.specs.Locals.{Frame, mention_of, next_number};
 ghost use Rattle.resolving.specs.Steps.{Tells};
-ghost use Rattle.resolving.specs.Told.{deleted, written, first_value, returned, plain_told, frame_behind};
+ghost use Rattle.resolving.specs.Told.{declaration_of, deleted, written, first_value, returned, plain_told, frame_behind};
 
 use crate::around::Around;
-use crate::calls::{tell_call, tell_start};
-use crate::locals::Locals;
+use crate::calls::tell_start;
+use crate::kinds::type_held;
+use crate::locals::{Declaration, Locals};
 use crate::reads::add_reads;
+use crate::sends::{channel_action, tell_stated};
 use crate::values::{alone, tell_assigned, tell_part, tell_read, unread};
 use resolved::{Action, Mention, Role, Statement};
 use source::{Place, Tokens};
 use std::alloc::{AllocError, Global};
-use syntax::{Declare, Expression, Target, Type, Value};
-
-/// Whether it is a type of the exchange heap.
-pub(crate) fn is_heap(kind: Type) -> bool
-    ensures { result ≡ is_heap kind }
-{
-    matches!(kind, Type::Heap(_))
-}
+use syntax::{Declare, Expression, Target, Value};
 
 /// What a variable has is freed.
 fn deleting(mention: Option<Mention>) -> Action
@@ -70,10 +66,15 @@ fn tell_assign(
 }
 
 /// The variable that a declaration brings, where it is one of the exchange heap.
-fn declared_mention(locals: &Locals<'_>, declare: &Declare) -> Option<Mention>
-    ensures { (text : List ℕ) (f : Frame) → IsFrame text f locals.now → result ≡ option_map (mention_of declare.now.name) (next_number (is_heap declare.now.kind) f) }
+fn declared_mention(
+    tokens: &Tokens,
+    around: &Around<'_, '_>,
+    locals: &Locals<'_>,
+    declare: &Declare,
+) -> Option<Mention>
+    ensures { (items : List ItemTree) (own : ℕ) (f : Frame) → IsAround (program_in tokens.now.text.items items) own around.now → IsFrame tokens.now.text.items f locals.now → result ≡ option_map (mention_of declare.now.name) (next_number (type_held (program_in tokens.now.text.items items) declare.now.kind) f) }
 {
-    let variable = locals.next_number(is_heap(declare.kind))?;
+    let variable = locals.next_number(type_held(around, declare.kind))?;
     Some(Mention {
         variable,
         place: declare.name.place,
@@ -88,11 +89,11 @@ fn tell_declare(
     locals: &Locals<'_>,
     declare: &Declare,
 ) -> Result<Statement, AllocError>
-    ensures { (items : List ItemTree) (own : ℕ) → IsAround (program_in tokens.now.text.items items) own around.now → IfOk result (Tells tokens.now.text.items locals.now (λ f. first_value (program_in tokens.now.text.items items) own f declare.now.name (next_number (is_heap declare.now.kind) f) (option_map value_tree declare.now.value))) }
+    ensures { (items : List ItemTree) (own : ℕ) → IsAround (program_in tokens.now.text.items items) own around.now → IfOk result (Tells tokens.now.text.items locals.now (λ f. first_value (program_in tokens.now.text.items items) own f declare.now.name (next_number (type_held (program_in tokens.now.text.items items) declare.now.kind) f) (option_map value_tree declare.now.value))) }
 {
     match &declare.value {
         Some(value) => {
-            let target = declared_mention(locals, declare);
+            let target = declared_mention(tokens, around, locals, declare);
             tell_assigned(alloc, tokens, around, locals, target, value)
         }
         None => Ok(unread(alloc, Action::Nothing)),
@@ -134,7 +135,7 @@ fn tell_return(
     }
 }
 
-/// What a statement that holds no others comes to. A send, a new channel and a switch come to nothing yet.
+/// What a statement that holds no others comes to.
 pub(crate) fn tell_plain(
     alloc: Global,
     tokens: &Tokens,
@@ -156,12 +157,13 @@ pub(crate) fn tell_plain(
             &assign.target,
             &assign.value,
         ),
-        syntax::Statement::Call(call) => {
-            tell_call(alloc, tokens, around, locals, call, None, Vec::new(alloc))
-        }
+        syntax::Statement::Call(call) => tell_stated(alloc, tokens, around, locals, call),
         syntax::Statement::Start { call, .. } => tell_start(alloc, tokens, around, locals, call),
         syntax::Statement::Delete(name) => {
             Ok(unread(alloc, deleting(locals.mention(tokens, *name))))
+        }
+        syntax::Statement::NewChannel(channel) => {
+            Ok(unread(alloc, channel_action(tokens, around, locals, *channel)))
         }
         syntax::Statement::Return { word, value } => {
             tell_return(alloc, tokens, locals, word.place, value)
@@ -170,19 +172,31 @@ pub(crate) fn tell_plain(
     }
 }
 
+/// What a declaration declares.
+fn declaration_of(around: &Around<'_, '_>, declare: &Declare) -> Declaration
+    ensures { (p : Program) (own : ℕ) → IsAround p own around.now → result ≡ declaration_of p (declare_tree declare.now) }
+{
+    Declaration {
+        name: declare.name,
+        kind: around.scope.kind(declare.kind),
+        held: type_held(around, declare.kind),
+        role: Role::Local,
+    }
+}
+
 /// Declares the variable that a statement declares, if it is a declaration.
 pub(crate) fn declare_in<'a>(
     alloc: Global,
     tokens: &'a Tokens,
+    around: &Around<'_, '_>,
     locals: &mut Locals<'a>,
     statement: &syntax::Statement,
 ) -> Result<(), AllocError>
-    ensures { (items : List ItemTree) (own : ℕ) (f : Frame) → IsFrame tokens.now.text.items f locals.old → OnOk result (IsFrame tokens.now.text.items (frame_behind (program_in tokens.now.text.items items) own f (statement_tree statement.now)) locals.new) }
+    ensures { (items : List ItemTree) (own : ℕ) (f : Frame) → IsAround (program_in tokens.now.text.items items) own around.now → IsFrame tokens.now.text.items f locals.old → OnOk result (IsFrame tokens.now.text.items (frame_behind (program_in tokens.now.text.items items) own f (statement_tree statement.now)) locals.new) }
 {
     match statement {
         syntax::Statement::Declare(declare) => {
-            let heap = is_heap(declare.kind);
-            locals.declare(alloc, tokens, declare.name, heap, Role::Local)
+            locals.declare(alloc, tokens, declaration_of(around, declare))
         }
         _ => Ok(()),
     }

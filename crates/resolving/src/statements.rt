@@ -2,42 +2,27 @@
 
 ghost use Rattle.std.specs.Prelude.{◌≡◌, ℕ, List, map, IfOk, option_map};
 ghost use Rattle.resolved.specs.Statements as seen;
-ghost use Rattle.resolved.specs.Statements.{statement_seen, block_seen, test_seen, if_seen};
+ghost use Rattle.resolved.specs.Statements.{statement_seen, block_seen, test_seen, if_seen, case_seen};
 ghost use Rattle.resolving.specs.Around.{IsAround, program_in};
-ghost use Rattle.resolving.specs.Frames.{IsFrame, number_seen};
-ghost use Rattle.resolving.specs.Locals.{Frame, forget};
+ghost use Rattle.resolving.specs.Frames.{IsFrame, staying_seen};
+ghost use Rattle.resolving.specs.Locals.{Frame};
 ghost use Rattle.resolving.specs.Steps.{IsTold, walked};
-ghost use Rattle.resolving.specs.Told.{follow, left, plain_told, frame_behind, statement_told, statements_told, block_told, test_told, others_told};
+ghost use Rattle.resolving.specs.Told.{follow, plain_told, frame_behind, statement_told, statements_told, block_told, test_told, others_told, case_told, cases_told};
 ghost use Rattle.syntax.specs.Trees.{ItemTree};
-ghost use Rattle.syntax.specs.StatementTrees.{statement_tree, statement_row, block_tree, test_tree, if_tree, last_other};
+ghost use Rattle.syntax.specs.StatementTrees.{MoreCases, statement_tree, statement_row, block_tree, test_tree, if_tree, last_other, case_tree, case_row, switch_tree};
 
 use crate::alone::ways_of;
 use crate::around::Around;
+use crate::cases::{awaited_as, awaited_message, awaited_params, case_endpoint, declare_binds};
 use crate::locals::Locals;
 use crate::plain::{declare_in, tell_plain};
 use crate::reads::add_reads;
+use crate::staying::{Staying, forgetting, leaving};
 use crate::values::unread;
-use resolved::{Action, Block, Forget, If, Statement, Test, VarId};
+use resolved::{Action, Block, Case, If, Statement, Test};
 use source::{Place, Tokens};
 use std::alloc::{AllocError, Global};
-
-/// What goes out of scope where the first of these is the last variable that stays, and the second the last that is there.
-fn forgetting(place: Place, outer: Option<VarId>, last: Option<VarId>) -> Option<Forget>
-    ensures { result ≡ forget place (number_seen outer) (number_seen last) }
-{
-    let last = last?;
-    if outer == Some(last) {
-        return None;
-    }
-    Some(Forget { place, last, outer })
-}
-
-/// What goes out of scope at a `break` or a `continue` of the loop before which this variable is the last in scope.
-fn leaving(locals: &Locals<'_>, place: Place, before: Option<VarId>) -> Option<Forget>
-    ensures { (text : List ℕ) (f : Frame) → IsFrame text f locals.now → result ≡ left place (number_seen before) f }
-{
-    forgetting(place, before, locals.last())
-}
+use syntax::Switch;
 
 /// What a statement that holds no others comes to, and what it declares.
 fn tell_alone<'a>(
@@ -50,41 +35,53 @@ fn tell_alone<'a>(
     ensures { (items : List ItemTree) (own : ℕ) (f : Frame) → IsAround (program_in tokens.now.text.items items) own around.now → IsFrame tokens.now.text.items f locals.old → IfOk result (λ s. IsTold tokens.now.text.items (record { what = plain_told (program_in tokens.now.text.items items) own f (statement_tree statement.now); frame = frame_behind (program_in tokens.now.text.items items) own f (statement_tree statement.now) }) (statement_seen s) locals.new) }
 {
     let told = tell_plain(alloc, tokens, around, locals, statement)?;
-    declare_in(alloc, tokens, locals, statement)?;
+    declare_in(alloc, tokens, around, locals, statement)?;
     Ok(told)
 }
 
-/// What a statement comes to, in a loop before which this variable is the last in scope.
+/// What a statement comes to.
 #[cycle(statements)]
 fn tell_statement<'a>(
     alloc: Global,
     tokens: &'a Tokens,
     around: &Around<'_, '_>,
     locals: &mut Locals<'a>,
-    before: Option<VarId>,
+    stays: Staying,
     statement: &syntax::Statement,
 ) -> Result<Statement, AllocError>
-    ensures { (items : List ItemTree) (own : ℕ) (f : Frame) → IsAround (program_in tokens.now.text.items items) own around.now → IsFrame tokens.now.text.items f locals.old → IfOk result (λ s. IsTold tokens.now.text.items (statement_told (program_in tokens.now.text.items items) own (number_seen before) (statement_tree statement.now) f) (statement_seen s) locals.new) }
+    ensures { (items : List ItemTree) (own : ℕ) (f : Frame) → IsAround (program_in tokens.now.text.items items) own around.now → IsFrame tokens.now.text.items f locals.old → IfOk result (λ s. IsTold tokens.now.text.items (statement_told (program_in tokens.now.text.items items) own (staying_seen stays) (statement_tree statement.now) f) (statement_seen s) locals.new) }
 {
     match statement {
         syntax::Statement::Block(block) => {
-            let block = tell_block(alloc, tokens, around, locals, before, block)?;
+            let block = tell_block(alloc, tokens, around, locals, stays, block)?;
             Ok(Statement::Block(block))
         }
         syntax::Statement::If(branches) => {
-            let branches = tell_if(alloc, tokens, around, locals, before, branches)?;
+            let branches = tell_if(alloc, tokens, around, locals, stays, branches)?;
             Ok(Statement::If(branches))
         }
         syntax::Statement::While(test) => {
-            let inside = locals.last();
+            let inside = Staying::in_loop(locals.last());
             let test = tell_test(alloc, tokens, around, locals, inside, test)?;
             Ok(Statement::While(test))
         }
         syntax::Statement::Break(word) => {
-            Ok(unread(alloc, Action::Break(leaving(locals, word.place, before))))
+            Ok(unread(
+                alloc,
+                Action::Break(leaving(locals, word.place, stays.at_break)),
+            ))
         }
         syntax::Statement::Continue(word) => {
-            Ok(unread(alloc, Action::Continue(leaving(locals, word.place, before))))
+            Ok(unread(
+                alloc,
+                Action::Continue(leaving(locals, word.place, stays.at_continue)),
+            ))
+        }
+        syntax::Statement::Switch(switch) => {
+            let inside = stays.in_switch(locals.last());
+            let cases = tell_cases(alloc, tokens, around, locals, inside, switch)?;
+            let place = switch.word.place;
+            Ok(Statement::Switch { place, cases })
         }
         syntax::Statement::Declare(_)
         | syntax::Statement::Assign(_)
@@ -92,8 +89,9 @@ fn tell_statement<'a>(
         | syntax::Statement::Start { .. }
         | syntax::Statement::Delete(_)
         | syntax::Statement::NewChannel(_)
-        | syntax::Statement::Return { .. }
-        | syntax::Statement::Switch(_) => { tell_alone(alloc, tokens, around, locals, statement) }
+        | syntax::Statement::Return { .. } => {
+            tell_alone(alloc, tokens, around, locals, statement)
+        }
     }
 }
 
@@ -104,14 +102,14 @@ pub(crate) fn tell_statements<'a>(
     tokens: &'a Tokens,
     around: &Around<'_, '_>,
     locals: &mut Locals<'a>,
-    before: Option<VarId>,
+    stays: Staying,
     statements: &[syntax::Statement],
 ) -> Result<Vec<Statement>, AllocError>
-    ensures { (items : List ItemTree) (own : ℕ) (f : Frame) → IsAround (program_in tokens.now.text.items items) own around.now → IsFrame tokens.now.text.items f locals.old → IfOk result (λ list. IsTold tokens.now.text.items (statements_told (program_in tokens.now.text.items items) own (number_seen before) (statement_row (map statement_tree statements.now)) f) (seen.statement_row (map statement_seen list.items)) locals.new) }
+    ensures { (items : List ItemTree) (own : ℕ) (f : Frame) → IsAround (program_in tokens.now.text.items items) own around.now → IsFrame tokens.now.text.items f locals.old → IfOk result (λ list. IsTold tokens.now.text.items (statements_told (program_in tokens.now.text.items items) own (staying_seen stays) (statement_row (map statement_tree statements.now)) f) (seen.statement_row (map statement_seen list.items)) locals.new) }
 {
     let mut told = Vec::new(alloc);
     for statement in statements {
-        told.push(tell_statement(alloc, tokens, around, locals, before, statement)?)?;
+        told.push(tell_statement(alloc, tokens, around, locals, stays, statement)?)?;
     }
     Ok(told)
 }
@@ -123,14 +121,14 @@ fn tell_block<'a>(
     tokens: &'a Tokens,
     around: &Around<'_, '_>,
     locals: &mut Locals<'a>,
-    before: Option<VarId>,
+    stays: Staying,
     block: &syntax::Block,
 ) -> Result<Block, AllocError>
-    ensures { (items : List ItemTree) (own : ℕ) (f : Frame) → IsAround (program_in tokens.now.text.items items) own around.now → IsFrame tokens.now.text.items f locals.old → IfOk result (λ b. IsTold tokens.now.text.items (block_told (program_in tokens.now.text.items items) own (number_seen before) (block_tree block.now) f) (block_seen b) locals.new) }
+    ensures { (items : List ItemTree) (own : ℕ) (f : Frame) → IsAround (program_in tokens.now.text.items items) own around.now → IsFrame tokens.now.text.items f locals.old → IfOk result (λ b. IsTold tokens.now.text.items (block_told (program_in tokens.now.text.items items) own (staying_seen stays) (block_tree block.now) f) (block_seen b) locals.new) }
 {
     let outer = locals.len();
     let last = locals.last();
-    let statements = tell_statements(alloc, tokens, around, locals, before, &block.statements)?;
+    let statements = tell_statements(alloc, tokens, around, locals, stays, &block.statements)?;
     let forget = forgetting(block.close.place, last, locals.last());
     locals.leave(tokens, outer, last);
     Ok(Block { statements, forget })
@@ -143,14 +141,14 @@ fn tell_test<'a>(
     tokens: &'a Tokens,
     around: &Around<'_, '_>,
     locals: &mut Locals<'a>,
-    before: Option<VarId>,
+    stays: Staying,
     test: &syntax::Test,
 ) -> Result<Test, AllocError>
-    ensures { (items : List ItemTree) (own : ℕ) (f : Frame) → IsAround (program_in tokens.now.text.items items) own around.now → IsFrame tokens.now.text.items f locals.old → IfOk result (λ t. IsTold tokens.now.text.items (test_told (program_in tokens.now.text.items items) own (number_seen before) (test_tree test.now) f) (test_seen t) locals.new) }
+    ensures { (items : List ItemTree) (own : ℕ) (f : Frame) → IsAround (program_in tokens.now.text.items items) own around.now → IsFrame tokens.now.text.items f locals.old → IfOk result (λ t. IsTold tokens.now.text.items (test_told (program_in tokens.now.text.items items) own (staying_seen stays) (test_tree test.now) f) (test_seen t) locals.new) }
 {
     let mut reads = Vec::new(alloc);
     add_reads(tokens, locals, &test.test, &mut reads)?;
-    let body = tell_block(alloc, tokens, around, locals, before, &test.body)?;
+    let body = tell_block(alloc, tokens, around, locals, stays, &test.body)?;
     Ok(Test {
         place: test.word.place,
         reads,
@@ -166,14 +164,14 @@ fn tell_tests<'a>(
     tokens: &'a Tokens,
     around: &Around<'_, '_>,
     locals: &mut Locals<'a>,
-    before: Option<VarId>,
+    stays: Staying,
     tests: &[syntax::Test],
 ) -> Result<Vec<Test>, AllocError>
-    ensures { (items : List ItemTree) (own : ℕ) (f : Frame) → IsAround (program_in tokens.now.text.items items) own around.now → IsFrame tokens.now.text.items f locals.old → IfOk result (λ list. IsTold tokens.now.text.items (walked (test_told (program_in tokens.now.text.items items) own (number_seen before)) (map test_tree tests.now) f) (map test_seen list.items) locals.new) }
+    ensures { (items : List ItemTree) (own : ℕ) (f : Frame) → IsAround (program_in tokens.now.text.items items) own around.now → IsFrame tokens.now.text.items f locals.old → IfOk result (λ list. IsTold tokens.now.text.items (walked (test_told (program_in tokens.now.text.items items) own (staying_seen stays)) (map test_tree tests.now) f) (map test_seen list.items) locals.new) }
 {
     let mut told = Vec::new(alloc);
     for test in tests {
-        told.push(tell_test(alloc, tokens, around, locals, before, test)?)?;
+        told.push(tell_test(alloc, tokens, around, locals, stays, test)?)?;
     }
     Ok(told)
 }
@@ -185,14 +183,14 @@ fn tell_otherwise<'a>(
     tokens: &'a Tokens,
     around: &Around<'_, '_>,
     locals: &mut Locals<'a>,
-    before: Option<VarId>,
+    stays: Staying,
     otherwise: &Option<syntax::Block>,
 ) -> Result<Option<Block>, AllocError>
-    ensures { (items : List ItemTree) (own : ℕ) (f : Frame) → IsAround (program_in tokens.now.text.items items) own around.now → IsFrame tokens.now.text.items f locals.old → IfOk result (λ b. IsTold tokens.now.text.items (others_told (program_in tokens.now.text.items items) own (number_seen before) (last_other (option_map block_tree otherwise.now)) f) (seen.last_other (option_map block_seen b)) locals.new) }
+    ensures { (items : List ItemTree) (own : ℕ) (f : Frame) → IsAround (program_in tokens.now.text.items items) own around.now → IsFrame tokens.now.text.items f locals.old → IfOk result (λ b. IsTold tokens.now.text.items (others_told (program_in tokens.now.text.items items) own (staying_seen stays) (last_other (option_map block_tree otherwise.now)) f) (seen.last_other (option_map block_seen b)) locals.new) }
 {
     match otherwise {
         Some(block) => {
-            let block = tell_block(alloc, tokens, around, locals, before, block)?;
+            let block = tell_block(alloc, tokens, around, locals, stays, block)?;
             Ok(Some(block))
         }
         None => Ok(None),
@@ -206,17 +204,78 @@ fn tell_if<'a>(
     tokens: &'a Tokens,
     around: &Around<'_, '_>,
     locals: &mut Locals<'a>,
-    before: Option<VarId>,
+    stays: Staying,
     branches: &syntax::If,
 ) -> Result<If, AllocError>
-    ensures { (items : List ItemTree) (own : ℕ) (f : Frame) → IsAround (program_in tokens.now.text.items items) own around.now → IsFrame tokens.now.text.items f locals.old → IfOk result (λ i. IsTold tokens.now.text.items (follow seen.If (test_told (program_in tokens.now.text.items items) own (number_seen before) (if_tree branches.now).first f) (others_told (program_in tokens.now.text.items items) own (number_seen before) (if_tree branches.now).others)) (seen.If (if_seen i).first (if_seen i).others) locals.new) }
+    ensures { (items : List ItemTree) (own : ℕ) (f : Frame) → IsAround (program_in tokens.now.text.items items) own around.now → IsFrame tokens.now.text.items f locals.old → IfOk result (λ i. IsTold tokens.now.text.items (follow seen.If (test_told (program_in tokens.now.text.items items) own (staying_seen stays) (if_tree branches.now).first f) (others_told (program_in tokens.now.text.items items) own (staying_seen stays) (if_tree branches.now).others)) (seen.If (if_seen i).first (if_seen i).others) locals.new) }
 {
-    let first = tell_test(alloc, tokens, around, locals, before, &branches.first)?;
-    let others = tell_tests(alloc, tokens, around, locals, before, &branches.others)?;
-    let otherwise = tell_otherwise(alloc, tokens, around, locals, before, &branches.otherwise)?;
+    let first = tell_test(alloc, tokens, around, locals, stays, &branches.first)?;
+    let others = tell_tests(alloc, tokens, around, locals, stays, &branches.others)?;
+    let otherwise = tell_otherwise(alloc, tokens, around, locals, stays, &branches.otherwise)?;
     Ok(If {
         first,
         others,
         otherwise,
+    })
+}
+
+/// What the cases of a switch come to.
+#[cycle(statements)]
+fn tell_cases<'a>(
+    alloc: Global,
+    tokens: &'a Tokens,
+    around: &Around<'_, '_>,
+    locals: &mut Locals<'a>,
+    stays: Staying,
+    switch: &Switch,
+) -> Result<Vec<Case>, AllocError>
+    ensures { (items : List ItemTree) (own : ℕ) (f : Frame) → IsAround (program_in tokens.now.text.items items) own around.now → IsFrame tokens.now.text.items f locals.old → IfOk result (λ list. IsTold tokens.now.text.items (cases_told (program_in tokens.now.text.items items) own (staying_seen stays) (MoreCases (switch_tree switch.now).first (case_row (switch_tree switch.now).others)) (switch_tree switch.now).close.place f) (seen.case_row (map case_seen list.items)) locals.new) }
+{
+    let mut told = Vec::new(alloc);
+    let mut case = &switch.first;
+    for next in &switch.others {
+        told.push(tell_case(alloc, tokens, around, locals, stays, next.word.place, case)?)?;
+        case = next;
+    }
+    let last = tell_case(
+        alloc,
+        tokens,
+        around,
+        locals,
+        stays,
+        switch.close.place,
+        case,
+    )?;
+    told.push(last)?;
+    Ok(told)
+}
+
+/// What a case comes to, behind which a token stands there. What it binds and declares is in scope there alone.
+#[cycle(statements)]
+fn tell_case<'a>(
+    alloc: Global,
+    tokens: &'a Tokens,
+    around: &Around<'_, '_>,
+    locals: &mut Locals<'a>,
+    stays: Staying,
+    behind: Place,
+    case: &syntax::Case,
+) -> Result<Case, AllocError>
+    ensures { (items : List ItemTree) (own : ℕ) (f : Frame) → IsAround (program_in tokens.now.text.items items) own around.now → IsFrame tokens.now.text.items f locals.old → IfOk result (λ c. IsTold tokens.now.text.items (case_told (program_in tokens.now.text.items items) own (staying_seen stays) behind (case_tree case.now) f) (case_seen c) locals.new) }
+{
+    let kept = locals.len();
+    let last = locals.last();
+    let endpoint = case_endpoint(tokens, locals, case.endpoint);
+    let meant = awaited_message(tokens, around, locals, case.endpoint, case.message);
+    let params = awaited_params(meant);
+    let bound = declare_binds(alloc, tokens, around, locals, params, &case.binds)?;
+    let statements = tell_statements(alloc, tokens, around, locals, stays, &case.statements)?;
+    let forget = forgetting(behind, last, locals.last());
+    locals.leave(tokens, kept, last);
+    Ok(Case {
+        endpoint,
+        awaited: awaited_as(case.message, meant),
+        bound,
+        body: Block { statements, forget },
     })
 }

@@ -2,13 +2,13 @@
 
 ghost use Rattle.std.specs.Prelude.{◌≡◌, map, option_map};
 ghost use Rattle.syntax.specs.StatementTrees.{statement_tree, statement_row, block_tree, if_tree, last_other};
-ghost use Rattle.syntax.specs.Trees.{method_tree, item_tree};
+ghost use Rattle.syntax.specs.Trees.{method_tree, item_tree, program_tree};
 ghost use Rattle.resolving.specs.Methods.{not_yet};
 ghost use Rattle.resolving.specs.Unknown.{unknown_type, or_else, unknown_statement, unknown_statements, unknown_block, unknown_test, unknown_others, unknown_params, unknown_result, unknown_method, unknown_methods};
 
 use crate::methods::methods_of;
 use source::Place;
-use syntax::{Block, Heap, If, Item, Method, Parameter, Statement, Type};
+use syntax::{Block, Heap, If, Item, Method, Parameter, Statement, Tree, Type};
 
 /// An endpoint.
 fn unknown_type(kind: Type) -> Option<Place>
@@ -132,8 +132,8 @@ fn unknown_methods(methods: &[Method]) -> Option<Place>
     None
 }
 
-/// The place of the first statement, parameter or result type that is not analysed yet, if there is one.
-pub(crate) fn find_unknown(items: &[Item]) -> Option<Place>
+/// The first place in items that is not analysed yet.
+fn find_unknown(items: &[Item]) -> Option<Place>
     ensures { result ≡ not_yet (map item_tree items.now) }
 {
     for item in items {
@@ -142,4 +142,12 @@ pub(crate) fn find_unknown(items: &[Item]) -> Option<Place>
         }
     }
     None
+}
+
+/// The place of the first statement, parameter or result type of a program that is not analysed yet, if there is one: one with
+/// an endpoint.
+pub fn first_unknown(tree: &Tree) -> Option<Place>
+    ensures { result ≡ not_yet (program_tree tree.now) }
+{
+    find_unknown(&tree.items)
 }

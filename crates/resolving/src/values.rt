@@ -177,7 +177,10 @@ pub(crate) fn tell_assigned(
 }
 
 /// Adds a variable of the exchange heap, if there is one.
-fn add_listed(mention: Option<Mention>, found: &mut Vec<Mention>) -> Result<(), AllocError>
+pub(crate) fn add_listed(
+    mention: Option<Mention>,
+    found: &mut Vec<Mention>,
+) -> Result<(), AllocError>
     ensures { OnOk result (found.new.items ≡ found.old.items ++ listed mention) }
 {
     if let Some(mention) = mention {

@@ -10,7 +10,7 @@ use Rattle.resolved.specs.declared.call.Argument.{Argument}
 use Rattle.resolved.specs.declared.method.Role.{Role}
 use Rattle.resolved.specs.declared.method.Role.TheVariants as role
 use Rattle.resolved.specs.declared.statement.Mention.{Mention}
-use Rattle.flow.specs.Graphs.{Instruction, Use, New, Move, Delete, Branch, Forget, Call, Start, Return, Stop}
+use Rattle.flow.specs.Graphs.{Instruction, Use, New, Move, Delete, NewChannel, Send, Switch, Branch, Forget, Call, Start, Return, Stop}
 use Rattle.flow.specs.declared.graph.Branches.{Branches}
 use Rattle.flow.specs.declared.graph.Branches.TheVariants.{Either, Only}
 use Rattle.rules.specs.Rows.{leaf_at, is_owned}
@@ -129,6 +129,10 @@ module _ (m : MethodSeen) where
       checked (is_another v w ∷ is_not_lent w ∷ has_something row w ∷ is_not_lent v ∷ has_nothing row v ∷ [])
       ((next, set (set row v.variable.0 (leaf_at row w.variable.0)) w.variable.0 Nothing) ∷ [])
   instruction_outcome (Delete v next) row = checked (is_not_lent v ∷ has_something row v ∷ []) ((next, set row v.variable.0 Nothing) ∷ [])
+  -- These three have no line yet. No program with endpoints comes here: its check answers that it is not analysed yet.
+  instruction_outcome (NewChannel place contract v w next) row = Goes []
+  instruction_outcome (Send place e message payloads next) row = Goes []
+  instruction_outcome (Switch place cases) row = Goes []
   instruction_outcome (Branch place branches) row = Goes (ways branches row)
   instruction_outcome (Forget f next) row = checked (given_back row f.place None (declared_between m f.outer (Some f.last))) ((next, row) ∷ [])
   instruction_outcome (Call place method arguments target next) row =

@@ -39,6 +39,10 @@ pub(crate) fn applied(
             next,
         } => move_(alloc, method, row, *target, *source, *next),
         Instr::Delete { at, next } => delete(alloc, method, row, *at, *next),
+        // They have no line in the table yet: nothing follows. No program with endpoints comes here.
+        Instr::NewChannel { .. } => Ok(Outcome::Next(Vec::new(alloc))),
+        Instr::Send { .. } => Ok(Outcome::Next(Vec::new(alloc))),
+        Instr::Switch { .. } => Ok(Outcome::Next(Vec::new(alloc))),
         Instr::Branch { branches, .. } => branch(alloc, row, *branches),
         Instr::Forget { forget, next } => forget_(alloc, method, row, *forget, *next),
         Instr::Call {

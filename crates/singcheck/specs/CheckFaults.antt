@@ -6,8 +6,6 @@ use Rattle.singcheck.specs.declared.fault.CheckFault.TheVariants.{Workers, Slots
 use Rattle.singcheck.specs.declared.fault.RunFault.{RunFault}
 use Rattle.singcheck.specs.declared.fault.RunFault.TheVariants as run
 use Rattle.singcheck.specs.declared.reading.TheConstants.{MAX_READ}
-use Rattle.resolving.specs.declared.fault.MethodFault.{MethodFault}
-use Rattle.resolving.specs.declared.fault.MethodFault.TheVariants as methods
 use Rattle.singcheck.specs.declared.limits.TheConstants.{MOST_WORKERS, MOST_SLOTS}
 
 -- 1 to 64 workers
@@ -36,11 +34,7 @@ IsTextFault text (NotYet place) = IsNotYet text place
 IsTextFault text Memory = Unit {0}
 IsTextFault text _ = ⊥
 
--- the fault of a check, of its methods, and of a run that checks
-
-abbrev pub check_fault_of : MethodFault → CheckFault
-check_fault_of (methods.NotYet place) = NotYet place
-check_fault_of methods.Memory = Memory
+-- the fault of a check as that of a run that checks
 
 abbrev pub run_fault_of : CheckFault → RunFault
 run_fault_of Workers = run.Workers

@@ -6,9 +6,7 @@ ghost use Rattle.source.specs.Tokens.{AreTokens};
 ghost use Rattle.syntax.specs.Parsing.{Spells};
 ghost use Rattle.syntax.specs.Programs.{program};
 ghost use Rattle.syntax.specs.Trees.{program_tree};
-ghost use Rattle.names.specs.Findings.{program_findings};
-ghost use Rattle.names.specs.Program.{program_of};
-ghost use Rattle.names.specs.Resolution.{ContractSeen};
+ghost use Rattle.names.specs.Resolution.{contract_seen};
 ghost use Rattle.singcheck.specs.Checks.{Checks, IsSoundProgram};
 ghost use Rattle.singcheck.specs.CheckFaults.{AreUnfit, Explains, IsTextFault, workers_fit, slots_fit};
 ghost use Rattle.singcheck.specs.Reports.{IsReport};
@@ -20,7 +18,8 @@ use crate::lines::add_clear;
 use crate::reports::{Report, report_of};
 use crate::stages::{Parsed, Staged, named, parse_text};
 use crate::verdicts::analyse_methods;
-use resolving::resolve_methods;
+use names::Resolved;
+use resolving::{first_unknown, resolve_methods};
 use rules::Program;
 use source::{Finding, Memory, Tokens};
 use std::alloc::Global;
@@ -106,24 +105,28 @@ fn check_program<G: Gate>(
     match named(alloc, tree, tokens)? {
         Staged::Found(findings) => Ok(reported(alloc, findings)?),
         Staged::Clean(clean) => {
-            check_methods(alloc, tokens, tree, clean.resolved.contracts.len(), gate)
+            check_methods(alloc, tokens, tree, &clean.resolved, gate)
         }
     }
 }
 
-/// The report of the methods of a program of so many contracts, with which nothing else is wrong.
+/// The report of the methods of a program of these contracts, with which nothing else is wrong.
 fn check_methods<G: Gate>(
     alloc: Global,
     tokens: &Tokens,
     tree: &Tree,
-    contracts: usize,
+    resolved: &Resolved,
     gate: &G,
 ) -> Result<Report, CheckFault>
-    requires clean { program_findings (program_of tokens.now.text.items tree.now) ≡ [] }
-    ensures report { IfOk result (λ r. (seen : List ContractSeen) → IsSoundProgram tokens.now.text.items (program_tree tree.now) seen → contracts ≡ length seen → Checks tokens.now.text.items r.bytes.items r.status) }
-    ensures fault { IfErr result (λ fault. (seen : List ContractSeen) → IsSoundProgram tokens.now.text.items (program_tree tree.now) seen → IsTextFault tokens.now.text.items fault) }
+    requires sound { IsSoundProgram tokens.now.text.items (program_tree tree.now) (map contract_seen resolved.now.contracts.items) }
+    requires room { length resolved.now.contracts.items < 2 ^ 32 }
+    ensures report { IfOk result (λ r. Checks tokens.now.text.items r.bytes.items r.status) }
+    ensures fault { IfErr result (IsTextFault tokens.now.text.items) }
 {
-    let methods = resolve_methods(alloc, tree, tokens)?;
+    if let Some(place) = first_unknown(tree) {
+        return Err(CheckFault::NotYet(place));
+    }
+    let methods = resolve_methods(alloc, tree, tokens, resolved)?;
     let count = methods.len();
     let program = Program::new(alloc, methods)?;
     let findings = analyse_methods(alloc, &program, gate)?;
@@ -131,7 +134,7 @@ fn check_methods<G: Gate>(
         return Ok(reported(alloc, findings)?);
     }
     let mut bytes = Vec::new(alloc);
-    add_clear(alloc, &mut bytes, contracts, count)?;
+    add_clear(alloc, &mut bytes, resolved.contracts.len(), count)?;
     Ok(Report {
         bytes,
         status: Status::Empty,

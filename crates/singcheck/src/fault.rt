@@ -1,6 +1,5 @@
 //! How a run ends.
 
-use resolving::MethodFault;
 use source::{Memory, Place};
 use std::alloc::{AllocError, AllocFailed};
 use thiserror::Error;
@@ -138,20 +137,6 @@ impl From<CheckFault> for RunFault {
             CheckFault::Slots => RunFault::Slots,
             CheckFault::NotYet(place) => RunFault::NotYet(place),
             CheckFault::Memory => RunFault::Memory,
-        }
-    }
-}
-
-impl From<MethodFault> for CheckFault {
-    ghost use Rattle.std.specs.Prelude.{◌≡◌};
-    ghost use Rattle.singcheck.specs.CheckFaults.{check_fault_of};
-
-    ghost from_gives = { λ fault e. e ≡ check_fault_of fault };
-
-    fn from(fault: MethodFault) -> CheckFault {
-        match fault {
-            MethodFault::NotYet(place) => CheckFault::NotYet(place),
-            MethodFault::Memory => CheckFault::Memory,
         }
     }
 }

@@ -5,7 +5,9 @@ ghost use Rattle.rules.specs.Programs.{methods_of};
 
 use analyse::tasks;
 use flow::{Instr, lower};
-use resolved::{Action, Mention, Method, MethodId, Role, Simple, Statement, VarId, Variable};
+use resolved::{
+    Action, Kind, Mention, Method, MethodId, Role, Simple, Statement, StructId, VarId, Variable,
+};
 use rules::{Leaf, MOST_LEAVES, MOST_STATES, Outcome, Program, Row, entry, step};
 use source::{Memory, Place};
 use std::alloc::Global;
@@ -26,6 +28,7 @@ fn variable(
 ) -> Result<Variable, Memory> {
     Ok(Variable {
         name: Vec::from_slice(alloc, name.as_bytes())?,
+        kind: Kind::Struct(StructId(0)),
         role,
         outer,
     })
@@ -50,6 +53,7 @@ fn freed_and_read(alloc: Global) -> Result<Method, Memory> {
     Ok(Method {
         name: Place { line: 1, col: 1 },
         gives: false,
+        result: None,
         variables,
         statements,
         scope: Some(VarId(1)),

@@ -2,8 +2,10 @@ use Rattle.std.proofs.Common.{length, map, reverse}
 use Rattle.std.specs.Option.{option_map}
 use Rattle.resolved.specs.Statements.{statement_seen, statement_row, block_seen, test_seen, other_row}
 use Rattle.resolved.specs.declared.statement as made
-use Rattle.flow.specs.Growths.{Behind}
+use Rattle.flow.specs.Graphs.{entrance_seen}
+use Rattle.flow.specs.Growths.{Behind, CasesBehind}
 use Rattle.flow.specs.Lowering.{statements, others}
+use Rattle.flow.proofs.CaseLemmas.{laid_cases}
 use Rattle.flow.proofs.lowering.+statements.Given as goal
 
 abbrev pub invariant-lay_if-loop-test : goal.invariant-lay_if-loop-test
@@ -15,3 +17,8 @@ abbrev pub invariant-lay_statements-loop-statement : goal.invariant-lay_statemen
 invariant-lay_statements-loop-statement l =
     Behind l.statements l.statement-iterator.iter.rest.now (map (λ s. s.now) (reverse l.yielded)) l.fn.instructions.items l.instructions.items l.entry
     (λ done. statements (statement_row (map statement_seen done)) l.exits.end l.exits.again (length l.fn.instructions.items) l.next)
+
+abbrev pub invariant-lay_switch-loop-case : goal.invariant-lay_switch-loop-case
+invariant-lay_switch-loop-case l =
+    CasesBehind l.cases l.case-iterator.iter.rest.now (map (λ c. c.now) (reverse l.yielded)) l.fn.instructions.items l.instructions.items (map entrance_seen l.entrances.items)
+    (laid_cases l.next l.again (length l.fn.instructions.items) l.next)

@@ -1,10 +1,11 @@
-use Rattle.std.proofs.Common.{false, get_or, subst, sym, take}
+use Rattle.std.proofs.Common.{false, subst, sym, take}
 use Rattle.syntax.specs.declared.class as made
 use Rattle.syntax.specs.declared.tree.Scalar.TheVariants.{Int}
 use Rattle.syntax.specs.declared.tree.Type.TheVariants.{Scalar}
+use Rattle.resolving.specs.Around.{program_in}
 use Rattle.resolving.specs.Frames.{IsFrame}
 use Rattle.resolving.specs.Locals.{declared}
-use Rattle.resolving.specs.Methods.{role_of, parameters_frame}
+use Rattle.resolving.specs.Methods.{parameters_frame}
 use Rattle.resolving.proofs.BodyLemmas.{parameters_more}
 use Rattle.resolving.proofs.methods.declare_parameters.Goals as goal
 
@@ -13,14 +14,13 @@ abbrev past : made.Parameter.Parameter
 past = record { claims = false; kind = Scalar Int; name = record { start = 0; end = 0; place = record { line = 0; col = 0 } } }
 
 pub loop-parameter-preserved : goal.loop-parameter-preserved
-loop-parameter-preserved c = λ f h.
+loop-parameter-preserved c = λ items own f round h.
     let text = c.args.tokens.now.text.items in
+    let p = program_in text items in
     let params = c.args.params.now in
     let i = c.loop-parameter.parameter-index in
-    let x = get_or params i past in
-    let so = parameters_frame text (take i params) f in
+    let so = parameters_frame p (take i params) f in
     let after = c.declare.new.self in
-    subst (λ g. IsFrame text g after) (sym (parameters_more text params i past f c.loop-parameter-test.true))
-    (subst (λ b. IsFrame text (declared text x.name b (role_of x) so) after) c.is_heap-heap.ensures
-    (subst (λ r. IsFrame text (declared text x.name c.is_heap-heap.result r so) after) c.role_of.ensures
-    (c.in_ok-declare.ensures so (c.loop-parameter.invariant f h))))
+    subst (λ g. IsFrame text g after) (sym (parameters_more p params i past f c.loop-parameter-test.true))
+    (subst (λ d. IsFrame text (declared text d so) after) (c.parameter_declaration.ensures p own round)
+    (c.in_ok-declare.ensures so (c.loop-parameter.invariant items own f round h)))

@@ -12,7 +12,7 @@ loop-class-preserved c =
     let p = program_in c.args.tokens.now.text.items trees in
     let i = c.loop-class.class in
     let methods = c.methods_of-methods.result.now in
-    c.in_ok-add_methods.ensures trees i (record { scope = c.requires.scope; items = refl; before = c.deref.ensures.value ∙ c.in_ok-before.ensures; class_is = refl; few = c.requires.few })
+    c.in_ok-add_methods.ensures trees i (record { scope = c.requires.scope; items = refl; contracts = c.requires.contracts; before = c.deref.ensures.value ∙ c.in_ok-before.ensures; class_is = refl; few = c.requires.few })
     ∙ ap (λ l. l ++ map (method_told p i) (map method_tree methods)) c.loop-class.invariant
     ∙ ap (λ ms. first_told p items i ++ map (method_told p i) ms) c.methods_of-methods.ensures
     ∙ sym (items_more p items i c.index-items-class.result c.loop-class-test.true c.index-items-class.is)

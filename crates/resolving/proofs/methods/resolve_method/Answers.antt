@@ -1,4 +1,4 @@
-use Rattle.std.proofs.Common.{None, map, refl, subst}
+use Rattle.std.proofs.Common.{map, refl, subst}
 use Rattle.syntax.specs.StatementTrees.{statement_tree, statement_row}
 use Rattle.resolved.specs.Statements as seen
 use Rattle.resolved.specs.Statements.{statement_seen}
@@ -6,7 +6,7 @@ use Rattle.resolving.specs.Around.{program_in}
 use Rattle.resolving.specs.Frames.{IsFrame}
 use Rattle.resolving.specs.Methods.{no_variables, parameters_frame}
 use Rattle.resolving.specs.Steps.{IsTold}
-use Rattle.resolving.specs.Told.{statements_told}
+use Rattle.resolving.specs.Told.{outside, statements_told}
 use Rattle.resolving.proofs.TellLemmas.{method_is}
 use Rattle.resolving.proofs.methods.resolve_method.Goals as goal
 
@@ -18,7 +18,8 @@ returns c = λ items own round.
     let before = c.declare_parameters.new.locals in
     let after = c.tell_statements.new.locals in
     let statements = seen.statement_row (map statement_seen c.in_ok-statements.statements.items) in
-    let params = subst (λ l. IsFrame text (parameters_frame text l no_variables) before) c.deref.ensures.value (c.in_ok-declare_parameters.ensures no_variables (c.new-locals.ensures text)) in
-    let body = subst (λ l. IsTold text (statements_told p own None (statement_row (map statement_tree l)) (parameters_frame text method.params.items no_variables)) statements after) c.deref-2.ensures.value
-    (c.in_ok-statements.ensures items own _ round params) in
-    method_is p own method (record { name = method.name.place; gives = c.is_some.result; variables = c.into_variables.result; statements = c.in_ok-statements.statements; scope = c.last-scope.result; close = method.body.close.place }) after refl c.is_some.ensures refl body c.into_variables.ensures c.last-scope.ensures
+    let params = subst (λ l. IsFrame text (parameters_frame p l no_variables) before) c.deref.ensures.value (c.in_ok-declare_parameters.ensures items own no_variables round (c.new-locals.ensures text)) in
+    let start = parameters_frame p method.params.items no_variables in
+    let body = subst (λ l. IsTold text (statements_told p own outside (statement_row (map statement_tree l)) start) statements after) c.deref-2.ensures.value
+    (subst (λ s. IsTold text (statements_told p own s (statement_row (map statement_tree c.deref-2.result.now)) start) statements after) c.outside.ensures (c.in_ok-statements.ensures items own start round params)) in
+    method_is p own method (record { name = method.name.place; gives = c.is_some.result; result = c.result_held.result; variables = c.into_variables.result; statements = c.in_ok-statements.statements; scope = c.last-scope.result; close = method.body.close.place }) after refl c.is_some.ensures (c.result_held.ensures p own round) refl body c.into_variables.ensures c.last-scope.ensures

@@ -1,8 +1,8 @@
 use Rattle.std.proofs.Common.{Option, sym, ap, ◌∙◌, option_map}
 use Rattle.syntax.specs.Values.{value_tree}
 use Rattle.syntax.specs.declared.value.Value.{Value}
-use Rattle.names.specs.Kinds.{is_heap}
 use Rattle.resolving.specs.Around.{program_in}
+use Rattle.resolving.specs.Kinds.{type_held}
 use Rattle.resolving.specs.Locals.{next_number}
 use Rattle.resolving.specs.Told.{assigned, first_value}
 use Rattle.resolving.proofs.PlainLemmas.{told_as, first_assigned}
@@ -13,7 +13,7 @@ returns-in-Some c = λ items own around.
     let p = program_in c.args.tokens.now.text.items items in
     let d = c.args.declare.now in
     let value = value_tree c.in-Some.value in
-    told_as c.args.tokens.now.text.items c.args.locals.now c.tell_assigned.result (λ f. assigned p own f c.declared_mention-target.result value) (λ f. first_value p own f d.name (next_number (is_heap d.kind) f) (option_map value_tree d.value))
-    (λ f frame. ap (λ t. assigned p own f t value) (c.declared_mention-target.ensures p.text f frame) ∙ first_assigned p own f d.name (next_number (is_heap d.kind) f) value
-    ∙ ap (λ (o : Option Value). first_value p own f d.name (next_number (is_heap d.kind) f) (option_map value_tree o)) (sym c.in-Some.is))
+    told_as c.args.tokens.now.text.items c.args.locals.now c.tell_assigned.result (λ f. assigned p own f c.declared_mention-target.result value) (λ f. first_value p own f d.name (next_number (type_held p d.kind) f) (option_map value_tree d.value))
+    (λ f frame. ap (λ t. assigned p own f t value) (c.declared_mention-target.ensures items own f around frame) ∙ first_assigned p own f d.name (next_number (type_held p d.kind) f) value
+    ∙ ap (λ (o : Option Value). first_value p own f d.name (next_number (type_held p d.kind) f) (option_map value_tree o)) (sym c.in-Some.is))
     (c.tell_assigned.ensures items own around)

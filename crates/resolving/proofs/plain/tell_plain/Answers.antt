@@ -1,13 +1,14 @@
-use Rattle.std.proofs.Common.{sym, ap, ◌∙◌, None, option_map}
+use Rattle.std.proofs.Common.{[], sym, ap, ◌∙◌, option_map}
 use Rattle.syntax.specs.ExpressionTrees.{expression_tree, target_tree}
 use Rattle.syntax.specs.StatementTrees.{statement_tree}
 use Rattle.syntax.specs.Values.{call_tree, value_tree}
-use Rattle.names.specs.Kinds.{is_heap}
 use Rattle.resolving.specs.Around.{program_in}
+use Rattle.resolving.specs.Kinds.{type_held}
 use Rattle.resolving.specs.Locals.{next_number}
-use Rattle.resolving.specs.Told.{called, started, first_value, written, returned, plain_told}
+use Rattle.resolving.specs.Told.{told, stated_call, started, first_value, written, returned, plain_told}
 use Rattle.resolving.proofs.FormTwins.{of_declare, of_assign, of_call, of_start, of_return}
 use Rattle.resolving.proofs.PlainLemmas.{told_as}
+use Rattle.resolving.proofs.SendTwins.{of_new_channel}
 use Rattle.resolving.proofs.plain.tell_plain.Goals as goal
 
 pub returns-in-Declare : goal.returns-in-Declare
@@ -15,7 +16,7 @@ returns-in-Declare c = λ items own around.
     let p = program_in c.args.tokens.now.text.items items in
     let text = c.args.tokens.now.text.items in
     let locals = c.args.locals.now in
-    told_as text locals c.tell_declare.result (λ f. first_value p own f c.in-Declare.declare.name (next_number (is_heap c.in-Declare.declare.kind) f) (option_map value_tree c.in-Declare.declare.value)) (λ f. plain_told p own f (statement_tree c.args.statement.now))
+    told_as text locals c.tell_declare.result (λ f. first_value p own f c.in-Declare.declare.name (next_number (type_held p c.in-Declare.declare.kind) f) (option_map value_tree c.in-Declare.declare.value)) (λ f. plain_told p own f (statement_tree c.args.statement.now))
     (λ f frame. ap (plain_told p own f) (sym (ap statement_tree c.in-Declare.is ∙ of_declare c.in-Declare.declare)))
     (c.tell_declare.ensures items own around)
 
@@ -33,9 +34,9 @@ returns-in-Call c = λ items own around.
     let p = program_in c.args.tokens.now.text.items items in
     let text = c.args.tokens.now.text.items in
     let locals = c.args.locals.now in
-    told_as text locals c.tell_call.result (λ f. called p own f (call_tree c.in-Call.call) None c.new.result.items) (λ f. plain_told p own f (statement_tree c.args.statement.now))
-    (λ f frame. ap (called p own f (call_tree c.in-Call.call) None) c.new.ensures.items ∙ ap (plain_told p own f) (sym (ap statement_tree c.in-Call.is ∙ of_call c.in-Call.call)))
-    (c.tell_call.ensures items own around)
+    told_as text locals c.tell_stated.result (λ f. stated_call p own f (call_tree c.in-Call.call)) (λ f. plain_told p own f (statement_tree c.args.statement.now))
+    (λ f frame. ap (plain_told p own f) (sym (ap statement_tree c.in-Call.is ∙ of_call c.in-Call.call)))
+    (c.tell_stated.ensures items own around)
 
 pub returns-in-Start : goal.returns-in-Start
 returns-in-Start c = λ items own around.
@@ -45,6 +46,13 @@ returns-in-Start c = λ items own around.
     told_as text locals c.tell_start.result (λ f. started p own f (call_tree c.in-Start.call)) (λ f. plain_told p own f (statement_tree c.args.statement.now))
     (λ f frame. ap (plain_told p own f) (sym (ap statement_tree c.in-Start.is ∙ of_start c.in-Start.word c.in-Start.call)))
     (c.tell_start.ensures items own around)
+
+pub returns-in-NewChannel : goal.returns-in-NewChannel
+returns-in-NewChannel c = λ items own around. record {
+  all = λ f frame.
+      let p = program_in c.args.tokens.now.text.items items in
+      c.unread-in-NewChannel.ensures ∙ ap (told []) (c.channel_action.ensures items own f around frame) ∙ ap (plain_told p own f) (sym (ap statement_tree c.in-NewChannel.is ∙ of_new_channel c.in-NewChannel.channel));
+}
 
 pub returns-in-Return : goal.returns-in-Return
 returns-in-Return c = λ items own around.

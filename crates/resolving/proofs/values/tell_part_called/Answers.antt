@@ -1,6 +1,6 @@
 use Rattle.std.proofs.Common.{ap, None}
 use Rattle.syntax.specs.Values as values
-use Rattle.syntax.specs.Values.{call_tree, value_tree, made_tree}
+use Rattle.syntax.specs.Values.{call_tree}
 use Rattle.resolving.specs.Around.{program_in}
 use Rattle.resolving.specs.Told.{called, part_taken}
 use Rattle.resolving.proofs.PlainLemmas.{told_as}

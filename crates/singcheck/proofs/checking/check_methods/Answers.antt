@@ -3,6 +3,7 @@ use Rattle.std.proofs.lemmas.Bool.{eqb-true, eqb-false}
 use Rattle.std.proofs.lemmas.List.{length-map}
 use Rattle.source.specs.Findings.{finding_parts}
 use Rattle.syntax.specs.Trees.{program_tree}
+use Rattle.names.specs.Resolution.{contract_seen}
 use Rattle.resolved.specs.Methods.{method_seen}
 use Rattle.rules.specs.Programs.{methods_of}
 use Rattle.singcheck.specs.Lines.{clear_line}
@@ -11,19 +12,24 @@ use Rattle.singcheck.proofs.JudgeLemmas.{no_items}
 use Rattle.singcheck.proofs.checking.check_methods.Goals as goal
 
 pub returns-then-not-is_empty-clause-report : goal.returns-then-not-is_empty-clause-report
-returns-then-not-is_empty-clause-report g c = λ seen program count.
+returns-then-not-is_empty-clause-report g c =
     let text = c.args.tokens.now.text.items in
-    let has = has_methods text (program_tree c.args.tree.now) seen (methods_of c.in_ok-program.program) program c.in_ok-methods.ensures.known (c.in_ok-program.ensures ∙ c.in_ok-methods.ensures.resolved) in
+    let seen = map contract_seen c.args.resolved.now.contracts.items in
+    let has = has_methods text (program_tree c.args.tree.now) seen (methods_of c.in_ok-program.program) c.requires.sound (sym c.first_unknown.ensures ∙ c.in_default.is) (c.in_ok-program.ensures ∙ c.in_ok-methods.ensures.resolved) in
     reported_is text c.in_ok-reported.field-0.bytes.items c.in_ok-reported.field-0.status (map finding_parts c.in_ok-findings.findings.items)
     (misowned text seen (methods_of c.in_ok-program.program) c.in_ok-findings.findings.items has (λ e. let differ = eqb-false _ _ (sym c.is_empty.ensures ∙ c.if-not-is_empty.true) in let none = ap length e in omega (arith, differ, none, c.in_ok-findings.findings.ok.0)) c.in_ok-findings.ensures)
     c.in_ok-reported.ensures.bytes c.in_ok-reported.ensures.status
 
 pub returns-clause-report : goal.returns-clause-report
-returns-clause-report g c = λ seen program count.
+returns-clause-report g c =
     let text = c.args.tokens.now.text.items in
-    let has = has_methods text (program_tree c.args.tree.now) seen (methods_of c.in_ok-program.program) program c.in_ok-methods.ensures.known (c.in_ok-program.ensures ∙ c.in_ok-methods.ensures.resolved) in
+    let seen = map contract_seen c.args.resolved.now.contracts.items in
+    let has = has_methods text (program_tree c.args.tree.now) seen (methods_of c.in_ok-program.program) c.requires.sound (sym c.first_unknown.ensures ∙ c.in_default.is) (c.in_ok-program.ensures ∙ c.in_ok-methods.ensures.resolved) in
     let size = length-map c.in_ok-methods.methods.items method_seen in
     let same = ap length c.in_ok-program.ensures in
+    let contracts = c.args.resolved.now.contracts in
+    let size_all = length-map contracts.items contract_seen in
+    let counted : c.len.result ≡ length seen = omega (arith, size_all, c.len.ensures, contracts.ok.0) in
     let many : c.len-count.result ≡ length (methods_of c.in_ok-program.program) = omega (arith, size, same, c.len-count.ensures, c.in_ok-methods.methods.ok.0) in
     clear_is text c.add_clear.new.answer.items seen (methods_of c.in_ok-program.program) c.in_ok-findings.findings.items has (no_items c.in_ok-findings.findings.items (sym c.in_ok-findings.findings.ok.0 ∙ eqb-true _ _ (sym c.is_empty.ensures ∙ c.if-not-is_empty.false))) c.in_ok-findings.ensures
-    (c.in_ok-add_clear.ensures ∙ ap (λ l. l ++ clear_line c.args.contracts c.len-count.result) c.new-bytes.ensures.items ∙ ap₂ clear_line count many)
+    (c.in_ok-add_clear.ensures ∙ ap (λ l. l ++ clear_line c.len.result c.len-count.result) c.new-bytes.ensures.items ∙ ap₂ clear_line counted many)

@@ -1,0 +1,149 @@
+-- The cases of a switch, which are laid from the last one on, and the switch on top of them.
+use Rattle.std.proofs.Common.{◌≡◌, ℕ, ◌+◌, ◌<◌, ◌≤◌, List, [], ◌∷◌, ◌++◌, length, map, reverse, refl, sym, ap, ◌∙◌, arith, append_assoc, append-nil, length-append, subst, Vec}
+use Rattle.std.specs.List.{All, push}
+use Rattle.std.proofs.lemmas.List.{map-append, reverse-append, reverse-reverse}
+use Rattle.std.specs.Global.{Global}
+use Rattle.std.proofs.lemmas.List.Elements.{All-nil, All-cons, All-append}
+use Rattle.source.specs.declared.place.Place.{Place}
+use Rattle.resolved.specs.Statements as stated
+use Rattle.resolved.specs.Statements.{StatementSeen, BlockSeen, CaseSeen, IfSeen, TestSeen, statement_seen, block_seen, case_seen, case_row, statement_step, block_step, case_step, if_step, test_step}
+use Rattle.resolved.specs.declared.method.VarId.{VarId}
+use Rattle.resolved.specs.declared.statement as made
+use Rattle.resolved.specs.declared.statement.Awaited.{Awaited}
+use Rattle.resolved.specs.declared.statement.Mention.{Mention}
+use Rattle.resolved.specs.declared.statement.Statement.TheFolds as folds
+use Rattle.resolved.specs.declared.statement.Statement.TheOpen as layer
+use Rattle.resolved.specs.declared.statement.Statement.TheVariants as variants
+use Rattle.flow.specs.declared.graph.Entrance.{Entrance}
+use Rattle.flow.specs.declared.graph.Instr.{Instr}
+use Rattle.flow.specs.declared.graph.Instr.TheVariants as instr
+use Rattle.flow.specs.Graphs.{EntranceSeen, Switch, entrance_seen, instruction_seen}
+use Rattle.flow.specs.Growths.{Grew, GrewCases, CasesBehind}
+use Rattle.flow.specs.Lowering.{Lays, LaidCases, LaysCases, block, cases, case_before, no_cases, waits}
+use Rattle.flow.proofs.BehindLemmas.{one_more}
+use Rattle.flow.proofs.GrowthLemmas.{seen_length}
+use Rattle.flow.proofs.WithinLemmas.{AllBelow, IsBelow, StaysBelow}
+
+-- cases that are laid begin below a bound, and go on below it
+pub record CasesBelow (n : ℕ) (laid : LaidCases) : Type 0 where
+  pub begin : All (λ p. p < n) (map (λ e. e.next) laid.entrances)
+  pub within : All (IsBelow n) laid.instructions
+
+-- where all is laid below a bound and the method goes on below it, that is so
+pub record CasesStay (n : ℕ) (a : LaysCases) : Type 0 where
+  pub stay : (from next : ℕ) → next < n → from + length (a from next).instructions ≤ n → CasesBelow n (a from next)
+
+pub none_stay : (n : ℕ) → CasesStay n no_cases
+none_stay n = record { stay = λ from next h fits. record { begin = All-nil (λ p. p < n); within = All-nil (IsBelow n) } }
+
+-- where a case begins
+abbrev pub entrance_at : Mention → Awaited → List VarId → ℕ → EntranceSeen
+entrance_at endpoint awaited bound point = record { endpoint = endpoint; awaited = awaited; bound = bound; next = point }
+
+-- a case before others
+pub case_stays : (n : ℕ) (endpoint : Mention) (awaited : Awaited) (bound : List VarId) (body : Lays) (others : LaysCases) → StaysBelow n body → CasesStay n others → CasesStay n (case_before (entrance_at endpoint awaited bound) body others)
+case_stays n endpoint awaited bound body others inner outer = record {
+  stay = λ from next h fits.
+      let rest = others from next in
+      let first = body (from + length rest.instructions) next in
+      let long = length-append rest.instructions first.instructions in
+      let under : CasesBelow n rest = outer.stay from next h (omega arith) in
+      let top : AllBelow n first = inner.stays (from + length rest.instructions) next h (omega arith) in
+      record {
+        begin = All-cons (λ p. p < n) first.entry (map (λ e. e.next) rest.entrances) top.begins under.begin;
+        within = All-append (IsBelow n) rest.instructions first.instructions under.within top.within;
+      };
+}
+
+-- a switch, whose cases stay below wherever it ends below
+pub waits_stay : (n : ℕ) (place : Place) (a : ℕ → LaysCases) → ((exit : ℕ) → exit < n → CasesStay n (a exit)) → StaysBelow n (waits place a)
+waits_stay n place a inner = record {
+  stays = λ from next h fits.
+      let all = a next from next in
+      let switch = Switch place all.entrances in
+      let long = length-append all.instructions (switch ∷ []) in
+      let under : CasesBelow n all = (inner next h).stay from next h (omega arith) in
+      record {
+        begins = omega arith;
+        within = All-append (IsBelow n) all.instructions (switch ∷ []) under.within (All-cons (IsBelow n) switch [] under.begin (All-nil (IsBelow n)));
+      };
+}
+
+-- a case without where it lies in memory
+case_is : (c : made.Case.Case) → case_seen c ≡ stated.Case c.endpoint c.awaited c.bound.items (block_seen c.body)
+case_is = folds.fold_out-Case StatementSeen BlockSeen CaseSeen IfSeen TestSeen statement_step block_step case_step if_step test_step
+
+-- how many there are
+grew_cases_length : (old new : List Instr) (es : List EntranceSeen) (laid : LaidCases) → GrewCases old new es laid → length new ≡ length old + length laid.instructions
+grew_cases_length old new es laid g =
+    sym (seen_length new) ∙ ap length g.instructions ∙ length-append (map instruction_seen old) laid.instructions ∙ ap (λ n. n + length laid.instructions) (seen_length old)
+
+-- one case more, on top of those behind it
+grew_case : (old mid new : List Instr) (es : List EntranceSeen) (e : EntranceSeen) (entrance : ℕ → EntranceSeen) (body : Lays) (others : LaysCases) (entry next : ℕ) → GrewCases old mid es (others (length old) next) → Grew mid new entry (body (length mid) next) → e ≡ entrance entry
+    → GrewCases old new (es ++ e ∷ []) (case_before entrance body others (length old) next)
+grew_case old mid new es e entrance body others entry next g h is =
+    let rest = others (length old) next in
+    let at : length mid ≡ length old + length rest.instructions = grew_cases_length old mid es rest g in
+    let first = body (length old + length rest.instructions) next in
+    let same : body (length mid) next ≡ first = ap (λ n. body n next) at in
+    record {
+      instructions = h.instructions ∙ ap (λ l. map instruction_seen mid ++ l.instructions) same ∙ ap (λ l. l ++ first.instructions) g.instructions ∙ append_assoc (map instruction_seen old) rest.instructions first.instructions;
+      entrances = ap (λ l. l ++ e ∷ []) g.entrances ∙ ap (λ x. reverse rest.entrances ++ x ∷ []) (is ∙ ap entrance (h.begins ∙ ap (λ l. l.entry) same)) ∙ sym (reverse-append (entrance first.entry ∷ []) rest.entrances);
+    }
+
+-- the cases of a row
+abbrev pub laid_cases : (exit again from next : ℕ) → List made.Case.Case → LaidCases
+laid_cases exit again from next done = cases (case_row (map case_seen done)) exit again from next
+
+-- nothing is laid yet
+pub cases_begin : (all rest : List made.Case.Case) (old : List Instr) (exit again next : ℕ) → rest ≡ all → CasesBehind all rest [] old old [] (laid_cases exit again (length old) next)
+cases_begin all rest old exit again next is = record {
+  split = sym is ∙ sym (append-nil rest);
+  grew = record { instructions = sym (append-nil (map instruction_seen old)); entrances = refl };
+}
+
+-- one more is laid, before those that are
+pub cases_go_on : {B : Type 0} (f : B → made.Case.Case) (all rest left : List made.Case.Case) (ys : List B) (y : B) (old mid new : List Instr) (es fs : List Entrance) (e : Entrance) (exit again entry next : ℕ) → rest ≡ push left (f y)
+    → CasesBehind all rest (map f (reverse ys)) old mid (map entrance_seen es) (laid_cases exit again (length old) next)
+    → Grew mid new entry (block (block_seen (f y).body) exit again (length mid) next)
+    → entrance_seen e ≡ entrance_at (f y).endpoint (f y).awaited (f y).bound.items entry → fs ≡ es ++ e ∷ []
+    → CasesBehind all left (map f (reverse (ys ++ y ∷ []))) old new (map entrance_seen fs) (laid_cases exit again (length old) next)
+cases_go_on f all rest left ys y old mid new es fs e exit again entry next more b g is grown =
+    let c = f y in
+    let done = map f (reverse ys) in
+    let others : LaysCases = cases (case_row (map case_seen done)) exit again in
+    let here : GrewCases old new (map entrance_seen es ++ entrance_seen e ∷ []) (case_before (entrance_at c.endpoint c.awaited c.bound.items) (block (block_seen c.body) exit again) others (length old) next) =
+    grew_case old mid new (map entrance_seen es) (entrance_seen e) (entrance_at c.endpoint c.awaited c.bound.items) (block (block_seen c.body) exit again) others entry next b.grew g is in
+    let row : GrewCases old new (map entrance_seen es ++ entrance_seen e ∷ []) (laid_cases exit again (length old) next (c ∷ done)) =
+    subst (λ x. GrewCases old new (map entrance_seen es ++ entrance_seen e ∷ []) (cases (stated.MoreCases x (case_row (map case_seen done))) exit again (length old) next)) (sym (case_is c)) here in
+    let entrances = ap (map entrance_seen) grown ∙ map-append entrance_seen es (e ∷ []) in
+    record {
+      split = b.split ∙ ap (λ r. r ++ done) more ∙ append_assoc left (c ∷ []) done ∙ ap (λ d. left ++ d) (sym (one_more f ys y));
+      grew = subst (λ d. GrewCases old new (map entrance_seen fs) (laid_cases exit again (length old) next d)) (sym (one_more f ys y))
+          (subst (λ l. GrewCases old new l (laid_cases exit again (length old) next (c ∷ done))) (sym entrances) row);
+    }
+
+map_reverse : {A B : Type 0} (f : A → B) (xs : List A) → map f (reverse xs) ≡ reverse (map f xs)
+map_reverse f [] = refl
+map_reverse f (x ∷ xs) = ap (map f) (reverse-append (x ∷ []) xs) ∙ map-append f (reverse xs) (x ∷ []) ∙ ap (λ l. l ++ f x ∷ []) (map_reverse f xs) ∙ sym (reverse-append (f x ∷ []) (map f xs))
+
+-- a switch on top of its cases
+pub switch_laid : (old mid new : List Instr) (place : Place) (a : ℕ → LaysCases) (es : List Entrance) (v : Vec Entrance Global) (entry next : ℕ) → GrewCases old mid (map entrance_seen es) (a next (length old) next) → v.items ≡ reverse es
+    → new ≡ mid ++ instr.Switch place v ∷ [] → entry ≡ length mid → Grew old new entry (waits place a (length old) next)
+switch_laid old mid new place a es v entry next g is grown at =
+    let all = a next (length old) next in
+    let entrances : map entrance_seen v.items ≡ all.entrances = ap (map entrance_seen) is ∙ map_reverse entrance_seen es ∙ ap reverse g.entrances ∙ reverse-reverse all.entrances in
+    record {
+      instructions = ap (map instruction_seen) grown ∙ map-append instruction_seen mid (instr.Switch place v ∷ []) ∙ ap (λ l. map instruction_seen mid ++ Switch place l ∷ []) entrances
+          ∙ ap (λ l. l ++ Switch place all.entrances ∷ []) g.instructions ∙ append_assoc (map instruction_seen old) all.instructions (Switch place all.entrances ∷ []);
+      begins = at ∙ grew_cases_length old mid (map entrance_seen es) all g;
+    }
+
+-- all cases are laid
+pub cases_end : (all rest done : List made.Case.Case) (old new : List Instr) (es : List EntranceSeen) (lays : List made.Case.Case → LaidCases) → length rest ≡ 0 → CasesBehind all rest done old new es lays → GrewCases old new es (lays all)
+cases_end all [] done old new es lays none b = subst (λ d. GrewCases old new es (lays d)) (sym b.split) b.grew
+cases_end all (x ∷ rest) done old new es lays none b = absurd (cc)
+
+-- a switch in memory
+pub switch_seen : (place : Place) (cs : Vec made.Case.Case Global) → statement_seen (variants.Switch place cs) ≡ stated.Switch place (case_row (map case_seen cs.items))
+switch_seen place cs = ap statement_seen (sym (variants.rolls-Switch place cs)) ∙ folds.fold-roll-Statement StatementSeen BlockSeen CaseSeen IfSeen TestSeen statement_step block_step case_step if_step test_step (layer.Switch place cs)

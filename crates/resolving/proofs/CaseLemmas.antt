@@ -1,0 +1,135 @@
+-- What the cases of a switch come to.
+use denote.Param.Weighed.{at_most}
+use Rattle.std.proofs.Common.{◌≡◌, ℕ, suc, ◌+◌, ◌<◌, ◌≤◌, List, [], ◌∷◌, ◌++◌, length, map, drop, get_or, sym, refl, ap, ◌∙◌, subst, add-one, arith}
+use Rattle.std.specs.Prelude.{Vec}
+use Rattle.std.specs.Global.{Global}
+use Rattle.std.proofs.Math.Seq.{drop-cons}
+use Rattle.std.proofs.lemmas.List.{drop_all, map-append}
+use Rattle.source.specs.declared.place.Place.{Place}
+use Rattle.syntax.specs.StatementTrees as trees
+use Rattle.syntax.specs.StatementTrees.{CaseTree, CaseTrees, SwitchTree, case_tree, case_row, statement_tree, statement_row, switch_tree}
+use Rattle.syntax.specs.declared.statement as stated
+use Rattle.names.specs.Program.{Program}
+use Rattle.resolved.specs.Statements as seen
+use Rattle.resolved.specs.Statements.{BlockSeen, CaseSeen, CasesSeen, block_seen, case_seen}
+use Rattle.resolved.specs.declared.method.VarId.{VarId}
+use Rattle.resolved.specs.declared.statement.Awaited.{Awaited}
+use Rattle.resolved.specs.declared.statement.Block as found_block
+use Rattle.resolved.specs.declared.statement.Case as found_case
+use Rattle.resolved.specs.declared.statement.Mention.{Mention}
+use Rattle.resolving.specs.Binds.{binds_told}
+use Rattle.resolving.specs.Frames.{IsFrame}
+use Rattle.resolving.specs.Locals.{Frame}
+use Rattle.resolving.specs.Steps.{IsTold}
+use Rattle.resolving.specs.Told.{Told, Staying, made, ended, behind_case, awaited_as, awaited_message, awaited_params, case_endpoint, case_told, cases_told, statements_told}
+use Rattle.resolving.specs.declared.locals.Locals.{Locals}
+use Rattle.resolving.proofs.SeenTwins.{case_made}
+use Rattle.resolving.proofs.StatementTwins.{case_is, switch_is}
+
+-- what a case binds, and the frame behind it
+abbrev pub bound_in : Program → stated.Case.Case → Frame → Told (List VarId)
+bound_in p case f = binds_told p (awaited_params (awaited_message p f case.endpoint case.message)) case.binds.items f
+
+-- a case, part by part
+pub case_ends : (p : Program) (class : ℕ) (stays : Staying) (behind : Place) (f : Frame) (case : stated.Case.Case) (endpoint : Mention) (awaited : Awaited) (bound : Vec VarId Global) (body : found_block.Block) (l : Locals)
+    → (let m = awaited_message p f case.endpoint case.message in let t = statements_told p class stays (statement_row (map statement_tree case.statements.items)) (bound_in p case f).frame in
+    endpoint ≡ case_endpoint p f case.endpoint → awaited ≡ awaited_as case.message m → bound.items ≡ (bound_in p case f).what → IsTold p.text (ended behind f t) (block_seen body) l
+    → IsTold p.text (case_told p class stays behind (case_tree case) f) (case_seen (found_case.roll-Case (record { endpoint = endpoint; awaited = awaited; bound = bound; body = body }))) l)
+case_ends p class stays behind f case endpoint awaited bound body l at waits binds told =
+    let m = awaited_message p f case.endpoint case.message in
+    let whole = case_seen (found_case.roll-Case (record { endpoint = endpoint; awaited = awaited; bound = bound; body = body })) in
+    let first = (bound_in p case f).what in
+    subst (λ k. IsTold p.text (case_told p class stays behind k f) whole l) (sym (case_is case)) (record {
+      is = case_made endpoint awaited bound body ∙ ap (λ e. seen.Case e awaited bound.items (block_seen body)) at ∙ ap (λ w. seen.Case (case_endpoint p f case.endpoint) w bound.items (block_seen body)) waits
+          ∙ ap (λ b. seen.Case (case_endpoint p f case.endpoint) (awaited_as case.message m) b (block_seen body)) binds ∙ ap (seen.Case (case_endpoint p f case.endpoint) (awaited_as case.message m) first) told.is;
+      frame = told.frame;
+    })
+
+-- cases in front of others
+abbrev pub cases_before : List CaseSeen → CasesSeen → CasesSeen
+cases_before [] rest = rest
+cases_before (c ∷ cs) rest = seen.MoreCases c (cases_before cs rest)
+
+before_more : (done : List CaseSeen) (c : CaseSeen) (rest : CasesSeen) → cases_before (done ++ c ∷ []) rest ≡ cases_before done (seen.MoreCases c rest)
+before_more [] c rest = refl
+before_more (d ∷ done) c rest = ap (seen.MoreCases d) (before_more done c rest)
+
+before_none : (done : List CaseSeen) → cases_before done seen.NoCase ≡ seen.case_row done
+before_none [] = refl
+before_none (d ∷ done) = ap (seen.MoreCases d) (before_none done)
+
+-- so many cases are told; this one is next, and then the rest
+pub record CasesGo (p : Program) (class : ℕ) (stays : Staying) (close : Place) (f : Frame) (all : CaseTrees) (done : List CaseSeen) (next : CaseTree) (rest : CaseTrees) (l : Locals) : Type 0 where
+  pub here : Frame
+  pub stands : IsFrame p.text here l
+  pub whole : cases_told p class stays all close f ≡ made (cases_before done) (cases_told p class stays (trees.MoreCases next rest) close here)
+
+case_then : (p : Program) (class : ℕ) (stays : Staying) (close : Place) (f : Frame) (all : CaseTrees) (done : List CaseSeen) (next : CaseTree) (after : CaseTree) (rest : CaseTrees) (l m : Locals) (x : CaseSeen)
+    → CasesGo p class stays close f all done next (trees.MoreCases after rest) l
+    → ((g : Frame) → IsFrame p.text g l → IsTold p.text (case_told p class stays (behind_case (trees.MoreCases after rest) close) next g) x m)
+    → CasesGo p class stays close f all (done ++ x ∷ []) after rest m
+case_then p class stays close f all done next after rest l m x go tell =
+    let told = tell go.here go.stands in
+    let t = case_told p class stays (behind_case (trees.MoreCases after rest) close) next go.here in
+    let more = cases_told p class stays (trees.MoreCases after rest) close t.frame in
+    record {
+      here = t.frame;
+      stands = told.frame;
+      whole = go.whole ∙ ap (λ y. made (λ w. cases_before done (seen.MoreCases y w)) more) (sym told.is) ∙ ap (λ (w : CasesSeen). record { what = w; frame = more.frame }) (sym (before_more done x more.what));
+    }
+
+token_behind : (case : stated.Case.Case) (rest : CaseTrees) (close : Place) → behind_case (trees.MoreCases (case_tree case) rest) close ≡ case.word.place
+token_behind case rest close = ap (λ c. behind_case (trees.MoreCases c rest) close) (case_is case)
+
+-- no case is told yet
+pub cases_start : (p : Program) (class : ℕ) (stays : Staying) (close : Place) (f : Frame) (first : CaseTree) (rest : CaseTrees) (l : Locals) → IsFrame p.text f l → CasesGo p class stays close f (trees.MoreCases first rest) [] first rest l
+cases_start p class stays close f first rest l h = record { here = f; stands = h; whole = refl }
+
+-- one more case is told, behind which the next one stands
+pub cases_more : (p : Program) (class : ℕ) (stays : Staying) (close : Place) (f : Frame) (all : CaseTrees) (done : List found_case.Case) (next : CaseTree) (others : List stated.Case.Case) (i : ℕ) (after : stated.Case.Case) (l m : Locals) (x : found_case.Case)
+    → i < length others → after ≡ get_or others i after → CasesGo p class stays close f all (map case_seen done) next (case_row (map case_tree (drop i others))) l
+    → ((g : Frame) → IsFrame p.text g l → IsTold p.text (case_told p class stays after.word.place next g) (case_seen x) m)
+    → CasesGo p class stays close f all (map case_seen (done ++ x ∷ [])) (case_tree after) (case_row (map case_tree (drop (i + 1) others))) m
+cases_more p class stays close f all done next others i after l m x lt is go tell =
+    let seen_so : List CaseSeen = map case_seen done in
+    let rest : CaseTrees = case_row (map case_tree (drop (i + 1) others)) in
+    let row : case_row (map case_tree (drop i others)) ≡ trees.MoreCases (case_tree after) rest
+    = ap (λ cs. case_row (map case_tree cs)) (drop-cons others i after lt ∙ ap (λ k. k ∷ drop (suc i) others) (sym is) ∙ ap (λ k. after ∷ drop k others) (sym (add-one i))) in
+    subst (λ cs. CasesGo p class stays close f all cs (case_tree after) rest m) (sym (map-append case_seen done (x ∷ [])))
+    (case_then p class stays close f all seen_so next (case_tree after) rest l m (case_seen x) (subst (λ cs. CasesGo p class stays close f all seen_so next cs l) row go)
+    (λ g here. subst (λ k. IsTold p.text (case_told p class stays k next g) (case_seen x) m) (sym (token_behind after rest close)) (tell g here)))
+
+-- the last case is told, behind which the switch ends
+pub cases_end : (p : Program) (class : ℕ) (stays : Staying) (close : Place) (f : Frame) (all : CaseTrees) (done : List found_case.Case) (next : CaseTree) (others : List stated.Case.Case) (i : ℕ) (l m : Locals) (x : found_case.Case)
+    → length others ≤ i → CasesGo p class stays close f all (map case_seen done) next (case_row (map case_tree (drop i others))) l
+    → ((g : Frame) → IsFrame p.text g l → IsTold p.text (case_told p class stays close next g) (case_seen x) m)
+    → IsTold p.text (cases_told p class stays all close f) (seen.case_row (map case_seen (done ++ x ∷ []))) m
+cases_end p class stays close f all done next others i l m x le go tell =
+    let seen_so : List CaseSeen = map case_seen done in
+    let none : case_row (map case_tree (drop i others)) ≡ trees.NoCase = ap (λ cs. case_row (map case_tree cs)) (drop_all i others le) in
+    let last = subst (λ cs. CasesGo p class stays close f all seen_so next cs l) none go in
+    let told = tell last.here last.stands in
+    let t = case_told p class stays close next last.here in
+    subst (λ w. IsTold p.text w (seen.case_row (map case_seen (done ++ x ∷ []))) m) (sym last.whole) (record {
+      is = ap seen.case_row (map-append case_seen done (x ∷ [])) ∙ sym (before_none (seen_so ++ case_seen x ∷ [])) ∙ before_more seen_so (case_seen x) seen.NoCase ∙ ap (λ y. cases_before seen_so (seen.MoreCases y seen.NoCase)) told.is;
+      frame = told.frame;
+    })
+
+-- the cases of a switch in memory, and in a row
+pub switch_cases : (p : Program) (class : ℕ) (stays : Staying) (f : Frame) (s : stated.Switch.Switch)
+    → (let parts = stated.Switch.out-Switch s in cases_told p class stays (trees.MoreCases (switch_tree s).first (case_row (switch_tree s).others)) (switch_tree s).close.place f
+    ≡ cases_told p class stays (trees.MoreCases (case_tree parts.first) (case_row (map case_tree parts.others.items))) parts.close.place f)
+switch_cases p class stays f s = ap (λ (t : SwitchTree). cases_told p class stays (trees.MoreCases t.first (case_row t.others)) t.close.place f) (switch_is s)
+
+-- the first case of a switch is less deep than the switch
+pub first_inside : (s : stated.Switch.Switch) → stated.Case.size-Case (stated.Switch.out-Switch s).first < stated.Switch.size-Switch s
+first_inside s = let deep = stated.Switch.size_is-Switch s in omega (arith, deep)
+
+-- and so is each further one
+pub other_inside : (s : stated.Switch.Switch) (i : ℕ) (c : stated.Case.Case) → (let others = (stated.Switch.out-Switch s).others.items in i < length others → c ≡ get_or others i c → stated.Case.size-Case c < stated.Switch.size-Switch s)
+other_inside s i c lt is =
+    let others = (stated.Switch.out-Switch s).others.items in
+    let deep = stated.Switch.size_is-Switch s in
+    let less = at_most stated.Case.size-Case others i c lt in
+    let same = ap stated.Case.size-Case is in
+    omega (arith, deep, less, same)

@@ -1,0 +1,34 @@
+-- What is sent with a message.
+use Rattle.std.proofs.Common.{◌≡◌, ℕ, ◌+◌, ◌<◌, List, [], ◌∷◌, ◌++◌, length, map, take, get_or, sym, ap, ◌∙◌, append-nil}
+use Rattle.std.proofs.lemmas.Grind.{flat_map-append}
+use Rattle.std.proofs.lemmas.List.{take_more, map-append}
+use Rattle.source.specs.declared.place.Place.{Place}
+use Rattle.syntax.specs.Expressions.{ExpressionTree}
+use Rattle.syntax.specs.ExpressionTrees.{expression_tree}
+use Rattle.syntax.specs.declared.expression.Expression.{Expression}
+use Rattle.names.specs.Program.{Program}
+use Rattle.names.specs.declared.resolved.MessageId.{MessageId}
+use Rattle.resolved.specs.Statements.{SendSeen}
+use Rattle.resolved.specs.declared.statement.Mention.{Mention}
+use Rattle.resolving.specs.Locals.{Frame}
+use Rattle.resolving.specs.Reads.{listed}
+use Rattle.resolving.specs.Told.{lone, payloads}
+
+-- one argument more
+pub payloads_more : (p : Program) (own : ℕ) (f : Frame) (es : List Expression) (n : ℕ) (e : Expression) → n < length es → e ≡ get_or es n e
+    → payloads p own f (map expression_tree (take (n + 1) es)) ≡ payloads p own f (map expression_tree (take n es)) ++ listed (lone p own f (expression_tree e))
+payloads_more p own f es n e lt is =
+    let sends = λ (x : ExpressionTree). listed (lone p own f x) in
+    let so = payloads p own f (map expression_tree (take n es)) in
+    ap (λ (xs : List Expression). payloads p own f (map expression_tree xs)) (take_more es n e lt ∙ ap (λ x. take n es ++ x ∷ []) (sym is))
+    ∙ ap (payloads p own f) (map-append expression_tree (take n es) (e ∷ []))
+    ∙ flat_map-append sends (map expression_tree (take n es)) (expression_tree e ∷ [])
+    ∙ ap (λ l. so ++ l) (append-nil (sends (expression_tree e)))
+
+-- the parts of a send
+abbrev pub send_with : List Mention → Place → Mention → MessageId → List Mention → SendSeen
+send_with reads place endpoint message payloads = record { reads = reads; place = place; endpoint = endpoint; message = message; payloads = payloads }
+
+-- sends of the same parts
+pub same_send : (place : Place) (endpoint : Mention) (message : MessageId) (r s a b : List Mention) → r ≡ s → a ≡ b → send_with r place endpoint message a ≡ send_with s place endpoint message b
+same_send place endpoint message r s a b reads given = ap (λ l. send_with l place endpoint message a) reads ∙ ap (send_with s place endpoint message) given

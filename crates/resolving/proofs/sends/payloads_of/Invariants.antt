@@ -1,0 +1,12 @@
+use Rattle.std.proofs.Common.{◌≡◌, ℕ, List, map, take}
+use Rattle.syntax.specs.ExpressionTrees.{expression_tree}
+use Rattle.syntax.specs.Trees.{ItemTree}
+use Rattle.resolving.specs.Around.{program_in}
+use Rattle.resolving.specs.Frames.{IsFrame}
+use Rattle.resolving.specs.Locals.{Frame}
+use Rattle.resolving.specs.Told.{payloads}
+use Rattle.resolving.proofs.sends.payloads_of.Given as goal
+
+abbrev pub invariant-loop-argument : goal.invariant-loop-argument
+invariant-loop-argument l = (items : List ItemTree) (own : ℕ) (f : Frame) → IsFrame l.tokens.text.items f l.locals
+    → l.payloads.items ≡ payloads (program_in l.tokens.text.items items) own f (map expression_tree (take l.argument-index l.arguments))

@@ -1,0 +1,67 @@
+-- What types hold, with a number for each of their names.
+use Rattle.std.specs.Prelude.{ℕ, Option, None, Some, option_map, option_and_then, slice_get}
+use Rattle.std.specs.Option.{option_map_or}
+use Rattle.source.specs.declared.token.Span.{Span}
+use Rattle.syntax.specs.Trees.{contracts_of}
+use Rattle.syntax.specs.declared.tree as tree
+use Rattle.syntax.specs.declared.tree.Heap.TheVariants as heap
+use Rattle.syntax.specs.declared.tree.Side.{Side}
+use Rattle.syntax.specs.declared.tree.Type.TheVariants as type
+use Rattle.names.specs.Kinds.{type_kind}
+use Rattle.names.specs.Places.{contract_place, state_place}
+use Rattle.names.specs.Program.{Program}
+use Rattle.names.specs.Resolution.{ContractSeen, resolved_contracts}
+use Rattle.names.specs.declared.kinds as names
+use Rattle.names.specs.declared.kinds.Kind.TheVariants as name
+use Rattle.names.specs.declared.resolved.ContractId.{ContractId}
+use Rattle.names.specs.declared.resolved.StateId.{StateId}
+use Rattle.resolved.specs.declared.kind.Kind.{Kind}
+use Rattle.resolved.specs.declared.kind.Kind.TheVariants.{Struct, Array, Endpoint}
+use Rattle.resolving.specs.Counts.{contracts_before, structs_before}
+
+-- the contract that is the item at this place, with its names resolved
+abbrev pub contract_at : Program → ℕ → Option ContractSeen
+contract_at p n = slice_get (resolved_contracts p.text (contracts_of p.items)) (contracts_before p.items n)
+
+-- the number of the state of this name
+abbrev pub named_state : Program → ℕ → ContractSeen → Span → Option StateId
+named_state p n c name = option_map (λ s. s.id) (option_and_then (slice_get c.parts.states) (state_place p n name))
+
+-- the state that is written, or else the first one of the contract
+abbrev pub state_of : Program → ℕ → ContractSeen → Option Span → StateId
+state_of p n c state = option_map_or (λ s. s) (option_and_then (named_state p n c) state) c.parts.first
+
+abbrev pub contract_number : Program → ℕ → ContractId
+contract_number p n = record { 0 = contracts_before p.items n }
+
+-- the number of the contract of this name
+abbrev pub number_at : Program → ℕ → Option ContractId
+number_at p n = option_map (λ c. contract_number p n) (contract_at p n)
+
+abbrev pub contract_named : Program → Span → Option ContractId
+contract_named p name = option_and_then (number_at p) (contract_place p name)
+
+abbrev pub endpoint_held : Program → ℕ → Side → Option Span → Option Kind
+endpoint_held p n side state = option_map (λ c. Endpoint (contract_number p n) side (state_of p n c state)) (contract_at p n)
+
+-- what a variable of this kind holds, where it is of the exchange heap
+abbrev pub kind_held : Program → names.Kind.Kind → Option Span → Option Kind
+kind_held p (name.Pointer n) state = option_map (λ i. Struct (record { 0 = structs_before p.items n })) (slice_get p.items n)
+kind_held p (name.Array element) state = Some (Array element)
+kind_held p (name.Endpoint n side) state = endpoint_held p n side state
+kind_held p (name.Scalar s) state = None
+kind_held p name.Missing state = None
+kind_held p name.Unknown state = None
+
+-- the state that a type names
+abbrev pub state_in : tree.Type.Type → Option Span
+state_in (type.Heap (heap.Endpoint contract side state bang in_heap)) = state
+state_in _ = None
+
+-- what a variable of this type holds
+abbrev pub type_held : Program → tree.Type.Type → Option Kind
+type_held p t = kind_held p (type_kind p t) (state_in t)
+
+-- what a method gives, where it is of the exchange heap
+abbrev pub result_held : Program → Option tree.Type.Type → Option Kind
+result_held p t = option_and_then (type_held p) t

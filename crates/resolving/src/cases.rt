@@ -1,0 +1,174 @@
+//! The heads of cases: what they wait for, and what they bind.
+
+ghost use Rattle.std.specs.Prelude.{◌≡◌, ◌++◌, ℕ, List, IfOk, OnOk, option_map, slice_get};
+ghost use Rattle.syntax.specs.Trees.{ItemTree};
+ghost use Rattle.names.specs.Cases.{brought_kind};
+ghost use Rattle.names.specs.Program.{Program};
+ghost use Rattle.resolving.specs.Around.{IsAround, meant_seen, program_in};
+ghost use Rattle.resolving.specs.Binds as model;
+ghost use Rattle.resolving.specs.Frames.{IsFrame, number_seen};
+ghost use Rattle.resolving.specs.Locals.{Frame};
+ghost use Rattle.resolving.specs.Steps.{IsBound, IsTold};
+ghost use Rattle.resolving.specs.Told as told;
+
+use crate::around::Around;
+use crate::kinds::{kind_held, type_held};
+use crate::locals::{Declaration, Locals};
+use crate::messages::{Meant, message_named};
+use names::MessageId;
+use resolved::{Awaited, Mention, Role, VarId};
+use source::{Span, Tokens};
+use std::alloc::{AllocError, Global};
+use syntax::{Bind, Param};
+
+/// The endpoint of a case.
+pub(crate) fn case_endpoint(tokens: &Tokens, locals: &Locals<'_>, name: Span) -> Mention
+    ensures { (items : List ItemTree) (f : Frame) → IsFrame tokens.now.text.items f locals.now → result ≡ told.case_endpoint (program_in tokens.now.text.items items) f name }
+{
+    match locals.mention(tokens, name) {
+        Some(mention) => mention,
+        None => Mention {
+            variable: VarId(0),
+            place: name.place,
+        },
+    }
+}
+
+/// The message that a case waits for.
+pub(crate) fn awaited_message<'a>(
+    tokens: &Tokens,
+    around: &Around<'_, 'a>,
+    locals: &Locals<'_>,
+    name: Span,
+    awaited: syntax::Awaited,
+) -> Option<Meant<'a>>
+    ensures { (items : List ItemTree) (own : ℕ) (f : Frame) → IsAround (program_in tokens.now.text.items items) own around.now → IsFrame tokens.now.text.items f locals.now → option_map meant_seen result ≡ told.awaited_message (program_in tokens.now.text.items items) f name awaited }
+{
+    let syntax::Awaited::Message(word) = awaited else {
+        return None;
+    };
+    let contract = locals.contract(tokens, name)?;
+    message_named(around, contract, word)
+}
+
+/// What a case waits for, with the number of its message.
+pub(crate) fn awaited_as(awaited: syntax::Awaited, meant: Option<Meant<'_>>) -> Awaited
+    ensures { result ≡ told.awaited_as awaited (option_map meant_seen meant.entry) }
+{
+    match awaited {
+        syntax::Awaited::Message(_) => Awaited::Message(number_of(meant)),
+        syntax::Awaited::Closed(_) => Awaited::Closed,
+    }
+}
+
+/// The number of a message, and 0 where there is none.
+fn number_of(meant: Option<Meant<'_>>) -> MessageId
+    ensures { result ≡ told.meant_number (option_map meant_seen meant.entry) }
+{
+    match meant {
+        Some(meant) => meant.id,
+        None => MessageId(0),
+    }
+}
+
+/// The parameters whose values a case binds.
+pub(crate) fn awaited_params<'a>(meant: Option<Meant<'a>>) -> &'a [Param]
+    ensures { result.now ≡ told.awaited_params (option_map meant_seen meant.entry) }
+{
+    match meant {
+        Some(meant) => &meant.message.params,
+        None => &[],
+    }
+}
+
+/// The kind of a name that a case binds without a type, for this parameter, if there is one.
+fn brought_kind(around: &Around<'_, '_>, param: Option<&Param>) -> names::Kind
+    ensures { (p : Program) (own : ℕ) → IsAround p own around.now → result ≡ brought_kind p (option_map (λ x. x.now) param.entry) }
+{
+    match param {
+        Some(param) => around.scope.kind(param.kind),
+        None => names::Kind::Unknown,
+    }
+}
+
+/// What a case declares by a name that it binds for this parameter, if there is one.
+fn bind_declaration(around: &Around<'_, '_>, param: Option<&Param>, bind: Bind) -> Declaration
+    ensures { (p : Program) (own : ℕ) → IsAround p own around.now → result ≡ model.bind_declaration p (option_map (λ x. x.now) param.entry) bind }
+{
+    let name = bind.name;
+    let role = Role::Local;
+    match bind.kind {
+        Some(written) => Declaration {
+            name,
+            kind: around.scope.kind(written),
+            held: type_held(around, written),
+            role,
+        },
+        None => {
+            let kind = brought_kind(around, param);
+            let held = kind_held(around, kind, None);
+            Declaration {
+                name,
+                kind,
+                held,
+                role,
+            }
+        }
+    }
+}
+
+/// Adds the number of a variable, if it is of the exchange heap.
+fn add_number(number: Option<VarId>, bound: &mut Vec<VarId>) -> Result<(), AllocError>
+    ensures { OnOk result (bound.new.items ≡ bound.old.items ++ model.one_number (number_seen number)) }
+{
+    if let Some(number) = number {
+        bound.push(number)?;
+    }
+    Ok(())
+}
+
+/// Brings what a case binds for this parameter, if there is one, into scope. Its number is added, where it is of the exchange
+/// heap.
+fn declare_bind<'a>(
+    alloc: Global,
+    tokens: &'a Tokens,
+    around: &Around<'_, '_>,
+    locals: &mut Locals<'a>,
+    param: Option<&Param>,
+    bind: Bind,
+    bound: &mut Vec<VarId>,
+) -> Result<(), AllocError>
+    ensures { (items : List ItemTree) (own : ℕ) (f : Frame) → IsAround (program_in tokens.now.text.items items) own around.now → IsFrame tokens.now.text.items f locals.old → OnOk result (IsBound tokens.now.text.items bound.old.items bound.new.items locals.new (model.bind_told (program_in tokens.now.text.items items) (option_map (λ x. x.now) param.entry) bind f)) }
+{
+    let declaration = bind_declaration(around, param, bind);
+    let number = locals.next_number(declaration.held);
+    add_number(number, bound)?;
+    locals.declare(alloc, tokens, declaration)
+}
+
+/// The parameter at this place, if there is one.
+fn param_at(params: &[Param], place: usize) -> Option<&Param>
+    ensures { option_map (λ x. x.now) result ≡ slice_get params.now place }
+{
+    params.get(place)
+}
+
+/// Brings what a case binds into scope, for these parameters as far as they reach. The answer is the numbers of those of the
+/// exchange heap.
+pub(crate) fn declare_binds<'a>(
+    alloc: Global,
+    tokens: &'a Tokens,
+    around: &Around<'_, '_>,
+    locals: &mut Locals<'a>,
+    params: &[Param],
+    binds: &[Bind],
+) -> Result<Vec<VarId>, AllocError>
+    ensures { (items : List ItemTree) (own : ℕ) (f : Frame) → IsAround (program_in tokens.now.text.items items) own around.now → IsFrame tokens.now.text.items f locals.old → IfOk result (λ bound. IsTold tokens.now.text.items (model.binds_told (program_in tokens.now.text.items items) params.now binds.now f) bound.items locals.new) }
+{
+    let mut bound = Vec::new(alloc);
+    for (place, bind) in binds.iter().enumerate() {
+        let param = param_at(params, place);
+        declare_bind(alloc, tokens, around, locals, param, *bind, &mut bound)?;
+    }
+    Ok(bound)
+}

@@ -1,0 +1,139 @@
+//! What types hold, with a number for each of their names.
+
+ghost use Rattle.std.specs.Prelude.{◌≡◌, ℕ, None, option_map};
+ghost use Rattle.names.specs.Program.{Program};
+ghost use Rattle.names.specs.Resolution.{contract_seen};
+ghost use Rattle.names.specs.declared.kinds.Kind.TheVariants.{Pointer};
+ghost use Rattle.resolving.specs.Around.{IsAround};
+ghost use Rattle.resolving.specs.Kinds as model;
+
+use crate::around::Around;
+use names::{Contract, ContractId, StateId};
+use resolved::{Kind, StructId};
+use source::Span;
+use syntax::{Heap, Side, Type};
+
+/// The contract that is the item at this place.
+pub(crate) fn contract_at<'s>(around: &Around<'s, '_>, place: usize) -> Option<&'s Contract>
+    ensures { (p : Program) (own : ℕ) → IsAround p own around.now → option_map (λ c. contract_seen c.now) result ≡ model.contract_at p place }
+{
+    let before = around.before.get(place)?;
+    around.resolved.contracts.get(before.contracts)
+}
+
+/// The number of the contract that is the item at this place, if it is one.
+fn contract_number(around: &Around<'_, '_>, place: usize) -> Option<ContractId>
+    ensures { (p : Program) (own : ℕ) → IsAround p own around.now → result ≡ model.number_at p place }
+{
+    let before = around.before.get(place)?;
+    let _contract = around.resolved.contracts.get(before.contracts)?;
+    Some(ContractId(before.contracts as u32))
+}
+
+/// The number of the contract of this name.
+pub(crate) fn contract_named(around: &Around<'_, '_>, name: Span) -> Option<ContractId>
+    ensures { (p : Program) (own : ℕ) → IsAround p own around.now → result ≡ model.contract_named p name }
+{
+    let place = around.scope.contract_place(name)?;
+    contract_number(around, place)
+}
+
+/// The number of the state of this name.
+fn named_state(
+    around: &Around<'_, '_>,
+    place: usize,
+    contract: &Contract,
+    name: Span,
+) -> Option<StateId>
+    ensures { (p : Program) (own : ℕ) → IsAround p own around.now → result ≡ model.named_state p place (contract_seen contract.now) name }
+{
+    let at = around.scope.state_place(place, name)?;
+    let state = contract.states.get(at)?;
+    Some(state.id)
+}
+
+/// The state that is written, or else the first one of the contract.
+fn state_of(
+    around: &Around<'_, '_>,
+    place: usize,
+    contract: &Contract,
+    state: Option<Span>,
+) -> StateId
+    ensures { (p : Program) (own : ℕ) → IsAround p own around.now → result ≡ model.state_of p place (contract_seen contract.now) state }
+{
+    let Some(name) = state else {
+        return contract.first;
+    };
+    match named_state(around, place, contract, name) {
+        Some(number) => number,
+        None => contract.first,
+    }
+}
+
+/// What an end of a channel holds.
+fn endpoint_held(
+    around: &Around<'_, '_>,
+    place: usize,
+    side: Side,
+    state: Option<Span>,
+) -> Option<Kind>
+    ensures { (p : Program) (own : ℕ) → IsAround p own around.now → result ≡ model.endpoint_held p place side state }
+{
+    let number = contract_number(around, place)?;
+    let contract = contract_at(around, place)?;
+    Some(Kind::Endpoint {
+        contract: number,
+        side,
+        state: state_of(around, place, contract, state),
+    })
+}
+
+/// A struct that is the item at this place.
+fn struct_held(around: &Around<'_, '_>, place: usize) -> Option<Kind>
+    ensures { (p : Program) (own : ℕ) → IsAround p own around.now → result ≡ model.kind_held p (Pointer place) None }
+{
+    let before = around.before.get(place)?;
+    Some(Kind::Struct(StructId(before.structs)))
+}
+
+/// What a variable of this kind holds, where it is of the exchange heap. A type that names a state names this one.
+pub(crate) fn kind_held(
+    around: &Around<'_, '_>,
+    kind: names::Kind,
+    state: Option<Span>,
+) -> Option<Kind>
+    ensures { (p : Program) (own : ℕ) → IsAround p own around.now → result ≡ model.kind_held p kind state }
+{
+    match kind {
+        names::Kind::Pointer(place) => struct_held(around, place),
+        names::Kind::Array(element) => Some(Kind::Array(element)),
+        names::Kind::Endpoint(place, side) => endpoint_held(around, place, side, state),
+        names::Kind::Scalar(_) => None,
+        names::Kind::Missing => None,
+        names::Kind::Unknown => None,
+    }
+}
+
+/// The state that a type names.
+fn state_in(kind: Type) -> Option<Span>
+    ensures { result ≡ model.state_in kind }
+{
+    match kind {
+        Type::Heap(Heap::Endpoint { state, .. }) => state,
+        _ => None,
+    }
+}
+
+/// What a variable of this type holds, where it is of the exchange heap.
+pub(crate) fn type_held(around: &Around<'_, '_>, kind: Type) -> Option<Kind>
+    ensures { (p : Program) (own : ℕ) → IsAround p own around.now → result ≡ model.type_held p kind }
+{
+    kind_held(around, around.scope.kind(kind), state_in(kind))
+}
+
+/// What a method gives, where it is of the exchange heap.
+pub(crate) fn result_held(around: &Around<'_, '_>, kind: Option<Type>) -> Option<Kind>
+    ensures { (p : Program) (own : ℕ) → IsAround p own around.now → result ≡ model.result_held p kind }
+{
+    type_held(around, kind?)
+}

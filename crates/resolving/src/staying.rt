@@ -1,0 +1,68 @@
+//! What stays in scope where a block, a loop or a switch is left, and what does not.
+
+ghost use Rattle.std.specs.Prelude.{◌≡◌, ℕ, List};
+ghost use Rattle.resolving.specs.Frames.{IsFrame, number_seen, staying_seen};
+ghost use Rattle.resolving.specs.Locals.{Frame, forget};
+ghost use Rattle.resolving.specs.Told.{left, outside, in_loop, in_switch};
+
+use crate::locals::Locals;
+use resolved::{Forget, VarId};
+use source::Place;
+
+/// The last variable of the exchange heap in scope that stays at a `break`, and at a `continue`: what is declared behind it goes
+/// out of scope.
+#[derive(Clone, Copy, Debug)]
+pub(crate) struct Staying {
+    pub(crate) at_break: Option<VarId>,
+    pub(crate) at_continue: Option<VarId>,
+}
+
+impl Staying {
+    /// Outside of loops and switches.
+    pub(crate) fn outside() -> Staying
+        ensures { staying_seen result ≡ outside }
+    {
+        Staying {
+            at_break: None,
+            at_continue: None,
+        }
+    }
+
+    /// In a loop before which this variable is the last in scope.
+    pub(crate) fn in_loop(last: Option<VarId>) -> Staying
+        ensures { (f : Frame) → number_seen last ≡ f.last → staying_seen result ≡ in_loop f }
+    {
+        Staying {
+            at_break: last,
+            at_continue: last,
+        }
+    }
+
+    /// In a switch before which this variable is the last in scope.
+    pub(crate) fn in_switch(self, last: Option<VarId>) -> Staying
+        ensures { (f : Frame) → number_seen last ≡ f.last → staying_seen result ≡ in_switch (staying_seen self) f }
+    {
+        Staying {
+            at_break: last,
+            at_continue: self.at_continue,
+        }
+    }
+}
+
+/// What goes out of scope where the first of these is the last variable that stays, and the second the last that is there.
+pub(crate) fn forgetting(place: Place, outer: Option<VarId>, last: Option<VarId>) -> Option<Forget>
+    ensures { result ≡ forget place (number_seen outer) (number_seen last) }
+{
+    let last = last?;
+    if outer == Some(last) {
+        return None;
+    }
+    Some(Forget { place, last, outer })
+}
+
+/// What goes out of scope at a `break` or a `continue`, where this variable is the last that stays.
+pub(crate) fn leaving(locals: &Locals<'_>, place: Place, stays: Option<VarId>) -> Option<Forget>
+    ensures { (text : List ℕ) (f : Frame) → IsFrame text f locals.now → result ≡ left place (number_seen stays) f }
+{
+    forgetting(place, stays, locals.last())
+}
