@@ -20,7 +20,8 @@ use Rattle.resolving.specs.Frames.{IsFrame, number_seen}
 use Rattle.resolving.specs.Locals.{Frame, number_of, forget}
 use Rattle.resolving.specs.Reads.{reads, ways}
 use Rattle.resolving.specs.Steps.{IsTold, walked}
-use Rattle.resolving.specs.Told.{Told, Staying, follow, made, ended, plain_told, frame_behind, block_told, statement_told, test_told, others_told}
+use Rattle.resolving.specs.Plain.{plain_told, frame_behind}
+use Rattle.resolving.specs.Told.{Told, Staying, follow, made, ended, block_told, statement_told, test_told, others_told}
 use Rattle.resolving.specs.declared.locals.Locals.{Locals}
 use Rattle.resolving.proofs.ScopeLemmas.{scoped}
 use Rattle.resolving.proofs.SeenTwins.{test_made}

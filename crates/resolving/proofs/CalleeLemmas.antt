@@ -30,7 +30,7 @@ use Rattle.resolving.specs.Callees.{Callee, methods_before, numbered, method_at}
 use Rattle.resolving.specs.Locals.{Frame}
 use Rattle.resolving.specs.Reads.{reads}
 use Rattle.resolving.specs.Steps.{AddsReads}
-use Rattle.resolving.specs.Told.{argument_reads, arguments, given, lone}
+use Rattle.resolving.specs.Plain.{argument_reads, arguments, given, lone}
 use Rattle.resolving.specs.declared.locals.Locals.{Locals}
 
 -- a class that is looked up by its place

@@ -1,47 +1,22 @@
--- Statements and targets in memory and as trees, a form at a time.
+-- Targets and resolved statements in memory and without it, a form at a time.
 use Rattle.std.proofs.Common.{◌≡◌, sym, ap, ◌∙◌, Box}
 use Rattle.std.specs.Global.{Global}
-use Rattle.std.specs.Prelude.{Option, option_map}
 use Rattle.source.specs.declared.token.Span.{Span}
 use Rattle.syntax.specs.Expressions as targets
 use Rattle.syntax.specs.Expressions.{LevelTree, StepOf, AtomTree, TargetTree}
 use Rattle.syntax.specs.ExpressionTrees.{expression_tree, target_tree, atom_of, target_of, conjunction_of, equality_of, equality_step_of, expression_of, relation_of, relation_step_of, sum_of, sum_step_of, term_of, unary_of}
 use Rattle.syntax.specs.Operators.{Joined, Single, Or, And, Equal, Compare, Add, Multiply}
-use Rattle.syntax.specs.StatementTrees as trees
-use Rattle.syntax.specs.StatementTrees.{StatementTree, BlockTree, CaseTree, IfTree, SwitchTree, TestTree, statement_tree, statement_step, block_step, case_step, if_step, switch_step, test_step, declare_tree, assign_tree}
-use Rattle.syntax.specs.Values.{call_tree}
 use Rattle.syntax.specs.declared.expression.Expression.{Expression}
 use Rattle.syntax.specs.declared.expression.Target as target_folds
 use Rattle.syntax.specs.declared.expression.Atom.TheOpen as target_layer
 use Rattle.syntax.specs.declared.expression.Target.TheVariants as target
-use Rattle.syntax.specs.declared.statement as made
-use Rattle.syntax.specs.declared.statement.Statement.TheOpen as layer
-use Rattle.syntax.specs.declared.statement.Statement.TheFolds as folds
-use Rattle.syntax.specs.declared.statement.Statement.TheVariants as variants
-use Rattle.syntax.specs.declared.value.Call.{Call}
 use Rattle.resolved.specs.Statements as seen
-use Rattle.resolved.specs.Statements.{StatementSeen, BlockSeen, CaseSeen, IfSeen, TestSeen, statement_seen, call_seen}
+use Rattle.resolved.specs.Statements.{StatementSeen, BlockSeen, CaseSeen, IfSeen, TestSeen, statement_seen, call_seen, send_seen}
 use Rattle.resolved.specs.declared.call.Call as resolved_call
+use Rattle.resolved.specs.declared.call.Send.{Send}
 use Rattle.resolved.specs.declared.statement.Statement.TheOpen as seen_layer
 use Rattle.resolved.specs.declared.statement.Statement.TheFolds as seen_folds
 use Rattle.resolved.specs.declared.statement.Statement.TheVariants as seen_variants
-
--- the forms of a statement
-
-pub of_declare : (d : made.Declare.Declare) → statement_tree (variants.Declare d) ≡ trees.Declare (declare_tree d)
-of_declare d = ap statement_tree (sym (variants.rolls-Declare d)) ∙ folds.fold-roll-Statement StatementTree BlockTree CaseTree IfTree SwitchTree TestTree statement_step block_step case_step if_step switch_step test_step (layer.Declare d)
-
-pub of_assign : (a : made.Assign.Assign) → statement_tree (variants.Assign a) ≡ trees.Assign (assign_tree a)
-of_assign a = ap statement_tree (sym (variants.rolls-Assign a)) ∙ folds.fold-roll-Statement StatementTree BlockTree CaseTree IfTree SwitchTree TestTree statement_step block_step case_step if_step switch_step test_step (layer.Assign a)
-
-pub of_call : (c : Call) → statement_tree (variants.Call c) ≡ trees.Call (call_tree c)
-of_call c = ap statement_tree (sym (variants.rolls-Call c)) ∙ folds.fold-roll-Statement StatementTree BlockTree CaseTree IfTree SwitchTree TestTree statement_step block_step case_step if_step switch_step test_step (layer.Call c)
-
-pub of_start : (word : Span) (c : Call) → statement_tree (variants.Start word c) ≡ trees.Start word (call_tree c)
-of_start word c = ap statement_tree (sym (variants.rolls-Start word c)) ∙ folds.fold-roll-Statement StatementTree BlockTree CaseTree IfTree SwitchTree TestTree statement_step block_step case_step if_step switch_step test_step (layer.Start word c)
-
-pub of_return : (word : Span) (value : Option Expression) → statement_tree (variants.Return word value) ≡ trees.Return word (option_map expression_tree value)
-of_return word value = ap statement_tree (sym (variants.rolls-Return word value)) ∙ folds.fold-roll-Statement StatementTree BlockTree CaseTree IfTree SwitchTree TestTree statement_step block_step case_step if_step switch_step test_step (layer.Return word value)
 
 -- the forms of a target
 
@@ -67,3 +42,6 @@ called_is c = ap statement_seen (sym (seen_variants.rolls-Call c)) ∙ seen_fold
 
 pub started_is : (c : resolved_call.Call) → statement_seen (seen_variants.Start c) ≡ seen.Start (call_seen c)
 started_is c = ap statement_seen (sym (seen_variants.rolls-Start c)) ∙ seen_folds.fold-roll-Statement StatementSeen BlockSeen CaseSeen IfSeen TestSeen seen.statement_step seen.block_step seen.case_step seen.if_step seen.test_step (seen_layer.Start c)
+
+pub sent_is : (s : Send) → statement_seen (seen_variants.Send s) ≡ seen.Send (send_seen s)
+sent_is s = ap statement_seen (sym (seen_variants.rolls-Send s)) ∙ seen_folds.fold-roll-Statement StatementSeen BlockSeen CaseSeen IfSeen TestSeen seen.statement_step seen.block_step seen.case_step seen.if_step seen.test_step (seen_layer.Send s)

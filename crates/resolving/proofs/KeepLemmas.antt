@@ -10,7 +10,8 @@ use Rattle.names.specs.Program.{Program}
 use Rattle.resolved.specs.declared.kind.Kind.{Kind}
 use Rattle.resolving.specs.Binds.{bind_declaration, bind_told, binds_told}
 use Rattle.resolving.specs.Locals.{Local, Frame, local_named, entered, declared, declared_as}
-use Rattle.resolving.specs.Told.{Staying, declaration_of, in_loop, in_switch, behind_case, statement_told, statements_told, block_told, test_told, others_told, case_told, cases_told}
+use Rattle.resolving.specs.Plain.{declaration_of}
+use Rattle.resolving.specs.Told.{Staying, in_loop, in_switch, behind_case, statement_told, statements_told, block_told, test_told, others_told, case_told, cases_told}
 use Rattle.resolving.specs.declared.locals.Declaration.{Declaration}
 
 -- the second has what is in scope in the first, and more behind it

@@ -15,7 +15,6 @@ pub mod FormTwins
 pub mod CountLemmas
 pub mod CalleeLemmas
 pub mod PlainLemmas
-pub mod SendTwins
 pub mod SendLemmas
 pub mod BindLemmas
 pub mod KindLemmas

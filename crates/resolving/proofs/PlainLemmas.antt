@@ -18,7 +18,7 @@ use Rattle.resolving.specs.Frames.{IsFrame}
 use Rattle.resolving.specs.Locals.{Frame, mention_of, number_of}
 use Rattle.resolving.specs.Reads.{reads}
 use Rattle.resolving.specs.Steps.{Tells, TellsCall}
-use Rattle.resolving.specs.Told.{told, lone, returned, assigned, first_value}
+use Rattle.resolving.specs.Plain.{told, lone, returned, assigned, first_value}
 use Rattle.resolving.specs.declared.locals.Locals.{Locals}
 
 -- an expression that is given is read, or is a variable of the exchange heap alone

@@ -12,7 +12,7 @@ use Rattle.resolved.specs.Statements.{SendSeen}
 use Rattle.resolved.specs.declared.statement.Mention.{Mention}
 use Rattle.resolving.specs.Locals.{Frame}
 use Rattle.resolving.specs.Reads.{listed}
-use Rattle.resolving.specs.Told.{lone, payloads}
+use Rattle.resolving.specs.Plain.{lone, payloads}
 
 -- one argument more
 pub payloads_more : (p : Program) (own : ℕ) (f : Frame) (es : List Expression) (n : ℕ) (e : Expression) → n < length es → e ≡ get_or es n e

@@ -6,6 +6,7 @@ pub mod Kinds
 pub mod Messages
 pub mod Pieces
 pub mod Binds
+pub mod Plain
 pub mod Told
 pub mod Around
 pub mod Unknown

@@ -1,202 +1,29 @@
--- What a statement comes to: what it reads, and what it does then, or the statements that it holds.
-use Rattle.std.specs.Prelude.{ℕ, List, [], ◌∷◌, ◌++◌, Option, Some, None, option_and_then, option_map}
-use Rattle.std.specs.List.{flat_map}
+-- What a statement comes to, with the statements that it holds.
+use Rattle.std.specs.Prelude.{ℕ, List, [], Option, None, option_and_then, option_map}
 use Rattle.std.specs.Option.{option_map_or}
 use Rattle.source.specs.declared.place.Place.{Place}
 use Rattle.source.specs.declared.token.Span.{Span}
-use Rattle.syntax.specs.Expressions as trees
-use Rattle.syntax.specs.Expressions.{TargetTree, ExpressionTree}
 use Rattle.syntax.specs.StatementTrees as stated
 use Rattle.syntax.specs.StatementTrees.{StatementTree, StatementTrees, BlockTree, TestTree, OtherTrees, DeclareTree, CaseTree, CaseTrees}
-use Rattle.syntax.specs.Values as values
-use Rattle.syntax.specs.Values.{ValueTree, CallTree, MadeTree}
-use Rattle.syntax.specs.declared.class as declared_class
 use Rattle.syntax.specs.declared.statement as statement
 use Rattle.syntax.specs.declared.statement.Awaited.TheVariants as waits
 use Rattle.syntax.specs.declared.tree as tree
 use Rattle.names.specs.Cases.{bound_params}
-use Rattle.names.specs.Kinds.{type_kind}
 use Rattle.names.specs.Program.{Program}
-use Rattle.names.specs.declared.resolved.ContractId.{ContractId}
 use Rattle.names.specs.declared.resolved.MessageId.{MessageId}
 use Rattle.resolved.specs.Statements as seen
 use Rattle.resolved.specs.Statements.{CallSeen, SendSeen, StatementSeen, StatementsSeen, BlockSeen, TestSeen, OthersSeen, CaseSeen, CasesSeen}
-use Rattle.resolved.specs.declared.call.Argument.{Argument}
-use Rattle.resolved.specs.declared.method.Role.TheVariants.{Local}
-use Rattle.resolved.specs.declared.statement.Action.{Action}
-use Rattle.resolved.specs.declared.statement.Action.TheVariants.{Nothing, Use, New, Move, Delete, NewChannel, Break, Continue, Return}
+use Rattle.resolved.specs.declared.statement.Action.TheVariants.{Break, Continue}
 use Rattle.resolved.specs.declared.statement.Awaited.{Awaited}
 use Rattle.resolved.specs.declared.statement.Awaited.TheVariants.{Message, Closed}
 use Rattle.resolved.specs.declared.statement.Forget.{Forget}
 use Rattle.resolved.specs.declared.statement.Mention.{Mention}
-use Rattle.resolving.specs.Locals.{Frame, mention, mention_of, declared, next_number, number_of, closed, forget}
-use Rattle.resolving.specs.Callees.{Callee, callee, called_name}
+use Rattle.resolving.specs.Locals.{Frame, mention, mention_of, closed, forget}
 use Rattle.resolving.specs.Binds.{binds_told}
-use Rattle.resolving.specs.Kinds.{contract_named, type_held}
-use Rattle.resolving.specs.Messages.{Meant, message_named, message_sent, end_contract}
+use Rattle.resolving.specs.Messages.{Meant, message_named, end_contract}
 pub use Rattle.resolving.specs.Pieces.{Told, made, follow}
-use Rattle.resolving.specs.Reads.{reads, lone_name, listed, ways}
-use Rattle.resolving.specs.declared.locals.Declaration.{Declaration}
-
--- a simple statement: what it reads, and what it does then
-abbrev pub told : List Mention → Action → StatementSeen
-told reads action = seen.Simple reads action
-
--- the target takes what the source has
-abbrev pub moved : Mention → Option Mention → Action
-moved target None = Nothing
-moved target (Some source) = Move target source
-
--- a field or an element is written
-abbrev pub used : Option Mention → Action
-used None = Nothing
-used (Some m) = Use m
-
-abbrev pub deleted : Option Mention → Action
-deleted None = Nothing
-deleted (Some m) = Delete m
-
--- what is given for a parameter: a variable of the exchange heap, if that is what stands there alone
-abbrev pub given : declared_class.Parameter.Parameter → Option Mention → List Argument
-given x None = []
-given x (Some m) = record { mention = m; claimed = x.claims } ∷ []
-
--- a declaration; its variable is in scope behind it
-abbrev pub declaration_of : Program → DeclareTree → Declaration
-declaration_of p d = record { name = d.name; kind = type_kind p d.kind; held = type_held p d.kind; role = Local }
-
--- the message that a call by two names sends, where the first one means an endpoint
-abbrev pub meant_by : Program → Frame → CallTree → Span → Option Meant
-meant_by p f c word = option_and_then (λ n. message_sent p n word) (end_contract p f.locals c.name)
-
-module _ (p : Program) (class : ℕ) (f : Frame) where
-  -- the name that an expression is alone, where it means a variable of the exchange heap
-  abbrev pub lone : ExpressionTree → Option Mention
-  lone e = option_and_then (mention p.text f.locals) (lone_name e)
-
-  -- what is given for each parameter of the exchange heap, in order
-  abbrev pub arguments : List declared_class.Parameter.Parameter → List ExpressionTree → List Argument
-  arguments [] es = []
-  arguments (x ∷ params) [] = []
-  arguments (x ∷ params) (e ∷ es) = given x (lone e) ++ arguments params es
-
-  -- what arguments read; those of the exchange heap are names alone, which read nothing
-  abbrev pub argument_reads : List ExpressionTree → List Mention
-  argument_reads es = flat_map (reads p.text f.locals) es
-
-  -- a call of this method
-  abbrev pub call_of : CallTree → Option Mention → List Mention → Callee → CallSeen
-  call_of c target behind m = record {
-    reads = argument_reads c.arguments;
-    place = (called_name c.name c.member).place;
-    method = record { 0 = m.number };
-    arguments = arguments m.method.params c.arguments;
-    target = target;
-    behind = behind;
-  }
-
-  -- a call, what takes what it gives, and what is used behind it
-  abbrev pub call_told : CallTree → Option Mention → List Mention → Option CallSeen
-  call_told c target behind = option_map (call_of c target behind) (callee p class f.locals c)
-
-  abbrev pub called : CallTree → Option Mention → List Mention → StatementSeen
-  called c target behind = option_map_or seen.Call (call_told c target behind) (told [] Nothing)
-
-  abbrev pub started : CallTree → StatementSeen
-  started c = option_map_or seen.Start (call_told c None []) (told [] Nothing)
-
-  -- what is given for the parameters of a message that are of the exchange heap, in order
-  abbrev pub payloads : List ExpressionTree → List Mention
-  payloads es = flat_map (λ e. listed (lone e)) es
-
-  -- a send of this message on this endpoint
-  abbrev pub send_of : Span → CallTree → Mention → Meant → SendSeen
-  send_of word c endpoint m = record { reads = argument_reads c.arguments; place = word.place; endpoint = endpoint; message = m.id; payloads = payloads c.arguments }
-
-  -- a call by two names that sends this message
-  abbrev pub sent : CallTree → Span → Meant → Option SendSeen
-  sent c word m = option_map (λ e. send_of word c e m) (mention p.text f.locals c.name)
-
-  abbrev pub sent_by : CallTree → Span → Option SendSeen
-  sent_by c word = option_and_then (sent c word) (meant_by p f c word)
-
-  -- a call that stands alone, where it is a send
-  abbrev pub send_told : CallTree → Option SendSeen
-  send_told c = option_and_then (sent_by c) c.member
-
-  -- a call that stands alone
-  abbrev pub stated_call : CallTree → StatementSeen
-  stated_call c = option_map_or seen.Send (send_told c) (called c None [])
-
-  -- two variables take the ends of a new channel of the contract of this number
-  abbrev pub channel_of : statement.NewChannel.NewChannel → ContractId → Option Action
-  channel_of n contract = option_and_then (λ v. option_map (NewChannel n.word.place contract v) (mention p.text f.locals n.second)) (mention p.text f.locals n.first)
-
-  abbrev pub channel_found : statement.NewChannel.NewChannel → Option Action
-  channel_found n = option_and_then (channel_of n) (contract_named p n.contract)
-
-  abbrev pub channel : statement.NewChannel.NewChannel → Action
-  channel n = option_map_or (λ a. a) (channel_found n) Nothing
-
-  -- the length of a new array is read
-  abbrev pub made_reads : MadeTree → List Mention
-  made_reads (values.Struct name left) = []
-  made_reads (values.Array element length) = reads p.text f.locals length
-
-  -- a variable of the exchange heap takes a value
-  abbrev pub taken : Mention → ValueTree → StatementSeen
-  taken target (values.Expression e) = told [] (moved target (lone e))
-  taken target (values.Call c) = called c (Some target) []
-  taken target (values.New n) = told (made_reads n.made) (New target)
-
-  -- a scalar takes a value
-  abbrev pub scalar_taken : ValueTree → StatementSeen
-  scalar_taken (values.Expression e) = told (reads p.text f.locals e) Nothing
-  scalar_taken (values.Call c) = called c None []
-  scalar_taken (values.New n) = told (made_reads n.made) Nothing
-
-  -- a variable takes a value: one of the exchange heap, or a scalar
-  abbrev pub assigned : Option Mention → ValueTree → StatementSeen
-  assigned None value = scalar_taken value
-  assigned (Some target) value = taken target value
-
-  -- A part of what a variable has takes a value. The index of an element is read before the value, and what is written into is
-  -- used behind both; behind a call, both stand behind it.
-  abbrev pub part_taken : List Mention → Option Mention → ValueTree → StatementSeen
-  part_taken index whole (values.Expression e) = told (index ++ reads p.text f.locals e) (used whole)
-  part_taken index whole (values.Call c) = called c None (index ++ listed whole)
-  part_taken index whole (values.New n) = told (index ++ made_reads n.made) (used whole)
-
-  abbrev pub written : TargetTree → ValueTree → StatementSeen
-  written (trees.Variable name) value = assigned (mention p.text f.locals name) value
-  written (trees.Field name field) value = part_taken [] (mention p.text f.locals name) value
-  written (trees.Element name index) value = part_taken (reads p.text f.locals index) (mention p.text f.locals name) value
-
-  -- a declaration with a value assigns it; the variable has the next number
-  abbrev pub first_value : Span → Option ℕ → Option ValueTree → StatementSeen
-  first_value name number None = told [] Nothing
-  first_value name number (Some value) = assigned (option_map (mention_of name) number) value
-
-  -- what a method gives: a scalar is read, and a variable of the exchange heap stands alone
-  abbrev pub returned : Place → Option ExpressionTree → StatementSeen
-  returned place None = told [] (Return place None (option_map number_of f.last))
-  returned place (Some e) = told (reads p.text f.locals e) (Return place (lone e) (option_map number_of f.last))
-
-  -- a statement that holds no others
-  abbrev pub plain_told : StatementTree → StatementSeen
-  plain_told (stated.Declare d) = first_value d.name (next_number (type_held p d.kind) f) d.value
-  plain_told (stated.Assign a) = written a.target a.value
-  plain_told (stated.Call c) = stated_call c
-  plain_told (stated.Start word c) = started c
-  plain_told (stated.Delete name) = told [] (deleted (mention p.text f.locals name))
-  plain_told (stated.NewChannel n) = told [] (channel n)
-  plain_told (stated.Return word value) = returned word.place value
-  plain_told _ = told [] Nothing
-
-  -- the frame behind it
-  abbrev pub frame_behind : StatementTree → Frame
-  frame_behind (stated.Declare d) = declared p.text (declaration_of p d) f
-  frame_behind _ = f
+use Rattle.resolving.specs.Reads.{reads, ways}
+use Rattle.resolving.specs.Plain.{frame_behind, plain_told, told}
 
 -- The last variable of the exchange heap in scope that stays at a `break`, and at a `continue`: what is declared behind it goes
 -- out of scope. Outside of loops and switches there is none.

@@ -12,8 +12,8 @@ ghost use Rattle.resolving.specs.Frames.{IsFrame};
 ghost use Rattle.resolving.specs.Locals.{Frame, local_named};
 ghost use Rattle.resolving.specs.Reads.{reads};
 ghost use Rattle.resolving.specs.Steps.{AddsReads, Tells, TellsCall};
-ghost use Rattle.resolving.specs.Told as told;
-ghost use Rattle.resolving.specs.Told.{argument_reads, call_told, given};
+ghost use Rattle.resolving.specs.Plain as told;
+ghost use Rattle.resolving.specs.Plain.{argument_reads, call_told, given};
 
 use crate::around::Around;
 use crate::locals::Locals;

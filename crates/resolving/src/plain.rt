@@ -11,7 +11,7 @@ ghost use Rattle.resolving.specs.Frames.{IsFrame};
 ghost use Rattle.resolving.specs.Kinds.{type_held};
 ghost use Rattle.resolving.specs.Locals.{Frame, mention_of, next_number};
 ghost use Rattle.resolving.specs.Steps.{Tells};
-ghost use Rattle.resolving.specs.Told.{declaration_of, deleted, written, first_value, returned, plain_told, frame_behind};
+ghost use Rattle.resolving.specs.Plain.{declaration_of, deleted, written, first_value, returned, plain_told, frame_behind};
 
 use crate::around::Around;
 use crate::calls::tell_start;

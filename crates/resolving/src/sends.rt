@@ -9,7 +9,7 @@ ghost use Rattle.resolving.specs.Around.{IsAround, meant_seen, program_in};
 ghost use Rattle.resolving.specs.Frames.{IsFrame};
 ghost use Rattle.resolving.specs.Locals.{Frame};
 ghost use Rattle.resolving.specs.Steps.{Tells, TellsSend};
-ghost use Rattle.resolving.specs.Told as told;
+ghost use Rattle.resolving.specs.Plain as told;
 
 use crate::around::Around;
 use crate::calls::{add_argument_reads, tell_call};

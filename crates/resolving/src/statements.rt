@@ -7,7 +7,8 @@ ghost use Rattle.resolving.specs.Around.{IsAround, program_in};
 ghost use Rattle.resolving.specs.Frames.{IsFrame, staying_seen};
 ghost use Rattle.resolving.specs.Locals.{Frame};
 ghost use Rattle.resolving.specs.Steps.{IsTold, walked};
-ghost use Rattle.resolving.specs.Told.{follow, plain_told, frame_behind, statement_told, statements_told, block_told, test_told, others_told, case_told, cases_told};
+ghost use Rattle.resolving.specs.Plain.{plain_told, frame_behind};
+ghost use Rattle.resolving.specs.Told.{follow, statement_told, statements_told, block_told, test_told, others_told, case_told, cases_told};
 ghost use Rattle.syntax.specs.Trees.{ItemTree};
 ghost use Rattle.syntax.specs.StatementTrees.{MoreCases, statement_tree, statement_row, block_tree, test_tree, if_tree, last_other, case_tree, case_row, switch_tree};
 

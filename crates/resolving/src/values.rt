@@ -11,7 +11,7 @@ ghost use Rattle.resolving.specs.Steps.{AddsReads, Tells};
 ghost use Rattle.resolving.specs.Frames.{IsFrame};
 ghost use Rattle.resolving.specs.Locals.{Frame};
 ghost use Rattle.resolving.specs.Reads.{listed, reads};
-ghost use Rattle.resolving.specs.Told.{told, lone, moved, used, made_reads, taken, scalar_taken, assigned, part_taken};
+ghost use Rattle.resolving.specs.Plain.{told, lone, moved, used, made_reads, taken, scalar_taken, assigned, part_taken};
 
 use crate::alone::name_alone;
 use crate::around::Around;

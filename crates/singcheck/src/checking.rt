@@ -104,9 +104,7 @@ fn check_program<G: Gate>(
 {
     match named(alloc, tree, tokens)? {
         Staged::Found(findings) => Ok(reported(alloc, findings)?),
-        Staged::Clean(clean) => {
-            check_methods(alloc, tokens, tree, &clean.resolved, gate)
-        }
+        Staged::Clean(clean) => { check_methods(alloc, tokens, tree, &clean.resolved, gate) }
     }
 }
 

@@ -3,6 +3,7 @@ mod checks;
 mod conditions;
 mod devices;
 mod lexing;
+mod numbers;
 mod parsing;
 mod resolution;
 mod steps;

@@ -4,7 +4,7 @@ use Rattle.syntax.specs.ExpressionTrees.{expression_tree}
 use Rattle.syntax.specs.declared.expression.Expression.{Expression}
 use Rattle.resolving.specs.Around.{program_in}
 use Rattle.resolving.specs.Steps.{AddsReads}
-use Rattle.resolving.specs.Told.{argument_reads}
+use Rattle.resolving.specs.Plain.{argument_reads}
 use Rattle.resolving.proofs.CalleeLemmas.{read_more}
 use Rattle.resolving.proofs.calls.add_argument_reads.Goals as goal
 

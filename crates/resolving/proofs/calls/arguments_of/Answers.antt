@@ -2,7 +2,7 @@ use Rattle.std.proofs.Common.{◌∙◌, sym, ap, ◌++◌}
 use Rattle.std.specs.Iterator.Adapters.{zip_first, zip_second}
 use Rattle.std.specs.Slice.Iter.{iter_rest}
 use Rattle.resolving.specs.Around.{program_in}
-use Rattle.resolving.specs.Told.{given}
+use Rattle.resolving.specs.Plain.{given}
 use Rattle.resolving.proofs.CalleeLemmas.{given_first, given_to_end, given_more, given_all}
 use Rattle.resolving.proofs.calls.arguments_of.Goals as goal
 

@@ -4,7 +4,7 @@ use Rattle.syntax.specs.Trees.{ItemTree}
 use Rattle.resolving.specs.Around.{program_in}
 use Rattle.resolving.specs.Frames.{IsFrame}
 use Rattle.resolving.specs.Locals.{Frame}
-use Rattle.resolving.specs.Told.{arguments}
+use Rattle.resolving.specs.Plain.{arguments}
 use Rattle.resolving.proofs.CalleeLemmas.{given_to_end}
 use Rattle.resolving.proofs.calls.arguments_of.Given as goal
 

@@ -5,7 +5,7 @@ use Rattle.syntax.specs.declared.expression.Expression.{Expression}
 use Rattle.source.specs.declared.token.Span.{Span}
 use Rattle.resolving.specs.Around.{program_in}
 use Rattle.resolving.specs.Callees.{called_name}
-use Rattle.resolving.specs.Told.{argument_reads, arguments}
+use Rattle.resolving.specs.Plain.{argument_reads, arguments}
 use Rattle.resolving.proofs.CalleeLemmas.{same_call}
 use Rattle.resolving.proofs.calls.call_of.Goals as goal
 

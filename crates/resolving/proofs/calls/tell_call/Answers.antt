@@ -6,7 +6,7 @@ use Rattle.resolved.specs.Statements.{call_seen}
 use Rattle.resolved.specs.declared.call.Call.{Call}
 use Rattle.resolved.specs.declared.statement.Action.TheVariants.{Nothing}
 use Rattle.resolving.specs.Around.{program_in}
-use Rattle.resolving.specs.Told.{told, call_told}
+use Rattle.resolving.specs.Plain.{told, call_told}
 use Rattle.resolving.proofs.FormTwins.{called_is}
 use Rattle.resolving.proofs.PlainLemmas.{call_said}
 use Rattle.resolved.specs.declared.statement.Statement.TheVariants as made

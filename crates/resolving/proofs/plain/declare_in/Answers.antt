@@ -4,9 +4,9 @@ use Rattle.syntax.specs.StatementTrees.{StatementTree, statement_tree}
 use Rattle.resolving.specs.Around.{program_in}
 use Rattle.resolving.specs.Frames.{IsFrame}
 use Rattle.resolving.specs.Locals.{declared}
-use Rattle.resolving.specs.Told.{frame_behind}
+use Rattle.resolving.specs.Plain.{frame_behind}
 use Rattle.resolving.specs.declared.locals.Declaration.{Declaration}
-use Rattle.resolving.proofs.FormTwins.{of_declare}
+use Rattle.resolving.proofs.StatementTwins.{of_declare}
 use Rattle.resolving.proofs.plain.declare_in.Goals as goal
 
 pub returns-in-Declare : goal.returns-in-Declare

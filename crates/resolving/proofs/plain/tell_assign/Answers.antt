@@ -3,7 +3,7 @@ use Rattle.syntax.specs.ExpressionTrees.{expression_tree, target_tree}
 use Rattle.syntax.specs.Values.{value_tree}
 use Rattle.resolving.specs.Around.{program_in}
 use Rattle.resolving.specs.Reads.{reads}
-use Rattle.resolving.specs.Told.{assigned, part_taken, written}
+use Rattle.resolving.specs.Plain.{assigned, part_taken, written}
 use Rattle.resolving.proofs.FormTwins.{of_variable, of_field, of_element}
 use Rattle.resolving.proofs.PlainLemmas.{told_as}
 use Rattle.resolving.proofs.plain.tell_assign.Goals as goal

@@ -4,7 +4,7 @@ use Rattle.syntax.specs.declared.value.Value.{Value}
 use Rattle.resolving.specs.Around.{program_in}
 use Rattle.resolving.specs.Kinds.{type_held}
 use Rattle.resolving.specs.Locals.{next_number}
-use Rattle.resolving.specs.Told.{assigned, first_value}
+use Rattle.resolving.specs.Plain.{assigned, first_value}
 use Rattle.resolving.proofs.PlainLemmas.{told_as, first_assigned}
 use Rattle.resolving.proofs.plain.tell_declare.Goals as goal
 

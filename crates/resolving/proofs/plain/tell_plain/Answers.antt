@@ -5,10 +5,9 @@ use Rattle.syntax.specs.Values.{call_tree, value_tree}
 use Rattle.resolving.specs.Around.{program_in}
 use Rattle.resolving.specs.Kinds.{type_held}
 use Rattle.resolving.specs.Locals.{next_number}
-use Rattle.resolving.specs.Told.{told, stated_call, started, first_value, written, returned, plain_told}
-use Rattle.resolving.proofs.FormTwins.{of_declare, of_assign, of_call, of_start, of_return}
+use Rattle.resolving.specs.Plain.{told, stated_call, started, first_value, written, returned, plain_told}
+use Rattle.resolving.proofs.StatementTwins.{of_declare, of_assign, of_call, of_start, of_channel, of_return}
 use Rattle.resolving.proofs.PlainLemmas.{told_as}
-use Rattle.resolving.proofs.SendTwins.{of_new_channel}
 use Rattle.resolving.proofs.plain.tell_plain.Goals as goal
 
 pub returns-in-Declare : goal.returns-in-Declare
@@ -51,7 +50,7 @@ pub returns-in-NewChannel : goal.returns-in-NewChannel
 returns-in-NewChannel c = λ items own around. record {
   all = λ f frame.
       let p = program_in c.args.tokens.now.text.items items in
-      c.unread-in-NewChannel.ensures ∙ ap (told []) (c.channel_action.ensures items own f around frame) ∙ ap (plain_told p own f) (sym (ap statement_tree c.in-NewChannel.is ∙ of_new_channel c.in-NewChannel.channel));
+      c.unread-in-NewChannel.ensures ∙ ap (told []) (c.channel_action.ensures items own f around frame) ∙ ap (plain_told p own f) (sym (ap statement_tree c.in-NewChannel.is ∙ of_channel c.in-NewChannel.channel));
 }
 
 pub returns-in-Return : goal.returns-in-Return

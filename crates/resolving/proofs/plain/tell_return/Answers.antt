@@ -3,7 +3,7 @@ use Rattle.std.specs.Prelude.{IfOk, option_map}
 use Rattle.syntax.specs.ExpressionTrees.{expression_tree}
 use Rattle.resolving.specs.Around.{program_in}
 use Rattle.resolving.specs.Steps.{Tells}
-use Rattle.resolving.specs.Told.{returned}
+use Rattle.resolving.specs.Plain.{returned}
 use Rattle.resolving.proofs.PlainLemmas.{returned_told}
 use Rattle.resolving.proofs.plain.tell_return.Goals as goal
 

@@ -3,7 +3,7 @@ use Rattle.std.specs.Prelude.{option_and_then, option_map}
 use Rattle.resolved.specs.declared.statement.Action.TheVariants.{NewChannel}
 use Rattle.resolving.specs.Around.{program_in}
 use Rattle.resolving.specs.Locals.{mention}
-use Rattle.resolving.specs.Told.{channel_of}
+use Rattle.resolving.specs.Plain.{channel_of}
 use Rattle.resolving.proofs.sends.channel_of.Goals as goal
 
 pub returns-in_err-contract : goal.returns-in_err-contract

@@ -4,7 +4,7 @@ use Rattle.syntax.specs.ExpressionTrees.{expression_tree}
 use Rattle.syntax.specs.declared.expression.Expression.{Expression}
 use Rattle.resolving.specs.Around.{program_in}
 use Rattle.resolving.specs.Reads.{listed}
-use Rattle.resolving.specs.Told.{payloads}
+use Rattle.resolving.specs.Plain.{payloads}
 use Rattle.resolving.proofs.SendLemmas.{payloads_more}
 use Rattle.resolving.proofs.sends.payloads_of.Goals as goal
 

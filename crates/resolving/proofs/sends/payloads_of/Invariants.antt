@@ -4,7 +4,7 @@ use Rattle.syntax.specs.Trees.{ItemTree}
 use Rattle.resolving.specs.Around.{program_in}
 use Rattle.resolving.specs.Frames.{IsFrame}
 use Rattle.resolving.specs.Locals.{Frame}
-use Rattle.resolving.specs.Told.{payloads}
+use Rattle.resolving.specs.Plain.{payloads}
 use Rattle.resolving.proofs.sends.payloads_of.Given as goal
 
 abbrev pub invariant-loop-argument : goal.invariant-loop-argument

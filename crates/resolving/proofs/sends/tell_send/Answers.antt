@@ -2,7 +2,7 @@ use Rattle.std.proofs.Common.{Some, sym, ap, ◌∙◌}
 use Rattle.std.specs.Prelude.{option_and_then, option_map}
 use Rattle.syntax.specs.Values.{call_tree}
 use Rattle.resolving.specs.Around.{meant_seen, program_in}
-use Rattle.resolving.specs.Told.{send_of, sent, sent_by}
+use Rattle.resolving.specs.Plain.{send_of, sent, sent_by}
 use Rattle.resolving.proofs.sends.tell_send.Goals as goal
 
 pub returns : goal.returns

@@ -6,9 +6,9 @@ use Rattle.resolved.specs.Statements as seen
 use Rattle.resolved.specs.Statements.{SendSeen, send_seen}
 use Rattle.resolved.specs.declared.call.Send.{Send}
 use Rattle.resolving.specs.Around.{program_in}
-use Rattle.resolving.specs.Told.{called, stated_call}
+use Rattle.resolving.specs.Plain.{called, stated_call}
 use Rattle.resolving.proofs.PlainLemmas.{told_as}
-use Rattle.resolving.proofs.SendTwins.{sent_is}
+use Rattle.resolving.proofs.FormTwins.{sent_is}
 use Rattle.resolving.proofs.sends.tell_stated.Goals as goal
 
 pub returns-in-Some : goal.returns-in-Some

@@ -1,5 +1,5 @@
 use Rattle.std.proofs.Common.{◌∙◌, ap}
-use Rattle.resolving.specs.Told.{told}
+use Rattle.resolving.specs.Plain.{told}
 use Rattle.resolving.proofs.values.tell_made.Goals as goal
 
 pub returns : goal.returns

@@ -3,7 +3,7 @@ use Rattle.syntax.specs.Values.{call_tree, value_tree, made_tree}
 use Rattle.syntax.specs.declared.value.Value.{Value}
 use Rattle.resolved.specs.declared.statement.Action.TheVariants.{New}
 use Rattle.resolving.specs.Around.{program_in}
-use Rattle.resolving.specs.Told.{told, called, moved, made_reads, taken}
+use Rattle.resolving.specs.Plain.{told, called, moved, made_reads, taken}
 use Rattle.resolving.proofs.PlainLemmas.{told_as}
 use Rattle.resolving.proofs.values.tell_taken.Goals as goal
 
