@@ -1,7 +1,7 @@
 //! Instructions, and where each goes on.
 
-use names::{ContractId, MessageId};
-use resolved::{Argument, Awaited, Forget, Mention, MethodId, VarId};
+use names::MessageId;
+use resolved::{Argument, Awaited, Channel, Forget, Mention, MethodId, VarId};
 use source::Place;
 
 /// Where a condition goes on.
@@ -48,12 +48,9 @@ pub enum Instr {
         at: Mention,
         next: usize,
     },
-    /// Two variables take the two ends of a new channel of a contract.
+    /// Two variables take the two ends of a new channel.
     NewChannel {
-        place: Place,
-        contract: ContractId,
-        first: Mention,
-        second: Mention,
+        channel: Channel,
         next: usize,
     },
     /// A message goes to the other end of a channel: what is given for each of its parameters of the exchange heap.

@@ -111,18 +111,7 @@ fn lay_action(
             next,
         },
         Action::Delete(at) => Instr::Delete { at, next },
-        Action::NewChannel {
-            place,
-            contract,
-            first,
-            second,
-        } => Instr::NewChannel {
-            place,
-            contract,
-            first,
-            second,
-            next,
-        },
+        Action::NewChannel(channel) => Instr::NewChannel { channel, next },
         Action::Return {
             place,
             value,

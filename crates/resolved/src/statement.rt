@@ -21,6 +21,15 @@ pub struct Forget {
     pub outer: Option<VarId>,
 }
 
+/// A new channel of a contract, and the variables that take its two ends. The place is that of the word `NewChannel`.
+#[derive(Clone, Copy, Debug, PartialEq, Eq)]
+pub struct Channel {
+    pub place: Place,
+    pub contract: ContractId,
+    pub first: Mention,
+    pub second: Mention,
+}
+
 /// What a simple statement does behind its reads.
 #[derive(Clone, Copy, Debug, PartialEq, Eq)]
 pub enum Action {
@@ -37,13 +46,8 @@ pub enum Action {
     },
     /// What the variable has is freed.
     Delete(Mention),
-    /// Two variables take the two ends of a new channel of a contract. The place is that of the word `NewChannel`.
-    NewChannel {
-        place: Place,
-        contract: ContractId,
-        first: Mention,
-        second: Mention,
-    },
+    /// Two variables take the two ends of a new channel.
+    NewChannel(Channel),
     /// The innermost loop or switch ends. What it and what stands in it has declared goes out of scope.
     Break(Option<Forget>),
     /// The innermost loop goes back to its test, likewise.

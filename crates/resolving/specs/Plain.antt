@@ -120,8 +120,11 @@ module _ (p : Program) (class : ℕ) (f : Frame) where
   stated_call c = option_map_or seen.Send (send_told c) (called c None [])
 
   -- two variables take the ends of a new channel of the contract of this number
+  abbrev pub ends_of : Place → ContractId → Mention → Mention → Action
+  ends_of place contract v w = NewChannel (record { place = place; contract = contract; first = v; second = w })
+
   abbrev pub channel_of : statement.NewChannel.NewChannel → ContractId → Option Action
-  channel_of n contract = option_and_then (λ v. option_map (NewChannel n.word.place contract v) (mention p.text f.locals n.second)) (mention p.text f.locals n.first)
+  channel_of n contract = option_and_then (λ v. option_map (ends_of n.word.place contract v) (mention p.text f.locals n.second)) (mention p.text f.locals n.first)
 
   abbrev pub channel_found : statement.NewChannel.NewChannel → Option Action
   channel_found n = option_and_then (channel_of n) (contract_named p n.contract)

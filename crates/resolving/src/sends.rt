@@ -17,7 +17,7 @@ use crate::kinds::contract_named;
 use crate::locals::Locals;
 use crate::messages::{Meant, message_sent};
 use crate::values::{add_listed, alone};
-use resolved::{Action, Mention, Send, Statement};
+use resolved::{Action, Channel, Mention, Send, Statement};
 use source::{Span, Tokens};
 use std::alloc::{AllocError, Global};
 use syntax::{Call, Expression, NewChannel};
@@ -127,12 +127,12 @@ fn channel_of(
     let contract = contract_named(around, channel.contract)?;
     let first = locals.mention(tokens, channel.first)?;
     let second = locals.mention(tokens, channel.second)?;
-    Some(Action::NewChannel {
+    Some(Action::NewChannel(Channel {
         place: channel.word.place,
         contract,
         first,
         second,
-    })
+    }))
 }
 
 /// What a new channel comes to.

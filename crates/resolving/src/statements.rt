@@ -18,9 +18,8 @@ use crate::cases::{awaited_as, awaited_message, awaited_params, case_endpoint, d
 use crate::locals::Locals;
 use crate::plain::{declare_in, tell_plain};
 use crate::reads::add_reads;
-use crate::staying::{Staying, forgetting, leaving};
-use crate::values::unread;
-use resolved::{Action, Block, Case, If, Statement, Test};
+use crate::staying::{Staying, forgetting, tell_break, tell_continue};
+use resolved::{Block, Case, If, Statement, Test};
 use source::{Place, Tokens};
 use std::alloc::{AllocError, Global};
 use syntax::Switch;
@@ -66,18 +65,8 @@ fn tell_statement<'a>(
             let test = tell_test(alloc, tokens, around, locals, inside, test)?;
             Ok(Statement::While(test))
         }
-        syntax::Statement::Break(word) => {
-            Ok(unread(
-                alloc,
-                Action::Break(leaving(locals, word.place, stays.at_break)),
-            ))
-        }
-        syntax::Statement::Continue(word) => {
-            Ok(unread(
-                alloc,
-                Action::Continue(leaving(locals, word.place, stays.at_continue)),
-            ))
-        }
+        syntax::Statement::Break(word) => Ok(tell_break(alloc, locals, word.place, stays)),
+        syntax::Statement::Continue(word) => Ok(tell_continue(alloc, locals, word.place, stays)),
         syntax::Statement::Switch(switch) => {
             let inside = stays.in_switch(locals.last());
             let cases = tell_cases(alloc, tokens, around, locals, inside, switch)?;

@@ -1,13 +1,18 @@
 //! What stays in scope where a block, a loop or a switch is left, and what does not.
 
-ghost use Rattle.std.specs.Prelude.{◌≡◌, ℕ, List};
+ghost use Rattle.std.specs.Prelude.{◌≡◌, ℕ, List, []};
+ghost use Rattle.resolved.specs.Statements.{statement_seen};
+ghost use Rattle.resolved.specs.declared.statement.Action.TheVariants.{Break, Continue};
 ghost use Rattle.resolving.specs.Frames.{IsFrame, number_seen, staying_seen};
 ghost use Rattle.resolving.specs.Locals.{Frame, forget};
+ghost use Rattle.resolving.specs.Plain.{told};
 ghost use Rattle.resolving.specs.Told.{left, outside, in_loop, in_switch};
 
 use crate::locals::Locals;
-use resolved::{Forget, VarId};
+use crate::values::unread;
+use resolved::{Action, Forget, Statement, VarId};
 use source::Place;
+use std::alloc::Global;
 
 /// The last variable of the exchange heap in scope that stays at a `break`, and at a `continue`: what is declared behind it goes
 /// out of scope.
@@ -61,8 +66,35 @@ pub(crate) fn forgetting(place: Place, outer: Option<VarId>, last: Option<VarId>
 }
 
 /// What goes out of scope at a `break` or a `continue`, where this variable is the last that stays.
-pub(crate) fn leaving(locals: &Locals<'_>, place: Place, stays: Option<VarId>) -> Option<Forget>
+fn leaving(locals: &Locals<'_>, place: Place, stays: Option<VarId>) -> Option<Forget>
     ensures { (text : List ℕ) (f : Frame) → IsFrame text f locals.now → result ≡ left place (number_seen stays) f }
 {
     forgetting(place, stays, locals.last())
+}
+
+/// What a `break` comes to.
+pub(crate) fn tell_break(
+    alloc: Global,
+    locals: &Locals<'_>,
+    place: Place,
+    stays: Staying,
+) -> Statement
+    ensures { (text : List ℕ) (f : Frame) → IsFrame text f locals.now → statement_seen result ≡ told [] (Break (left place (number_seen stays.at_break) f)) }
+{
+    unread(alloc, Action::Break(leaving(locals, place, stays.at_break)))
+}
+
+/// What a `continue` comes to.
+pub(crate) fn tell_continue(
+    alloc: Global,
+    locals: &Locals<'_>,
+    place: Place,
+    stays: Staying,
+) -> Statement
+    ensures { (text : List ℕ) (f : Frame) → IsFrame text f locals.now → statement_seen result ≡ told [] (Continue (left place (number_seen stays.at_continue) f)) }
+{
+    unread(
+        alloc,
+        Action::Continue(leaving(locals, place, stays.at_continue)),
+    )
 }

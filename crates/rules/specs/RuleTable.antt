@@ -130,7 +130,7 @@ module _ (m : MethodSeen) where
       ((next, set (set row v.variable.0 (leaf_at row w.variable.0)) w.variable.0 Nothing) ∷ [])
   instruction_outcome (Delete v next) row = checked (is_not_lent v ∷ has_something row v ∷ []) ((next, set row v.variable.0 Nothing) ∷ [])
   -- These three have no line yet. No program with endpoints comes here: its check answers that it is not analysed yet.
-  instruction_outcome (NewChannel place contract v w next) row = Goes []
+  instruction_outcome (NewChannel c next) row = Goes []
   instruction_outcome (Send place e message payloads next) row = Goes []
   instruction_outcome (Switch place cases) row = Goes []
   instruction_outcome (Branch place branches) row = Goes (ways branches row)

@@ -39,10 +39,7 @@ pub(crate) fn applied(
             next,
         } => move_(alloc, method, row, *target, *source, *next),
         Instr::Delete { at, next } => delete(alloc, method, row, *at, *next),
-        // They have no line in the table yet: nothing follows. No program with endpoints comes here.
-        Instr::NewChannel { .. } => Ok(Outcome::Next(Vec::new(alloc))),
-        Instr::Send { .. } => Ok(Outcome::Next(Vec::new(alloc))),
-        Instr::Switch { .. } => Ok(Outcome::Next(Vec::new(alloc))),
+        Instr::NewChannel { .. } | Instr::Send { .. } | Instr::Switch { .. } => not_yet(alloc),
         Instr::Branch { branches, .. } => branch(alloc, row, *branches),
         Instr::Forget { forget, next } => forget_(alloc, method, row, *forget, *next),
         Instr::Call {
@@ -63,6 +60,13 @@ pub(crate) fn applied(
         } => return_(alloc, method, row, *place, *value, *scope),
         Instr::Stop { place } => stop(alloc, *place),
     }
+}
+
+/// An instruction without a line in the table yet: nothing follows. No program with endpoints comes here.
+fn not_yet(alloc: Global) -> Result<Outcome, Memory>
+    ensures { IfOk result (λ o. outcome_seen o ≡ Goes []) }
+{
+    Ok(Outcome::Next(Vec::new(alloc)))
 }
 
 /// The method goes on at one point, with this row.

@@ -2,7 +2,7 @@
 
 use flow::{Entrance, Instr, lower};
 use names::{MOST_CONTRACTS, resolve};
-use resolved::{Awaited, Mention, Method, VarId, Variable};
+use resolved::{Awaited, Channel, Mention, Method, VarId, Variable};
 use resolving::{first_unknown, resolve_methods};
 use source::{Memory, Place, lex};
 use std::alloc::Global;
@@ -84,18 +84,9 @@ fn line_of(alloc: Global, instruction: &Instr) -> Result<String, Memory> {
                 message.0, endpoint.variable.0
             )?)
         }
-        Instr::NewChannel {
-            place,
-            contract,
-            first,
-            second,
-            next,
-        } => {
-            let Place { line, col } = *place;
-            Ok(format!(in alloc;
-                "{line}:{col} channel of {} in {} and {} to {next}",
-                contract.0, first.variable.0, second.variable.0
-            )?)
+        Instr::NewChannel { channel, next } => {
+            let line = channel_line(alloc, *channel)?;
+            Ok(format!(in alloc; "{line} to {next}")?)
         }
         Instr::Switch { place, cases } => switch_line(alloc, *place, cases),
         Instr::Forget { forget, next } => {
@@ -110,6 +101,15 @@ fn line_of(alloc: Global, instruction: &Instr) -> Result<String, Memory> {
         }
         _ => Ok(String::from_str(alloc, "another")?),
     }
+}
+
+fn channel_line(alloc: Global, channel: Channel) -> Result<String, Memory> {
+    let Place { line, col } = channel.place;
+    let (first, second) = (channel.first.variable.0, channel.second.variable.0);
+    Ok(format!(in alloc;
+        "{line}:{col} channel of {} in {first} and {second}",
+        channel.contract.0
+    )?)
 }
 
 fn switch_line(alloc: Global, place: Place, cases: &[Entrance]) -> Result<String, Memory> {
