@@ -1,6 +1,4 @@
 use Rattle.std.proofs.Common.{map, subst, arith}
-use Rattle.std.proofs.lemmas.Result.{IfOk-weaker}
-use Rattle.std.proofs.lemmas.List.{length-map}
 use Rattle.source.specs.Findings.{finding_parts}
 use Rattle.syntax.specs.Trees.{program_tree}
 use Rattle.names.specs.Resolution.{contract_seen}
