@@ -10,6 +10,7 @@ pub mod Plain
 pub mod Told
 pub mod Around
 pub mod Unknown
+pub mod Brought
 pub mod Methods
 pub mod Frames
 pub mod Steps

@@ -3,6 +3,7 @@
 
 mod alone;
 mod around;
+mod brought;
 mod calls;
 mod cases;
 mod counts;
@@ -18,5 +19,5 @@ mod staying;
 mod unknown;
 mod values;
 
-pub use methods::resolve_methods;
+pub use methods::{Program, resolve_methods};
 pub use unknown::first_unknown;

@@ -4,25 +4,28 @@ ghost use Rattle.std.specs.Prelude.{◌≡◌, ◌≤◌, ◌<◌, ◌^◌, ◌+
 ghost use Rattle.syntax.specs.Trees.{ItemTree, contracts_of, program_tree, item_tree, definition_tree, method_tree};
 ghost use Rattle.names.specs.Findings.{program_findings};
 ghost use Rattle.names.specs.Methods.{methods_in};
-ghost use Rattle.names.specs.Program.{Program, program_of};
+ghost use Rattle.names.specs.Program as model;
+ghost use Rattle.names.specs.Program.{program_of};
 ghost use Rattle.names.specs.Resolution.{contract_seen, resolved_contracts};
 ghost use Rattle.names.specs.declared.limits.TheConstants.{MOST_METHODS};
 ghost use Rattle.resolved.specs.Methods.{method_seen};
 ghost use Rattle.names.specs.Scopes.{IsScope};
 ghost use Rattle.resolving.specs.Around.{IsAround, program_in};
+ghost use Rattle.resolving.specs.Brought.{brought, messages_told, rows};
 ghost use Rattle.resolving.specs.Callees.{all_methods};
 ghost use Rattle.resolving.specs.Frames.{IsFrame};
 ghost use Rattle.resolving.specs.Locals.{Frame};
 ghost use Rattle.resolving.specs.Methods.{methods_told, role_of, parameter_declaration, parameters_frame, method_told};
 
 use crate::around::Around;
+use crate::brought::add_brought;
 use crate::counts::count_items;
 use crate::kinds::{result_held, type_held};
 use crate::locals::{Declaration, Locals};
 use crate::statements::tell_statements;
 use crate::staying::Staying;
 use names::{Resolved, Scope};
-use resolved::{Method, Role};
+use resolved::{Kind, Method, Role};
 use source::{Memory, Tokens};
 use std::alloc::{AllocError, Global};
 use syntax::{Definition, Item, Parameter, Tree};
@@ -40,7 +43,7 @@ fn role_of(parameter: Parameter) -> Role
 
 /// What a parameter declares.
 fn parameter_declaration(around: &Around<'_, '_>, parameter: Parameter) -> Declaration
-    ensures { (p : Program) (own : ℕ) → IsAround p own around.now → result ≡ parameter_declaration p parameter }
+    ensures { (p : model.Program) (own : ℕ) → IsAround p own around.now → result ≡ parameter_declaration p parameter }
 {
     Declaration {
         name: parameter.name,
@@ -117,21 +120,31 @@ fn add_methods(
     Ok(())
 }
 
-/// The methods of these items, resolved, in order of the text.
+/// The messages and the methods of a program in order of the text: what a message brings for each of its parameters of the
+/// exchange heap, and the method with its names resolved.
+#[derive(Debug, Drop)]
+pub struct Program {
+    pub messages: Vec<Vec<Kind>>,
+    pub methods: Vec<Method>,
+}
+
+/// The messages and the methods of these items, in order of the text.
 fn resolve_items<'a>(
     alloc: Global,
     tokens: &Tokens,
     scope: &Scope<'a>,
     contracts: &Resolved,
     items: &'a [Item],
-) -> Result<Vec<Method>, AllocError>
+) -> Result<Program, AllocError>
     requires contracts { map contract_seen contracts.now.contracts.items ≡ resolved_contracts tokens.now.text.items (contracts_of (map item_tree items.now)) }
     requires room { length contracts.now.contracts.items < 2 ^ 32 }
     requires scope { IsScope (program_in tokens.now.text.items (map item_tree items.now)) scope.now }
     requires few { length (all_methods (map item_tree items.now)) ≤ MOST_METHODS }
-    ensures { IfOk result (λ methods. map method_seen methods.items ≡ methods_told (program_in tokens.now.text.items (map item_tree items.now))) }
+    ensures messages { IfOk result (λ program. rows program.messages.items ≡ messages_told (program_in tokens.now.text.items (map item_tree items.now))) }
+    ensures methods { IfOk result (λ program. map method_seen program.methods.items ≡ methods_told (program_in tokens.now.text.items (map item_tree items.now))) }
 {
     let before = count_items(alloc, items)?;
+    let mut messages = Vec::new(alloc);
     let mut resolved = Vec::new(alloc);
     for (class, item) in items.iter().enumerate() {
         let around = Around {
@@ -142,14 +155,18 @@ fn resolve_items<'a>(
             class,
         };
         let methods = methods_of(&item.definition);
+        add_brought(alloc, &around, &item.definition, &mut messages)?;
         add_methods(alloc, tokens, &around, methods, &mut resolved)?;
     }
-    Ok(resolved)
+    Ok(Program {
+        messages,
+        methods: resolved,
+    })
 }
 
-/// The methods of a program in order of the text, in which each variable of the exchange heap is a number and each scalar is
-/// forgotten. A use means the variable in scope of its name; nothing is wrong with the names and kinds of the program, and these
-/// are its contracts, with their names resolved.
+/// The messages and the methods of a program in order of the text, in which each variable of the exchange heap is a number and
+/// each scalar is forgotten. A use means the variable in scope of its name; nothing is wrong with the names and kinds of the
+/// program, and these are its contracts, with their names resolved.
 ///
 /// `Memory` is answered where a growth was refused.
 pub fn resolve_methods(
@@ -157,14 +174,15 @@ pub fn resolve_methods(
     tree: &Tree,
     tokens: &Tokens,
     contracts: &Resolved,
-) -> Result<Vec<Method>, Memory>
+) -> Result<Program, Memory>
     requires contracts { map contract_seen contracts.now.contracts.items ≡ resolved_contracts tokens.now.text.items (contracts_of (program_tree tree.now)) }
     requires room { length contracts.now.contracts.items < 2 ^ 32 }
     requires clean { program_findings (program_of tokens.now.text.items tree.now) ≡ [] }
-    ensures resolved { IfOk result (λ methods. map method_seen methods.items ≡ methods_told (program_of tokens.now.text.items tree.now)) }
-    ensures few { IfOk result (λ methods. length methods.items ≤ MOST_METHODS) }
+    ensures messages { IfOk result (λ program. rows program.messages.items ≡ messages_told (program_of tokens.now.text.items tree.now)) }
+    ensures resolved { IfOk result (λ program. map method_seen program.methods.items ≡ methods_told (program_of tokens.now.text.items tree.now)) }
+    ensures few { IfOk result (λ program. length program.methods.items ≤ MOST_METHODS) }
 {
     let scope = Scope::of(alloc, tokens, &tree.items)?;
-    let methods = resolve_items(alloc, tokens, &scope, contracts, &tree.items)?;
-    Ok(methods)
+    let program = resolve_items(alloc, tokens, &scope, contracts, &tree.items)?;
+    Ok(program)
 }

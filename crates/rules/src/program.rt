@@ -4,18 +4,20 @@ ghost use Rattle.std.specs.Prelude.{◌≡◌, ◌<◌, IfOk, IsSomeAnd, length,
 ghost use Rattle.flow.specs.Graphs.{graph_seen};
 ghost use Rattle.flow.specs.Lowering.{graph_of};
 ghost use Rattle.resolved.specs.Methods.{method_seen};
+ghost use Rattle.wellformed.specs.Programs.{methods_seen};
 
 use flow::{Graph, lower};
 use resolved::{Method, MethodId};
 use source::Memory;
 use std::alloc::Global;
+use wellformed::Methods;
 
-/// The methods of a text in order, and the graph of each.
+/// The methods of a text in order, which are well formed, and the graph of each.
 #[derive(Debug, Drop)]
 pub struct Program {
-    methods: Vec<Method>,
+    methods: Methods,
     graphs: Vec<Graph>,
-    ghost lowered: { map graph_seen graphs.items ≡ map graph_of (map method_seen methods.items) },
+    ghost lowered: { map graph_seen graphs.items ≡ map graph_of (methods_seen methods) },
 }
 
 impl Program {
@@ -24,10 +26,10 @@ impl Program {
     /// The program of these methods.
     ///
     /// `Memory` is answered where a growth was refused.
-    pub fn new(alloc: Global, methods: Vec<Method>) -> Result<Program, Memory>
-        ensures { IfOk result (λ p. methods_of p ≡ map method_seen methods.items) }
+    pub fn new(alloc: Global, methods: Methods) -> Result<Program, Memory>
+        ensures { IfOk result (λ p. methods_of p ≡ methods_seen methods) }
     {
-        let graphs = graphs_of(alloc, &methods)?;
+        let graphs = graphs_of(alloc, methods.list())?;
         Ok(Program { methods, graphs })
     }
 
@@ -35,7 +37,7 @@ impl Program {
     pub fn methods(&self) -> &[Method]
         ensures { map method_seen result.now ≡ methods_of self.now }
     {
-        &self.methods
+        self.methods.list()
     }
 
     /// A method of it.
@@ -43,7 +45,7 @@ impl Program {
         requires there { method.0 < length (methods_of self.now) }
         ensures { IsSomeAnd (slice_get (methods_of self.now) method.0) (λ m. m ≡ method_seen result.now) }
     {
-        &self.methods[method.0 as usize]
+        &self.methods.list()[method.0 as usize]
     }
 
     /// The graph of a method.

@@ -19,11 +19,12 @@ use crate::reports::{Report, report_of};
 use crate::stages::{Parsed, Staged, named, parse_text};
 use crate::verdicts::analyse_methods;
 use names::Resolved;
-use resolving::{first_unknown, resolve_methods};
+use resolving::first_unknown;
 use rules::Program;
 use source::{Finding, Memory, Tokens};
 use std::alloc::Global;
 use syntax::Tree;
+use wellformed::Methods;
 
 /// Checks a text: the report of the first stage that has findings (the text, its names, its contracts, its methods), with
 /// status `Found`, or the line `ok: C contracts, M methods`, with status `Empty`.
@@ -104,7 +105,7 @@ fn check_program<G: Gate>(
 {
     match named(alloc, tree, tokens)? {
         Staged::Found(findings) => Ok(reported(alloc, findings)?),
-        Staged::Clean(clean) => { check_methods(alloc, tokens, tree, &clean.resolved, gate) }
+        Staged::Clean(clean) => check_methods(alloc, tokens, tree, clean.resolved, gate),
     }
 }
 
@@ -113,26 +114,27 @@ fn check_methods<G: Gate>(
     alloc: Global,
     tokens: &Tokens,
     tree: &Tree,
-    resolved: &Resolved,
+    resolved: Resolved,
     gate: &G,
 ) -> Result<Report, CheckFault>
-    requires sound { IsSoundProgram tokens.now.text.items (program_tree tree.now) (map contract_seen resolved.now.contracts.items) }
-    requires room { length resolved.now.contracts.items < 2 ^ 32 }
+    requires sound { IsSoundProgram tokens.now.text.items (program_tree tree.now) (map contract_seen resolved.contracts.items) }
+    requires room { length resolved.contracts.items < 2 ^ 32 }
     ensures report { IfOk result (λ r. Checks tokens.now.text.items r.bytes.items r.status) }
     ensures fault { IfErr result (IsTextFault tokens.now.text.items) }
 {
     if let Some(place) = first_unknown(tree) {
         return Err(CheckFault::NotYet(place));
     }
-    let methods = resolve_methods(alloc, tree, tokens, resolved)?;
-    let count = methods.len();
+    let contracts = resolved.contracts.len();
+    let methods = Methods::resolve(alloc, tree, tokens, resolved)?;
+    let count = methods.list().len();
     let program = Program::new(alloc, methods)?;
     let findings = analyse_methods(alloc, &program, gate)?;
     if !findings.is_empty() {
         return Ok(reported(alloc, findings)?);
     }
     let mut bytes = Vec::new(alloc);
-    add_clear(alloc, &mut bytes, resolved.contracts.len(), count)?;
+    add_clear(alloc, &mut bytes, contracts, count)?;
     Ok(Report {
         bytes,
         status: Status::Empty,

@@ -3,11 +3,12 @@
 use flow::{Entrance, Instr, lower};
 use names::{MOST_CONTRACTS, resolve};
 use resolved::{Awaited, Channel, Mention, Method, VarId, Variable};
-use resolving::{first_unknown, resolve_methods};
+use resolving::first_unknown;
 use source::{Memory, Place, lex};
 use std::alloc::Global;
 use std::test::Fail;
 use syntax::parse;
+use wellformed::Methods;
 
 /// A program with each form of statement that has an endpoint.
 const CHANNELS: &str = "contract Q { in message A(); state S: ; }
@@ -25,15 +26,15 @@ case i.ChannelClosed(): delete i;
 }
 } }";
 
-/// The methods of a text.
-fn methods_of(alloc: Global, text: &str) -> Result<Vec<Method>, Fail> {
+/// The methods of a text, its contracts and what its messages bring.
+fn methods_of(alloc: Global, text: &str) -> Result<Methods, Fail> {
     let tokens = lex(alloc, text.as_bytes())?;
     let tree = parse(alloc, &tokens)?;
     let resolved = resolve(alloc, &tree, &tokens)?;
     if resolved.contracts.len() > MOST_CONTRACTS {
         return Err(Fail::from("too many contracts"));
     }
-    Ok(resolve_methods(alloc, &tree, &tokens, &resolved)?)
+    Ok(Methods::resolve(alloc, &tree, &tokens, resolved)?)
 }
 
 /// Variables by their numbers.
@@ -161,10 +162,25 @@ b Local Struct(StructId(1))
 8: 8:5 channel of 1 in 2 and 3 to 7
 begins at 8
 ";
-    match methods_of(rt.alloc(), CHANNELS)?.get(0) {
+    match methods_of(rt.alloc(), CHANNELS)?.list().get(0) {
         Some(method) => assert_eq!(rt; shown(rt.alloc(), method)?.as_str(), wanted),
         None => assert!(rt; false),
     }
+    Ok(())
+}
+
+#[test]
+fn what_messages_bring(rt: HostRuntime) -> Result<(), Fail> {
+    let methods = methods_of(rt.alloc(), CHANNELS)?;
+    let mut lines = String::new(rt.alloc());
+    for kinds in methods.messages() {
+        for kind in kinds {
+            lines.push_str(&format!(in rt.alloc(); "{kind:?} ")?)?;
+        }
+        lines.push_str("\n")?;
+    }
+    assert_eq!(rt; lines.as_str(), "\nStruct(StructId(1)) \n\n");
+    assert!(rt; methods.contracts().contracts.len() == 2);
     Ok(())
 }
 
@@ -173,7 +189,7 @@ fn result_that_is_an_endpoint(rt: HostRuntime) -> Result<(), Fail> {
     let text = "contract Q { in message A(); state S: A? -> T; state T: ; }
 class K { static Q.Imp:T F([Claims] Q.Imp:T i) { return i; } static int G() { return 1; } }";
     let mut lines = String::new(rt.alloc());
-    for method in &methods_of(rt.alloc(), text)? {
+    for method in methods_of(rt.alloc(), text)?.list() {
         lines.push_str(&format!(in rt.alloc(); "{} {:?}\n", method.gives, method.result)?)?;
     }
     let wanted = "true Some(Endpoint { contract: ContractId(0), side: Imp, state: StateId(1) })

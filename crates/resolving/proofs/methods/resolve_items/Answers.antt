@@ -1,7 +1,11 @@
 use Rattle.std.proofs.Common.{◌++◌, ◌∙◌, ap, map, refl, sym}
-use Rattle.syntax.specs.Trees.{item_tree, method_tree}
+use Rattle.std.specs.List.{flat_map}
+use Rattle.syntax.specs.Trees.{contract_of, definition_tree, item_tree, method_tree}
+use Rattle.names.specs.Declarations.{messages_of}
 use Rattle.resolving.specs.Around.{program_in}
+use Rattle.resolving.specs.Brought.{brought}
 use Rattle.resolving.specs.Methods.{method_told}
+use Rattle.resolving.proofs.BroughtLemmas.{brought_all, brought_more}
 use Rattle.resolving.proofs.ItemLemmas.{first_told, items_more, items_all}
 use Rattle.resolving.proofs.methods.resolve_items.Goals as goal
 
@@ -12,12 +16,23 @@ loop-class-preserved c =
     let p = program_in c.args.tokens.now.text.items trees in
     let i = c.loop-class.class in
     let methods = c.methods_of-methods.result.now in
-    c.in_ok-add_methods.ensures trees i (record { scope = c.requires.scope; items = refl; contracts = c.requires.contracts; before = c.deref.ensures.value ∙ c.in_ok-before.ensures; class_is = refl; few = c.requires.few })
-    ∙ ap (λ l. l ++ map (method_told p i) (map method_tree methods)) c.loop-class.invariant
-    ∙ ap (λ ms. first_told p items i ++ map (method_told p i) ms) c.methods_of-methods.ensures
-    ∙ sym (items_more p items i c.index-items-class.result c.loop-class-test.true c.index-items-class.is)
+    record {
+      messages =
+          c.in_ok-add_brought.ensures p i (record { scope = c.requires.scope; items = refl; contracts = c.requires.contracts; before = c.deref.ensures.value ∙ c.in_ok-before.ensures; class_is = refl; few = c.requires.few })
+          ∙ ap (λ l. l ++ map (brought p) (flat_map messages_of (contract_of (definition_tree c.index-items-class.result.definition)))) c.loop-class.invariant.messages
+          ∙ sym (brought_more p items i c.index-items-class.result c.loop-class-test.true c.index-items-class.is);
+      methods =
+          c.in_ok-add_methods.ensures trees i (record { scope = c.requires.scope; items = refl; contracts = c.requires.contracts; before = c.deref.ensures.value ∙ c.in_ok-before.ensures; class_is = refl; few = c.requires.few })
+          ∙ ap (λ l. l ++ map (method_told p i) (map method_tree methods)) c.loop-class.invariant.methods
+          ∙ ap (λ ms. first_told p items i ++ map (method_told p i) ms) c.methods_of-methods.ensures
+          ∙ sym (items_more p items i c.index-items-class.result c.loop-class-test.true c.index-items-class.is);
+    }
 
 pub returns : goal.returns
 returns c =
     let items = c.args.items.now in
-    c.loop-class.invariant ∙ items_all (program_in c.args.tokens.now.text.items (map item_tree items)) items c.loop-class.class c.loop-class-test.false
+    let p = program_in c.args.tokens.now.text.items (map item_tree items) in
+    record {
+      messages = c.loop-class.invariant.messages ∙ brought_all p items c.loop-class.class c.loop-class-test.false;
+      methods = c.loop-class.invariant.methods ∙ items_all p items c.loop-class.class c.loop-class-test.false;
+    }

@@ -2,8 +2,13 @@ use Rattle.std.proofs.Common.{◌≡◌, map}
 use Rattle.syntax.specs.Trees.{item_tree}
 use Rattle.resolved.specs.Methods.{method_seen}
 use Rattle.resolving.specs.Around.{program_in}
+use Rattle.resolving.specs.Brought.{rows}
+use Rattle.resolving.proofs.BroughtLemmas.{first_brought}
 use Rattle.resolving.proofs.ItemLemmas.{first_told}
 use Rattle.resolving.proofs.methods.resolve_items.Given as goal
 
 abbrev pub invariant-loop-class : goal.invariant-loop-class
-invariant-loop-class l = map method_seen l.resolved.items ≡ first_told (program_in l.tokens.text.items (map item_tree l.items)) l.items l.class
+invariant-loop-class l = record {
+  messages : rows l.messages.items ≡ first_brought (program_in l.tokens.text.items (map item_tree l.items)) l.items l.class;
+  methods : map method_seen l.resolved.items ≡ first_told (program_in l.tokens.text.items (map item_tree l.items)) l.items l.class;
+}

@@ -1,0 +1,86 @@
+-- What messages bring, message by message.
+use Rattle.std.proofs.Common.{◌≡◌, ℕ, ◌+◌, ◌<◌, ◌≤◌, List, [], ◌∷◌, ◌++◌, length, map, take, get_or, sym, ap, ◌∙◌, append_assoc, append-nil, Option, None, Some}
+use Rattle.std.specs.Global.{Vec}
+use Rattle.std.specs.List.{flat_map}
+use Rattle.std.proofs.lemmas.Grind.{flat_map-append}
+use Rattle.std.proofs.lemmas.List.{flat_map_more, map-append, take_all, take_more}
+use Rattle.syntax.specs.Trees.{ContractTree, MessageTree, contract_of, contracts_of, definition_tree, item_tree, member_tree}
+use Rattle.syntax.specs.declared.tree.Item.{Item}
+use Rattle.syntax.specs.declared.tree.Member.{Member}
+use Rattle.syntax.specs.declared.tree.Param.{Param}
+use Rattle.names.specs.Declarations.{message_among, messages_of}
+use Rattle.names.specs.Program.{Program}
+use Rattle.resolved.specs.declared.kind.Kind.{Kind}
+use Rattle.resolving.specs.Brought.{brought, held_listed, params_held, rows}
+use Rattle.resolving.specs.Kinds.{type_held}
+
+-- what one more element adds
+flat_more : {X Y Z : Type 0} (f : Y → List Z) (g : X → Y) (xs : List X) (i : ℕ) (x : X) → i < length xs → x ≡ get_or xs i x
+    → flat_map f (map g (take (i + 1) xs)) ≡ flat_map f (map g (take i xs)) ++ f (g x)
+flat_more f g xs i x lt is =
+    let taken = ap (map g) (take_more xs i x lt ∙ ap (λ y. take i xs ++ y ∷ []) (sym is)) ∙ map-append g (take i xs) (x ∷ []) in
+    ap (flat_map f) taken ∙ sym (flat_map_more f [] (map g (take i xs)) (g x))
+
+held_more : (p : Program) (params : List Param) (i : ℕ) (d : Param) → i < length params
+    → params_held p (take (i + 1) params) ≡ params_held p (take i params) ++ held_listed (type_held p (get_or params i d).kind)
+held_more p params i d lt = ap (params_held p) (take_more params i d lt) ∙ sym (flat_map_more (λ (x : Param). held_listed (type_held p x.kind)) [] (take i params) (get_or params i d))
+
+-- one more parameter of the exchange heap
+pub held_some : (p : Program) (params : List Param) (i : ℕ) (d : Param) (held : Kind) (done : List Kind) → i < length params
+    → done ≡ params_held p (take i params) → Some held ≡ type_held p (get_or params i d).kind → done ++ held ∷ [] ≡ params_held p (take (i + 1) params)
+held_some p params i d held done lt before is =
+    ap (λ l. l ++ held ∷ []) before ∙ ap (λ o. params_held p (take i params) ++ held_listed o) is ∙ sym (held_more p params i d lt)
+
+-- one more that is not
+pub held_none : (p : Program) (params : List Param) (i : ℕ) (d : Param) (done : List Kind) → i < length params
+    → done ≡ params_held p (take i params) → None ≡ type_held p (get_or params i d).kind → done ≡ params_held p (take (i + 1) params)
+held_none p params i d done lt before is =
+    let front = params_held p (take i params) in
+    before ∙ sym (append-nil front) ∙ ap (λ (o : Option Kind). front ++ held_listed o) is ∙ sym (held_more p params i d lt)
+
+-- one more row
+pub rows_more : (done more : List (Vec Kind)) (kinds : Vec Kind) (bs : List Kind) → more ≡ done ++ kinds ∷ [] → kinds.items ≡ bs → rows more ≡ rows done ++ bs ∷ []
+rows_more done more kinds bs new is = ap rows new ∙ map-append (λ (k : Vec Kind). k.items) done (kinds ∷ []) ∙ ap (λ b. rows done ++ b ∷ []) is
+
+-- what the messages among the first so many members bring
+abbrev pub first_members : Program → List Member → ℕ → List (List Kind)
+first_members p xs i = map (brought p) (flat_map message_among (map member_tree (take i xs)))
+
+-- one more member, which adds what it brings if it is a message
+pub members_more : (p : Program) (xs : List Member) (i : ℕ) (x : Member) (old done more : List (List Kind)) → i < length xs → x ≡ get_or xs i x
+    → done ≡ old ++ first_members p xs i → more ≡ done ++ map (brought p) (message_among (member_tree x)) → more ≡ old ++ first_members p xs (i + 1)
+members_more p xs i x old done more lt is before new =
+    let front = flat_map message_among (map member_tree (take i xs)) in
+    let one = message_among (member_tree x) in
+    new ∙ ap (λ l. l ++ map (brought p) one) before ∙ append_assoc old (map (brought p) front) (map (brought p) one)
+    ∙ ap (λ l. old ++ l) (sym (map-append (brought p) front one)) ∙ ap (λ l. old ++ map (brought p) l) (sym (flat_more message_among member_tree xs i x lt is))
+
+-- all members
+pub members_all : (p : Program) (xs : List Member) (i : ℕ) → length xs ≤ i → first_members p xs i ≡ map (brought p) (flat_map message_among (map member_tree xs))
+members_all p xs i le = ap (λ l. map (brought p) (flat_map message_among (map member_tree l))) (take_all i xs le)
+
+-- what a contract brings: its messages before the first state, and those among its members
+pub contract_brings : (p : Program) (c : ContractTree) (old mid new : List (List Kind)) → mid ≡ old ++ map (brought p) c.messages → new ≡ mid ++ map (brought p) (flat_map message_among c.members)
+    → new ≡ old ++ map (brought p) (flat_map messages_of (c ∷ []))
+contract_brings p c old mid new first second =
+    let among = flat_map message_among c.members in
+    second ∙ ap (λ l. l ++ map (brought p) among) first ∙ append_assoc old (map (brought p) c.messages) (map (brought p) among)
+    ∙ ap (λ l. old ++ l) (sym (map-append (brought p) c.messages among)) ∙ ap (λ (l : List MessageTree). old ++ map (brought p) l) (sym (append-nil (messages_of c)))
+
+-- what the messages of the contracts among the first so many items bring
+abbrev pub first_brought : Program → List Item → ℕ → List (List Kind)
+first_brought p xs i = map (brought p) (flat_map messages_of (contracts_of (map item_tree (take i xs))))
+
+-- those of one more item
+pub brought_more : (p : Program) (xs : List Item) (i : ℕ) (x : Item) → i < length xs → x ≡ get_or xs i x
+    → first_brought p xs (i + 1) ≡ first_brought p xs i ++ map (brought p) (flat_map messages_of (contract_of (definition_tree x.definition)))
+brought_more p xs i x lt is =
+    let front = contracts_of (map item_tree (take i xs)) in
+    let one = contract_of (definition_tree x.definition) in
+    ap (λ l. map (brought p) (flat_map messages_of l)) (flat_more (λ t. contract_of t.definition) item_tree xs i x lt is)
+    ∙ ap (map (brought p)) (flat_map-append messages_of front one)
+    ∙ map-append (brought p) (flat_map messages_of front) (flat_map messages_of one)
+
+-- those of all items
+pub brought_all : (p : Program) (xs : List Item) (i : ℕ) → length xs ≤ i → first_brought p xs i ≡ map (brought p) (flat_map messages_of (contracts_of (map item_tree xs)))
+brought_all p xs i le = ap (λ l. map (brought p) (flat_map messages_of (contracts_of (map item_tree l)))) (take_all i xs le)

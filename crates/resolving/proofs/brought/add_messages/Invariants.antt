@@ -1,0 +1,9 @@
+use Rattle.std.proofs.Common.{◌≡◌, ◌++◌, ℕ, map, take}
+use Rattle.syntax.specs.Trees.{message_tree}
+use Rattle.names.specs.Program.{Program}
+use Rattle.resolving.specs.Around.{IsAround}
+use Rattle.resolving.specs.Brought.{brought, rows}
+use Rattle.resolving.proofs.brought.add_messages.Given as goal
+
+abbrev pub invariant-loop-message : goal.invariant-loop-message
+invariant-loop-message l = (p : Program) (own : ℕ) → IsAround p own l.around → rows l.told.items ≡ rows l.fn.told.items ++ map (λ m. brought p (message_tree m)) (take l.message-index l.messages)

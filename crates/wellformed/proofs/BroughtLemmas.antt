@@ -1,0 +1,107 @@
+-- What messages bring, and the variables that take it.
+use Rattle.std.proofs.Common.{◌≡◌, Bool, true, false, List, [], ◌∷◌, ◌++◌, length, map, sym, refl, ap, ◌∙◌, subst, arith}
+use Rattle.std.specs.List.{flat_map}
+use Rattle.std.specs.Prelude.{Option, None, Some, option_map, slice_get, IsSomeAnd}
+use Rattle.source.specs.declared.token.Span.{Span}
+use Rattle.syntax.specs.Trees.{MessageTree, contracts_of}
+use Rattle.syntax.specs.declared.statement as made
+use Rattle.syntax.specs.declared.tree as tree
+use Rattle.syntax.specs.declared.tree.Param.{Param}
+use Rattle.names.specs.Cases.{bind_turn, binds_turn, typed_turn}
+use Rattle.names.specs.Declarations.{messages_of}
+use Rattle.names.specs.Kinds.{agree, alike, is_block, type_kind, type_unknown, unless}
+use Rattle.names.specs.Program.{Program}
+use Rattle.names.specs.Resolution.{resolved_contracts}
+use Rattle.names.specs.Variables as names
+use Rattle.names.specs.Variables.{declared_variable}
+use Rattle.names.specs.Words.{word_at}
+use Rattle.names.specs.declared.kinds.Kind.{Kind}
+use Rattle.resolved.specs.Methods.{VariableSeen}
+use Rattle.resolved.specs.declared.kind as held
+use Rattle.resolved.specs.declared.method.Role.TheVariants.{Local}
+use Rattle.resolved.specs.declared.method.VarId.{VarId}
+use Rattle.resolving.specs.Binds.{bind_told, binds_told, bound_as, one_number}
+use Rattle.resolving.specs.Brought.{brought, held_listed, messages_told, params_held}
+use Rattle.resolving.specs.Kinds.{kind_held, state_in, type_held}
+use Rattle.resolving.specs.Locals.{Frame, declared, next_number, number_of}
+use Rattle.wellformed.specs.Lists.{Each}
+use Rattle.wellformed.specs.WellFormed.{HoldAll, Holds, IsKind, Setting, same_type}
+use Rattle.wellformed.proofs.GrowthLemmas.{binds_grow, within_before}
+use Rattle.wellformed.proofs.KindLemmas.{Holding, agree_alike, alike_block, alike_held, alike_self, block_holds, held_kind, scalar_holds, type_known}
+use Rattle.wellformed.proofs.ListLemmas.{both_none, each_append}
+use Rattle.wellformed.proofs.FindingLemmas.{unless_none}
+use Rattle.wellformed.proofs.PlaceLemmas.{at_seam}
+use Rattle.wellformed.proofs.Standing.{IsKnown, Within, declares}
+
+-- a variable that is declared takes its number
+declared_at : (p : Program) (s : Setting) (name : Span) (kind : Kind) (x : held.Kind.Kind) (k : held.Kind.Kind) (f : Frame) → same_type x k ≡ true → Within s.variables (declares p.text name kind (Some x) Local f)
+    → Holds s k (number_of (length f.variables))
+declared_at p s name kind x k f same within =
+    let v : VariableSeen = record { name = word_at p.text name; kind = x; role = Local; outer = option_map number_of f.last } in
+    let there = ap (λ vs. slice_get vs (length f.variables)) within.is ∙ at_seam f.variables within.rest v in
+    subst (λ o. IsSomeAnd o (λ y. same_type y.kind k ≡ true)) (sym there) same
+
+-- one name for one parameter, and then others for others
+one_with : (p : Program) (s : Setting) (name : Span) (kind : Kind) (f : Frame) (o x : Option held.Kind.Kind) (h y : Option held.Kind.Kind) (ks : List held.Kind.Kind) (vs : List VarId) → o ≡ h → x ≡ y
+    → HoldAll s (held_listed y ++ ks) (one_number (next_number h f) ++ vs) → HoldAll s (held_listed x ++ ks) (one_number (next_number o f) ++ vs)
+one_with p s name kind f o x h y ks vs own asked all =
+    subst (λ z. HoldAll s (held_listed z ++ ks) (one_number (next_number o f) ++ vs)) (sym asked) (subst (λ z. HoldAll s (held_listed y ++ ks) (one_number (next_number z f) ++ vs)) (sym own) all)
+
+one_holds : (p : Program) (s : Setting) (name : Span) (a k : Kind) (own asked : Option Span) (f : Frame) (b : Bool) → is_block k ≡ b → alike a k ≡ true → IsKnown p a → IsKnown p k
+    → Within s.variables (declares p.text name a (kind_held p a own) Local f) → (ks : List held.Kind.Kind) (vs : List VarId) → HoldAll s ks vs
+    → HoldAll s (held_listed (kind_held p k asked) ++ ks) (one_number (next_number (kind_held p a own) f) ++ vs)
+one_holds p s name a k own asked f false scalar like sure known within ks vs rest =
+    one_with p s name a f (kind_held p a own) (kind_held p k asked) None None ks vs (scalar_holds p a own (alike_block a k like ∙ scalar)) (scalar_holds p k asked scalar) rest
+one_holds p s name a k own asked f true block like sure known within ks vs rest =
+    let x : Holding p a own = block_holds p a own sure (alike_block a k like ∙ block) in
+    let y : Holding p k asked = block_holds p k asked known block in
+    let same = alike_held p a k x.held y.held like (record { state = own; is = x.is }) (record { state = asked; is = y.is }) in
+    let here = subst (λ o. Within s.variables (declares p.text name a o Local f)) x.is within in
+    one_with p s name a f (kind_held p a own) (kind_held p k asked) (Some x.held) (Some y.held) ks vs x.is y.is (declared_at p s name a x.held y.held f same here, rest)
+
+-- a name that a case binds for this parameter
+bound_holds : (p : Program) (s : Setting) (x : Param) (name : Span) (kind : Option tree.Type.Type) (f : Frame) (g : names.Frame) → IsKnown p (type_kind p x.kind)
+    → Within s.variables (declared p.text (bound_as p (Some x) name kind) f) → (typed_turn p (Some x) name kind g).found ≡ [] → (ks : List held.Kind.Kind) (vs : List VarId) → HoldAll s ks vs
+    → HoldAll s (held_listed (type_held p x.kind) ++ ks) (one_number (next_number (bound_as p (Some x) name kind).held f) ++ vs)
+bound_holds p s x name (Some t) f g known within none ks vs rest =
+    let k = type_kind p x.kind in
+    let fits = unless (agree (type_kind p t) k) name.place in
+    let clean = both_none (type_unknown p t) fits (both_none (type_unknown p t ++ fits) _ none).0 in
+    let sure = type_known p t clean.0 in
+    let like = agree_alike p (type_kind p t) k sure known (unless_none (agree (type_kind p t) k) name.place clean.1) in
+    one_holds p s name (type_kind p t) k (state_in t) (state_in x.kind) f (is_block k) refl like sure known within ks vs rest
+bound_holds p s x name None f g known within none ks vs rest =
+    let k = type_kind p x.kind in
+    one_holds p s name k k None (state_in x.kind) f (is_block k) refl (alike_self p k known) known known within ks vs rest
+
+-- what a case binds takes what its message brings
+pub binds_hold : (p : Program) (s : Setting) (params : List Param) (binds : List made.Bind.Bind) (f : Frame) (g : names.Frame)
+    → Within s.variables (binds_told p params binds f).frame → Each (λ x. type_unknown p x.kind ≡ []) params → length params ≡ length binds
+    → (binds_turn p params binds g).found ≡ [] → HoldAll s (params_held p params) (binds_told p params binds f).what
+binds_hold p s [] [] f g within known many none = tt
+binds_hold p s (x ∷ params) [] f g within known many none = absurd (omega arith)
+binds_hold p s [] (b ∷ binds) f g within known many none = absurd (omega arith)
+binds_hold p s (x ∷ params) (b ∷ binds) f g within known many none =
+    let next = (bind_told p (Some x) b f).frame in
+    let turned = bind_turn p (Some x) b g in
+    let clean = both_none turned.found (binds_turn p params binds turned.frame).found none in
+    let here = within_before p next (binds_told p params binds next).frame s.variables (binds_grow p params binds next) within in
+    let fewer : length params ≡ length binds = omega arith in
+    let rest = binds_hold p s params binds next turned.frame within known.1 fewer clean.1 in
+    bound_holds p s x b.name b.kind f g (type_known p x.kind known.0) here clean.0 (params_held p params) (binds_told p params binds next).what rest
+
+-- what messages bring stands for something
+param_kinds : (p : Program) (x : Param) (o : Option held.Kind.Kind) → type_held p x.kind ≡ o → Each (IsKind (resolved_contracts p.text (contracts_of p.items))) (held_listed o)
+param_kinds p x None is = tt
+param_kinds p x (Some h) is = (held_kind p (type_kind p x.kind) h (record { state = state_in x.kind; is = is }), tt)
+
+params_kinds : (p : Program) (params : List Param) → Each (IsKind (resolved_contracts p.text (contracts_of p.items))) (params_held p params)
+params_kinds p [] = tt
+params_kinds p (x ∷ params) = each_append (IsKind (resolved_contracts p.text (contracts_of p.items))) (held_listed (type_held p x.kind)) (params_held p params) (param_kinds p x (type_held p x.kind) refl) (params_kinds p params)
+
+messages_kinds : (p : Program) (messages : List MessageTree) → Each (Each (IsKind (resolved_contracts p.text (contracts_of p.items)))) (map (brought p) messages)
+messages_kinds p [] = tt
+messages_kinds p (m ∷ messages) = (params_kinds p m.params, messages_kinds p messages)
+
+pub brought_kinds : (p : Program) → Each (Each (IsKind (resolved_contracts p.text (contracts_of p.items)))) (messages_told p)
+brought_kinds p = messages_kinds p (flat_map messages_of (contracts_of p.items))

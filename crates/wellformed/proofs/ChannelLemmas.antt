@@ -1,0 +1,123 @@
+-- New channels with which nothing is wrong.
+use Rattle.std.proofs.Common.{◌≡◌, ℕ, eq-eqb, ◌==◌, ◌&&◌, ◌||◌, Bool, true, false, not, [], ◌++◌, sym, refl, ap, ◌∙◌, subst}
+use Rattle.std.proofs.lemmas.Bool.{eqb-true}
+use Rattle.std.specs.Option.{option_map_or}
+use Rattle.std.specs.Prelude.{Option, None, Some, option_map, option_and_then, slice_get, IsSomeAnd}
+use Rattle.source.specs.declared.token.Span.{Span}
+use Rattle.syntax.specs.Trees.{ClassTree, ContractTree}
+use Rattle.syntax.specs.declared.statement as made
+use Rattle.syntax.specs.declared.tree as tree
+use Rattle.syntax.specs.declared.tree.Side.{Side}
+use Rattle.names.specs.Bodies.{channel_findings, ends_findings, is_end_of, new_ends_findings, same_end}
+use Rattle.names.specs.Expressions.{held, meant, variable_findings}
+use Rattle.names.specs.Kinds.{is_block, is_silent, same_side, unless}
+use Rattle.names.specs.Program.{Numbered, Program}
+use Rattle.names.specs.Program as items
+use Rattle.names.specs.Variables as names
+use Rattle.names.specs.declared.kinds as declared
+use Rattle.names.specs.declared.kinds.Kind.TheVariants as kind
+use Rattle.resolved.specs.declared.kind.Kind.{Kind}
+use Rattle.resolved.specs.declared.kind.Kind.TheVariants.{Endpoint}
+use Rattle.resolved.specs.declared.statement.Action.TheVariants as does
+use Rattle.resolving.specs.Kinds.{contract_named, contract_number, number_at}
+use Rattle.resolving.specs.Locals.{Frame, mention, mention_of}
+use Rattle.resolving.specs.Plain.{channel, channel_of, ends_of}
+use Rattle.wellformed.specs.WellFormed.{IsAction, Setting, are_ends}
+use Rattle.wellformed.proofs.ContractLemmas.{contract_is_at}
+use Rattle.wellformed.proofs.FindingLemmas.{unless_none}
+use Rattle.wellformed.proofs.MentionLemmas.{block_mentioned, held_known}
+use Rattle.wellformed.proofs.KindLemmas.{HasContract, HoldsEnd, contract_known, end_holds}
+use Rattle.wellformed.proofs.ListLemmas.{both_none}
+use Rattle.wellformed.proofs.Standing.{Around, AreStanding, IsHeld, IsKnown, scope_of}
+
+-- a kind that is that of an end of this contract
+record IsEndKind (n : ℕ) (k : declared.Kind.Kind) : Type 0 where
+  pub side : Side
+  pub is : k ≡ kind.Endpoint n side
+
+end_kind : (p : Program) (n : ℕ) (k : declared.Kind.Kind) → IsKnown p k → (is_silent k || is_end_of n k) ≡ true → IsEndKind n k
+end_kind p n (kind.Endpoint m side) known fits = record { side = side; is = ap (λ x. kind.Endpoint x side) (sym (eqb-true n m fits)) }
+end_kind p n (kind.Scalar x) known fits = cc
+end_kind p n (kind.Array x) known fits = cc
+end_kind p n (kind.Pointer x) known fits = cc
+end_kind p n kind.Missing known fits = absurd known
+end_kind p n kind.Unknown known fits = absurd known
+
+same_number : (n : ℕ) → (n == n) ≡ true
+same_number n = eq-eqb n n refl
+
+and_true : (a b : Bool) → a ≡ true → b ≡ true → (a && b) ≡ true
+and_true true b first second = second
+and_true false b first second = cc
+
+left_of : (a b c : Bool) → (a || (b && c)) ≡ true → (a || b) ≡ true
+left_of true b c h = refl
+left_of false true c h = refl
+left_of false false c h = cc
+
+right_of : (a b c : Bool) → a ≡ false → (a || (b && c)) ≡ true → c ≡ true
+right_of true b c quiet h = cc
+right_of false true c quiet h = h
+right_of false false c quiet h = cc
+
+-- two variables that hold ends of a contract, and not the same one
+ends_fit : (p : Program) (n : ℕ) (a b : Side) (x y : Kind) → HoldsEnd p n a x → HoldsEnd p n b y → not (is_end_of n (kind.Endpoint n a) && same_end (kind.Endpoint n a) (kind.Endpoint n b)) ≡ true
+    → are_ends (contract_number p n).0 x y ≡ true
+ends_fit p n a b x y left right differ =
+    let k = contract_number p n in
+    let apart = subst (λ z. not (z && same_side a b) ≡ true) (same_number n) differ in
+    let ends = and_true (k.0 == k.0) ((k.0 == k.0) && not (same_side a b)) (same_number k.0) (and_true (k.0 == k.0) (not (same_side a b)) (same_number k.0) apart) in
+    subst (λ z. are_ends k.0 z y ≡ true) (sym left.is) (subst (λ z. are_ends k.0 (Endpoint k a left.state) z ≡ true) (sym right.is) ends)
+
+-- the contract of an end that is known
+channel_contract : (p : Program) (contract : Span) (c : Numbered ContractTree) (side : Side) → items.contract_named p contract ≡ Some c → IsKnown p (kind.Endpoint c.0 side) → contract_named p contract ≡ Some (contract_number p c.0)
+channel_contract p contract c side named known =
+    let has : HasContract p c.0 = contract_known p c.0 side known in
+    let at = contract_is_at p c.0 has.tree has.is in
+    ap (λ o. option_and_then (number_at p) (option_map (λ x. x.0) o)) named ∙ ap (option_map (λ x. contract_number p c.0)) at.is
+
+found_fits : (p : Program) (class : ℕ) (s : Setting) (f : Frame) (g : names.Frame) (n : made.NewChannel.NewChannel) (c : Numbered ContractTree) → items.contract_named p n.contract ≡ Some c
+    → AreStanding p s.variables f g → variable_findings (scope_of p g) n.first ≡ [] → variable_findings (scope_of p g) n.second ≡ []
+    → ends_findings c.0 (held (meant (scope_of p g) n.first)) (held (meant (scope_of p g) n.second)) n.first n.second ≡ [] → IsAction s (channel p class f n)
+found_fits p class s f g n c named standing first second none =
+    let a = held (meant (scope_of p g) n.first) in
+    let b = held (meant (scope_of p g) n.second) in
+    let known_a = held_known p s.variables f g n.first standing first in
+    let known_b = held_known p s.variables f g n.second standing second in
+    let other = not (is_end_of c.0 a && same_end a b) in
+    let both = both_none (unless (is_silent a || is_end_of c.0 a) n.first.place) (unless (is_silent b || (is_end_of c.0 b && other)) n.second.place) none in
+    let fits_a = unless_none (is_silent a || is_end_of c.0 a) n.first.place both.0 in
+    let fits_b = unless_none (is_silent b || (is_end_of c.0 b && other)) n.second.place both.1 in
+    let end_a = end_kind p c.0 a known_a fits_a in
+    let end_b = end_kind p c.0 b known_b (left_of (is_silent b) (is_end_of c.0 b) other fits_b) in
+    let differ = right_of (is_silent b) (is_end_of c.0 b) other (ap is_silent end_b.is) fits_b in
+    let v = block_mentioned p s.variables f g n.first standing first (ap is_block end_a.is) in
+    let w = block_mentioned p s.variables f g n.second standing second (ap is_block end_b.is) in
+    let holds_v = end_holds p c.0 end_a.side v.variable.kind (subst (λ k. IsHeld p k v.variable.kind) end_a.is v.holds) in
+    let holds_w = end_holds p c.0 end_b.side w.variable.kind (subst (λ k. IsHeld p k w.variable.kind) end_b.is w.holds) in
+    let apart = subst (λ k. not (is_end_of c.0 k && same_end k (kind.Endpoint c.0 end_b.side)) ≡ true) end_a.is (subst (λ k. not (is_end_of c.0 a && same_end a k) ≡ true) end_b.is differ) in
+    let ends = ends_fit p c.0 end_a.side end_b.side v.variable.kind w.variable.kind holds_v holds_w apart in
+    let contract = channel_contract p n.contract c end_a.side named (subst (IsKnown p) end_a.is known_a) in
+    let mentions : channel_of p class f n (contract_number p c.0) ≡ Some (ends_of p class f n.word.place (contract_number p c.0) (mention_of n.first v.number) (mention_of n.second w.number)) =
+    ap (option_and_then (λ m. option_map (ends_of p class f n.word.place (contract_number p c.0) m) (mention p.text f.locals n.second))) v.is
+    ∙ ap (option_map (ends_of p class f n.word.place (contract_number p c.0) (mention_of n.first v.number))) w.is in
+    let found = ap (option_and_then (channel_of p class f n)) contract ∙ mentions in
+    subst (λ o. IsAction s (option_map_or (λ x. x) o does.Nothing)) (sym found)
+    (subst (λ o. IsSomeAnd o (λ x. IsSomeAnd (slice_get s.variables w.number) (λ y. are_ends (contract_number p c.0).0 x.kind y.kind ≡ true))) (sym v.there)
+    (subst (λ o. IsSomeAnd o (λ y. are_ends (contract_number p c.0).0 v.variable.kind y.kind ≡ true)) (sym w.there) ends))
+
+named_fits : (p : Program) (class : ℕ) (s : Setting) (f : Frame) (g : names.Frame) (n : made.NewChannel.NewChannel) (o : Option (Numbered ContractTree)) → items.contract_named p n.contract ≡ o
+    → AreStanding p s.variables f g → variable_findings (scope_of p g) n.first ≡ [] → variable_findings (scope_of p g) n.second ≡ []
+    → new_ends_findings (scope_of p g) o n.contract n.first n.second ≡ [] → IsAction s (channel p class f n)
+named_fits p class s f g n None named standing first second none = cc
+named_fits p class s f g n (Some c) named standing first second none = found_fits p class s f g n c named standing first second none
+
+-- a new channel
+pub channel_fits : (p : Program) (t : ClassTree) (class : ℕ) (result : Option tree.Type.Type) (s : Setting) (f : Frame) (g : names.Frame) (n : made.NewChannel.NewChannel)
+    → Around p t class result s → AreStanding p s.variables f g → channel_findings (scope_of p g) n.contract n.first n.second ≡ [] → IsAction s (channel p class f n)
+channel_fits p t class result s f g n around standing none =
+    let named = items.contract_named p n.contract in
+    let ends = new_ends_findings (scope_of p g) named n.contract n.first n.second in
+    let both = both_none ends (variable_findings (scope_of p g) n.first ++ variable_findings (scope_of p g) n.second) none in
+    let halves = both_none (variable_findings (scope_of p g) n.first) (variable_findings (scope_of p g) n.second) both.1 in
+    named_fits p class s f g n named refl standing halves.0 halves.1 both.0

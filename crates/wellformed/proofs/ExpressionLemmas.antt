@@ -1,0 +1,224 @@
+-- Expressions with which nothing is wrong: their kinds, and what they read.
+use Rattle.std.proofs.Common.{◌≡◌, ◌<◌, Bool, true, false, not, ◌||◌, List, [], ◌∷◌, ◌++◌, length, if◌then◌else◌, refl, sym, ap, subst, arith}
+use Rattle.std.proofs.lemmas.Bool.{not-true}
+use Rattle.std.specs.Option.{option_map_or}
+use Rattle.std.specs.Prelude.{Option, None, Some, is_some, IsSomeAnd}
+use Rattle.source.specs.declared.token.Span.{Span}
+use Rattle.syntax.specs.Expressions as trees
+use Rattle.syntax.specs.Expressions.{LevelTree, StepTrees, AtomTree, TargetTree, ExpressionTree}
+use Rattle.syntax.specs.Operators.{Level, Operators}
+use Rattle.syntax.specs.Trees.{StructTree}
+use Rattle.syntax.specs.declared.class as made
+use Rattle.syntax.specs.declared.tree.Scalar.TheVariants as scalar
+use Rattle.names.specs.Expressions.{kind_of, place_of, held, meant, expression_findings, whole_findings, field_kind, field_findings, field_named, struct_field_kind, is_length, element_kind, element_findings, variable_findings, mention_findings, asked_number, sign_asked, left_asked, right_asked, signed_kind, joined_kind}
+use Rattle.names.specs.Found.{unknown}
+use Rattle.names.specs.Kinds.{is_block, is_number, is_truth, is_unknown, unless}
+use Rattle.names.specs.Program.{Program, Numbered, as_struct, item_at}
+use Rattle.names.specs.Shapes as shapes
+use Rattle.names.specs.Shapes.{Shape, Sign, shape, joined, joint_of, atom_shape}
+use Rattle.names.specs.Variables as names
+use Rattle.names.specs.declared.kinds as declared
+use Rattle.names.specs.declared.kinds.Kind.TheVariants as kind
+use Rattle.resolved.specs.Methods.{VariableSeen}
+use Rattle.resolved.specs.declared.statement.Mention.{Mention}
+use Rattle.resolving.specs.Locals.{Frame, mention}
+use Rattle.resolving.specs.Reads.{reads, step_reads, atom_reads, target_reads, listed, lone_name, atom_name}
+use Rattle.wellformed.specs.Lists.{Each}
+use Rattle.wellformed.proofs.KindLemmas.{known_certain}
+use Rattle.wellformed.proofs.ListLemmas.{both_none, each_append}
+use Rattle.wellformed.proofs.FindingLemmas.{none_said, unless_none}
+use Rattle.wellformed.proofs.MentionLemmas.{IsMentioned, block_mentioned, held_known, mention_within}
+use Rattle.wellformed.proofs.Standing.{IsKnown, AreStanding, scope_of}
+
+-- Each block that an expression reads is a variable of the method.
+listed_within : (p : Program) (vs : List VariableSeen) (f : Frame) (g : names.Frame) → AreStanding p vs f g → (name : Span) (o : Option Mention) → mention p.text f.locals name ≡ o
+    → Each (λ m. m.variable.0 < length vs) (listed o)
+listed_within p vs f g standing name None is = tt
+listed_within p vs f g standing name (Some m) is = (mention_within p vs f g name m standing is, tt)
+
+mutual
+  level_within : (p : Program) (vs : List VariableSeen) (f : Frame) (g : names.Frame) → AreStanding p vs f g → {l : Level} → (e : LevelTree l) → Each (λ m. m.variable.0 < length vs) (reads p.text f.locals e)
+  level_within p vs f g standing (trees.Unary prefixes a) = atom_within p vs f g standing a
+  level_within p vs f g standing (trees.Chain l first others) =
+      each_append (λ m. m.variable.0 < length vs) (reads p.text f.locals first) (step_reads p.text f.locals others) (level_within p vs f g standing first) (steps_within p vs f g standing others)
+
+  steps_within : (p : Program) (vs : List VariableSeen) (f : Frame) (g : names.Frame) → AreStanding p vs f g → {l : Operators} → (xs : StepTrees l) → Each (λ m. m.variable.0 < length vs) (step_reads p.text f.locals xs)
+  steps_within p vs f g standing (trees.Done l) = tt
+  steps_within p vs f g standing (trees.More l o x xs) =
+      each_append (λ m. m.variable.0 < length vs) (reads p.text f.locals x) (step_reads p.text f.locals xs) (level_within p vs f g standing x) (steps_within p vs f g standing xs)
+
+  atom_within : (p : Program) (vs : List VariableSeen) (f : Frame) (g : names.Frame) → AreStanding p vs f g → (a : AtomTree) → Each (λ m. m.variable.0 < length vs) (atom_reads p.text f.locals a)
+  atom_within p vs f g standing (trees.Number span) = tt
+  atom_within p vs f g standing (trees.True span) = tt
+  atom_within p vs f g standing (trees.False span) = tt
+  atom_within p vs f g standing (trees.Target t) = target_within p vs f g standing t
+  atom_within p vs f g standing (trees.Parens left inner) = level_within p vs f g standing inner
+
+  target_within : (p : Program) (vs : List VariableSeen) (f : Frame) (g : names.Frame) → AreStanding p vs f g → (t : TargetTree) → Each (λ m. m.variable.0 < length vs) (target_reads p.text f.locals t)
+  target_within p vs f g standing (trees.Variable name) = tt
+  target_within p vs f g standing (trees.Field name field) = listed_within p vs f g standing name (mention p.text f.locals name) refl
+  target_within p vs f g standing (trees.Element name index) =
+      each_append (λ m. m.variable.0 < length vs) (listed (mention p.text f.locals name)) (reads p.text f.locals index) (listed_within p vs f g standing name (mention p.text f.locals name) refl) (level_within p vs f g standing index)
+
+pub reads_within : (p : Program) (vs : List VariableSeen) (f : Frame) (g : names.Frame) → AreStanding p vs f g
+    → {l : Level} → (e : LevelTree l) → Each (λ m. m.variable.0 < length vs) (reads p.text f.locals e)
+reads_within p vs f g standing e = level_within p vs f g standing e
+
+-- the length of an array
+length_scalar : (p : Program) (b : Bool) → b ≡ true → IsKnown p (if b then kind.Scalar scalar.Int else kind.Unknown) × (is_block (if b then kind.Scalar scalar.Int else kind.Unknown) ≡ false)
+length_scalar p true is = (tt, refl)
+length_scalar p false is = absurd (cc)
+
+-- a field of a struct
+part_scalar : (p : Program) (g : names.Frame) (o : Option made.Field.Field) → is_some o ≡ true → IsKnown p (struct_field_kind (scope_of p g) o) × (is_block (struct_field_kind (scope_of p g) o) ≡ false)
+part_scalar p g None is = absurd (cc)
+part_scalar p g (Some x) is = (tt, refl)
+
+struct_scalar : (p : Program) (g : names.Frame) (o : Option (Numbered StructTree)) (field : Span) → IsSomeAnd o (λ s. Unit {0})
+    → option_map_or (λ x. if is_some (field_named p.text x.1 field) then [] else unknown p.text field ∷ []) o [] ≡ []
+    → IsKnown p (option_map_or (λ x. struct_field_kind (scope_of p g) (field_named p.text x.1 field)) o kind.Unknown) × (is_block (option_map_or (λ x. struct_field_kind (scope_of p g) (field_named p.text x.1 field)) o kind.Unknown) ≡ false)
+struct_scalar p g None field known none = absurd known
+struct_scalar p g (Some x) field known none = part_scalar p g (field_named p.text x.1 field) (none_said (is_some (field_named p.text x.1 field)) (unknown p.text field) none)
+
+-- a field, or an element, is a scalar
+pub field_scalar : (p : Program) (g : names.Frame) (k : declared.Kind.Kind) (name field : Span) → IsKnown p k → field_findings (scope_of p g) k name field ≡ []
+    → IsKnown p (field_kind (scope_of p g) k field) × (is_block (field_kind (scope_of p g) k field) ≡ false)
+field_scalar p g (kind.Scalar s) name field known none = absurd (cc)
+field_scalar p g (kind.Array element) name field known none = length_scalar p (is_length (scope_of p g) field) (none_said (is_length (scope_of p g) field) (unknown p.text field) none)
+field_scalar p g (kind.Pointer n) name field known none = struct_scalar p g (item_at as_struct p n) field known none
+field_scalar p g (kind.Endpoint n side) name field known none = absurd (cc)
+field_scalar p g kind.Missing name field known none = absurd known
+field_scalar p g kind.Unknown name field known none = absurd known
+
+pub element_scalar : (p : Program) (k : declared.Kind.Kind) (name : Span) → IsKnown p k → element_findings k name ≡ []
+    → IsKnown p (element_kind k false) × (is_block (element_kind k false) ≡ false)
+element_scalar p (kind.Array element) name known none = (tt, refl)
+element_scalar p (kind.Scalar s) name known none = absurd (cc)
+element_scalar p (kind.Pointer n) name known none = absurd (cc)
+element_scalar p (kind.Endpoint n side) name known none = absurd (cc)
+element_scalar p kind.Missing name known none = absurd known
+element_scalar p kind.Unknown name known none = absurd known
+
+-- what an operator gives, where its operands are known
+gives_scalar : (p : Program) (lost : Bool) (k : declared.Kind.Kind) → lost ≡ false → IsKnown p k × (is_block k ≡ false) → IsKnown p (if lost then kind.Unknown else k) × (is_block (if lost then kind.Unknown else k) ≡ false)
+gives_scalar p true k certain scalar = absurd (cc)
+gives_scalar p false k certain scalar = scalar
+
+neither : (a b : Bool) → a ≡ false → b ≡ false → (a || b) ≡ false
+neither true b first second = cc
+neither false b first second = second
+
+-- a number or a truth value is a scalar, and operators give nothing else
+counted_scalar : (p : Program) (k : declared.Kind.Kind) → (is_number k || is_truth k) ≡ true → IsKnown p k × (is_block k ≡ false)
+counted_scalar p (kind.Scalar s) is = (tt, refl)
+counted_scalar p (kind.Pointer n) is = absurd (cc)
+counted_scalar p (kind.Array element) is = absurd (cc)
+counted_scalar p (kind.Endpoint n side) is = absurd (cc)
+counted_scalar p kind.Missing is = absurd (cc)
+counted_scalar p kind.Unknown is = absurd (cc)
+
+signed_counted : (sign : Sign) → (is_number (signed_kind sign) || is_truth (signed_kind sign)) ≡ true
+signed_counted shapes.Denial = refl
+signed_counted shapes.Minus = refl
+
+joined_counted : (joint : _) → (is_number (joined_kind joint) || is_truth (joined_kind joint)) ≡ true
+joined_counted joint = grind arith
+
+mention_scalar : (p : Program) (vs : List VariableSeen) (f : Frame) (g : names.Frame) → AreStanding p vs f g → (name : Span) → mention_findings (scope_of p g) name ≡ []
+    → IsKnown p (held (meant (scope_of p g) name)) × (is_block (held (meant (scope_of p g) name)) ≡ false)
+mention_scalar p vs f g standing name none =
+    let both = both_none (variable_findings (scope_of p g) name) (unless (not (is_block (held (meant (scope_of p g) name)))) name.place) none in
+    (held_known p vs f g name standing both.0, not-true (is_block (held (meant (scope_of p g) name))) (unless_none (not (is_block (held (meant (scope_of p g) name)))) name.place both.1))
+
+-- so is an expression with operators, numbers, fields and the like
+pub expression_scalar : (p : Program) (vs : List VariableSeen) (f : Frame) (g : names.Frame) → AreStanding p vs f g
+    → (e : Shape) → expression_findings (scope_of p g) e ≡ [] → IsKnown p (kind_of (scope_of p g) e) × (is_block (kind_of (scope_of p g) e) ≡ false)
+expression_scalar p vs f g standing (shapes.Number place) none = (tt, refl)
+expression_scalar p vs f g standing (shapes.Truth place) none = (tt, refl)
+expression_scalar p vs f g standing (shapes.Mention name) none = mention_scalar p vs f g standing name none
+expression_scalar p vs f g standing (shapes.Field name field) none =
+    let s = scope_of p g in
+    let both = both_none (variable_findings s name) (field_findings s (held (meant s name)) name field) none in
+    field_scalar p g (held (meant s name)) name field (held_known p vs f g name standing both.0) both.1
+expression_scalar p vs f g standing (shapes.Element name index) none =
+    let s = scope_of p g in
+    let k = held (meant s name) in
+    let first = both_none (expression_findings s index) (asked_number (kind_of s index) (place_of index) ++ (variable_findings s name ++ element_findings k name)) none in
+    let second = both_none (asked_number (kind_of s index) (place_of index)) (variable_findings s name ++ element_findings k name) first.1 in
+    let third = both_none (variable_findings s name) (element_findings k name) second.1 in
+    let certain = known_certain p (kind_of s index) (expression_scalar p vs f g standing index first.0).0 in
+    subst (λ lost. IsKnown p (element_kind k lost) × (is_block (element_kind k lost) ≡ false)) (sym certain) (element_scalar p k name (held_known p vs f g name standing third.0) third.1)
+expression_scalar p vs f g standing (shapes.Parens place inner) none = expression_scalar p vs f g standing inner none
+expression_scalar p vs f g standing (shapes.Signed sign place inner) none =
+    let s = scope_of p g in
+    let both = both_none (expression_findings s inner) (sign_asked sign (kind_of s inner) (place_of inner)) none in
+    gives_scalar p (is_unknown (kind_of s inner)) (signed_kind sign) (known_certain p (kind_of s inner) (expression_scalar p vs f g standing inner both.0).0) (counted_scalar p (signed_kind sign) (signed_counted sign))
+expression_scalar p vs f g standing (shapes.Joined joint left right) none =
+    let s = scope_of p g in
+    let first = both_none (expression_findings s left) (expression_findings s right ++ (left_asked joint (kind_of s left) (place_of left) ++ right_asked joint (kind_of s left) (kind_of s right) (place_of right))) none in
+    let second = both_none (expression_findings s right) (left_asked joint (kind_of s left) (place_of left) ++ right_asked joint (kind_of s left) (kind_of s right) (place_of right)) first.1 in
+    let certain = neither (is_unknown (kind_of s left)) (is_unknown (kind_of s right)) (known_certain p (kind_of s left) (expression_scalar p vs f g standing left first.0).0) (known_certain p (kind_of s right) (expression_scalar p vs f g standing right second.0).0) in
+    gives_scalar p (is_unknown (kind_of s left) || is_unknown (kind_of s right)) (joined_kind joint) certain (counted_scalar p (joined_kind joint) (joined_counted joint))
+
+pub whole_known : (p : Program) (vs : List VariableSeen) (f : Frame) (g : names.Frame) → AreStanding p vs f g
+    → (e : Shape) → whole_findings (scope_of p g) e ≡ [] → IsKnown p (kind_of (scope_of p g) e)
+whole_known p vs f g standing (shapes.Mention name) none = held_known p vs f g name standing none
+whole_known p vs f g standing e none = (expression_scalar p vs f g standing e none).0
+
+atom_lone : (a : AtomTree) (name : Span) → atom_name a ≡ Some name → atom_shape a ≡ shapes.Mention name
+atom_lone (trees.Target (trees.Variable word)) name is = cc
+atom_lone (trees.Target (trees.Field word field)) name is = absurd (cc)
+atom_lone (trees.Target (trees.Element word index)) name is = absurd (cc)
+atom_lone (trees.Number span) name is = absurd (cc)
+atom_lone (trees.True span) name is = absurd (cc)
+atom_lone (trees.False span) name is = absurd (cc)
+atom_lone (trees.Parens left inner) name is = absurd (cc)
+
+atom_not_lone : (a : AtomTree) (name : Span) → atom_shape a ≡ shapes.Mention name → atom_name a ≡ Some name
+atom_not_lone (trees.Target (trees.Variable word)) name is = cc
+atom_not_lone (trees.Target (trees.Field word field)) name is = absurd (cc)
+atom_not_lone (trees.Target (trees.Element word index)) name is = absurd (cc)
+atom_not_lone (trees.Number span) name is = absurd (cc)
+atom_not_lone (trees.True span) name is = absurd (cc)
+atom_not_lone (trees.False span) name is = absurd (cc)
+atom_not_lone (trees.Parens left inner) name is = absurd (cc)
+
+-- what operators join is no name alone
+steps_mention : {l : Operators} → (so_far : Shape) (xs : StepTrees l) (name : Span) → joined so_far xs ≡ shapes.Mention name → so_far ≡ shapes.Mention name
+steps_mention so_far (trees.Done l) name is = is
+steps_mention so_far (trees.More l o x xs) name is =
+    let wrong : shapes.Joined (joint_of l) so_far (shape x) ≡ shapes.Mention name = steps_mention (shapes.Joined (joint_of l) so_far (shape x)) xs name is in
+    absurd (cc)
+
+-- an expression is a name alone where its shape is
+pub lone_shape : {l : Level} → (e : LevelTree l) (name : Span) → lone_name e ≡ Some name → shape e ≡ shapes.Mention name
+lone_shape (trees.Unary [] a) name is = atom_lone a name is
+lone_shape (trees.Unary (x ∷ prefixes) a) name is = absurd (cc)
+lone_shape (trees.Chain l first (trees.Done _)) name is = lone_shape first name is
+lone_shape (trees.Chain l first (trees.More _ o x xs)) name is = absurd (cc)
+
+pub not_lone : {l : Level} → (e : LevelTree l) (name : Span) → shape e ≡ shapes.Mention name → lone_name e ≡ Some name
+not_lone (trees.Unary [] a) name is = atom_not_lone a name is
+not_lone (trees.Unary (x ∷ prefixes) a) name is = absurd (cc)
+not_lone (trees.Chain l first (trees.Done _)) name is = not_lone first name is
+not_lone (trees.Chain l first (trees.More _ o x xs)) name is =
+    let wrong : shapes.Joined (joint_of l) (shape first) (shape x) ≡ shapes.Mention name = steps_mention (shapes.Joined (joint_of l) (shape first) (shape x)) xs name is in
+    absurd (cc)
+
+-- A whole expression that is of the exchange heap is a name alone.
+pub record IsLone (p : Program) (vs : List VariableSeen) (f : Frame) (g : names.Frame) (e : ExpressionTree) : Type 0 where
+  pub name : Span
+  pub is : lone_name e ≡ Some name
+  pub kind : kind_of (scope_of p g) (shape e) ≡ held (meant (scope_of p g) name)
+  pub mentioned : IsMentioned p vs f g name
+
+lone_by : (p : Program) (vs : List VariableSeen) (f : Frame) (g : names.Frame) → AreStanding p vs f g → (e : ExpressionTree) (x : Shape) → shape e ≡ x
+    → whole_findings (scope_of p g) x ≡ [] → is_block (kind_of (scope_of p g) x) ≡ true → IsLone p vs f g e
+lone_by p vs f g standing e (shapes.Mention name) is none block = record { name = name; is = not_lone e name is; kind = ap (kind_of (scope_of p g)) is; mentioned = block_mentioned p vs f g name standing none block }
+lone_by p vs f g standing e x is none block =
+    let scalar = (expression_scalar p vs f g standing x none).1 in
+    absurd (cc)
+
+pub block_lone : (p : Program) (vs : List VariableSeen) (f : Frame) (g : names.Frame) → AreStanding p vs f g
+    → (e : ExpressionTree) → whole_findings (scope_of p g) (shape e) ≡ [] → is_block (kind_of (scope_of p g) (shape e)) ≡ true → IsLone p vs f g e
+block_lone p vs f g standing e none block = lone_by p vs f g standing e (shape e) refl none block

@@ -1,0 +1,141 @@
+-- Names in scope, and the variables of the exchange heap that they mention.
+use Rattle.std.proofs.Common.{◌≡◌, ℕ, zero, suc, ◌<◌, true, false, List, [], ◌∷◌, length, map, if◌then◌else◌, refl, sym, ap, ◌∙◌, subst}
+use Rattle.std.proofs.lemmas.Option.{option_and_then_some, slice_get_within}
+use Rattle.std.specs.Prelude.{Option, None, Some, is_some, slice_get, option_map, option_and_then, IsSomeAnd}
+use Rattle.source.specs.declared.token.Span.{Span}
+use Rattle.names.specs.Declarations.{first_among}
+use Rattle.names.specs.Expressions.{held, meant, variable_findings}
+use Rattle.names.specs.Found.{unknown}
+use Rattle.names.specs.Kinds.{is_block}
+use Rattle.names.specs.Program.{Program}
+use Rattle.names.specs.Variables as names
+use Rattle.names.specs.Variables.{variable_named}
+use Rattle.names.specs.declared.kinds as declared
+use Rattle.resolved.specs.Methods.{VariableSeen}
+use Rattle.resolved.specs.declared.statement.Mention.{Mention}
+use Rattle.resolving.specs.Locals.{Local, Frame, local_named, number_named, mention, mention_of}
+use Rattle.wellformed.specs.Lists.{Each}
+use Rattle.wellformed.proofs.KindLemmas.{scalar_holds}
+use Rattle.wellformed.proofs.ScopeLemmas.{same_named}
+use Rattle.wellformed.proofs.Standing.{IsKnown, IsHeld, IsNumbered, AreStanding, Stands, named, scope_of}
+
+-- a name in scope means a variable that stands for one of the method
+pub record IsMeant (p : Program) (vs : List VariableSeen) (f : Frame) (g : names.Frame) (name : Span) : Type 0 where
+  pub local : Local
+  pub is : local_named p.text f.locals name ≡ Some local
+  pub meant_is : meant (scope_of p g) name ≡ Some (record { name = local.name; kind = local.kind })
+  pub stands : Stands p vs local
+
+-- what holds of each variable in scope holds of one that a name means
+element_at : {X : Type 0} → (P : X → Type 0) → (xs : List X) (n : ℕ) (x : X) → Each P xs → slice_get xs n ≡ Some x → P x
+element_at P [] n x each is = absurd (cc)
+element_at P (y ∷ xs) zero x each is = subst P (let same : y ≡ x = cc in same) each.0
+element_at P (y ∷ xs) (suc n) x each is = element_at P xs n x each.1 is
+
+local_stands : (p : Program) (vs : List VariableSeen) (f : Frame) (g : names.Frame) (name : Span) (l : Local) → AreStanding p vs f g
+    → local_named p.text f.locals name ≡ Some l → Stands p vs l
+local_stands p vs f g name l standing is =
+    option_and_then_some (slice_get f.locals) (first_among p.text (map (λ x. x.name) f.locals) name) l is (λ n first at. element_at (Stands p vs) f.locals n l standing.locals at)
+
+-- what a name means among the names and kinds in scope is what it means among the variables
+meant_as : (p : Program) (vs : List VariableSeen) (f : Frame) (g : names.Frame) (name : Span) → AreStanding p vs f g
+    → meant (scope_of p g) name ≡ option_map named (local_named p.text f.locals name)
+meant_as p vs f g name standing = ap (λ variables. variable_named p.text variables name) (sym standing.same) ∙ same_named p.text f.locals name
+
+meant_by : (p : Program) (vs : List VariableSeen) (f : Frame) (g : names.Frame) (name : Span) (o : Option Local) → AreStanding p vs f g
+    → local_named p.text f.locals name ≡ o → meant (scope_of p g) name ≡ option_map named o → variable_findings (scope_of p g) name ≡ [] → IsMeant p vs f g name
+meant_by p vs f g name None standing is means none =
+    let wrong : unknown p.text name ∷ [] ≡ [] = subst (λ (o : Option names.Variable). (if is_some o then [] else unknown p.text name ∷ []) ≡ []) means none in
+    absurd (cc)
+meant_by p vs f g name (Some l) standing is means none = record { local = l; is = is; meant_is = means; stands = local_stands p vs f g name l standing is }
+
+pub meant_stands : (p : Program) (vs : List VariableSeen) (f : Frame) (g : names.Frame) (name : Span) → AreStanding p vs f g
+    → variable_findings (scope_of p g) name ≡ [] → IsMeant p vs f g name
+meant_stands p vs f g name standing none = meant_by p vs f g name (local_named p.text f.locals name) standing refl (meant_as p vs f g name standing) none
+
+-- so its kind is known
+pub held_known : (p : Program) (vs : List VariableSeen) (f : Frame) (g : names.Frame) (name : Span) → AreStanding p vs f g
+    → variable_findings (scope_of p g) name ≡ [] → IsKnown p (held (meant (scope_of p g) name))
+held_known p vs f g name standing none =
+    let m = meant_stands p vs f g name standing none in
+    subst (λ o. IsKnown p (held o)) (sym m.meant_is) m.stands.known
+
+-- a name of the exchange heap is a mention of a variable that holds what its kind says
+pub record IsMentioned (p : Program) (vs : List VariableSeen) (f : Frame) (g : names.Frame) (name : Span) : Type 0 where
+  pub number : ℕ
+  pub variable : VariableSeen
+  pub is : mention p.text f.locals name ≡ Some (mention_of name number)
+  pub there : slice_get vs number ≡ Some variable
+  pub holds : IsHeld p (held (meant (scope_of p g) name)) variable.kind
+
+-- its number decides whether it is a mention
+mention_by : (text : List ℕ) (f : Frame) (name : Span) (l : Local) (n : Option ℕ) → local_named text f.locals name ≡ Some l → l.number ≡ n → mention text f.locals name ≡ option_map (mention_of name) n
+mention_by text f name l n is number = ap (λ o. option_map (mention_of name) (option_and_then (λ x. x.number) o)) is ∙ ap (option_map (mention_of name)) number
+
+-- the variable of a number in scope
+record NumberedBy (p : Program) (vs : List VariableSeen) (k : declared.Kind.Kind) (n : ℕ) : Type 0 where
+  variable : VariableSeen
+  there : slice_get vs n ≡ Some variable
+  holds : IsHeld p k variable.kind
+
+numbered_there : (p : Program) (vs : List VariableSeen) (k : declared.Kind.Kind) (n : ℕ) (o : Option VariableSeen) → slice_get vs n ≡ o → IsSomeAnd o (λ v. IsHeld p k v.kind) → NumberedBy p vs k n
+numbered_there p vs k n None is holds = absurd holds
+numbered_there p vs k n (Some v) is holds = record { variable = v; there = is; holds = holds }
+
+numbered_by : (p : Program) (vs : List VariableSeen) (l : Local) (n : ℕ) → l.number ≡ Some n → Stands p vs l → NumberedBy p vs l.kind n
+numbered_by p vs l n number stands = numbered_there p vs l.kind n (slice_get vs n) refl (subst (IsNumbered p vs l.kind) number stands.numbered)
+
+mentioned_by : (p : Program) (vs : List VariableSeen) (f : Frame) (g : names.Frame) (name : Span) (m : IsMeant p vs f g name) (o : Option ℕ) → m.local.number ≡ o
+    → is_block (held (meant (scope_of p g) name)) ≡ true → IsMentioned p vs f g name
+mentioned_by p vs f g name m None number block =
+    let scalar : is_block m.local.kind ≡ false = subst (IsNumbered p vs m.local.kind) number m.stands.numbered in
+    let same : is_block (held (meant (scope_of p g) name)) ≡ is_block m.local.kind = ap (λ o. is_block (held o)) m.meant_is in
+    absurd (cc)
+mentioned_by p vs f g name m (Some n) number block =
+    let v = numbered_by p vs m.local n number m.stands in
+    record {
+      number = n;
+      variable = v.variable;
+      is = mention_by p.text f name m.local (Some n) m.is number;
+      there = v.there;
+      holds = subst (λ o. IsHeld p (held o) v.variable.kind) (sym m.meant_is) v.holds;
+    }
+
+pub block_mentioned : (p : Program) (vs : List VariableSeen) (f : Frame) (g : names.Frame) (name : Span) → AreStanding p vs f g
+    → variable_findings (scope_of p g) name ≡ [] → is_block (held (meant (scope_of p g) name)) ≡ true → IsMentioned p vs f g name
+block_mentioned p vs f g name standing none block =
+    let m = meant_stands p vs f g name standing none in
+    mentioned_by p vs f g name m m.local.number refl block
+
+-- a variable of a scalar kind has no number
+scalar_numbered : (p : Program) (vs : List VariableSeen) (l : Local) (o : Option ℕ) → l.number ≡ o → Stands p vs l → is_block l.kind ≡ false → o ≡ None
+scalar_numbered p vs l None number stands scalar = refl
+scalar_numbered p vs l (Some n) number stands scalar =
+    let v = numbered_by p vs l n number stands in
+    let nothing = scalar_holds p l.kind v.holds.state scalar in
+    absurd (cc)
+
+-- a scalar is no mention
+pub scalar_not_mentioned : (p : Program) (vs : List VariableSeen) (f : Frame) (g : names.Frame) (name : Span) → AreStanding p vs f g
+    → variable_findings (scope_of p g) name ≡ [] → is_block (held (meant (scope_of p g) name)) ≡ false → mention p.text f.locals name ≡ None
+scalar_not_mentioned p vs f g name standing none scalar =
+    let m = meant_stands p vs f g name standing none in
+    mention_by p.text f name m.local None m.is (scalar_numbered p vs m.local m.local.number refl m.stands (ap (λ o. is_block (held o)) (sym m.meant_is) ∙ scalar))
+
+-- whatever is mentioned is a variable of the method
+number_within : (p : Program) (vs : List VariableSeen) (l : Local) (n : ℕ) → l.number ≡ Some n → Stands p vs l → n < length vs
+number_within p vs l n number stands =
+    let v = numbered_by p vs l n number stands in
+    slice_get_within vs n v.variable v.there
+
+mention_has : (name : Span) (o : Option ℕ) (m : Mention) → option_map (mention_of name) o ≡ Some m → o ≡ Some m.variable.0
+mention_has name None m is = cc
+mention_has name (Some n) m is =
+    let same : mention_of name n ≡ m = cc in
+    ap (λ (x : Mention). Some x.variable.0) same
+
+pub mention_within : (p : Program) (vs : List VariableSeen) (f : Frame) (g : names.Frame) (name : Span) (m : Mention) → AreStanding p vs f g
+    → mention p.text f.locals name ≡ Some m → m.variable.0 < length vs
+mention_within p vs f g name m standing is =
+    option_and_then_some (λ l. l.number) (local_named p.text f.locals name) m.variable.0 (mention_has name (number_named p.text f.locals name) m is)
+    (λ l named number. number_within p vs l m.variable.0 number (local_stands p vs f g name l standing named))

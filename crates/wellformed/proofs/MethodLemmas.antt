@@ -1,0 +1,147 @@
+-- The methods of a program with whose names and kinds nothing is wrong are well formed.
+use Rattle.std.proofs.Common.{◌≡◌, ℕ, ◌<◌, false, List, [], ◌∷◌, ◌++◌, length, sym, refl, subst, append-nil}
+use Rattle.std.specs.Prelude.{Option, None, Some, option_map, slice_get, IfSome}
+use Rattle.source.specs.declared.token.Span.{Span}
+use Rattle.syntax.specs.StatementTrees as trees
+use Rattle.syntax.specs.StatementTrees.{BlockTree}
+use Rattle.syntax.specs.Trees.{ClassTree, MethodTree, contracts_of}
+use Rattle.syntax.specs.declared.class.Parameter.{Parameter}
+use Rattle.syntax.specs.declared.tree as tree
+use Rattle.names.specs.Bodies.{Surroundings, block_turn}
+use Rattle.names.specs.Findings.{program_findings}
+use Rattle.names.specs.Kinds.{is_heap, type_kind, type_unknown}
+use Rattle.names.specs.Methods.{parameter_turn, parameters_turn, result_unknown}
+use Rattle.names.specs.Program.{Program, as_class, item_at}
+use Rattle.names.specs.Resolution.{ContractSeen, resolved_contracts}
+use Rattle.names.specs.Variables as names
+use Rattle.names.specs.declared.kinds as declared_kinds
+use Rattle.resolved.specs.Methods.{VariableSeen}
+use Rattle.resolved.specs.declared.kind.Kind.{Kind}
+use Rattle.resolved.specs.declared.method.Role.{Role}
+use Rattle.resolving.specs.Brought.{messages_told}
+use Rattle.resolving.specs.Kinds.{kind_held, result_held, state_in, type_held}
+use Rattle.resolving.specs.Locals.{Frame, declared, declared_as, number_of}
+use Rattle.resolving.specs.Methods.{body_told, method_told, methods_told, no_variables, parameter_declaration, parameters_frame, role_of}
+use Rattle.resolving.specs.Told.{outside}
+use Rattle.wellformed.specs.Lists.{Each}
+use Rattle.wellformed.specs.WellFormed.{AreStatements, AreWellFormed, IsKind, IsScope, IsWellFormed, Setting, setting}
+use Rattle.wellformed.proofs.BroughtLemmas.{brought_kinds}
+use Rattle.wellformed.proofs.GrowthLemmas.{Nests, declared_nests, declared_within, statements_grow, statements_nest, within_before}
+use Rattle.wellformed.proofs.KindLemmas.{held_as, held_kind, type_known}
+use Rattle.wellformed.proofs.ListLemmas.{each_append, both_none}
+use Rattle.wellformed.proofs.ProgramLemmas.{every_method, method_clean}
+use Rattle.wellformed.proofs.ScopeLemmas.{declared_stands, last_within, leads_here}
+use Rattle.wellformed.proofs.Standing.{Around, AreStanding, AreStaying, Grows, IsLocal, Within}
+use Rattle.wellformed.proofs.StatementLemmas.{statements_go}
+
+-- the parameters of a method come into scope
+params_within : (p : Program) (params : List Parameter) (f : Frame) (vs : List VariableSeen) → Within vs (parameters_frame p params f) → Within vs f
+params_within p [] f vs within = within
+params_within p (x ∷ params) f vs within = declared_within p.text x.name (type_kind p x.kind) (type_held p x.kind) (role_of x) f vs (params_within p params (declared p.text (parameter_declaration p x) f) vs within)
+
+params_nest : (p : Program) (params : List Parameter) (f : Frame) → Nests f → Nests (parameters_frame p params f)
+params_nest p [] f n = n
+params_nest p (x ∷ params) f n = params_nest p params (declared p.text (parameter_declaration p x) f) (declared_nests p.text x.name (type_kind p x.kind) (type_held p x.kind) (role_of x) f n)
+
+params_stand : (p : Program) (params : List Parameter) (vs : List VariableSeen) (f : Frame) (g : names.Frame) → AreStanding p vs f g → Within vs (parameters_frame p params f)
+    → (parameters_turn p params g).found ≡ [] → AreStanding p vs (parameters_frame p params f) (parameters_turn p params g).frame
+params_stand p [] vs f g standing within none = standing
+params_stand p (x ∷ params) vs f g standing within none =
+    let d = parameter_declaration p x in
+    let next = parameter_turn p x g in
+    let both = both_none next.found (parameters_turn p params next.frame).found none in
+    let unknown = both_none (type_unknown p x.kind) (names.declared_variable p.text x.name (type_kind p x.kind) (is_heap x.kind) g).found both.0 in
+    let known = type_known p x.kind unknown.0 in
+    let after = declared_stands p vs x.name (type_kind p x.kind) (type_held p x.kind) (role_of x) (is_heap x.kind) f g known (held_as p (type_kind p x.kind) (state_in x.kind) known) standing (params_within p params (declared p.text d f) vs within) in
+    params_stand p params vs (declared p.text d f) next.frame after within both.1
+
+-- what a program's variables hold stands for something
+abbrev contracts : Program → List ContractSeen
+contracts p = resolved_contracts p.text (contracts_of p.items)
+
+abbrev AreKinds : Program → List VariableSeen → Type 0
+AreKinds p vs = Each (λ v. IsKind (contracts p) v.kind) vs
+
+declared_kind : (p : Program) (name : Span) (k : declared_kinds.Kind.Kind) (role : Role) (state : Option Span) (o : Option Kind) (f : Frame) → kind_held p k state ≡ o → AreKinds p f.variables
+    → AreKinds p (declared_as p.text (record { name = name; kind = k; held = o; role = role }) o f).variables
+declared_kind p name k role state None f is all = all
+declared_kind p name k role state (Some held) f is all = each_append (λ v. IsKind (contracts p) v.kind) f.variables _ all (held_kind p k held (record { state = state; is = is }), tt)
+
+params_kinds : (p : Program) (params : List Parameter) (f : Frame) → AreKinds p f.variables → AreKinds p (parameters_frame p params f).variables
+params_kinds p [] f all = all
+params_kinds p (x ∷ params) f all =
+    let d = parameter_declaration p x in
+    params_kinds p params (declared p.text d f) (declared_kind p x.name (type_kind p x.kind) (role_of x) (state_in x.kind) (type_held p x.kind) f refl all)
+
+local_kinds : (p : Program) (vs : List VariableSeen) → Each (IsLocal p) vs → AreKinds p vs
+local_kinds p [] all = tt
+local_kinds p (v ∷ vs) all = (held_kind p all.0.kind v.kind all.0.held, local_kinds p vs all.1)
+
+-- the body of a method
+body_grows : (p : Program) (class : ℕ) (b : BlockTree) (f : Frame) → Grows p f (body_told p class b f).frame
+body_grows p class (trees.Braces statements close) f = statements_grow p class outside statements f
+
+body_nests : (p : Program) (class : ℕ) (b : BlockTree) (f : Frame) → Nests f → Nests (body_told p class b f).frame
+body_nests p class (trees.Braces statements close) f n = statements_nest p class outside statements f n
+
+-- what stands round it
+abbrev surrounds : Program → ClassTree → Option tree.Type.Type → Surroundings
+surrounds p c result = record { program = p; class = c; result = result; breaks = false; continues = false }
+
+record BodyFits (s : Setting) (p : Program) (class : ℕ) (b : BlockTree) (f : Frame) : Type 0 where
+  pub statements : AreStatements s (body_told p class b f).what
+  pub scope : IsScope s (option_map number_of (body_told p class b f).frame.last)
+
+number_within : (s : Setting) (o : Option ℕ) → IfSome o (λ n. n < length s.variables) → IfSome (option_map number_of o) (λ v. v.0 < length s.variables)
+number_within s None h = tt
+number_within s (Some n) h = h
+
+body_fits : (p : Program) (c : ClassTree) (class : ℕ) (result : Option tree.Type.Type) (s : Setting) (b : BlockTree) (f : Frame) (g : names.Frame) → Around p c class result s → AreStanding p s.variables f g
+    → Within s.variables (body_told p class b f).frame → (block_turn (surrounds p c result) b g).found ≡ [] → BodyFits s p class b f
+body_fits p c class result s (trees.Braces statements close) f g around standing within none =
+    let after = (body_told p class (trees.Braces statements close) f).frame in
+    let staying : AreStaying s.variables f outside = record { at_break = standing.ends; at_continue = standing.ends } in
+    let r = statements_go (surrounds p c result) class s around outside statements f g standing staying within none in
+    record { statements = r.fits; scope = (number_within s after.last (last_within s.variables after within r.standing.last), r.standing.ends) }
+
+result_kind : (p : Program) (t : Option tree.Type.Type) (o : Option Kind) → result_held p t ≡ o → IfSome o (IsKind (contracts p))
+result_kind p t None is = tt
+result_kind p None (Some held) is = cc
+result_kind p (Some t) (Some held) is = held_kind p (type_kind p t) held (record { state = state_in t; is = is })
+
+-- a method of a class
+method_fits : (p : Program) (class : ℕ) (c : ClassTree) (m : MethodTree) (place : ℕ) → program_findings p ≡ [] → item_at as_class p class ≡ Some (class, c) → slice_get c.methods place ≡ Some m
+    → IsWellFormed (contracts p) (messages_told p) (methods_told p) (method_told p class m)
+method_fits p class c m place clean there at =
+    let seen = method_told p class m in
+    let s = setting (contracts p) (messages_told p) (methods_told p) seen in
+    let opened = parameters_frame p m.params no_variables in
+    let after = (body_told p class m.body opened).frame in
+    let start : names.Frame = record { variables = []; heap = 0 } in
+    let turns = method_clean p class c m place clean there at in
+    let next = parameters_turn p m.params start in
+    let both = both_none (result_unknown p m.result) (next.found ++ (block_turn (surrounds p c m.result) m.body next.frame).found) turns in
+    let halves = both_none next.found (block_turn (surrounds p c m.result) m.body next.frame).found both.1 in
+    let all : Within s.variables after = record { rest = []; is = sym (append-nil after.variables) } in
+    let grows = body_grows p class m.body opened in
+    let within = within_before p opened after s.variables grows all in
+    let empty : Nests no_variables = record { nested = record { all = λ n v h. cc }; last = tt } in
+    let nests = body_nests p class m.body opened (params_nest p m.params no_variables empty) in
+    let none_stands : AreStanding p s.variables no_variables start = record { same = refl; locals = tt; last = tt; ends = leads_here s.variables None } in
+    let standing = params_stand p m.params s.variables no_variables start none_stands within halves.0 in
+    let around : Around p c class m.result s = record { clean = clean; class_is = there; contracts_are = refl; messages_are = refl; methods_are = refl; result_is = refl; result_known = both.0; nested = nests.nested } in
+    let fits = body_fits p c class m.result s m.body opened next.frame around standing all halves.1 in
+    let kinds = each_append (λ v. IsKind (contracts p) v.kind) opened.variables grows.more (params_kinds p m.params no_variables tt) (local_kinds p grows.more grows.local) in
+    record {
+      result = result_kind p m.result (result_held p m.result) refl;
+      kinds = subst (AreKinds p) (sym grows.is) kinds;
+      nested = nests.nested;
+      statements = fits.statements;
+      scope = fits.scope;
+    }
+
+pub well_formed : (p : Program) → program_findings p ≡ [] → AreWellFormed (resolved_contracts p.text (contracts_of p.items)) (messages_told p) (methods_told p)
+well_formed p clean = record {
+  messages_are = brought_kinds p;
+  methods_are = every_method (IsWellFormed (contracts p) (messages_told p) (methods_told p)) p (λ class c m place there at. method_fits p class c m place clean there at);
+}

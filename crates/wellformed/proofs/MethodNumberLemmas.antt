@@ -1,0 +1,170 @@
+-- The numbers of methods: each is how many methods stand before it in the text.
+use Rattle.std.proofs.Common.{◌≡◌, ℕ, zero, suc, ◌+◌, List, [], ◌∷◌, ◌++◌, length, map, take, refl, ap, ◌∙◌, subst, arith, length-append}
+use Rattle.std.proofs.lemmas.List.{length-map}
+use Rattle.std.proofs.lemmas.Option.{slice_get-map, some_pair_parts}
+use Rattle.std.specs.List.{enumerate_from, flat_map}
+use Rattle.std.specs.Prelude.{Option, None, Some, option_map, option_and_then, slice_get}
+use Rattle.source.specs.declared.token.Span.{Span}
+use Rattle.syntax.specs.Trees.{ItemTree, DefinitionTree, Contract, Struct, Class, ClassTree, ContractTree, MethodTree}
+use Rattle.names.specs.Declarations.{first_among}
+use Rattle.names.specs.Methods.{methods_in}
+use Rattle.names.specs.Program.{Program, Numbered, as_class, as_contract, class_named, item_at, item_names}
+use Rattle.names.specs.Values.{method_named}
+use Rattle.resolved.specs.Methods.{MethodSeen}
+use Rattle.resolving.specs.Callees.{Callee, all_methods, method_at, method_of, methods_before, numbered}
+use Rattle.resolving.specs.Methods.{item_told, methods_told, method_told}
+use Rattle.wellformed.specs.Lists.{Each}
+use Rattle.wellformed.proofs.ListLemmas.{each_append}
+use Rattle.wellformed.proofs.PlaceLemmas.{each_mapped, each_placed, slice_behind, slice_front}
+use Rattle.wellformed.proofs.Standing.{Answers, IsMethod}
+
+-- an item that is looked up declares this
+pub record Declares (o : Option ItemTree) (d : DefinitionTree) : Type 0 where
+  pub item : ItemTree
+  pub at : o ≡ Some item
+  pub is : item.definition ≡ d
+
+-- what is looked up by its place among items
+abbrev numbered_as : {X : Type 0} → ℕ → Option X → Option (Numbered X)
+numbered_as n o = option_map (λ x. (n, x)) o
+
+abbrev looked_up : {X : Type 0} → (DefinitionTree → Option X) → ℕ → Option ItemTree → Option (Numbered X)
+looked_up kind n o = option_and_then (λ i. numbered_as n (kind i.definition)) o
+
+-- the place that is answered is the one that was asked for
+same_number : {X : Type 0} → (m n : ℕ) (x : X) (o : Option X) → numbered_as m o ≡ Some (n, x) → m ≡ n
+same_number m n x None h = cc
+same_number m n x (Some y) h = (some_pair_parts m n y x h).0
+
+same_place : {X : Type 0} → (kind : DefinitionTree → Option X) (m n : ℕ) (x : X) (o : Option ItemTree) → looked_up kind m o ≡ Some (n, x) → m ≡ n
+same_place kind m n x None h = cc
+same_place kind m n x (Some i) h = same_number m n x (kind i.definition) h
+
+-- what is found as a class is one, and what is found as a contract is one
+declares_class : (n : ℕ) (c : ClassTree) (d : DefinitionTree) → numbered_as n (as_class d) ≡ Some (n, c) → d ≡ Class c
+declares_class n c (Contract x) h = cc
+declares_class n c (Struct x) h = cc
+declares_class n c (Class x) h = ap Class (some_pair_parts n n x c h).1
+
+declares_contract : (n : ℕ) (c : ContractTree) (d : DefinitionTree) → numbered_as n (as_contract d) ≡ Some (n, c) → d ≡ Contract c
+declares_contract n c (Contract x) h = ap Contract (some_pair_parts n n x c h).1
+declares_contract n c (Struct x) h = cc
+declares_contract n c (Class x) h = cc
+
+class_in : (n : ℕ) (c : ClassTree) (o : Option ItemTree) → looked_up as_class n o ≡ Some (n, c) → Declares o (Class c)
+class_in n c None h = cc
+class_in n c (Some i) h = record { item = i; at = refl; is = declares_class n c i.definition h }
+
+contract_in : (n : ℕ) (c : ContractTree) (o : Option ItemTree) → looked_up as_contract n o ≡ Some (n, c) → Declares o (Contract c)
+contract_in n c None h = cc
+contract_in n c (Some i) h = record { item = i; at = refl; is = declares_contract n c i.definition h }
+
+-- the item that is this class, and this contract
+pub class_item : (p : Program) (n : ℕ) (c : ClassTree) → item_at as_class p n ≡ Some (n, c) → Declares (slice_get p.items n) (Class c)
+class_item p n c there = class_in n c (slice_get p.items n) there
+
+pub contract_item : (p : Program) (n : ℕ) (c : ContractTree) → item_at as_contract p n ≡ Some (n, c) → Declares (slice_get p.items n) (Contract c)
+contract_item p n c there = contract_in n c (slice_get p.items n) there
+
+-- the class of a name, by its place
+class_at : (p : Program) (n : ℕ) (c : ClassTree) (o : Option ℕ) → option_and_then (item_at as_class p) o ≡ Some (n, c) → item_at as_class p n ≡ Some (n, c)
+class_at p n c None h = cc
+class_at p n c (Some k) h = subst (λ x. item_at as_class p x ≡ Some (n, c)) (same_place as_class k n c (slice_get p.items k) h) h
+
+-- the methods of items that stand behind others
+abbrev told_from : Program → ℕ → List ItemTree → List MethodSeen
+told_from p n items = flat_map (item_told p) (enumerate_from n items)
+
+-- a method of an item, among those of all items
+told_at : (p : Program) (n : ℕ) (items : List ItemTree) (class place : ℕ) (i : ItemTree) (m : MethodTree) → slice_get items class ≡ Some i → slice_get (methods_in i.definition) place ≡ Some m
+    → slice_get (told_from p n items) (methods_before items class + place) ≡ Some (method_told p (n + class) m)
+told_at p n [] class place i m there at = cc
+told_at p n (x ∷ items) zero place i m there at =
+    let same : x ≡ i = cc in
+    let own = methods_in x.definition in
+    let within : slice_get own place ≡ Some m = ap (λ y. slice_get (methods_in y.definition) place) same ∙ at in
+    let seen = slice_get-map (method_told p n) own place ∙ ap (option_map (method_told p n)) within in
+    let first : 0 + place ≡ place = omega arith in
+    let here : n ≡ n + 0 = omega arith in
+    ap (slice_get (told_from p n (x ∷ items))) first
+    ∙ slice_front (map (method_told p n) own) (told_from p (n + 1) items) place (method_told p n m) seen
+    ∙ ap (λ k. Some (method_told p k m)) here
+told_at p n (x ∷ items) (suc class) place i m there at =
+    let own = methods_in x.definition in
+    let seen = map (method_told p n) own in
+    let behind = told_from p (n + 1) items in
+    let many : methods_before (x ∷ items) (suc class) + place ≡ length seen + (methods_before items class + place) =
+    omega (arith, length-append own (all_methods (take class items)), length-map own (method_told p n)) in
+    let on : n + 1 + class ≡ n + suc class = omega arith in
+    ap (slice_get (seen ++ behind)) many ∙ slice_behind seen behind (methods_before items class + place) ∙ told_at p (n + 1) items class place i m there at ∙ ap (λ k. Some (method_told p k m)) on
+
+-- a method of a class, by its number
+method_is : (p : Program) (class place : ℕ) (c : ClassTree) (m : MethodTree) → item_at as_class p class ≡ Some (class, c) → slice_get c.methods place ≡ Some m
+    → IsMethod p m (methods_before p.items class + place)
+method_is p class place c m there at =
+    let d = class_item p class c there in
+    let within : slice_get (methods_in d.item.definition) place ≡ Some m = ap (λ x. slice_get (methods_in x) place) d.is ∙ at in
+    let on : 0 + class ≡ class = omega arith in
+    record {
+      class = class;
+      tree = c;
+      there = there;
+      place = place;
+      at = at;
+      told = told_at p 0 p.items class place d.item m d.at within ∙ ap (λ k. Some (method_told p k m)) on;
+    }
+
+answers_at : (p : Program) (class : ℕ) (c : ClassTree) (m : MethodTree) (o : Option ℕ) → item_at as_class p class ≡ Some (class, c) → option_and_then (slice_get c.methods) o ≡ Some m
+    → Answers p (option_and_then (numbered (methods_before p.items class) c.methods) o) m
+answers_at p class c m None there named = cc
+answers_at p class c m (Some place) there named =
+    let before = methods_before p.items class in
+    record { number = before + place; is = ap (option_map (λ x. record { number = before + place; method = x })) named; method = method_is p class place c m there named }
+
+-- the first method of this name in a class
+abbrev place_in : Program → ClassTree → Span → Option ℕ
+place_in p c name = first_among p.text (map (λ m. m.name) c.methods) name
+
+abbrev callee_in : Program → ℕ → Span → Option (Numbered ClassTree) → Option Callee
+callee_in p class name o = option_and_then (λ c. option_and_then (numbered (methods_before p.items class) c.1.methods) (place_in p c.1 name)) o
+
+pub method_answers : (p : Program) (class : ℕ) (c : ClassTree) (name : Span) (m : MethodTree) → item_at as_class p class ≡ Some (class, c)
+    → method_named p.text c name ≡ Some m → Answers p (method_at p class name) m
+method_answers p class c name m there named =
+    let a = answers_at p class c m (place_in p c name) there named in
+    record { number = a.number; is = ap (callee_in p class name) there ∙ a.is; method = a.method }
+
+-- the same in the class of a name
+pub member_answers : (p : Program) (class name : Span) (n : ℕ) (c : ClassTree) (m : MethodTree) → class_named p class ≡ Some (n, c)
+    → method_named p.text c name ≡ Some m → Answers p (method_of p class name) m
+member_answers p class name n c m named found =
+    let a = method_answers p n c name m (class_at p n c (first_among p.text (item_names p) class) named) found in
+    record { number = a.number; is = ap (option_and_then (λ x. method_at p x.0 name)) named ∙ a.is; method = a.method }
+
+-- what holds of the methods of each item holds of all methods
+each_told : (P : MethodSeen → Type 0) (p : Program) (n : ℕ) (items : List ItemTree) → ((class : ℕ) (i : ItemTree) → slice_get items class ≡ Some i → Each P (item_told p (n + class, i)))
+    → Each P (told_from p n items)
+each_told P p n [] each = tt
+each_told P p n (x ∷ items) each =
+    let here : n + 0 ≡ n = omega arith in
+    each_append P (item_told p (n, x)) (told_from p (n + 1) items)
+    (subst (λ k. Each P (item_told p (k, x))) here (each zero x refl))
+    (each_told P p (n + 1) items (λ class i at. let on : n + suc class ≡ n + 1 + class = omega arith in subst (λ k. Each P (item_told p (k, i))) on (each (suc class) i at)))
+
+-- the methods of an item
+item_methods : (P : MethodSeen → Type 0) (p : Program) (class : ℕ) (i : ItemTree) (d : DefinitionTree)
+    → ((c : ClassTree) (m : MethodTree) (place : ℕ) → item_at as_class p class ≡ Some (class, c) → slice_get c.methods place ≡ Some m → P (method_told p class m))
+    → slice_get p.items class ≡ Some i → i.definition ≡ d → Each P (map (method_told p class) (methods_in d))
+item_methods P p class i (Contract c) each at is = tt
+item_methods P p class i (Struct s) each at is = tt
+item_methods P p class i (Class c) each at is =
+    let there : item_at as_class p class ≡ Some (class, c) = ap (looked_up as_class class) at ∙ ap (λ d. numbered_as class (as_class d)) is in
+    each_mapped P (method_told p class) c.methods (each_placed (λ m. P (method_told p class m)) c.methods (λ place m. each c m place there))
+
+-- each method of a program is a method of a class
+pub every_method : (P : MethodSeen → Type 0) (p : Program)
+    → ((class : ℕ) (c : ClassTree) (m : MethodTree) (place : ℕ) → item_at as_class p class ≡ Some (class, c) → slice_get c.methods place ≡ Some m → P (method_told p class m))
+    → Each P (methods_told p)
+every_method P p each = each_told P p 0 p.items (λ class i at.
+    let on : class ≡ 0 + class = omega arith in
+    subst (λ k. Each P (item_told p (k, i))) on (item_methods P p class i i.definition (each class) at refl))

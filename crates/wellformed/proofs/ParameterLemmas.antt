@@ -1,0 +1,109 @@
+-- The parameters of a method that are of the exchange heap.
+use Rattle.std.proofs.Common.{◌≡◌, ℕ, Bool, true, false, ◌&&◌, ◌||◌, not, List, [], ◌∷◌, ◌++◌, map, cond, if◌then◌else◌, sym, refl, ap, ◌∙◌, subst, append_assoc, append-nil}
+use Rattle.std.proofs.lemmas.List.{map-append}
+use Rattle.std.proofs.lemmas.List.Elements.{filter-append}
+use Rattle.std.specs.List.{filter, flat_map}
+use Rattle.std.specs.Option.{option_map_or}
+use Rattle.std.specs.Prelude.{Option, None, Some}
+use Rattle.syntax.specs.StatementTrees as trees
+use Rattle.syntax.specs.StatementTrees.{BlockTree}
+use Rattle.syntax.specs.Trees.{MethodTree}
+use Rattle.syntax.specs.declared.class.Parameter.{Parameter}
+use Rattle.syntax.specs.declared.tree as tree
+use Rattle.syntax.specs.declared.tree.Type.TheVariants as type
+use Rattle.names.specs.Kinds.{is_heap, type_unknown}
+use Rattle.names.specs.Program.{Program}
+use Rattle.names.specs.Values.{any_lent, is_lent}
+use Rattle.resolved.specs.Methods.{VariableSeen}
+use Rattle.resolved.specs.declared.kind.Kind.{Kind}
+use Rattle.resolved.specs.declared.method.Role.{Role}
+use Rattle.resolved.specs.declared.method.Role.TheVariants as role
+use Rattle.resolving.specs.Kinds.{type_held}
+use Rattle.resolving.specs.Locals.{Frame, declared, declared_as}
+use Rattle.resolving.specs.Methods.{body_told, method_told, no_variables, parameter_declaration, parameters_frame, role_of}
+use Rattle.resolving.specs.Told.{outside}
+use Rattle.wellformed.specs.Lists.{Each}
+use Rattle.wellformed.specs.WellFormed.{is_claimed, is_parameter, parameters}
+use Rattle.wellformed.proofs.GrowthLemmas.{statements_grow}
+use Rattle.wellformed.proofs.ListLemmas.{each_append}
+use Rattle.wellformed.proofs.PlaceLemmas.{mapped_each}
+use Rattle.wellformed.proofs.Standing.{IsLocal, heading}
+
+-- the parameters among variables, and what they hold with how the method comes to it
+abbrev passed : List VariableSeen → List VariableSeen
+passed vs = filter (λ v. is_parameter v.role) vs
+
+abbrev headed : List VariableSeen → List (Kind × Role)
+headed vs = map (λ v. (v.kind, v.role)) (passed vs)
+
+headed_append : (vs ws : List VariableSeen) → headed (vs ++ ws) ≡ headed vs ++ headed ws
+headed_append vs ws = ap (map (λ v. (v.kind, v.role))) (filter-append (λ v. is_parameter v.role) vs ws) ∙ map-append (λ v. (v.kind, v.role)) (passed vs) (passed ws)
+
+-- the role of a parameter
+abbrev as_role : Bool → Role
+as_role claims = if claims then role.Claimed else role.Lent
+
+-- a variable of such a role is a parameter
+abbrev held_by : Kind → Role → List (Kind × Role)
+held_by k r = (k, r) ∷ []
+
+headed_one : (claims : Bool) (v : VariableSeen) → v.role ≡ as_role claims → headed (v ∷ []) ≡ held_by v.kind (as_role claims)
+headed_one true v is = ap (λ r. map (λ w. (w.kind, w.role)) (cond (is_parameter r) (v ∷ []) [])) is ∙ ap (held_by v.kind) is
+headed_one false v is = ap (λ r. map (λ w. (w.kind, w.role)) (cond (is_parameter r) (v ∷ []) [])) is ∙ ap (held_by v.kind) is
+
+-- those of variables that are no parameters
+headed_none : (p : Program) (vs : List VariableSeen) → Each (IsLocal p) vs → headed vs ≡ []
+headed_none p [] all = refl
+headed_none p (v ∷ vs) all = ap (λ r. map (λ w. (w.kind, w.role)) (cond (is_parameter r) (v ∷ passed vs) (passed vs))) all.0.is ∙ headed_none p vs all.1
+
+-- one parameter more
+headed_declared : (p : Program) (x : Parameter) (f : Frame) (o : Option Kind)
+    → headed (declared_as p.text (parameter_declaration p x) o f).variables ≡ headed f.variables ++ option_map_or (λ k. (k, role_of x) ∷ []) o []
+headed_declared p x f None = sym (append-nil (headed f.variables))
+headed_declared p x f (Some held) = headed_append f.variables _ ∙ ap (λ l. headed f.variables ++ l) (headed_one x.claims _ refl)
+
+-- all parameters
+headed_all : (p : Program) (params : List Parameter) (f : Frame) → headed (parameters_frame p params f).variables ≡ headed f.variables ++ flat_map (heading p) params
+headed_all p [] f = sym (append-nil (headed f.variables))
+headed_all p (x ∷ params) f =
+    headed_all p params (declared p.text (parameter_declaration p x) f)
+    ∙ ap (λ l. l ++ flat_map (heading p) params) (headed_declared p x f (type_held p x.kind))
+    ∙ append_assoc (headed f.variables) (heading p x) (flat_map (heading p) params)
+
+-- The body of a method declares none.
+headed_body : (p : Program) (class : ℕ) (b : BlockTree) (f : Frame) → headed (body_told p class b f).frame.variables ≡ headed f.variables
+headed_body p class (trees.Braces statements close) f =
+    let grows = statements_grow p class outside statements f in
+    ap headed grows.is ∙ headed_append f.variables grows.more ∙ ap (λ l. headed f.variables ++ l) (headed_none p grows.more grows.local) ∙ append-nil (headed f.variables)
+
+pub parameters_are : (p : Program) (class : ℕ) (m : MethodTree) → map (λ v. (v.kind, v.role)) (parameters (method_told p class m)) ≡ flat_map (heading p) m.params
+parameters_are p class m = headed_body p class m.body (parameters_frame p m.params no_variables) ∙ headed_all p m.params no_variables
+
+-- a parameter that is not lent is claimed
+abbrev AreClaimed : List (Kind × Role) → Type 0
+AreClaimed list = Each (λ q. is_claimed q.1 ≡ true) list
+
+claimed_held : (claims : Bool) (o : Option Kind) → not claims ≡ false → AreClaimed (option_map_or (λ k. (k, as_role claims) ∷ []) o [])
+claimed_held false o none = cc
+claimed_held true None none = tt
+claimed_held true (Some k) none = (refl, tt)
+
+claimed_typed : (p : Program) (claims : Bool) (t : tree.Type.Type) → (is_heap t && not claims) ≡ false → AreClaimed (option_map_or (λ k. (k, as_role claims) ∷ []) (type_held p t) [])
+claimed_typed p claims (type.Scalar s) none = tt
+claimed_typed p claims (type.Heap h) none = claimed_held claims (type_held p (type.Heap h)) none
+
+either_false : (a b : Bool) → (a || b) ≡ false → (a ≡ false) × (b ≡ false)
+either_false true b none = cc
+either_false false b none = (refl, none)
+
+claimed_all : (p : Program) (params : List Parameter) → any_lent params ≡ false → AreClaimed (flat_map (heading p) params)
+claimed_all p [] none = tt
+claimed_all p (x ∷ params) none =
+    let both = either_false (is_lent x) (any_lent params) none in
+    each_append (λ q. is_claimed q.1 ≡ true) (heading p x) (flat_map (heading p) params) (claimed_typed p x.claims x.kind both.0) (claimed_all p params both.1)
+
+-- where none is lent, all are claimed
+pub all_claimed : (p : Program) (class : ℕ) (m : MethodTree) → Each (λ x. type_unknown p x.kind ≡ []) m.params → any_lent m.params ≡ false
+    → Each (λ v. is_claimed v.role ≡ true) (parameters (method_told p class m))
+all_claimed p class m known none =
+    mapped_each (λ q. is_claimed q.1 ≡ true) (λ v. (v.kind, v.role)) (parameters (method_told p class m)) (subst AreClaimed (sym (parameters_are p class m)) (claimed_all p m.params none))

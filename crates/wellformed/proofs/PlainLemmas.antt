@@ -1,0 +1,126 @@
+-- Statements that hold no others, and with which nothing is wrong.
+use Rattle.std.proofs.Common.{◌≡◌, ℕ, Bool, true, false, List, [], ◌++◌, length, sym, refl, ap, ◌∙◌, subst}
+use Rattle.std.specs.Prelude.{Option, None, Some, option_map, slice_get}
+use Rattle.source.specs.declared.token.Span.{Span}
+use Rattle.syntax.specs.Expressions as trees
+use Rattle.syntax.specs.Expressions.{ExpressionTree, TargetTree}
+use Rattle.syntax.specs.StatementTrees as stated
+use Rattle.syntax.specs.StatementTrees.{AssignTree, DeclareTree, StatementTree}
+use Rattle.syntax.specs.Trees.{ClassTree}
+use Rattle.syntax.specs.Values.{ValueTree}
+use Rattle.syntax.specs.declared.tree as tree
+use Rattle.names.specs.Bodies.{given_findings}
+use Rattle.names.specs.Expressions.{asked_number, expression_findings, held, meant, place_of, element_findings, element_kind, field_findings, kind_of, number_findings, variable_findings}
+use Rattle.names.specs.Kinds.{is_block, type_kind, type_unknown}
+use Rattle.names.specs.Program.{Program}
+use Rattle.names.specs.Shapes.{shape}
+use Rattle.names.specs.Values.{length_findings, target_findings, target_kind, value_findings}
+use Rattle.names.specs.Variables as names
+use Rattle.names.specs.Words.{word_at}
+use Rattle.names.specs.declared.kinds as declared
+use Rattle.names.specs.declared.kinds.Kind.TheVariants as kind
+use Rattle.resolved.specs.Methods.{VariableSeen}
+use Rattle.resolved.specs.declared.kind.Kind.{Kind}
+use Rattle.resolved.specs.declared.method.Role.{Role}
+use Rattle.resolved.specs.declared.method.Role.TheVariants as role
+use Rattle.resolved.specs.declared.statement.Mention.{Mention}
+use Rattle.resolving.specs.Kinds.{kind_held, state_in, type_held}
+use Rattle.resolving.specs.Locals.{Frame, declared_as, mention, mention_of, next_number, number_of}
+use Rattle.resolving.specs.Plain.{assigned, deleted, first_value, frame_behind, written}
+use Rattle.resolving.specs.Reads.{listed, reads}
+use Rattle.wellformed.specs.Lists.{Each}
+use Rattle.wellformed.specs.WellFormed.{IsAction, IsMention, IsStatement, Setting}
+use Rattle.wellformed.proofs.ExpressionLemmas.{element_scalar, expression_scalar, field_scalar, reads_within}
+use Rattle.wellformed.proofs.MentionLemmas.{block_mentioned, held_known, mention_within, scalar_not_mentioned}
+use Rattle.wellformed.proofs.KindLemmas.{held_as, known_certain, type_known}
+use Rattle.wellformed.proofs.PlaceLemmas.{at_seam}
+use Rattle.wellformed.proofs.ListLemmas.{both_none}
+use Rattle.wellformed.proofs.Standing.{Around, AreStanding, IsHeld, IsHeldAs, IsKnown, Within, scope_of}
+use Rattle.wellformed.proofs.ValueLemmas.{part_taken_fits, scalar_taken_fits, taken_fits}
+
+-- a name is a mention of a variable, or of none
+name_within : (p : Program) (s : Setting) (f : Frame) (g : names.Frame) → AreStanding p s.variables f g → (name : Span) (o : Option Mention) → mention p.text f.locals name ≡ o → Each (IsMention s) (listed o)
+name_within p s f g standing name None is = tt
+name_within p s f g standing name (Some m) is = (mention_within p s.variables f g name m standing is, tt)
+
+pub name_mentioned : (p : Program) (s : Setting) (f : Frame) (g : names.Frame) → AreStanding p s.variables f g → (name : Span) → Each (IsMention s) (listed (mention p.text f.locals name))
+name_mentioned p s f g standing name = name_within p s f g standing name (mention p.text f.locals name) refl
+
+-- a variable takes a value
+variable_fits : (p : Program) (t : ClassTree) (class : ℕ) (result : Option tree.Type.Type) (s : Setting) (f : Frame) (g : names.Frame) (name : Span) (value : ValueTree) (b : Bool)
+    → is_block (held (meant (scope_of p g) name)) ≡ b → Around p t class result s → AreStanding p s.variables f g → variable_findings (scope_of p g) name ≡ []
+    → value_findings (record { scope = scope_of p g; class = t }) (held (meant (scope_of p g) name)) value ≡ [] → IsStatement s (assigned p class f (mention p.text f.locals name) value)
+variable_fits p t class result s f g name value false scalar around standing none given =
+    let known = held_known p s.variables f g name standing none in
+    subst (λ o. IsStatement s (assigned p class f o value)) (sym (scalar_not_mentioned p s.variables f g name standing none scalar))
+    (scalar_taken_fits p t class result s f g (held (meant (scope_of p g) name)) value around standing known scalar given)
+variable_fits p t class result s f g name value true block around standing none given =
+    let known = held_known p s.variables f g name standing none in
+    let m = block_mentioned p s.variables f g name standing none block in
+    subst (λ o. IsStatement s (assigned p class f o value)) (sym m.is)
+    (taken_fits p t class result s f g (held (meant (scope_of p g) name)) (mention_of name m.number) m.variable value around standing known block m.there m.holds given)
+
+-- an assignment
+pub assign_fits : (p : Program) (t : ClassTree) (class : ℕ) (result : Option tree.Type.Type) (s : Setting) (f : Frame) (g : names.Frame) (target : TargetTree) (value : ValueTree)
+    → Around p t class result s → AreStanding p s.variables f g → target_findings (scope_of p g) target ≡ []
+    → value_findings (record { scope = scope_of p g; class = t }) (target_kind (scope_of p g) target) value ≡ [] → IsStatement s (written p class f target value)
+assign_fits p t class result s f g (trees.Variable name) value around standing none given =
+    variable_fits p t class result s f g name value (is_block (held (meant (scope_of p g) name))) refl around standing none given
+assign_fits p t class result s f g (trees.Field name field) value around standing none given =
+    let k = held (meant (scope_of p g) name) in
+    let both = both_none (variable_findings (scope_of p g) name) (field_findings (scope_of p g) k name field ++ length_findings (scope_of p g) k field) none in
+    let fields = both_none (field_findings (scope_of p g) k name field) (length_findings (scope_of p g) k field) both.1 in
+    let scalar = field_scalar p g k name field (held_known p s.variables f g name standing both.0) fields.0 in
+    part_taken_fits p t class result s f g (target_kind (scope_of p g) (trees.Field name field)) [] (mention p.text f.locals name) value around standing scalar.0 scalar.1 tt (name_mentioned p s f g standing name) given
+assign_fits p t class result s f g (trees.Element name index) value around standing none given =
+    let k = held (meant (scope_of p g) name) in
+    let i = kind_of (scope_of p g) (shape index) in
+    let both = both_none (number_findings (scope_of p g) (shape index)) (variable_findings (scope_of p g) name ++ element_findings k name) none in
+    let whole = both_none (variable_findings (scope_of p g) name) (element_findings k name) both.1 in
+    let number = both_none (expression_findings (scope_of p g) (shape index)) (asked_number i (place_of (shape index))) both.0 in
+    let certain = known_certain p i (expression_scalar p s.variables f g standing (shape index) number.0).0 in
+    let scalar = element_scalar p k name (held_known p s.variables f g name standing whole.0) whole.1 in
+    part_taken_fits p t class result s f g (target_kind (scope_of p g) (trees.Element name index)) (reads p.text f.locals index) (mention p.text f.locals name) value around standing
+    (subst (λ b. IsKnown p (element_kind k b)) (sym certain) scalar.0) (subst (λ b. is_block (element_kind k b) ≡ false) (sym certain) scalar.1) (reads_within p s.variables f g standing index) (name_mentioned p s f g standing name) given
+
+-- what holds something is of the exchange heap
+held_block : (p : Program) (k : declared.Kind.Kind) (held : Kind) → IsHeld p k held → is_block k ≡ true
+held_block p (kind.Pointer n) held is = refl
+held_block p (kind.Array element) held is = refl
+held_block p (kind.Endpoint n side) held is = refl
+held_block p (kind.Scalar x) held is = let none = is.is in cc
+held_block p kind.Missing held is = let none = is.is in cc
+held_block p kind.Unknown held is = let none = is.is in cc
+
+-- a variable that is declared takes its first value
+first_fits : (p : Program) (t : ClassTree) (class : ℕ) (result : Option tree.Type.Type) (s : Setting) (f : Frame) (g : names.Frame) (name : Span) (k : declared.Kind.Kind) (state : Option Span) (role : Role) (value : ValueTree)
+    (o : Option Kind) (rest : List VariableSeen) → kind_held p k state ≡ o → s.variables ≡ (declared_as p.text (record { name = name; kind = k; held = o; role = role }) o f).variables ++ rest → IsHeldAs p k o
+    → Around p t class result s → AreStanding p s.variables f g → IsKnown p k → value_findings (record { scope = scope_of p g; class = t }) k value ≡ []
+    → IsStatement s (assigned p class f (option_map (mention_of name) (next_number o f)) value)
+first_fits p t class result s f g name k state role value None rest is within holds around standing known none = scalar_taken_fits p t class result s f g k value around standing known holds none
+first_fits p t class result s f g name k state role value (Some held) rest is within holds around standing known none =
+    let v : VariableSeen = record { name = word_at p.text name; kind = held; role = role; outer = option_map number_of f.last } in
+    let there = ap (λ vs. slice_get vs (length f.variables)) within ∙ at_seam f.variables rest v in
+    taken_fits p t class result s f g k (mention_of name (length f.variables)) v value around standing known (held_block p k held holds) there holds none
+
+value_fits : (p : Program) (t : ClassTree) (class : ℕ) (result : Option tree.Type.Type) (s : Setting) (f : Frame) (g : names.Frame) (d : DeclareTree) (value : Option ValueTree)
+    → Around p t class result s → AreStanding p s.variables f g → Within s.variables (frame_behind p class f (stated.Declare d)) → type_unknown p d.kind ≡ []
+    → given_findings (record { scope = scope_of p g; class = t }) (type_kind p d.kind) value ≡ [] → IsStatement s (first_value p class f d.name (next_number (type_held p d.kind) f) value)
+value_fits p t class result s f g d None around standing within known none = (tt, tt)
+value_fits p t class result s f g d (Some value) around standing within known none =
+    let k = type_kind p d.kind in
+    let sure = type_known p d.kind known in
+    first_fits p t class result s f g d.name k (state_in d.kind) role.Local value (type_held p d.kind) within.rest refl within.is (held_as p k (state_in d.kind) sure) around standing sure none
+
+pub declare_fits : (p : Program) (t : ClassTree) (class : ℕ) (result : Option tree.Type.Type) (s : Setting) (f : Frame) (g : names.Frame) (d : DeclareTree)
+    → Around p t class result s → AreStanding p s.variables f g → Within s.variables (frame_behind p class f (stated.Declare d)) → type_unknown p d.kind ≡ []
+    → given_findings (record { scope = scope_of p g; class = t }) (type_kind p d.kind) d.value ≡ []
+    → IsStatement s (first_value p class f d.name (next_number (type_held p d.kind) f) d.value)
+declare_fits p t class result s f g d around standing within known none = value_fits p t class result s f g d d.value around standing within known none
+
+deleted_fits : (s : Setting) (o : Option Mention) → Each (IsMention s) (listed o) → IsAction s (deleted o)
+deleted_fits s None within = tt
+deleted_fits s (Some m) within = within.0
+
+pub delete_fits : (p : Program) (s : Setting) (f : Frame) (g : names.Frame) → AreStanding p s.variables f g → (name : Span) → IsAction s (deleted (mention p.text f.locals name))
+delete_fits p s f g standing name = deleted_fits s (mention p.text f.locals name) (name_mentioned p s f g standing name)

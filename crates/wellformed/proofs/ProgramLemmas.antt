@@ -1,0 +1,81 @@
+-- What is known of the methods of a program with whose names and kinds nothing is wrong.
+use Rattle.std.proofs.Common.{◌≡◌, ℕ, List, [], ◌∷◌, ◌++◌, map, sym, refl, ap, ◌∙◌}
+use Rattle.std.specs.List.{flat_map}
+use Rattle.std.specs.Prelude.{Option, None, Some, option_and_then, slice_get}
+use Rattle.syntax.specs.Trees.{DefinitionTree, Class, ClassTree, Contract, ContractTree, MessageTree, MethodTree}
+use Rattle.syntax.specs.declared.class.Parameter.{Parameter}
+use Rattle.names.specs.ContractFindings.{contract_findings, message_findings, state_findings}
+use Rattle.names.specs.Declarations.{messages_of, names_of_messages, names_of_states, states_of}
+use Rattle.names.specs.Findings.{counted_findings, definition_findings, program_findings}
+use Rattle.names.specs.Firsts.{first_of}
+use Rattle.names.specs.Kinds.{is_heap, type_kind, type_unknown}
+use Rattle.names.specs.Listed.{twice_among}
+use Rattle.names.specs.Methods.{items_findings, method_turn, parameter_turn, parameters_turn, result_unknown}
+use Rattle.names.specs.Program.{Program, as_class, as_contract, item_at}
+use Rattle.names.specs.Values.{message_written}
+use Rattle.names.specs.Variables.{Frame, declared_variable}
+use Rattle.names.specs.Words.{words_at}
+use Rattle.wellformed.specs.Lists.{Each}
+use Rattle.wellformed.proofs.ListLemmas.{both_none}
+use Rattle.wellformed.proofs.MethodNumberLemmas.{Declares, class_item, contract_item}
+pub use Rattle.wellformed.proofs.MethodNumberLemmas.{every_method, member_answers, method_answers}
+pub use Rattle.wellformed.proofs.ParameterLemmas.{all_claimed, parameters_are}
+use Rattle.wellformed.proofs.PlaceLemmas.{each_none, none_there}
+use Rattle.wellformed.proofs.Standing.{IsMethod}
+
+-- nothing is wrong with an item
+item_clean : (p : Program) (n : ℕ) (d : DefinitionTree) → program_findings p ≡ [] → Declares (slice_get p.items n) d → definition_findings p d ≡ []
+item_clean p n d clean there =
+    let items = flat_map (λ i. definition_findings p i.definition) p.items in
+    let inner = (both_none (counted_findings p) items (both_none (items_findings p) (counted_findings p ++ items) clean).1).1 in
+    sym (ap (definition_findings p) there.is) ∙ none_there (λ i. definition_findings p i.definition) p.items n there.item inner there.at
+
+-- nothing is wrong with a method of a class
+pub method_clean : (p : Program) (class : ℕ) (c : ClassTree) (m : MethodTree) (place : ℕ) → program_findings p ≡ [] → item_at as_class p class ≡ Some (class, c)
+    → slice_get c.methods place ≡ Some m → (method_turn p c m).found ≡ []
+method_clean p class c m place clean there at =
+    let found = item_clean p class (Class c) clean (class_item p class c there) in
+    let inner = (both_none (twice_among p.text (map (λ m. m.name) c.methods)) (flat_map (λ m. (method_turn p c m).found) c.methods) found).1 in
+    none_there (λ m. (method_turn p c m).found) c.methods place m inner at
+
+-- so the types of its result and of its parameters are known
+pub result_clean : (p : Program) (m : MethodTree) (number : ℕ) → program_findings p ≡ [] → IsMethod p m number → result_unknown p m.result ≡ []
+result_clean p m number clean is = (both_none (result_unknown p m.result) _ (method_clean p is.class is.tree m is.place clean is.there is.at)).0
+
+params_known : (p : Program) (params : List Parameter) (f : Frame) → (parameters_turn p params f).found ≡ [] → Each (λ x. type_unknown p x.kind ≡ []) params
+params_known p [] f none = tt
+params_known p (x ∷ params) f none =
+    let next = parameter_turn p x f in
+    let both = both_none next.found (parameters_turn p params next.frame).found none in
+    let unknown = both_none (type_unknown p x.kind) (declared_variable p.text x.name (type_kind p x.kind) (is_heap x.kind) f).found both.0 in
+    (unknown.0, params_known p params next.frame both.1)
+
+pub parameters_clean : (p : Program) (m : MethodTree) (number : ℕ) → program_findings p ≡ [] → IsMethod p m number → Each (λ x. type_unknown p x.kind ≡ []) m.params
+parameters_clean p m number clean is =
+    let f : Frame = record { variables = []; heap = 0 } in
+    let inner = (both_none (result_unknown p m.result) _ (method_clean p is.class is.tree m is.place clean is.there is.at)).1 in
+    params_known p m.params f (both_none (parameters_turn p m.params f).found _ inner).0
+
+message_at : (p : Program) (messages : List MessageTree) (m : MessageTree) (o : Option ℕ) → flat_map (message_findings p) messages ≡ [] → option_and_then (slice_get messages) o ≡ Some m
+    → message_findings p m ≡ []
+message_at p messages m None none at = cc
+message_at p messages m (Some n) none at = none_there (message_findings p) messages n m none at
+
+-- nothing is wrong with the messages of a contract
+messages_clean : (p : Program) (messages : List MessageTree) (c : ContractTree) → messages ≡ messages_of c → contract_findings p c ≡ [] → flat_map (message_findings p) messages ≡ []
+messages_clean p messages c is none =
+    let names = names_of_messages (messages_of c) in
+    let states = states_of c in
+    let all = flat_map (message_findings p) (messages_of c) in
+    let behind = flat_map (state_findings p.text names (names_of_states states)) states in
+    let inner = (both_none (twice_among p.text names) (twice_among p.text (names_of_states states) ++ (all ++ behind)) none).1 in
+    ap (flat_map (message_findings p)) is ∙ (both_none all behind (both_none (twice_among p.text (names_of_states states)) (all ++ behind) inner).1).0
+
+-- the types of the parameters of a message are known
+pub message_clean : (p : Program) (n : ℕ) (c : ContractTree) (word : List ℕ) (m : MessageTree) → program_findings p ≡ [] → item_at as_contract p n ≡ Some (n, c)
+    → message_written p.text c word ≡ Some m → Each (λ x. type_unknown p x.kind ≡ []) m.params
+message_clean p n c word m clean there written =
+    let found = item_clean p n (Contract c) clean (contract_item p n c there) in
+    let messages = messages_of c in
+    let none = message_at p messages m (first_of (words_at p.text (names_of_messages messages)) word) (messages_clean p messages c refl found) written in
+    each_none (λ x. type_unknown p x.kind) m.params (both_none (flat_map (λ x. type_unknown p x.kind) m.params) _ none).0

@@ -1,0 +1,108 @@
+-- Calls and starts that stand alone, and returns, with which nothing is wrong.
+use Rattle.std.proofs.Common.{◌≡◌, ℕ, ◌<◌, ◌&&◌, Bool, true, false, not, [], length, sym, refl, subst, ◌⊎◌, inl, inr}
+use Rattle.std.specs.Option.{option_map_or}
+use Rattle.std.specs.Prelude.{Option, None, Some, is_some, option_map, IfSome, IsSomeAnd}
+use Rattle.source.specs.declared.token.Span.{Span}
+use Rattle.syntax.specs.Expressions.{ExpressionTree}
+use Rattle.syntax.specs.StatementTrees as stated
+use Rattle.syntax.specs.StatementTrees.{AssignTree, DeclareTree, StatementTree}
+use Rattle.syntax.specs.Trees.{ClassTree}
+use Rattle.syntax.specs.Values.{CallTree}
+use Rattle.syntax.specs.declared.tree as tree
+use Rattle.names.specs.Bodies.{return_findings}
+use Rattle.names.specs.Expressions.{whole_findings}
+use Rattle.names.specs.Kinds.{is_block, type_kind, unless}
+use Rattle.names.specs.Methods.{result_unknown}
+use Rattle.names.specs.Program.{Program}
+use Rattle.names.specs.Shapes.{shape}
+use Rattle.names.specs.Bodies.{statement_turn}
+use Rattle.names.specs.Values.{any_lent, can_start}
+use Rattle.names.specs.Variables as names
+use Rattle.resolved.specs.Statements as seen
+use Rattle.resolved.specs.declared.statement.Action.TheVariants as does
+use Rattle.resolving.specs.Kinds.{result_held, state_in, type_held}
+use Rattle.resolving.specs.Locals.{Frame, number_of}
+use Rattle.resolving.specs.Methods.{method_told}
+use Rattle.resolving.specs.Plain.{call_of, called, lone, returned, started, stated_call, told}
+use Rattle.wellformed.specs.Scopes.{LeadsOut}
+use Rattle.wellformed.specs.WellFormed.{IsScope, IsStartOf, IsStatement, IsTaken, Setting}
+use Rattle.wellformed.proofs.ArgumentLemmas.{IsAsked, asked_block, asked_known, asked_scalar}
+use Rattle.wellformed.proofs.CallLemmas.{CallsMethod, call_means, call_of_fits, method_there}
+use Rattle.wellformed.proofs.ExpressionLemmas.{reads_within}
+use Rattle.wellformed.proofs.FindingLemmas.{none_said}
+use Rattle.wellformed.proofs.SendLemmas.{SendsMessage}
+use Rattle.wellformed.proofs.KindLemmas.{Holding, block_holds, scalar_holds, type_known}
+use Rattle.wellformed.proofs.ProgramLemmas.{all_claimed, parameters_clean}
+use Rattle.wellformed.proofs.ListLemmas.{both_none}
+use Rattle.wellformed.proofs.Standing.{Around, AreStanding, IsKnown, scope_of}
+use Rattle.wellformed.proofs.ValueLemmas.{alone_call, by_none, gives_none, no_send}
+
+-- a call that stands alone, of a method or a send
+stated_by : (p : Program) (t : ClassTree) (class : ℕ) (result : Option tree.Type.Type) (s : Setting) (f : Frame) (g : names.Frame) (c : CallTree) (alone : Bool) → Around p t class result s → AreStanding p s.variables f g
+    → CallsMethod p class f g (λ m. gives_none p m.result ≡ true) c ⊎ ((alone ≡ true) × SendsMessage p class s f c) → IsStatement s (stated_call p class f c)
+stated_by p t class result s f g c alone around standing (inl x) =
+    subst (λ o. IsStatement s (option_map_or seen.Send o (called p class f c None []))) (sym x.no_send) (alone_call p t class result s f g c around standing x)
+stated_by p t class result s f g c alone around standing (inr x) = subst (λ o. IsStatement s (option_map_or seen.Send o (called p class f c None []))) (sym x.1.is) x.1.fits
+
+pub call_stated_fits : (p : Program) (t : ClassTree) (class : ℕ) (result : Option tree.Type.Type) (s : Setting) (f : Frame) (g : names.Frame) (c : CallTree)
+    → Around p t class result s → AreStanding p s.variables f g → (statement_turn (record { program = p; class = t; result = result; breaks = false; continues = false }) (stated.Call c) g).found ≡ [] → IsStatement s (stated_call p class f c)
+call_stated_fits p t class result s f g c around standing none =
+    stated_by p t class result s f g c _ around standing (call_means p t class result s f g _ c around standing none (λ m. gives_none p m.result ≡ true) (λ m name starts F same fits. by_none p F m.result fits (λ x. same (Some x))))
+
+-- a method that can be started is void, and no parameter of it is lent
+both_not : (a b : Bool) → (not a && not b) ≡ true → (a ≡ false) × (b ≡ false)
+both_not false false h = (refl, refl)
+both_not false true h = cc
+both_not true b h = cc
+
+void_gives : (p : Program) (result : Option tree.Type.Type) → is_some result ≡ false → result_held p result ≡ None
+void_gives p None void = refl
+void_gives p (Some t) void = cc
+
+-- a start
+pub start_fits : (p : Program) (t : ClassTree) (class : ℕ) (result : Option tree.Type.Type) (s : Setting) (f : Frame) (g : names.Frame) (c : CallTree)
+    → (word : Span) → Around p t class result s → AreStanding p s.variables f g → (statement_turn (record { program = p; class = t; result = result; breaks = false; continues = false }) (stated.Start word c) g).found ≡ [] → IsStatement s (started p class f c)
+start_fits p t class result s f g c word around standing none =
+    let x = no_send p class s f g (λ m. can_start m ≡ true) c _ (call_means p t class result s f g _ c around standing none (λ m. can_start m ≡ true) (λ m name starts F same fits. none_said (can_start m) _ starts)) refl in
+    let free = both_not (is_some x.method.result) (any_lent x.method.params) x.fits in
+    let call = call_of_fits p t class result s f g c None [] (λ m. can_start m ≡ true) around standing x (subst (λ o. IsTaken s o None) (sym (void_gives p x.method.result free.0)) tt) tt in
+    let starts : IsStartOf s (call_of p class f c None [] (record { number = x.number; method = x.method })) (method_told p x.told.class x.method) = record { call = call; void = free.0; claimed = all_claimed p x.told.class x.method (parameters_clean p x.method x.number around.clean x.told) free.1 } in
+    subst (λ o. IsStatement s (option_map_or seen.Start (option_map (call_of p class f c None []) o) (told [] does.Nothing))) (sym x.is)
+    (subst (λ o. IsSomeAnd o (IsStartOf s (call_of p class f c None [] (record { number = x.number; method = x.method })))) (sym (method_there p t class result s x.method x.number around x.told)) starts)
+
+-- the last variable in scope, where one leaves the method
+scope_fits : (s : Setting) (o : Option ℕ) → IfSome o (λ n. n < length s.variables) → LeadsOut s.variables (option_map number_of o) None → IsScope s (option_map number_of o)
+scope_fits s None within ends = (tt, ends)
+scope_fits s (Some n) within ends = (within, ends)
+
+-- a return of nothing
+empty_fits : (p : Program) (s : Setting) (g : names.Frame) (result : Option tree.Type.Type) (word : Span) → s.result ≡ result_held p result → return_findings (scope_of p g) result word None ≡ [] → IsTaken s s.result None
+empty_fits p s g None word is none = subst (λ o. IsTaken s o None) (sym is) tt
+empty_fits p s g (Some t) word is none = cc
+
+-- a return of a value
+given_fits : (p : Program) (class : ℕ) (s : Setting) (f : Frame) (g : names.Frame) (t : tree.Type.Type) (e : ExpressionTree) (b : Bool) → is_block (type_kind p t) ≡ b → AreStanding p s.variables f g → IsKnown p (type_kind p t)
+    → IsAsked p g (type_kind p t) e → IsTaken s (type_held p t) (lone p class f e)
+given_fits p class s f g t e false scalar standing known asked =
+    subst (λ o. IsTaken s o (lone p class f e)) (sym (scalar_holds p (type_kind p t) (state_in t) scalar)) (subst (λ o. IsTaken s None o) (sym (asked_scalar p class s.variables f g standing (type_kind p t) e asked scalar)) tt)
+given_fits p class s f g t e true block standing known asked =
+    let h : Holding p (type_kind p t) (state_in t) = block_holds p (type_kind p t) (state_in t) known block in
+    let x = asked_block p class s f g standing (type_kind p t) h.held e asked block (record { state = state_in t; is = h.is }) in
+    subst (λ o. IsTaken s o (lone p class f e)) (sym h.is) (subst (λ o. IsTaken s (Some h.held) o) (sym x.is) x.holds)
+
+value_returned : (p : Program) (class : ℕ) (s : Setting) (f : Frame) (g : names.Frame) (result : Option tree.Type.Type) (word : Span) (e : ExpressionTree) → s.result ≡ result_held p result → result_unknown p result ≡ []
+    → AreStanding p s.variables f g → return_findings (scope_of p g) result word (Some e) ≡ [] → IsTaken s s.result (lone p class f e)
+value_returned p class s f g None word e is known standing none =
+    let lost = (both_none (whole_findings (scope_of p g) (shape e)) (unless false word.place) none).1 in
+    cc
+value_returned p class s f g (Some t) word e is known standing none =
+    let sure = type_known p t known in
+    subst (λ o. IsTaken s o (lone p class f e)) (sym is) (given_fits p class s f g t e (is_block (type_kind p t)) refl standing sure (asked_known p s.variables f g standing (type_kind p t) e sure none))
+
+pub return_fits : (p : Program) (t : ClassTree) (class : ℕ) (result : Option tree.Type.Type) (s : Setting) (f : Frame) (g : names.Frame) (word : Span) (value : Option ExpressionTree)
+    → Around p t class result s → AreStanding p s.variables f g → IfSome f.last (λ n. n < length s.variables) → return_findings (scope_of p g) result word value ≡ []
+    → IsStatement s (returned p class f word.place value)
+return_fits p t class result s f g word None around standing within none =
+    (tt, (empty_fits p s g result word around.result_is none, scope_fits s f.last within standing.ends))
+return_fits p t class result s f g word (Some e) around standing within none =
+    (reads_within p s.variables f g standing e, (value_returned p class s f g result word e around.result_is around.result_known standing none, scope_fits s f.last within standing.ends))

@@ -1,0 +1,142 @@
+-- What holds of the variables in scope at a place of a program with whose names and kinds nothing is wrong.
+use Rattle.std.proofs.Common.{◌≡◌, ℕ, ◌<◌, false, List, [], ◌∷◌, ◌++◌, length, map}
+use Rattle.std.specs.Option.{option_map_or}
+use Rattle.std.specs.Prelude.{Option, None, Some, option_map, slice_get, IfSome, IsSomeAnd}
+use Rattle.source.specs.declared.token.Span.{Span}
+use Rattle.syntax.specs.Trees.{ClassTree, MethodTree, contracts_of}
+use Rattle.syntax.specs.declared.class.Parameter.{Parameter}
+use Rattle.syntax.specs.declared.tree as tree
+use Rattle.names.specs.Expressions.{InScope}
+use Rattle.names.specs.Findings.{program_findings}
+use Rattle.names.specs.Kinds.{is_block}
+use Rattle.names.specs.Methods.{result_unknown}
+use Rattle.names.specs.Program.{Program, as_class, as_contract, as_struct, item_at}
+use Rattle.names.specs.Resolution.{resolved_contracts}
+use Rattle.names.specs.Variables as names
+use Rattle.names.specs.declared.kinds as declared
+use Rattle.names.specs.declared.kinds.Kind.TheVariants as kind
+use Rattle.resolved.specs.Methods.{VariableSeen}
+use Rattle.resolved.specs.declared.kind.Kind.{Kind}
+use Rattle.resolved.specs.declared.method.Role.{Role}
+use Rattle.resolved.specs.declared.method.Role.TheVariants as role
+use Rattle.resolved.specs.declared.method.VarId.{VarId}
+use Rattle.resolving.specs.Brought.{messages_told}
+use Rattle.resolving.specs.Kinds.{kind_held, result_held, type_held}
+use Rattle.resolving.specs.Locals as locals
+use Rattle.resolving.specs.Locals.{Local, Frame, number_of}
+use Rattle.resolving.specs.Callees.{Callee}
+use Rattle.resolving.specs.Methods.{methods_told, method_told, role_of}
+use Rattle.resolving.specs.Told.{Staying}
+use Rattle.wellformed.specs.Lists.{Each}
+use Rattle.wellformed.specs.Scopes.{LeadsOut, AreNested}
+use Rattle.wellformed.specs.WellFormed.{Setting}
+
+-- a kind whose names are declared
+abbrev pub IsKnown : Program → declared.Kind.Kind → Type 0
+IsKnown p (kind.Scalar s) = Unit {0}
+IsKnown p (kind.Array element) = Unit {0}
+IsKnown p (kind.Pointer n) = IsSomeAnd (item_at as_struct p n) (λ s. Unit {0})
+IsKnown p (kind.Endpoint n side) = IsSomeAnd (item_at as_contract p n) (λ c. Unit {0})
+IsKnown p kind.Missing = ⊥
+IsKnown p kind.Unknown = ⊥
+
+-- what a variable of this kind holds, in some state
+pub record IsHeld (p : Program) (k : declared.Kind.Kind) (held : Kind) : Type 0 where
+  pub state : Option Span
+  pub is : kind_held p k state ≡ Some held
+
+-- what a variable of this kind holds, if it is of the exchange heap
+abbrev pub IsHeldAs : Program → declared.Kind.Kind → Option Kind → Type 0
+IsHeldAs p k None = is_block k ≡ false
+IsHeldAs p k (Some held) = IsHeld p k held
+
+-- a variable in scope has a number where it is of the exchange heap, and of this number the method has one that holds what its kind says
+abbrev pub IsNumbered : Program → List VariableSeen → declared.Kind.Kind → Option ℕ → Type 0
+IsNumbered p vs k None = is_block k ≡ false
+IsNumbered p vs k (Some n) = IsSomeAnd (slice_get vs n) (λ v. IsHeld p k v.kind)
+
+pub record Stands (p : Program) (vs : List VariableSeen) (l : Local) : Type 0 where
+  pub known : IsKnown p l.kind
+  pub numbered : IsNumbered p vs l.kind l.number
+
+-- a variable in scope as its name and kind
+abbrev pub named : Local → names.Variable
+named l = record { name = l.name; kind = l.kind }
+
+-- the last variable in scope
+abbrev pub last_of : Frame → Option VarId
+last_of f = option_map number_of f.last
+
+-- the variables of a frame are those in scope, and each stands for one of the method
+pub record AreStanding (p : Program) (vs : List VariableSeen) (f : Frame) (g : names.Frame) : Type 0 where
+  pub same : map named f.locals ≡ g.variables
+  pub locals : Each (Stands p vs) f.locals
+  pub last : IfSome f.last (λ n. n < length f.variables)
+  pub ends : LeadsOut vs (last_of f) None
+
+-- a variable that is no parameter, and holds what some kind says
+pub record IsLocal (p : Program) (v : VariableSeen) : Type 0 where
+  pub is : v.role ≡ role.Local
+  pub kind : declared.Kind.Kind
+  pub held : IsHeld p kind v.kind
+
+-- the first frame's variables, and others behind them that are no parameters
+pub record Grows (p : Program) (f g : Frame) : Type 0 where
+  pub more : List VariableSeen
+  pub is : g.variables ≡ f.variables ++ more
+  pub local : Each (IsLocal p) more
+
+-- the method's variables begin with those of the frame
+pub record Within (vs : List VariableSeen) (f : Frame) : Type 0 where
+  pub rest : List VariableSeen
+  pub is : vs ≡ f.variables ++ rest
+
+-- what stays in scope at a break and at a continue lies outward
+pub record AreStaying (vs : List VariableSeen) (f : Frame) (s : Staying) : Type 0 where
+  pub at_break : LeadsOut vs (last_of f) (option_map number_of s.at_break)
+  pub at_continue : LeadsOut vs (last_of f) (option_map number_of s.at_continue)
+
+-- Where a statement stands: in a method of the class that is the item at this place, which gives this result, of a program with
+-- whose names and kinds nothing is wrong.
+pub record Around (p : Program) (c : ClassTree) (class : ℕ) (result : Option tree.Type.Type) (s : Setting) : Type 0 where
+  pub clean : program_findings p ≡ []
+  pub class_is : item_at as_class p class ≡ Some (class, c)
+  pub contracts_are : s.contracts ≡ resolved_contracts p.text (contracts_of p.items)
+  pub messages_are : s.messages ≡ messages_told p
+  pub methods_are : s.methods ≡ methods_told p
+  pub result_is : s.result ≡ result_held p result
+  pub result_known : result_unknown p result ≡ []
+  pub nested : AreNested s.variables
+
+-- a variable of this name and kind comes into scope
+abbrev pub declares : List ℕ → Span → declared.Kind.Kind → Option Kind → Role → Frame → Frame
+declares text name kind held role f = locals.declared text (record { name = name; kind = kind; held = held; role = role }) f
+
+-- what a frame brings into scope
+abbrev pub scope_of : Program → names.Frame → InScope
+scope_of p g = record { program = p; variables = g.variables }
+
+-- a piece of a method that is well formed, and the frame behind it
+pub record Goes (p : Program) (vs : List VariableSeen) (X : Type 0) (f after : Frame) (behind : names.Frame) : Type 0 where
+  pub fits : X
+  pub standing : AreStanding p vs after behind
+  pub inner : LeadsOut vs (last_of after) (last_of f)
+
+-- what a parameter holds, where it is of the exchange heap, and how the method comes to it
+abbrev pub heading : Program → Parameter → List (Kind × Role)
+heading p x = option_map_or (λ k. (k, role_of x) ∷ []) (type_held p x.kind) []
+
+-- a method of a class, which has this number in the program
+pub record IsMethod (p : Program) (m : MethodTree) (number : ℕ) : Type 0 where
+  pub class : ℕ
+  pub tree : ClassTree
+  pub there : item_at as_class p class ≡ Some (class, tree)
+  pub place : ℕ
+  pub at : slice_get tree.methods place ≡ Some m
+  pub told : slice_get (methods_told p) number ≡ Some (method_told p class m)
+
+-- a look-up answers this method, with its number
+pub record Answers (p : Program) (o : Option Callee) (m : MethodTree) : Type 0 where
+  pub number : ℕ
+  pub is : o ≡ Some (record { number = number; method = m })
+  pub method : IsMethod p m number

@@ -1,0 +1,62 @@
+-- Types whose names are declared.
+use Rattle.std.proofs.Common.{◌≡◌, ℕ, Bool, true, false, [], ◌∷◌, ap, refl, subst}
+use Rattle.std.proofs.lemmas.Option.{same_Some}
+use Rattle.std.specs.Prelude.{Option, None, Some, IsSomeAnd, if◌then◌else◌, option_and_then, option_map, slice_get}
+use Rattle.source.specs.declared.token.Span.{Span}
+use Rattle.syntax.specs.Trees.{ContractTree, DefinitionTree, ItemTree}
+use Rattle.syntax.specs.declared.tree.Side.{Side}
+use Rattle.names.specs.Declarations.{first_among, is_declared, names_of_states, states_of}
+use Rattle.names.specs.Found.{unknown}
+use Rattle.names.specs.Kinds.{endpoint_kind, endpoint_unknown, is_block, pointer_kind, pointer_unknown}
+use Rattle.names.specs.Program.{Program, as_contract, as_struct, contract_named, item_at, item_names, struct_named}
+use Rattle.names.specs.declared.kinds.Kind.TheVariants as kind
+use Rattle.wellformed.proofs.Standing.{IsKnown}
+
+-- an item of some kind has the number of its place
+numbered_so : {X : Type 0} (n : ℕ) (o : Option X) (y : ℕ × X) → option_map (λ x. (n, x)) o ≡ Some y → n ≡ y.0
+numbered_so n None y is = cc
+numbered_so n (Some x) y is = ap (λ z. z.0) (same_Some (n, x) y is)
+
+pub item_number : {X : Type 0} (kind : DefinitionTree → Option X) (n : ℕ) (o : Option ItemTree) (y : ℕ × X) → option_and_then (λ i. option_map (λ x. (n, x)) (kind i.definition)) o ≡ Some y → n ≡ y.0
+item_number kind n None y is = cc
+item_number kind n (Some i) y is = numbered_so n (kind i.definition) y is
+
+item_itself : {X : Type 0} (kind : DefinitionTree → Option X) (p : Program) (n : ℕ) (y : ℕ × X) → item_at kind p n ≡ Some y → item_at kind p y.0 ≡ Some y
+item_itself kind p n y is = subst (λ k. item_at kind p k ≡ Some y) (item_number kind n (slice_get p.items n) y is) is
+
+found_itself : {X : Type 0} (kind : DefinitionTree → Option X) (p : Program) (o : Option ℕ) (y : ℕ × X) → option_and_then (item_at kind p) o ≡ Some y → item_at kind p y.0 ≡ Some y
+found_itself kind p None y is = cc
+found_itself kind p (Some n) y is = item_itself kind p n y is
+
+there_is : {X : Type 0} (o : Option X) (x : X) → o ≡ Some x → IsSomeAnd o (λ y. Unit {0})
+there_is None x is = cc
+there_is (Some y) x is = tt
+
+-- the kind of a type whose names are declared is known
+pub pointer_known : (p : Program) (name : Span) (o : Option _) → struct_named p name ≡ o → pointer_unknown p.text o name ≡ [] → IsKnown p (pointer_kind o)
+pointer_known p name None is none = cc
+pointer_known p name (Some s) is none = there_is (item_at as_struct p s.0) s (found_itself as_struct p (first_among p.text (item_names p) name) s is)
+
+declared_known : (p : Program) (c : ℕ × ContractTree) (end : Side) (state : Span) (b : Bool) → item_at as_contract p c.0 ≡ Some c → (if b then [] else unknown p.text state ∷ []) ≡ [] → IsKnown p (if b then kind.Endpoint c.0 end else kind.Unknown)
+declared_known p c end state true is none = there_is (item_at as_contract p c.0) c is
+declared_known p c end state false is none = cc
+
+pub endpoint_known : (p : Program) (contract : Span) (end : Side) (state : Option Span) (o : Option (ℕ × ContractTree)) → contract_named p contract ≡ o → endpoint_unknown p.text o contract state ≡ [] → IsKnown p (endpoint_kind p.text o end state)
+endpoint_known p contract end state None is none = cc
+endpoint_known p contract end None (Some c) is none = there_is (item_at as_contract p c.0) c (found_itself as_contract p (first_among p.text (item_names p) contract) c is)
+endpoint_known p contract end (Some state) (Some c) is none =
+    declared_known p c end state (is_declared p.text (names_of_states (states_of c.1)) state) (found_itself as_contract p (first_among p.text (item_names p) contract) c is) none
+
+-- and of the exchange heap
+pub pointer_block : {X : Type 0} (p : Program) (o : Option (ℕ × X)) → IsKnown p (pointer_kind o) → true ≡ is_block (pointer_kind o)
+pointer_block p None known = absurd known
+pointer_block p (Some s) known = refl
+
+declared_block : (p : Program) (n : ℕ) (end : Side) (b : Bool) → IsKnown p (if b then kind.Endpoint n end else kind.Unknown) → true ≡ is_block (if b then kind.Endpoint n end else kind.Unknown)
+declared_block p n end true known = refl
+declared_block p n end false known = absurd known
+
+pub endpoint_block : (p : Program) (end : Side) (state : Option Span) (o : Option (ℕ × ContractTree)) → IsKnown p (endpoint_kind p.text o end state) → true ≡ is_block (endpoint_kind p.text o end state)
+endpoint_block p end state None known = absurd known
+endpoint_block p end None (Some c) known = refl
+endpoint_block p end (Some state) (Some c) known = declared_block p c.0 end (is_declared p.text (names_of_states (states_of c.1)) state) known

@@ -1,0 +1,162 @@
+-- Values that variables and parts of blocks take.
+use Rattle.std.proofs.Common.{◌≡◌, ℕ, Bool, true, false, not, List, [], ◌++◌, length, sym, refl, ◌∙◌, subst, ◌⊎◌, inl, inr}
+use Rattle.std.proofs.lemmas.Option.{slice_get_within}
+use Rattle.std.specs.Option.{option_map_or}
+use Rattle.std.specs.Prelude.{Option, None, Some, option_map, slice_get, IsSomeAnd}
+use Rattle.syntax.specs.Trees.{ClassTree, MethodTree}
+use Rattle.syntax.specs.Values as values
+use Rattle.syntax.specs.Values.{CallTree, MadeTree, NewTree, ValueTree}
+use Rattle.syntax.specs.declared.tree as tree
+use Rattle.names.specs.Kinds.{agree, is_block, type_kind}
+use Rattle.names.specs.Methods.{result_unknown}
+use Rattle.names.specs.Program.{Program}
+use Rattle.names.specs.Values.{value_findings}
+use Rattle.names.specs.Variables as names
+use Rattle.names.specs.declared.kinds as declared
+use Rattle.resolved.specs.Methods.{VariableSeen}
+use Rattle.resolved.specs.Statements.{Call}
+use Rattle.resolved.specs.declared.statement.Action.TheVariants as does
+use Rattle.resolved.specs.declared.statement.Mention.{Mention}
+use Rattle.resolving.specs.Kinds.{result_held, state_in}
+use Rattle.resolving.specs.Locals.{Frame}
+use Rattle.resolving.specs.Plain.{call_of, called, lone, made_reads, moved, part_taken, scalar_taken, taken, told, used}
+use Rattle.resolving.specs.Reads.{listed, reads}
+use Rattle.wellformed.specs.Lists.{Each}
+use Rattle.wellformed.specs.WellFormed.{Holds, IsAction, IsMention, IsStatement, IsTaken, Setting}
+use Rattle.wellformed.proofs.ArgumentLemmas.{asked_block, asked_known, holds_there}
+use Rattle.wellformed.proofs.CallLemmas.{CallsMethod, call_fits, call_means}
+use Rattle.wellformed.proofs.ExpressionLemmas.{reads_within}
+use Rattle.wellformed.proofs.SendLemmas.{SendsMessage}
+use Rattle.wellformed.proofs.KindLemmas.{Holding, agree_alike, alike_block, alike_held, alike_sym, block_holds, scalar_holds, type_known}
+use Rattle.wellformed.proofs.ListLemmas.{each_append}
+use Rattle.wellformed.proofs.ProgramLemmas.{result_clean}
+use Rattle.wellformed.proofs.Standing.{Around, AreStanding, IsHeld, IsKnown, scope_of}
+
+-- whether what a method gives fits a kind that is asked
+abbrev pub gives_asked : Program → Option tree.Type.Type → declared.Kind.Kind → Bool
+gives_asked p None k = false
+gives_asked p (Some t) k = agree (type_kind p t) k
+
+by_result : (p : Program) (k : declared.Kind.Kind) (F : Option tree.Type.Type → Bool) (result : Option tree.Type.Type) → F result ≡ true → F None ≡ false
+    → ((t : tree.Type.Type) → F (Some t) ≡ agree (type_kind p t) k) → gives_asked p result k ≡ true
+by_result p k F None fits none some = cc
+by_result p k F (Some t) fits none some = sym (some t) ∙ fits
+
+-- whether it gives no block
+abbrev pub gives_none : Program → Option tree.Type.Type → Bool
+gives_none p None = true
+gives_none p (Some t) = not (is_block (type_kind p t))
+
+pub by_none : (p : Program) (F : Option tree.Type.Type → Bool) (result : Option tree.Type.Type) → F result ≡ true
+    → ((t : tree.Type.Type) → F (Some t) ≡ not (is_block (type_kind p t))) → gives_none p result ≡ true
+by_none p F None fits some = refl
+by_none p F (Some t) fits some = sym (some t) ∙ fits
+
+-- no call as a value is a send
+pub no_send : (p : Program) (class : ℕ) (s : Setting) (f : Frame) (g : names.Frame) (Is : MethodTree → Type 0) (c : CallTree) (alone : Bool)
+    → CallsMethod p class f g Is c ⊎ ((alone ≡ true) × SendsMessage p class s f c) → alone ≡ false → CallsMethod p class f g Is c
+no_send p class s f g Is c alone (inl x) not_alone = x
+no_send p class s f g Is c alone (inr x) not_alone = cc
+
+-- A call as a value gives a block of the kind that is asked.
+block_result : (p : Program) (s : Setting) (k : declared.Kind.Kind) (target : Mention) (v : VariableSeen) (result : Option tree.Type.Type) → result_unknown p result ≡ []
+    → IsKnown p k → is_block k ≡ true → slice_get s.variables target.variable.0 ≡ Some v → IsHeld p k v.kind → gives_asked p result k ≡ true → IsTaken s (result_held p result) (Some target)
+block_result p s k target v None known asked block there holds fits = cc
+block_result p s k target v (Some t) known asked block there holds fits =
+    let like = agree_alike p (type_kind p t) k (type_known p t known) asked fits in
+    let h : Holding p (type_kind p t) (state_in t) = block_holds p (type_kind p t) (state_in t) (type_known p t known) (alike_block (type_kind p t) k like ∙ block) in
+    let same = alike_held p k (type_kind p t) v.kind h.held (alike_sym (type_kind p t) k like) holds (record { state = state_in t; is = h.is }) in
+    subst (λ o. IsTaken s o (Some target)) (sym h.is) (holds_there s h.held target v there same)
+
+-- or nothing, where a scalar is asked
+scalar_result : (p : Program) (k : declared.Kind.Kind) (result : Option tree.Type.Type) → result_unknown p result ≡ [] → IsKnown p k → is_block k ≡ false
+    → gives_asked p result k ≡ true → result_held p result ≡ None
+scalar_result p k None known asked scalar fits = refl
+scalar_result p k (Some t) known asked scalar fits =
+    let like = agree_alike p (type_kind p t) k (type_known p t known) asked fits in
+    scalar_holds p (type_kind p t) (state_in t) (alike_block (type_kind p t) k like ∙ scalar)
+
+not_block : (b : Bool) → not b ≡ true → b ≡ false
+not_block true h = cc
+not_block false h = refl
+
+alone_result : (p : Program) (result : Option tree.Type.Type) → gives_none p result ≡ true → result_held p result ≡ None
+alone_result p None fits = refl
+alone_result p (Some t) fits = scalar_holds p (type_kind p t) (state_in t) (not_block (is_block (type_kind p t)) fits)
+
+-- a call of a method, told
+pub told_call : (p : Program) (class : ℕ) (s : Setting) (f : Frame) (g : names.Frame) (c : CallTree) (target : Option Mention) (behind : List Mention) (Is : MethodTree → Type 0) → (x : CallsMethod p class f g Is c)
+    → IsStatement s (Call (call_of p class f c target behind (record { number = x.number; method = x.method }))) → IsStatement s (called p class f c target behind)
+told_call p class s f g c target behind Is x fits = subst (λ o. IsStatement s (option_map_or Call (option_map (call_of p class f c target behind) o) (told [] does.Nothing))) (sym x.is) fits
+
+-- a call whose result no variable takes
+pub void_call : (p : Program) (t : ClassTree) (class : ℕ) (result : Option tree.Type.Type) (s : Setting) (f : Frame) (g : names.Frame) (c : CallTree) (behind : List Mention) (Is : MethodTree → Type 0)
+    → Around p t class result s → AreStanding p s.variables f g → (x : CallsMethod p class f g Is c) → result_held p x.method.result ≡ None → Each (IsMention s) behind → IsStatement s (called p class f c None behind)
+void_call p t class result s f g c behind Is around standing x void mentioned =
+    told_call p class s f g c None behind Is x (call_fits p t class result s f g c None behind Is around standing x (subst (λ o. IsTaken s o None) (sym void) tt) mentioned)
+
+-- a call that stands alone
+pub alone_call : (p : Program) (t : ClassTree) (class : ℕ) (result : Option tree.Type.Type) (s : Setting) (f : Frame) (g : names.Frame) (c : CallTree)
+    → Around p t class result s → AreStanding p s.variables f g → (x : CallsMethod p class f g (λ m. gives_none p m.result ≡ true) c) → IsStatement s (called p class f c None [])
+alone_call p t class result s f g c around standing x =
+    void_call p t class result s f g c [] (λ m. gives_none p m.result ≡ true) around standing x (alone_result p x.method.result x.fits) tt
+
+-- a call as a value: a method that gives the kind that is asked
+asked_call : (p : Program) (t : ClassTree) (class : ℕ) (result : Option tree.Type.Type) (s : Setting) (f : Frame) (g : names.Frame) (k : declared.Kind.Kind) (c : CallTree)
+    → Around p t class result s → AreStanding p s.variables f g → value_findings (record { scope = scope_of p g; class = t }) k (values.Call c) ≡ []
+    → CallsMethod p class f g (λ m. gives_asked p m.result k ≡ true) c
+asked_call p t class result s f g k c around standing none =
+    no_send p class s f g (λ m. gives_asked p m.result k ≡ true) c _
+    (call_means p t class result s f g _ c around standing none (λ m. gives_asked p m.result k ≡ true) (λ m name starts F same fits. by_result p k F m.result fits (same None) (λ x. same (Some x)))) refl
+
+-- what a new block reads
+made_within : (p : Program) (class : ℕ) (s : Setting) (f : Frame) (g : names.Frame) → AreStanding p s.variables f g → (m : MadeTree) → Each (IsMention s) (made_reads p class f m)
+made_within p class s f g standing (values.Struct name left) = tt
+made_within p class s f g standing (values.Array element length) = reads_within p s.variables f g standing length
+
+move_fits : (s : Setting) (target : Mention) (v : VariableSeen) (o : Option Mention) (source : Mention) → o ≡ Some source → slice_get s.variables target.variable.0 ≡ Some v → Holds s v.kind source.variable
+    → IsAction s (moved target o)
+move_fits s target v o source is there holds = subst (λ x. IsAction s (moved target x)) (sym is) (subst (λ x. IsSomeAnd x (λ w. Holds s w.kind source.variable)) (sym there) holds)
+
+is_there : (s : Setting) (m : Mention) (v : VariableSeen) → slice_get s.variables m.variable.0 ≡ Some v → IsMention s m
+is_there s m v there = slice_get_within s.variables m.variable.0 v there
+
+-- a variable of the exchange heap takes a value
+pub taken_fits : (p : Program) (t : ClassTree) (class : ℕ) (result : Option tree.Type.Type) (s : Setting) (f : Frame) (g : names.Frame) (k : declared.Kind.Kind) (target : Mention) (v : VariableSeen) (value : ValueTree)
+    → Around p t class result s → AreStanding p s.variables f g → IsKnown p k → is_block k ≡ true → slice_get s.variables target.variable.0 ≡ Some v → IsHeld p k v.kind
+    → value_findings (record { scope = scope_of p g; class = t }) k value ≡ [] → IsStatement s (taken p class f target value)
+taken_fits p t class result s f g k target v (values.Expression e) around standing known block there holds none =
+    let given = asked_block p class s f g standing k v.kind e (asked_known p s.variables f g standing k e known none) block holds in
+    (tt, move_fits s target v (lone p class f e) given.mention given.is there given.holds)
+taken_fits p t class result s f g k target v (values.Call c) around standing known block there holds none =
+    let x = asked_call p t class result s f g k c around standing none in
+    let taken_is = block_result p s k target v x.method.result (result_clean p x.method x.number around.clean x.told) known block there holds x.fits in
+    told_call p class s f g c (Some target) [] _ x (call_fits p t class result s f g c (Some target) [] _ around standing x taken_is tt)
+taken_fits p t class result s f g k target v (values.New n) around standing known block there holds none = (made_within p class s f g standing n.made, is_there s target v there)
+
+-- a scalar takes a value
+pub scalar_taken_fits : (p : Program) (t : ClassTree) (class : ℕ) (result : Option tree.Type.Type) (s : Setting) (f : Frame) (g : names.Frame) (k : declared.Kind.Kind) (value : ValueTree)
+    → Around p t class result s → AreStanding p s.variables f g → IsKnown p k → is_block k ≡ false
+    → value_findings (record { scope = scope_of p g; class = t }) k value ≡ [] → IsStatement s (scalar_taken p class f value)
+scalar_taken_fits p t class result s f g k (values.Expression e) around standing known scalar none = (reads_within p s.variables f g standing e, tt)
+scalar_taken_fits p t class result s f g k (values.Call c) around standing known scalar none =
+    let x = asked_call p t class result s f g k c around standing none in
+    void_call p t class result s f g c [] _ around standing x (scalar_result p k x.method.result (result_clean p x.method x.number around.clean x.told) known scalar x.fits) tt
+scalar_taken_fits p t class result s f g k (values.New n) around standing known scalar none = (made_within p class s f g standing n.made, tt)
+
+use_fits : (s : Setting) (o : Option Mention) → Each (IsMention s) (listed o) → IsAction s (used o)
+use_fits s None h = tt
+use_fits s (Some m) h = h.0
+
+-- a part of a block takes a value
+pub part_taken_fits : (p : Program) (t : ClassTree) (class : ℕ) (result : Option tree.Type.Type) (s : Setting) (f : Frame) (g : names.Frame) (k : declared.Kind.Kind) (index : List Mention) (whole : Option Mention) (value : ValueTree)
+    → Around p t class result s → AreStanding p s.variables f g → IsKnown p k → is_block k ≡ false → Each (IsMention s) index → Each (IsMention s) (listed whole)
+    → value_findings (record { scope = scope_of p g; class = t }) k value ≡ [] → IsStatement s (part_taken p class f index whole value)
+part_taken_fits p t class result s f g k index whole (values.Expression e) around standing known scalar indices wholes none =
+    (each_append (IsMention s) index (reads p.text f.locals e) indices (reads_within p s.variables f g standing e), use_fits s whole wholes)
+part_taken_fits p t class result s f g k index whole (values.Call c) around standing known scalar indices wholes none =
+    let x = asked_call p t class result s f g k c around standing none in
+    void_call p t class result s f g c (index ++ listed whole) _ around standing x (scalar_result p k x.method.result (result_clean p x.method x.number around.clean x.told) known scalar x.fits)
+    (each_append (IsMention s) index (listed whole) indices wholes)
+part_taken_fits p t class result s f g k index whole (values.New n) around standing known scalar indices wholes none =
+    (each_append (IsMention s) index (made_reads p class f n.made) indices (made_within p class s f g standing n.made), use_fits s whole wholes)
