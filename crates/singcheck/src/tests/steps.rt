@@ -1,17 +1,26 @@
-//! The graph, the steps and the verdict of a method that is put together by hand.
+//! The graph and the steps of a method.
 
 ghost use Rattle.std.specs.Prelude.{◌≡◌, IfOk, length};
 ghost use Rattle.rules.specs.Programs.{methods_of};
 
 use analyse::tasks;
 use flow::{Instr, lower};
+use names::{MOST_CONTRACTS, resolve};
 use resolved::{
     Action, Kind, Mention, Method, MethodId, Role, Simple, Statement, StructId, VarId, Variable,
 };
 use rules::{Leaf, MOST_LEAVES, MOST_STATES, Outcome, Program, Row, entry, step};
-use source::{Memory, Place};
+use source::{Memory, Place, lex};
 use std::alloc::Global;
 use std::test::Fail;
+use syntax::parse;
+use wellformed::Methods;
+
+/// A method that claims `p`, moves it to `q`, frees `q` and reads `q`.
+const FREED_AND_READ: &str = "class K { static void F([Claims] int[] in ExHeap p) {
+int[] in ExHeap q; int n;
+q = p; delete q; n = q[0];
+} }";
 
 fn mention(variable: usize, col: u32) -> Mention {
     Mention {
@@ -34,7 +43,7 @@ fn variable(
     })
 }
 
-/// A method that claims `p`, moves it to `q`, frees `q` and reads `q`.
+/// The same, put together by hand.
 fn freed_and_read(alloc: Global) -> Result<Method, Memory> {
     let mut variables = Vec::new(alloc);
     variables.push(variable(alloc, "p", Role::Claimed, None)?)?;
@@ -66,12 +75,21 @@ fn plain(alloc: Global, action: Action) -> Statement {
     Statement::Simple(Simple { reads, action })
 }
 
-fn only(alloc: Global) -> Result<Program, Memory>
+/// The program of that method.
+fn only(alloc: Global) -> Result<Program, Fail>
     ensures { IfOk result (λ p. length (methods_of p) ≡ 1) }
 {
-    let mut methods = Vec::new(alloc);
-    methods.push(freed_and_read(alloc)?)?;
-    Program::new(alloc, methods)
+    let tokens = lex(alloc, FREED_AND_READ.as_bytes())?;
+    let tree = parse(alloc, &tokens)?;
+    let contracts = resolve(alloc, &tree, &tokens)?;
+    if contracts.contracts.len() > MOST_CONTRACTS {
+        return Err(Fail::from("too many contracts"));
+    }
+    let program = Program::new(alloc, Methods::resolve(alloc, &tree, &tokens, contracts)?)?;
+    if program.methods().len() != 1 {
+        return Err(Fail::from("not one method"));
+    }
+    Ok(program)
 }
 
 /// Whether it reads what this variable has, and goes on there.
