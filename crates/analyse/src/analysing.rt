@@ -27,10 +27,10 @@ pub fn analyse(alloc: Global, task: Task, program: &Program) -> Result<Verdict, 
     ensures kept { IfErr result (λ e. e.0 ≡ task) }
 {
     match verdict_of(alloc, program, task.method) {
-        Ok(findings) => Ok(Verdict {
-            method: task.method,
-            findings,
-        }),
+        Ok(findings) => {
+            let Task { method } = task;
+            Ok(Verdict { method, findings })
+        }
         Err(memory) => Err((task, memory)),
     }
 }

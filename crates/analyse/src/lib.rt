@@ -7,5 +7,5 @@ mod task;
 mod verdict;
 
 pub use analysing::{MOST_PAIRS, analyse};
-pub use task::{Task, tasks};
+pub use task::{Task, give_up_all, tasks};
 pub use verdict::Verdict;

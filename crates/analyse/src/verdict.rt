@@ -3,11 +3,11 @@
 ghost use Rattle.std.specs.Prelude.{◌≡◌};
 ghost use Rattle.analyse.specs.Tasks.{findings_of, verdict_number};
 
-use resolved::MethodId;
+use program::MethodId;
 use source::Finding;
 
 /// What is found in a method.
-#[derive(Debug, Drop)]
+#[derive(Drop)]
 pub struct Verdict {
     pub(crate) method: MethodId,
     pub(crate) findings: Vec<Finding>,

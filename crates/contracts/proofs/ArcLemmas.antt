@@ -7,8 +7,8 @@ use Rattle.std.proofs.lemmas.List.Elements.{All-push, All-weaker, All-nil, All-s
 use Rattle.std.proofs.lemmas.Bool.{cases_eq}
 use Rattle.contracts.specs.declared.arcs.Arc.{Arc}
 use Rattle.contracts.specs.Graphs.{HasEdge, row_at}
-use Rattle.syntax.specs.declared.tree.Sign.{Sign}
-use Rattle.names.specs.declared.resolved.Edge.{Edge}
+use Rattle.program.specs.declared.contract.Sign.{Sign}
+use Rattle.program.specs.declared.contract.Edge.{Edge}
 use Rattle.contracts.specs.Arcs.{AllWithin, AreRows, AreArcs, Joins, IsDrawn, arc, turned_arc}
 use Rattle.contracts.proofs.PartLemmas.{all_from}
 

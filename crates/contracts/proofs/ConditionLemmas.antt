@@ -9,15 +9,16 @@ use Rattle.source.specs.declared.finding.Code.{Code}
 use Rattle.source.specs.declared.finding.Code.TheVariants.{C01, C02, C03}
 use Rattle.source.specs.declared.finding.Finding.{Finding}
 use Rattle.source.specs.declared.place.Place.{Place}
-use Rattle.names.specs.declared.resolved.Edge.{Edge}
-use Rattle.names.specs.declared.resolved.MessageId.{MessageId}
-use Rattle.names.specs.declared.resolved.StateId.{StateId}
-use Rattle.syntax.specs.declared.tree.Sign.{Sign}
-use Rattle.syntax.specs.declared.tree.Sign.TheVariants.{Send, Receive}
+use Rattle.program.specs.declared.contract.Edge.{Edge}
+use Rattle.program.specs.declared.number.MessageId.{MessageId}
+use Rattle.program.specs.declared.number.StateId.{StateId}
+use Rattle.program.specs.declared.contract.Sign.{Sign}
+use Rattle.program.specs.declared.contract.Sign.TheVariants.{Send, Receive}
 use Rattle.std.specs.Ordering.{is_eq}
 use Rattle.std.proofs.lemmas.List.Quantifiers.{position-Some}
 use Rattle.std.proofs.lemmas.Option.{slice_get_within, get_or_from_slice_get, slice_get-get_or}
-use Rattle.contracts.specs.Positions.{first_position, key_of, pair_cmp}
+use Rattle.lemmas.specs.Places.{first_position}
+use Rattle.contracts.specs.Positions.{key_of, pair_cmp}
 use Rattle.contracts.proofs.PositionLemmas.{not_first, pair_equal, equal_pair}
 use Rattle.contracts.specs.Parts.{StateParts, MessageParts}
 use Rattle.contracts.specs.Conditions.{FindingParts, finding_parts, sign_of, IsAgainst, IsTwice, IsBoth}

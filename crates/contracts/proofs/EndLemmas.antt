@@ -3,11 +3,11 @@ use Rattle.std.proofs.Common.{◌≡◌, ℕ, zero, suc, ◌≤◌, List, [], �
 use Rattle.std.specs.Prelude.{◌⊎◌}
 use Rattle.std.proofs.lemmas.List.{append_assoc, append-nil, length-map}
 use Rattle.std.proofs.lemmas.List.Elements.{All-nil, All-cons, All-head, All-tail}
-use Rattle.syntax.specs.declared.tree.Sign.{Sign}
-use Rattle.syntax.specs.declared.tree.Sign.TheVariants.{Send, Receive}
-use Rattle.names.specs.declared.resolved.Edge.{Edge}
-use Rattle.names.specs.declared.resolved.MessageId.{MessageId}
-use Rattle.names.specs.declared.resolved.StateId.{StateId}
+use Rattle.program.specs.declared.contract.Sign.{Sign}
+use Rattle.program.specs.declared.contract.Sign.TheVariants.{Send, Receive}
+use Rattle.program.specs.declared.contract.Edge.{Edge}
+use Rattle.program.specs.declared.number.MessageId.{MessageId}
+use Rattle.program.specs.declared.number.StateId.{StateId}
 use Rattle.contracts.specs.Bounds.{IsBound}
 use Rattle.contracts.specs.Walks.{IsWalk, HasSign}
 use Rattle.contracts.specs.TwoEnds.{opposite, Leads, Ends, Sends, Takes, Move, Moves, begun, IsHeld, HeldAlways, NeverLonger, OnceAsLong}

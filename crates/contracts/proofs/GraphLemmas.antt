@@ -4,10 +4,10 @@ use Rattle.std.specs.Prelude.{Contains, slice_get}
 use Rattle.std.proofs.lemmas.Bool.{true≢false, eq-eqb, eqb-true, cases_Bool}
 use Rattle.std.proofs.lemmas.List.{length-map}
 use Rattle.std.proofs.lemmas.Option.{slice_get_within, get_or_from_slice_get}
-use Rattle.names.specs.declared.resolved.State.{State}
-use Rattle.names.specs.declared.resolved.StateId.{StateId}
+use Rattle.program.specs.declared.contract.State.{State}
+use Rattle.program.specs.declared.number.StateId.{StateId}
 use Rattle.contracts.specs.Parts.{StateParts, state_parts}
-use Rattle.names.specs.declared.resolved.Edge.{Edge}
+use Rattle.program.specs.declared.contract.Edge.{Edge}
 use Rattle.contracts.specs.Arcs.{IsDrawn}
 use Rattle.contracts.specs.Graphs.{HasEdge, row_at}
 use Rattle.contracts.proofs.PartLemmas.{IsOnce, at_place}

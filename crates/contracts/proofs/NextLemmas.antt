@@ -3,13 +3,15 @@ use Rattle.std.proofs.Common.{◌≡◌, ℕ, ◌<◌, List, length, map, get_or
 use Rattle.std.specs.Ordering.{is_eq}
 use Rattle.std.proofs.lemmas.List.{length-map, get_or-map}
 use Rattle.std.proofs.lemmas.List.Quantifiers.{position-Some}
-use Rattle.names.specs.declared.resolved.Edge.{Edge}
-use Rattle.names.specs.declared.resolved.MessageId.{MessageId}
-use Rattle.names.specs.declared.resolved.StateId.{StateId}
-use Rattle.contracts.specs.Positions.{first_position, pair_cmp, key_of}
+use Rattle.program.specs.declared.contract.Edge.{Edge}
+use Rattle.program.specs.declared.number.MessageId.{MessageId}
+use Rattle.program.specs.declared.number.StateId.{StateId}
+use Rattle.lemmas.specs.Places.{first_position}
+use Rattle.contracts.specs.Positions.{pair_cmp, key_of}
 use Rattle.contracts.specs.Walks.{IsNext}
 use Rattle.contracts.proofs.PartLemmas.{contains_map}
-use Rattle.contracts.proofs.PositionLemmas.{position_there, pair_equal, equal_pair}
+use Rattle.lemmas.proofs.FirstPlaces.{position_there}
+use Rattle.contracts.proofs.PositionLemmas.{pair_equal, equal_pair}
 
 abbrev key : StateId → MessageId → ℕ × ℕ
 key q m = (q.0, m.0)

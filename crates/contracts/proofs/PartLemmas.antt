@@ -3,10 +3,10 @@ use Rattle.std.proofs.Common.{◌≡◌, ◌≢◌, ℕ, zero, suc, ◌<◌, Lis
 use Rattle.std.specs.Prelude.{Contains, All, AllPairs}
 use Rattle.std.proofs.lemmas.List.{length-map, get_or-map}
 use Rattle.std.proofs.lemmas.Bool.{cases_order}
-use Rattle.names.specs.declared.resolved.State.{State}
-use Rattle.names.specs.declared.resolved.StateId.{StateId}
-use Rattle.names.specs.declared.resolved.Message.{Message}
-use Rattle.names.specs.declared.resolved.MessageId.{MessageId}
+use Rattle.program.specs.declared.contract.State.{State}
+use Rattle.program.specs.declared.number.StateId.{StateId}
+use Rattle.program.specs.declared.contract.Message.{Message}
+use Rattle.program.specs.declared.number.MessageId.{MessageId}
 use Rattle.contracts.specs.declared.parts.Edges.{Edges}
 use Rattle.contracts.specs.Arcs.{EndsListed}
 use Rattle.contracts.specs.Parts.{StateParts, MessageParts, state_parts, message_parts, parts_of, IsWhole}

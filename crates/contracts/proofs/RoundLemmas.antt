@@ -1,27 +1,23 @@
 -- States from which edges of one sign lead back, and all that is found.
-use Rattle.std.proofs.Common.{◌≡◌, ℕ, ◌+◌, List, [], ◌∷◌, ◌++◌, length, map, Some, sym, refl, ap, ◌∙◌, ⊎_elim, inl, inr}
+use Rattle.std.proofs.Common.{◌≡◌, ℕ, ◌+◌, List, [], ◌∷◌, ◌++◌, length, map, Some, sym, refl, ap, ◌∙◌, ⊎_elim, inl, inr, arith}
 use Rattle.std.specs.Prelude.{slice_get, codes}
 use Rattle.std.specs.Str.Lossy.{utf8_lossy}
-use Rattle.std.proofs.lemmas.Option.{slice_get_within}
+use Rattle.std.proofs.lemmas.Option.{slice_get_within, slice_get_cases}
 use Rattle.std.proofs.lemmas.List.Elements.{Contains-append_cases, Contains-append_left, Contains-append_right}
 use Rattle.source.specs.declared.finding.Code.TheVariants.{C04}
-use Rattle.syntax.specs.declared.tree.Sign.{Sign}
-use Rattle.names.specs.declared.resolved.Edge.{Edge}
-use Rattle.contracts.specs.Parts.{Parts, StateParts}
-use Rattle.contracts.specs.Conditions.{FindingParts, IsAgainst, IsTwice, IsBoth, IsRound, IsFault, AreExactly}
+use Rattle.program.specs.declared.contract.Sign.{Sign}
+use Rattle.program.specs.declared.contract.Edge.{Edge}
+use Rattle.contracts.specs.Parts.{Parts, StateParts, parts_of, state_parts}
+use Rattle.contracts.specs.Conditions.{FindingParts, IsAgainst, IsTwice, IsBoth, IsRound, IsFault, AreExactly, IsSound}
 use Rattle.contracts.specs.Found.{FoundBelow}
 use Rattle.contracts.specs.Walks.{IsRoundBy}
 use Rattle.contracts.proofs.ConditionLemmas.{one_of}
 use Rattle.contracts.proofs.FoundLemmas.{found_same, found_more}
-use Rattle.std.proofs.Common.{arith}
 use Rattle.std.proofs.lemmas.List.{length-map}
-use Rattle.std.proofs.lemmas.Option.{slice_get_cases}
-use Rattle.names.specs.declared.resolved.State.{State}
+use Rattle.program.specs.declared.contract.State.{State}
 use Rattle.contracts.specs.declared.parts.Edges.{Edges}
 use Rattle.contracts.specs.Arcs.{IsDrawn}
 use Rattle.contracts.specs.Graphs.{OnRing}
-use Rattle.contracts.specs.Parts.{parts_of, state_parts}
-use Rattle.contracts.specs.Conditions.{IsSound}
 use Rattle.contracts.proofs.GraphLemmas.{state_number}
 use Rattle.contracts.proofs.RingLemmas.{in_row}
 use Rattle.contracts.proofs.WalkLemmas.{ring_round}

@@ -1,9 +1,9 @@
 -- Equal signs.
 use Rattle.std.proofs.Common.{◌≡◌, true, false, not, refl}
 use denote.Enum.Bare.{sameb}
-use Rattle.syntax.specs.declared.tree.Sign.{Sign}
-use Rattle.syntax.specs.declared.tree.Sign.TheVariants.{Send, Receive}
-use Rattle.syntax.specs.contracts.tree.Sign.{the_type}
+use Rattle.program.specs.declared.contract.Sign.{Sign}
+use Rattle.program.specs.declared.contract.Sign.TheVariants.{Send, Receive}
+use Rattle.program.specs.contracts.contract.Sign.{the_type}
 
 pub sign_same : (a b : Sign) → sameb the_type a b ≡ true → a ≡ b
 sign_same Send Send h = refl

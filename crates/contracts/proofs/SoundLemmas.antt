@@ -3,11 +3,11 @@ use Rattle.std.proofs.Common.{◌≡◌, ℕ, ◌<◌, List, length, get_or, Som
 use Rattle.std.specs.Prelude.{Contains, slice_get}
 use Rattle.std.proofs.lemmas.Bool.{cases_order}
 use Rattle.std.proofs.lemmas.Option.{slice_get_read}
-use Rattle.syntax.specs.declared.tree.Sign.{Sign}
-use Rattle.syntax.specs.declared.tree.Sign.TheVariants.{Send, Receive}
-use Rattle.names.specs.declared.resolved.Edge.{Edge}
-use Rattle.names.specs.declared.resolved.MessageId.{MessageId}
-use Rattle.names.specs.declared.resolved.StateId.{StateId}
+use Rattle.program.specs.declared.contract.Sign.{Sign}
+use Rattle.program.specs.declared.contract.Sign.TheVariants.{Send, Receive}
+use Rattle.program.specs.declared.contract.Edge.{Edge}
+use Rattle.program.specs.declared.number.MessageId.{MessageId}
+use Rattle.program.specs.declared.number.StateId.{StateId}
 use Rattle.contracts.specs.Conditions.{IsSound}
 use Rattle.contracts.specs.Parts.{Parts, StateParts, MessageParts, IsWhole}
 use Rattle.contracts.specs.TwoEnds.{Leads}

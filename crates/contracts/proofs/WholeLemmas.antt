@@ -6,9 +6,10 @@ use Rattle.std.specs.Ordering.{is_eq, nat_cmp}
 use Rattle.std.proofs.lemmas.Bool.{true≢false}
 use Rattle.std.proofs.lemmas.List.{length-map, get_or-map}
 use Rattle.std.proofs.lemmas.List.Quantifiers.{position-Some}
-use Rattle.contracts.specs.Positions.{ArePositions, first_position}
+use Rattle.lemmas.specs.Places.{first_position}
+use Rattle.contracts.specs.Positions.{ArePositions}
 use Rattle.contracts.proofs.PartLemmas.{get_again}
-use Rattle.contracts.proofs.PositionLemmas.{equal_is, is_equal}
+use Rattle.lemmas.proofs.FirstPlaces.{equal_is, is_equal}
 use Rattle.contracts.proofs.RingLemmas.{made_from}
 
 -- numbers of which each stands first where it stands differ

@@ -1,7 +1,7 @@
 -- Edges as arcs between the positions of their states.
 use Rattle.std.specs.Prelude.{◌≡◌, ℕ, ◌<◌, List, length, Contains, All, slice_index}
-use Rattle.syntax.specs.declared.tree.Sign.{Sign}
-use Rattle.names.specs.declared.resolved.Edge.{Edge}
+use Rattle.program.specs.declared.contract.Sign.{Sign}
+use Rattle.program.specs.declared.contract.Edge.{Edge}
 use Rattle.contracts.specs.declared.arcs.Arc.{Arc}
 use Rattle.contracts.specs.Graphs.{HasEdge, InRange}
 

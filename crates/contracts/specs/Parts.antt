@@ -1,6 +1,6 @@
 -- The parts of a contract, as names gives them, and those that a value has.
 use Rattle.std.specs.Prelude.{map}
-pub use Rattle.names.specs.Parts.{StateParts, MessageParts, Parts, state_parts, message_parts, contract_parts, state_ids, message_ids, IsWhole}
+pub use Rattle.program.specs.Parts.{StateParts, MessageParts, Parts, state_parts, message_parts, contract_parts, state_ids, message_ids, IsWhole}
 use Rattle.contracts.specs.declared.parts.Edges.{Edges}
 
 -- the parts that a value has

@@ -1,16 +1,13 @@
 -- Where keys stand in a list.
-use Rattle.std.specs.Prelude.{◌≡◌, ℕ, List, Option, position, map, IsSome, nat_eq}
+use Rattle.std.specs.Prelude.{◌≡◌, ℕ, List, position, map, IsSome, nat_eq}
 use Rattle.std.specs.BTreeMap.{BTreeMap, get}
 use Rattle.std.specs.declared.hash.BuildHasherDefault.{BuildHasherDefault}
 use Rattle.std.specs.declared.hash.FoldHasher.{FoldHasher}
 use Rattle.indexmap.specs.IndexMap.{IndexMap, get as entry}
 use Rattle.std.specs.declared.cmp.Ordering.{Ordering}
-use Rattle.std.specs.Ordering.{is_eq, nat_cmp, ordering_then}
-use Rattle.names.specs.declared.resolved.Edge.{Edge}
-
--- the position at which a key stands first
-abbrev pub first_position : {K : Type 0} → (K → K → Ordering) → List K → K → Option ℕ
-first_position cmp keys key = position (λ x. is_eq (cmp key x)) keys
+use Rattle.std.specs.Ordering.{nat_cmp, ordering_then}
+use Rattle.lemmas.specs.Places.{first_position}
+use Rattle.program.specs.declared.contract.Edge.{Edge}
 
 -- the map has for each number the position at which it stands first
 abbrev pub ArePositions : List ℕ → BTreeMap ℕ ℕ → Type 0

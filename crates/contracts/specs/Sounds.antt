@@ -1,7 +1,16 @@
--- A sound contract as callers see it.
-use Rattle.contracts.specs.declared.sound.Sound.{Sound}
+-- A sound contract as callers see it, and what a contract is judged to be.
+use Rattle.std.specs.Prelude.{◌≡◌, map}
+use Rattle.contracts.specs.Conditions.{FindingParts, finding_parts, AreExactly, IsFault, IsSound}
 use Rattle.contracts.specs.Parts.{Parts, parts_of}
+use Rattle.contracts.specs.declared.sound.Judged.{Judged}
+use Rattle.contracts.specs.declared.sound.Judged.TheVariants as judged
+use Rattle.contracts.specs.declared.sound.Sound.{Sound}
 
 -- its parts
 abbrev pub sound_parts : Sound → Parts
 sound_parts s = parts_of s.edges
+
+-- a contract of these parts is sound, or something is wrong with it and this is all
+abbrev pub IsJudged : Parts → Judged → Type 0
+IsJudged parts (judged.Sound sound) = (sound_parts sound ≡ parts) × IsSound parts
+IsJudged parts (judged.Broken found) = ((f : FindingParts) × IsFault parts f) × AreExactly (IsFault parts) (map finding_parts found.items)

@@ -5,12 +5,11 @@ ghost use Rattle.contracts.specs.Graphs.{rows, row_at};
 ghost use Rattle.contracts.specs.Arcs.{AllWithin, AreRows, AreArcs, IsDrawn, EndsListed};
 
 use crate::positions::Listing;
-use names::Edge;
+use program::{Edge, Sign};
 use std::alloc::{AllocError, Global};
-use syntax::Sign;
 
 /// From one position to another.
-#[derive(Clone, Copy, Debug, PartialEq, Eq)]
+#[derive(Clone, Copy, PartialEq, Eq)]
 pub struct Arc {
     pub from: usize,
     pub to: usize,

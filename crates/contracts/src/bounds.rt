@@ -8,7 +8,7 @@ ghost use Rattle.contracts.specs.Graphs.{rows, InRange, OnRing, height_at};
 ghost use Rattle.contracts.specs.Marking.{IsMarked};
 ghost use Rattle.contracts.specs.Parts.{IsWhole, parts_of};
 ghost use Rattle.contracts.specs.Reached.{AreReached, IsLongest, counted_height};
-ghost use Rattle.syntax.specs.declared.tree.Sign.TheVariants.{Send, Receive};
+ghost use Rattle.program.specs.declared.contract.Sign.TheVariants.{Send, Receive};
 
 use crate::arcs::{Arc, SignGraph, rows_of};
 use crate::heights::all_heights;
@@ -17,11 +17,11 @@ use crate::marking::marked;
 use crate::numbering::finishing;
 use crate::parts::Edges;
 use crate::positions::Listing;
+use program::Sign;
 use std::alloc::{AllocError, Global};
-use syntax::Sign;
 
 /// The greatest numbers of messages under way to each end.
-#[derive(Clone, Copy, Debug, PartialEq, Eq)]
+#[derive(Clone, Copy, PartialEq, Eq)]
 pub struct Bounds {
     pub to_imp: u32,
     pub to_exp: u32,

@@ -2,25 +2,24 @@
 
 ghost use Rattle.std.specs.Prelude.{◌≡◌, ◌<◌, IfOk, length, map, Contains};
 ghost use Rattle.contracts.specs.Arcs.{AllWithin, AreRows, IsDrawn};
-ghost use Rattle.contracts.specs.Conditions.{AreExactly, IsAgainst, IsTwice, IsBoth, IsRound, IsFault, finding_parts};
+ghost use Rattle.contracts.specs.Conditions.{AreExactly, IsAgainst, IsTwice, IsBoth, IsRound, IsFault, finding_parts, sign_of as sign_of_direction};
 ghost use Rattle.contracts.specs.Found.{FoundBelow};
 ghost use Rattle.contracts.specs.Graphs.{rows};
 ghost use Rattle.contracts.specs.Parts.{IsWhole, parts_of, message_ids, state_parts, message_parts};
-ghost use Rattle.syntax.specs.declared.tree.Sign.TheVariants.{Send, Receive};
-ghost use Rattle.contracts.specs.Conditions.{sign_of as sign_of_direction};
+ghost use Rattle.program.specs.declared.contract.Sign.TheVariants.{Send, Receive};
 
 use crate::arcs::SignGraph;
 use crate::keys::{edge_keys, message_numbers, state_numbers};
 use crate::parts::Edges;
-use crate::positions::{Listing, first_positions};
+use crate::positions::Listing;
 use crate::ringing::rings;
-use names::{Message, MessageId};
+use lemmas::first_positions;
+use program::{Direction, Message, MessageId, Sign};
 use source::texts::{
     against_its_direction, both_directions_in, one_direction_round, twice_in_a_state,
 };
 use source::{Finding, Memory};
 use std::alloc::Global;
-use syntax::{Direction, Sign};
 
 /// What breaks a condition of the contract:
 /// - an edge whose sign is not its message's: `in` takes `?` and `out` takes `!`; at the edge;

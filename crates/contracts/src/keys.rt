@@ -2,7 +2,7 @@
 
 ghost use Rattle.std.specs.Prelude.{◌≡◌, IfOk, map};
 
-use names::{Edge, Message, State};
+use program::{Edge, Message, State};
 use std::alloc::{AllocError, Global};
 
 /// The number of each state.

@@ -19,6 +19,6 @@ mod wholeness;
 pub use conditions::faults;
 pub use ends::two_ends;
 pub use parts::Edges;
-pub use sound::{Sound, SoundFault};
+pub use sound::{Judged, Sound, SoundFault};
 pub use taking::edges;
 pub use wholeness::is_whole;

@@ -1,29 +1,11 @@
 //! Where keys stand in a list.
 
 ghost use Rattle.std.specs.Prelude.{◌≡◌, ◌<◌, IfOk, Contains, length, slice_index};
-ghost use Rattle.std.specs.BTreeMap.{get};
 ghost use Rattle.std.proofs.Props.{props};
-ghost use Rattle.contracts.specs.Positions.{first_position, AreInTable};
+ghost use Rattle.contracts.specs.Positions.{AreInTable};
 
 use indexmap::IndexMap;
 use std::alloc::{AllocError, Global};
-use std::collections::BTreeMap;
-
-/// For each key of the list, the position at which it stands first.
-pub fn first_positions<K: Ord + Copy>(
-    alloc: Global,
-    keys: &[K],
-) -> Result<BTreeMap<K, usize>, AllocError>
-    ensures { IfOk result (λ m. (k : K) → get K.cmp m k ≡ first_position K.cmp keys.now k) }
-{
-    let mut positions = BTreeMap::new(alloc);
-    for (i, key) in keys.iter().enumerate() {
-        if !positions.contains_key(key) {
-            positions.insert(*key, i)?;
-        }
-    }
-    Ok(positions)
-}
 
 /// For each number of the list, the position at which it stands first. These numbers are handed out in order of the
 /// text, one after another, so no author of a text chooses which of them meet in the table.

@@ -2,7 +2,7 @@
 
 ghost use Rattle.std.specs.Prelude.{◌≡◌, IfOk, OnOk};
 ghost use Rattle.std.proofs.Props.{props};
-ghost use Rattle.syntax.specs.declared.tree.Sign.TheVariants.{Send, Receive};
+ghost use Rattle.program.specs.declared.contract.Sign.TheVariants.{Send, Receive};
 ghost use Rattle.contracts.specs.Bounds.{IsBound, sign_to};
 ghost use Rattle.contracts.specs.Conditions.{FindingParts, IsFault, IsSound};
 ghost use Rattle.contracts.specs.Parts.{IsWhole, parts_of};
@@ -13,12 +13,11 @@ use crate::bounds::{Bounds, bounds_of};
 use crate::conditions::faults;
 use crate::keys::edge_keys;
 use crate::parts::Edges;
-use crate::positions::first_positions;
-use names::{MessageId, StateId};
-use source::Memory;
+use lemmas::first_positions;
+use program::{MessageId, Side, StateId};
+use source::{Finding, Memory};
 use std::alloc::{AllocError, AllocFailed, Global};
 use std::collections::BTreeMap;
-use syntax::Side;
 use thiserror::Error;
 
 /// Why there is no sound contract.
@@ -66,7 +65,7 @@ impl From<Memory> for SoundFault {
 }
 
 /// A contract that meets the four conditions, with the bounds of its queues.
-#[derive(Debug, Drop)]
+#[derive(Drop)]
 pub struct Sound {
     edges: Edges,
     bounds: Bounds,
@@ -78,8 +77,39 @@ pub struct Sound {
     ghost keyed: { AreEdgePositions edges.edges.items firsts } by { Prim.hlevel props },
 }
 
+/// What a contract is judged to be.
+#[derive(Drop)]
+pub enum Judged {
+    /// It meets the four conditions.
+    Sound(Sound),
+    /// All that is wrong with it, which is something.
+    Broken(Vec<Finding>),
+}
+
 impl Sound {
-    ghost use Rattle.contracts.specs.Sounds.{sound_parts};
+    ghost use Rattle.contracts.specs.Sounds.{IsJudged, sound_parts};
+
+    /// A sound contract of these parts, or all that is wrong with them.
+    ///
+    /// `Memory` is answered where a growth was refused; the parts are lost then.
+    pub fn judge(alloc: Global, edges: Edges) -> Result<Judged, Memory>
+        requires whole { IsWhole (parts_of edges) }
+        ensures { IfOk result (IsJudged (parts_of edges)) }
+    {
+        let found = faults(alloc, &edges)?;
+        if !found.is_empty() {
+            return Ok(Judged::Broken(found));
+        }
+        let bounds = bounds_of(alloc, &edges)?;
+        let keys = edge_keys(alloc, &edges.edges)?;
+        let firsts = first_positions(alloc, &keys)?;
+        let sound = Sound {
+            edges,
+            bounds,
+            firsts,
+        };
+        Ok(Judged::Sound(sound))
+    }
 
     /// A sound contract of these parts. `Found` comes exactly where a condition is not met.
     pub fn new(alloc: Global, edges: Edges) -> Result<Sound, SoundFault>
@@ -89,18 +119,10 @@ impl Sound {
         ensures found { result ≡ Err SoundFault.Found → (f : FindingParts) × IsFault
             (parts_of edges) f }
     {
-        let found = faults(alloc, &edges)?;
-        if !found.is_empty() {
-            return Err(SoundFault::Found);
+        match Sound::judge(alloc, edges)? {
+            Judged::Sound(sound) => Ok(sound),
+            Judged::Broken(_) => Err(SoundFault::Found),
         }
-        let bounds = bounds_of(alloc, &edges)?;
-        let keys = edge_keys(alloc, &edges.edges)?;
-        let firsts = first_positions(alloc, &keys)?;
-        Ok(Sound {
-            edges,
-            bounds,
-            firsts,
-        })
     }
 
     /// Its parts, which meet the four conditions.

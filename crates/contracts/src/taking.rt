@@ -4,7 +4,7 @@ ghost use Rattle.std.specs.Prelude.{◌≡◌, ◌<◌, length, map, IfOk, slice
 ghost use Rattle.contracts.specs.Parts.{parts_of, contract_parts, state_parts, message_parts};
 
 use crate::parts::Edges;
-use names::{Contract, ContractId, Message, Resolved, State};
+use program::{Contract, ContractId, Message, Resolved, State};
 use source::Memory;
 use std::alloc::Global;
 

@@ -8,8 +8,8 @@ ghost use Rattle.contracts.specs.Positions.{ArePositions, EndsHave};
 
 use crate::keys::{message_numbers, state_numbers};
 use crate::parts::Edges;
-use crate::positions::first_positions;
-use names::Edge;
+use lemmas::first_positions;
+use program::Edge;
 use source::Memory;
 use std::alloc::Global;
 use std::collections::BTreeMap;

@@ -5,15 +5,15 @@ use Rattle.std.proofs.lemmas.List.{map-append, reverse-append, reverse-reverse}
 use Rattle.std.specs.Global.{Global}
 use Rattle.std.proofs.lemmas.List.Elements.{All-nil, All-cons, All-append}
 use Rattle.source.specs.declared.place.Place.{Place}
-use Rattle.resolved.specs.Statements as stated
-use Rattle.resolved.specs.Statements.{StatementSeen, BlockSeen, CaseSeen, IfSeen, TestSeen, statement_seen, block_seen, case_seen, case_row, statement_step, block_step, case_step, if_step, test_step}
-use Rattle.resolved.specs.declared.method.VarId.{VarId}
-use Rattle.resolved.specs.declared.statement as made
-use Rattle.resolved.specs.declared.statement.Awaited.{Awaited}
-use Rattle.resolved.specs.declared.statement.Mention.{Mention}
-use Rattle.resolved.specs.declared.statement.Statement.TheFolds as folds
-use Rattle.resolved.specs.declared.statement.Statement.TheOpen as layer
-use Rattle.resolved.specs.declared.statement.Statement.TheVariants as variants
+use Rattle.program.specs.Statements as stated
+use Rattle.program.specs.Statements.{StatementSeen, BlockSeen, CaseSeen, IfSeen, TestSeen, statement_seen, block_seen, case_seen, case_row, statement_step, block_step, case_step, if_step, test_step}
+use Rattle.program.specs.declared.number.VarId.{VarId}
+use Rattle.program.specs.declared.statement as made
+use Rattle.program.specs.declared.statement.Awaited.{Awaited}
+use Rattle.program.specs.declared.statement.Mention.{Mention}
+use Rattle.program.specs.declared.statement.Statement.TheFolds as folds
+use Rattle.program.specs.declared.statement.Statement.TheOpen as layer
+use Rattle.program.specs.declared.statement.Statement.TheVariants as variants
 use Rattle.flow.specs.declared.graph.Entrance.{Entrance}
 use Rattle.flow.specs.declared.graph.Instr.{Instr}
 use Rattle.flow.specs.declared.graph.Instr.TheVariants as instr

@@ -1,8 +1,8 @@
 -- A method goes on at points of its graph.
 use Rattle.std.proofs.Common.{◌≡◌, ℕ, ◌<◌, length, length-append, arith, subst, sym}
-use Rattle.resolved.specs.Methods.{MethodSeen}
-use Rattle.resolved.specs.Statements as stated
-use Rattle.resolved.specs.Statements.{StatementSeen, StatementsSeen, BlockSeen, TestSeen, OthersSeen, CasesSeen}
+use Rattle.program.specs.Methods.{MethodSeen}
+use Rattle.program.specs.Statements as stated
+use Rattle.program.specs.Statements.{StatementSeen, StatementsSeen, BlockSeen, TestSeen, OthersSeen, CasesSeen}
 use Rattle.flow.specs.Graphs.{GraphSeen}
 use Rattle.flow.specs.Lowering.{Lays, one, parts, reads, forgets, acts, statement, statements, block, condition, others, cases, method, ending, graph_of}
 use Rattle.flow.specs.Within.{IsClosed}

@@ -1,11 +1,11 @@
 -- Blocks and loops in memory, laid behind others.
 use Rattle.std.proofs.Common.{◌≡◌, ℕ, List, [], ◌∷◌, ◌++◌, length, map, sym, subst}
 use Rattle.std.specs.Prelude.{slice_set}
-use Rattle.resolved.specs.Statements as stated
-use Rattle.resolved.specs.Statements.{StatementSeen, BlockSeen, CaseSeen, IfSeen, TestSeen, statement_seen, block_seen, test_seen, statement_step, block_step, case_step, if_step, test_step, statement_row}
-use Rattle.resolved.specs.declared.statement as made
-use Rattle.resolved.specs.declared.statement.Mention.{Mention}
-use Rattle.resolved.specs.declared.statement.Statement.TheFolds as folds
+use Rattle.program.specs.Statements as stated
+use Rattle.program.specs.Statements.{StatementSeen, BlockSeen, CaseSeen, IfSeen, TestSeen, statement_seen, block_seen, test_seen, statement_step, block_step, case_step, if_step, test_step, statement_row}
+use Rattle.program.specs.declared.statement as made
+use Rattle.program.specs.declared.statement.Mention.{Mention}
+use Rattle.program.specs.declared.statement.Statement.TheFolds as folds
 use Rattle.flow.specs.declared.graph.Branches.{Branches}
 use Rattle.flow.specs.declared.graph.Instr.{Instr}
 use Rattle.flow.specs.declared.graph.Instr.TheVariants as instr

@@ -4,7 +4,7 @@ use Rattle.std.specs.Prelude.{slice_set}
 use Rattle.std.proofs.Math.Seq.{set-append_seam}
 use Rattle.std.proofs.lemmas.List.{map-append, map-set}
 use Rattle.source.specs.declared.place.Place.{Place}
-use Rattle.resolved.specs.declared.statement.Ways.{Ways}
+use Rattle.program.specs.declared.statement.Ways.{Ways}
 use Rattle.flow.specs.declared.graph.Branches.{Branches}
 use Rattle.flow.specs.declared.graph.Instr.{Instr}
 use Rattle.flow.specs.declared.graph.Instr.TheVariants as instr

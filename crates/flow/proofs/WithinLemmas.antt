@@ -3,15 +3,15 @@ use Rattle.std.proofs.Common.{ℕ, Bool, true, false, ◌+◌, ◌<◌, ◌≤�
 use Rattle.std.specs.List.{All}
 use Rattle.std.proofs.lemmas.List.Elements.{All-nil, All-cons, All-append}
 use Rattle.source.specs.declared.place.Place.{Place}
-use Rattle.resolved.specs.Methods.{MethodSeen}
-use Rattle.resolved.specs.Statements.{CallSeen, SendSeen}
-use Rattle.resolved.specs.declared.method.VarId.{VarId}
-use Rattle.resolved.specs.declared.statement.Action.{Action}
-use Rattle.resolved.specs.declared.statement.Action.TheVariants as action
-use Rattle.resolved.specs.declared.statement as made
-use Rattle.resolved.specs.declared.statement.Mention.{Mention}
-use Rattle.resolved.specs.declared.statement.Ways.{Ways}
-use Rattle.resolved.specs.declared.statement.Ways.TheVariants as ways_of
+use Rattle.program.specs.Methods.{MethodSeen}
+use Rattle.program.specs.Statements.{CallSeen, SendSeen}
+use Rattle.program.specs.declared.number.VarId.{VarId}
+use Rattle.program.specs.declared.statement.Action.{Action}
+use Rattle.program.specs.declared.statement.Action.TheVariants as action
+use Rattle.program.specs.declared.statement as made
+use Rattle.program.specs.declared.statement.Mention.{Mention}
+use Rattle.program.specs.declared.statement.Ways.{Ways}
+use Rattle.program.specs.declared.statement.Ways.TheVariants as ways_of
 use Rattle.flow.specs.Graphs.{Instruction, Use, New, Move, Delete, NewChannel, Send, Branch, Forget, Call, Start, Return, Stop}
 use Rattle.flow.specs.Lowering.{Laid, Lays, nothing, one, both, gone, branches, parts, turns, reads, forgets, acts, called, started, sent, ending}
 use Rattle.flow.specs.Within.{goes_on}

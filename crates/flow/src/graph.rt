@@ -1,11 +1,10 @@
 //! Instructions, and where each goes on.
 
-use names::MessageId;
-use resolved::{Argument, Awaited, Channel, Forget, Mention, MethodId, VarId};
+use program::{Argument, Awaited, Channel, Forget, Mention, MessageId, MethodId, VarId};
 use source::Place;
 
 /// Where a condition goes on.
-#[derive(Clone, Copy, Debug, PartialEq, Eq)]
+#[derive(Clone, Copy)]
 pub enum Branches {
     /// At the one point where it is true, at the other where it is false.
     Either { inside: usize, past: usize },
@@ -15,7 +14,7 @@ pub enum Branches {
 
 /// A case of a switch: its endpoint, what it waits for there, the variables that take what the message brings for each of its
 /// parameters of the exchange heap, in order, and the point at which the method goes on then.
-#[derive(Debug, Drop)]
+#[derive(Drop)]
 pub struct Entrance {
     pub endpoint: Mention,
     pub awaited: Awaited,
@@ -24,7 +23,7 @@ pub struct Entrance {
 }
 
 /// An instruction, and the point at which the method goes on behind it. A point is the number of an instruction in its graph.
-#[derive(Debug, Drop)]
+#[derive(Drop)]
 pub enum Instr {
     /// Reads or writes the block that the variable has.
     Use {
@@ -106,7 +105,7 @@ pub enum Instr {
 }
 
 /// The instructions of a method, and the point at which it begins. They are laid from the end of the method on.
-#[derive(Debug, Drop)]
+#[derive(Drop)]
 pub struct Graph {
     pub instructions: Vec<Instr>,
     pub first: usize,

@@ -1,18 +1,18 @@
 //! Instructions and simple statements, laid on top of those that are laid already.
 
 ghost use Rattle.std.specs.Prelude.{◌≡◌, IfOk, [], ◌∷◌, ◌++◌, length};
-ghost use Rattle.resolved.specs.Statements.{call_seen, send_seen, simple_seen};
+ghost use Rattle.program.specs.Statements.{call_seen, send_seen, simple_seen};
 ghost use Rattle.flow.specs.Graphs.{entrance_seen};
 ghost use Rattle.flow.specs.Growths.{Grew};
 ghost use Rattle.flow.specs.Lowering as laid;
 
 use crate::graph::{Branches, Entrance, Instr};
-use resolved::{Action, Call, Case, Forget, Mention, Send, Simple, Ways};
+use program::{Action, Call, Case, Forget, Mention, Send, Simple, Ways};
 use source::{Memory, Place};
 use std::alloc::Global;
 
 /// Where a `break` and a `continue` go on.
-#[derive(Clone, Copy, Debug)]
+#[derive(Clone, Copy)]
 pub(crate) struct Exits {
     pub(crate) end: usize,
     pub(crate) again: usize,

@@ -1,9 +1,9 @@
 //! From statements to instructions, laid from the end of a method on.
 
 ghost use Rattle.std.specs.Prelude.{◌≡◌, ℕ, List, IfOk, [], length, map, option_map};
-ghost use Rattle.resolved.specs.Methods.{method_seen};
-ghost use Rattle.resolved.specs.Statements as stated;
-ghost use Rattle.resolved.specs.Statements.{statement_seen, statement_row, block_seen, test_seen, if_seen, other_row, case_seen, case_row};
+ghost use Rattle.program.specs.Methods.{method_seen};
+ghost use Rattle.program.specs.Statements as stated;
+ghost use Rattle.program.specs.Statements.{statement_seen, statement_row, block_seen, test_seen, if_seen, other_row, case_seen, case_row};
 ghost use Rattle.flow.specs.declared.graph.Instr.{Instr};
 ghost use Rattle.flow.specs.Graphs.{graph_seen, instruction_seen};
 ghost use Rattle.flow.specs.Growths.{Grew};
@@ -16,7 +16,7 @@ use crate::laying::{
     Exits, branches, entrance_of, lay, lay_branches, lay_call, lay_forget, lay_reads, lay_send,
     lay_simple, lay_start,
 };
-use resolved::{Block, Case, If, Method, Statement, Test};
+use program::{Block, Case, If, Method, Statement, Test};
 use source::{Memory, Place};
 use std::alloc::Global;
 

@@ -6,13 +6,13 @@ use Rattle.std.proofs.lemmas.List.{append-nil, length-append, map-append}
 use Rattle.std.proofs.lemmas.List.Concat.{flat_map-append}
 use Rattle.std.proofs.lemmas.List.Folds.{flat_map-map}
 use Rattle.std.proofs.lemmas.List.FromFn.{get_or-map-range_with_len, length-map-range_with_len}
-use Rattle.syntax.specs.Trees.{ContractTree}
+use Rattle.tree.specs.Trees.{ContractTree}
 use Rattle.names.specs.Declarations.{counted_states, messages_of, states_of}
-use Rattle.names.specs.Parts.{AreApart, MessageParts, StateParts, contract_parts, message_ids, state_ids}
-use Rattle.names.specs.Resolution.{contract_seen, counted_in, each_behind, message_count, numbered_message, numbered_state, resolved_contract, resolved_contracts, state_count}
-use Rattle.names.specs.declared.resolved.Contract.{Contract}
-use Rattle.names.specs.declared.resolved.MessageId.{MessageId}
-use Rattle.names.specs.declared.resolved.StateId.{StateId}
+use Rattle.program.specs.Parts.{AreApart, MessageParts, StateParts, contract_parts, message_ids, state_ids, contract_seen}
+use Rattle.names.specs.Resolution.{counted_in, each_behind, message_count, numbered_message, numbered_state, resolved_contract, resolved_contracts, state_count}
+use Rattle.program.specs.declared.contract.Contract.{Contract}
+use Rattle.program.specs.declared.number.MessageId.{MessageId}
+use Rattle.program.specs.declared.number.StateId.{StateId}
 use Rattle.names.proofs.MeantLemmas.{as_counted}
 
 range_append : (a n m : ℕ) → range_with_len a n ++ range_with_len (a + n) m ≡ range_with_len a (n + m)

@@ -1,8 +1,9 @@
 -- Lists that depend on what stands before: one more element.
 use Rattle.std.proofs.Common.{◌≡◌, ℕ, zero, suc, ◌+◌, ◌<◌, ◌≤◌, List, [], ◌∷◌, ◌++◌, length, map, take, get_or, sym, refl, ap, ◌∙◌, arith, append_assoc, append-nil}
 use Rattle.std.specs.List.{flat_map, enumerate_from}
-use Rattle.std.proofs.lemmas.List.{map-append, flat_map_more, take_more, length-take-le, length-map, take-map, get_or-map, nil_from_length}
+use Rattle.std.proofs.lemmas.List.{map-append, take_more, length-take-le, length-map, take-map, get_or-map, nil_from_length}
 use Rattle.std.proofs.lemmas.List.Folds.{length-flat_map-take}
+use Rattle.lemmas.proofs.Lists.{enumerate_push}
 use Rattle.names.specs.Resolution.{each_behind}
 
 -- the front up to a place, with the element there
@@ -19,10 +20,6 @@ behind_push f before (y ∷ ys) x =
 pub behind_more : {X Y Z : Type 0} (f : List Y → Y → List Z) (g : X → Y) (xs : List X) (i : ℕ) (x : X) → i < length xs → x ≡ get_or xs i x
     → each_behind f [] (map g (take (i + 1) xs)) ≡ each_behind f [] (map g (take i xs)) ++ f (map g (take i xs)) (g x)
 behind_more f g xs i x lt is = ap (each_behind f []) (mapped_more g xs i x lt is) ∙ behind_push f [] (map g (take i xs)) (g x)
-
-pub flat_more : {X Y Z : Type 0} (f : Y → List Z) (g : X → Y) (xs : List X) (i : ℕ) (x : X) → i < length xs → x ≡ get_or xs i x
-    → flat_map f (map g (take (i + 1) xs)) ≡ flat_map f (map g (take i xs)) ++ f (g x)
-flat_more f g xs i x lt is = ap (flat_map f) (mapped_more g xs i x lt is) ∙ sym (flat_map_more f [] (map g (take i xs)) (g x))
 
 -- what a place adds is no more than is there in all
 pub flat_room : {X Y Z : Type 0} (f : Y → List Z) (g : X → Y) (xs : List X) (i : ℕ) (x : X) → i < length xs → x ≡ get_or xs i x
@@ -44,11 +41,6 @@ pub nothing_at : {X Y Z : Type 0} (f : Y → List Z) (g : X → Y) (xs : List X)
 nothing_at f g xs i x lt is none =
     let size = length-map xs g in
     sym (ap f (get_or-map g xs i x (g x) lt ∙ sym (ap g is))) ∙ nothing_in f (map g xs) i (g x) (omega (arith, lt, size)) none
-
-enumerate_push : {X : Type 0} (n : ℕ) (xs : List X) (x : X) → enumerate_from n (xs ++ x ∷ []) ≡ enumerate_from n xs ++ (n + length xs, x) ∷ []
-enumerate_push n [] x = ap (λ k. (k, x) ∷ []) (omega arith)
-enumerate_push n (y ∷ ys) x =
-    ap (λ l. (n, y) ∷ l) (enumerate_push (n + 1) ys x ∙ ap (λ k. enumerate_from (n + 1) ys ++ (k, x) ∷ []) (omega arith))
 
 -- one more number
 pub number_more : {X Y Z W : Type 0} (f : ℕ → Y → Z) (part : W → Z) (g : X → Y) (n : ℕ) (xs : List X) (i : ℕ) (x : X) (ws more : List W) (w : W) → i < length xs → x ≡ get_or xs i x

@@ -2,8 +2,8 @@
 use Rattle.std.proofs.Common.{◌≡◌, ℕ, zero, suc, ◌+◌, ◌<◌, List, [], ◌∷◌, length, drop, get_or, Option, Some, None, sym, refl, ap, ◌∙◌, subst, arith, add-one}
 use Rattle.std.specs.Prelude.{slice_get}
 use Rattle.source.specs.declared.finding.Finding.{Finding}
-use Rattle.syntax.specs.declared.statement.Bind.{Bind}
-use Rattle.syntax.specs.declared.tree.Param.{Param}
+use Rattle.tree.specs.declared.statement.Bind.{Bind}
+use Rattle.tree.specs.declared.contract.Param.{Param}
 use Rattle.names.specs.Cases.{bind_turn, binds_turn}
 use Rattle.names.specs.Program.{Program}
 use Rattle.names.specs.Variables.{Frame, Turn, follow}

@@ -6,9 +6,9 @@ use Rattle.std.proofs.Math.ListN.{get_or-map}
 use Rattle.std.proofs.Math.Seq.{drop-cons}
 use Rattle.std.proofs.lemmas.List.{drop_all}
 use Rattle.source.specs.declared.finding.Finding.{Finding}
-use Rattle.syntax.specs.StatementTrees as trees
-use Rattle.syntax.specs.StatementTrees.{CaseTree, CaseTrees, BlockTree, TestTree, SwitchTree, block_tree, test_tree, case_tree, case_row, other_row, switch_tree}
-use Rattle.syntax.specs.declared.statement as made
+use Rattle.tree.specs.StatementTrees as trees
+use Rattle.tree.specs.StatementTrees.{CaseTree, block_tree, test_tree, case_tree, case_row, other_row, switch_tree}
+use Rattle.tree.specs.declared.statement as made
 use Rattle.names.specs.Bodies.{Surroundings, block_turn, others_turn, case_turn, cases_turn, head_of, heads_of}
 use Rattle.names.specs.Cases.{Head}
 use Rattle.names.specs.Variables.{Frame, Turn, turn, follow}

@@ -1,7 +1,7 @@
 -- What a look-up of a class finds, and where its item stands.
 use Rattle.std.proofs.Common.{◌≡◌, ℕ, List, Option, Some, None, sym, refl, ap, subst}
 use Rattle.std.specs.Prelude.{option_map, option_and_then, slice_get}
-use Rattle.syntax.specs.Trees.{ItemTree, ClassTree}
+use Rattle.tree.specs.Trees.{ItemTree, ClassTree}
 use Rattle.names.specs.Program.{Program, item_at, as_class}
 use Rattle.names.specs.Scopes.{AllMembers, AreMethods, IsClass, as_methods}
 use Rattle.names.specs.declared.members.Methods.{Methods}

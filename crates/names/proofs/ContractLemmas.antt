@@ -2,7 +2,7 @@
 use Rattle.std.proofs.Common.{◌≡◌, ℕ, List, [], ◌∷◌, ◌++◌, map, refl, sym, ap, ◌∙◌, append_assoc}
 use Rattle.std.specs.List.{flat_map}
 use Rattle.std.proofs.lemmas.List.{map-append}
-use Rattle.syntax.specs.Trees.{ItemTree, DefinitionTree, Contract, Struct, Class, ContractTree, contract_of, contracts_of}
+use Rattle.tree.specs.Trees.{ItemTree, DefinitionTree, Contract, Struct, Class, ContractTree, contract_of, contracts_of}
 use Rattle.names.specs.Declarations.{names_of_contracts, counted_states, states_of}
 use Rattle.names.specs.Findings.{all_counted_states}
 use Rattle.names.specs.Outlines.{outlined_states}

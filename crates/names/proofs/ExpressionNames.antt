@@ -5,11 +5,11 @@ use Rattle.std.proofs.lemmas.List.{take_more, take_all, map-append}
 use Rattle.source.specs.declared.finding.Finding.{Finding}
 use Rattle.source.specs.declared.fault.Memory.{Memory}
 use Rattle.source.specs.declared.place.Place.{Place}
-use Rattle.syntax.specs.Operators as levels
-use Rattle.syntax.specs.Operators.{Operators, below}
-use Rattle.syntax.specs.Expressions.{LevelTree, AtomTree, StepOf, Chain, Unary}
-use Rattle.syntax.specs.ExpressionTrees.{step_row}
-use Rattle.syntax.specs.declared.expression.Prefix.{Prefix}
+use Rattle.tree.specs.Operators as levels
+use Rattle.tree.specs.Operators.{Operators, below}
+use Rattle.tree.specs.Expressions.{LevelTree, AtomTree, StepOf, Chain, Unary}
+use Rattle.tree.specs.ExpressionTrees.{step_row}
+use Rattle.tree.specs.declared.expression.Prefix.{Prefix}
 use Rattle.names.specs.Expressions.{InScope, kind_of, place_of, joined_kind, left_asked, right_asked, signed_kind, sign_asked}
 use Rattle.names.specs.Found.{Adds}
 use Rattle.names.specs.Kinds.{is_unknown}

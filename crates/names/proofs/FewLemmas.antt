@@ -4,14 +4,14 @@ use Rattle.std.specs.List.{flat_map}
 use Rattle.std.proofs.lemmas.List.{length-append}
 use Rattle.source.specs.declared.kind.Kind.TheVariants.{CloseBrace}
 use Rattle.source.specs.declared.token.Token.{Token}
-use Rattle.syntax.specs.Grammar as grammar
-use Rattle.syntax.specs.Programs as programs
-use Rattle.syntax.specs.Parsing.{Spells}
-use Rattle.syntax.specs.Spelling.{optional, placed, word}
-use Rattle.syntax.specs.Symbols.{End, symbols}
+use Rattle.tree.specs.Grammar as grammar
+use Rattle.tree.specs.Programs as programs
+use Rattle.tree.specs.Spelled.{Spells}
+use Rattle.tree.specs.Spelling.{optional, placed, word}
+use Rattle.tree.specs.Symbols.{End, symbols}
 use Rattle.std.proofs.lemmas.Grind.{flat_map-append}
-use Rattle.syntax.specs.Trees.{ContractTree, DefinitionTree, Contract, Struct, Class, ItemTree, MemberTree, Message, MessageTree, State, contract_of, contracts_of, program_tree}
-use Rattle.syntax.specs.declared.tree as tree
+use Rattle.tree.specs.Trees.{ContractTree, DefinitionTree, Contract, Struct, Class, ItemTree, MemberTree, Message, MessageTree, State, contract_of, contracts_of, program_tree}
+use Rattle.tree.specs.declared.item as tree
 use Rattle.names.specs.Declarations.{message_among, messages_of}
 use Rattle.names.specs.Resolution.{message_count}
 

@@ -1,9 +1,8 @@
 -- Where the heads of a switch stand, and which stand before a place.
-use Rattle.std.proofs.Common.{◌≡◌, ℕ, zero, suc, ◌+◌, List, [], ◌∷◌, length, take, Some, None, Bool, true, false, not, cond, ltb, sym, refl, ap, ◌∙◌, ⊎_elim}
+use Rattle.std.proofs.Common.{◌≡◌, ℕ, zero, suc, ◌+◌, List, [], ◌∷◌, length, take, Some, None, Bool, true, false, not, cond, ltb, sym, refl, ap, ◌∙◌, ⊎_elim, arith}
 use Rattle.std.specs.Prelude.{is_some, position, ◌&&◌, ◌||◌}
 use Rattle.std.specs.List.{position_or_len}
 use Rattle.std.proofs.lemmas.Bool.{le-ltb, lt-ltb, ltb-true, ltb-false, cases_Bool}
-use Rattle.std.proofs.Common.{arith}
 use Rattle.names.specs.Heads.{is_before}
 
 -- whether one of these passes

@@ -9,10 +9,10 @@ use Rattle.std.specs.Ordering.{is_eq, nat_cmp, ordering_then}
 use Rattle.std.proofs.lemmas.Cmp.{nat_list_eq_equiv}
 use Rattle.std.proofs.lemmas.Map.Text.{is_eq-slice_cmp}
 use Rattle.source.specs.declared.token.Span.{Span}
-use Rattle.syntax.specs.StatementTrees.{CaseTree, SwitchTree, case_row, case_tree, switch_tree}
-use Rattle.syntax.specs.declared.statement as made
-use Rattle.syntax.specs.declared.statement.Awaited.{Awaited}
-use Rattle.syntax.specs.declared.statement.Awaited.TheVariants.{Message, Closed}
+use Rattle.tree.specs.StatementTrees.{CaseTree, SwitchTree, case_row, case_tree, switch_tree}
+use Rattle.tree.specs.declared.statement as made
+use Rattle.tree.specs.declared.statement.Awaited.{Awaited}
+use Rattle.tree.specs.declared.statement.Awaited.TheVariants.{Message, Closed}
 use Rattle.names.specs.Bodies.{head_of, heads_of}
 use Rattle.names.specs.Cases.{Head, same_name, same_awaited, is_closed, case_twice, twice_findings, kind_head_findings, other_head_findings, awaits_too, names_endpoint, awaits_closed}
 use Rattle.names.specs.Expressions.{InScope}
@@ -21,12 +21,12 @@ use Rattle.names.specs.Found.{Adds}
 use Rattle.names.specs.Kinds.{is_silent}
 use Rattle.names.specs.declared.kinds.Kind.{Kind}
 use Rattle.names.specs.declared.kinds.Kind.TheVariants as kind
-use Rattle.syntax.specs.declared.tree.Side.{Side}
+use Rattle.program.specs.declared.kind.Side.{Side}
 use Rattle.names.specs.Heads.{awaiting_of, awaited_word, key_words, head_words, same_message, same_key, key_at, is_before, switch_heads}
-use Rattle.names.specs.Positions.{first_position}
+use Rattle.lemmas.specs.Places.{first_position}
 use Rattle.names.specs.Words.{word_at, words_at, same_word}
 use Rattle.names.proofs.HeadLemmas.{some_of, first_before, first_of_some}
-use Rattle.names.proofs.PositionLemmas.{same_position}
+use Rattle.lemmas.proofs.FirstPlaces.{same_position}
 use Rattle.names.proofs.StatementTwins.{switch_is}
 use Rattle.names.proofs.TableLemmas.{position_mapped}
 

@@ -2,8 +2,8 @@
 use Rattle.std.proofs.Common.{◌≡◌, ℕ, zero, suc, ◌<◌, List, [], ◌∷◌, ◌++◌, length, map, get_or, sym, refl, ap, ◌∙◌, subst, arith}
 use Rattle.std.specs.List.{flat_map}
 use Rattle.std.proofs.lemmas.List.{map-append}
-use Rattle.syntax.specs.Trees.{ItemTree, MethodTree, item_tree, definition_tree}
-use Rattle.syntax.specs.declared.tree as tree
+use Rattle.tree.specs.Trees.{ItemTree, MethodTree, item_tree, definition_tree}
+use Rattle.tree.specs.declared.item as tree
 use Rattle.names.specs.Methods.{methods_in}
 use Rattle.names.specs.Scopes.{AllMembers, AreMembers}
 use Rattle.names.specs.declared.members.Members.{Members}

@@ -1,11 +1,13 @@
 -- What stood in scope before a statement stands in front behind it.
 use Rattle.std.proofs.Common.{◌≡◌, ℕ, Bool, true, false, List, [], ◌∷◌, ◌++◌, length, take, if◌then◌else◌, Option, Some, None, sym, refl, ap, ◌∙◌, append_assoc, append-nil}
 use Rattle.std.specs.Prelude.{is_some}
+use Rattle.std.proofs.lemmas.List.{take_at}
 use Rattle.source.specs.declared.token.Span.{Span}
-use Rattle.syntax.specs.StatementTrees as trees
-use Rattle.syntax.specs.StatementTrees.{StatementTree, StatementTrees, BlockTree, TestTree, OtherTrees, CaseTree, CaseTrees}
-use Rattle.syntax.specs.declared.statement as made
-use Rattle.syntax.specs.declared.tree as tree
+use Rattle.tree.specs.StatementTrees as trees
+use Rattle.tree.specs.StatementTrees.{StatementTree, StatementTrees, BlockTree, TestTree, OtherTrees, CaseTree, CaseTrees}
+use Rattle.tree.specs.declared.statement as made
+use Rattle.tree.specs.declared.contract as contract_nodes
+use Rattle.tree.specs.declared.types as type_nodes
 use Rattle.names.specs.Bodies.{Surroundings, statement_turn, statements_turn, block_turn, test_turn, others_turn, case_turn, cases_turn, in_loop, in_switch, head_of, heads_of}
 use Rattle.names.specs.Cases.{Head, typed_turn, bind_turn, binds_turn}
 use Rattle.names.specs.Program.{Program}
@@ -22,12 +24,8 @@ same_extends f g same = record { more = []; is = same ∙ sym (append-nil f.vari
 extends_then : (f g h : Frame) → Extends f g → Extends g h → Extends f h
 extends_then f g h first second = record { more = first.more ++ second.more; is = second.is ∙ ap (λ l. l ++ second.more) first.is ∙ append_assoc f.variables first.more second.more }
 
-take_front : {X : Type 0} (xs ys : List X) → take (length xs) (xs ++ ys) ≡ xs
-take_front [] ys = refl
-take_front (x ∷ xs) ys = ap (λ l. x ∷ l) (take_front xs ys)
-
 pub kept : (f g : Frame) → Extends f g → take (length f.variables) g.variables ≡ f.variables
-kept f g extends = ap (take (length f.variables)) extends.is ∙ take_front f.variables extends.more
+kept f g extends = ap (take (length f.variables)) extends.is ∙ take_at f.variables extends.more _ refl
 
 one_more : (b : Bool) (vs : List Variable) (v : Variable) → (if b then vs else vs ++ v ∷ []) ≡ vs ++ (if b then [] else v ∷ [])
 one_more true vs v = sym (append-nil vs)
@@ -79,15 +77,15 @@ pub statements_extend : (m : Surroundings) (xs : StatementTrees) (f : Frame) →
 statements_extend m trees.NoStatement f = same_extends f f refl
 statements_extend m (trees.MoreStatements x xs) f = extends_then f _ _ (statement_extends m x f) (statements_extend m xs (statement_turn m x f).frame)
 
-typed_extends : (p : Program) (param : Option tree.Param.Param) (name : Span) (t : Option tree.Type.Type) (f : Frame) → Extends f (typed_turn p param name t f).frame
+typed_extends : (p : Program) (param : Option contract_nodes.Param.Param) (name : Span) (t : Option type_nodes.Type.Type) (f : Frame) → Extends f (typed_turn p param name t f).frame
 typed_extends p param name (Some t) f = declared_extends _ _ _ _ f
 typed_extends p param name None f = declared_extends _ _ _ _ f
 
-binds_extend : (p : Program) (params : List tree.Param.Param) (binds : List made.Bind.Bind) (f : Frame) → Extends f (binds_turn p params binds f).frame
+binds_extend : (p : Program) (params : List contract_nodes.Param.Param) (binds : List made.Bind.Bind) (f : Frame) → Extends f (binds_turn p params binds f).frame
 binds_extend p params [] f = same_extends f f refl
 binds_extend p [] (b ∷ binds) f = extends_then f _ _ (typed_extends p None b.name b.kind f) (binds_extend p [] binds (bind_turn p None b f).frame)
 binds_extend p (x ∷ params) (b ∷ binds) f = extends_then f _ _ (typed_extends p (Some x) b.name b.kind f) (binds_extend p params binds (bind_turn p (Some x) b f).frame)
 
 -- what stood before a case stands in front behind what it binds and what it does
-pub case_extends : (m : Surroundings) (params : List tree.Param.Param) (binds : List made.Bind.Bind) (xs : StatementTrees) (f : Frame) → Extends f (statements_turn m xs (binds_turn m.program params binds f).frame).frame
+pub case_extends : (m : Surroundings) (params : List contract_nodes.Param.Param) (binds : List made.Bind.Bind) (xs : StatementTrees) (f : Frame) → Extends f (statements_turn m xs (binds_turn m.program params binds f).frame).frame
 case_extends m params binds xs f = extends_then f _ _ (binds_extend m.program params binds f) (statements_extend m xs (binds_turn m.program params binds f).frame)

@@ -1,4 +1,3 @@
-pub mod PositionLemmas
 pub mod TableLemmas
 pub mod ScopeLemmas
 pub mod ClassLemmas

@@ -7,8 +7,8 @@ use Rattle.std.proofs.lemmas.List.Folds.{length-flat_map-take}
 use Rattle.std.proofs.lemmas.List.Quantifiers.{position-Some}
 use Rattle.std.proofs.lemmas.Simd.{map-map}
 use Rattle.source.specs.declared.token.Span.{Span}
-use Rattle.syntax.specs.Trees.{StateTree, Empty}
-use Rattle.syntax.specs.declared.tree as tree
+use Rattle.tree.specs.Trees.{StateTree, Empty}
+use Rattle.tree.specs.declared.contract as tree
 use Rattle.names.specs.Declarations.{counted_states, counted_in_state, first_among, names_of_states, paths_of, unnamed_of}
 use Rattle.names.specs.Firsts.{first_of}
 use Rattle.names.specs.Meant.{IsMeaning, path_left, state_names, states_in, text_of}
@@ -17,17 +17,9 @@ use Rattle.names.specs.Resolution.{Meanings, counted_in, edge_between, edges_thr
 use Rattle.names.specs.Tables.{IsTable}
 use Rattle.names.specs.Words.{same_word, word_at, words_at}
 use Rattle.names.specs.declared.meaning.Meaning.{Meaning}
-use Rattle.names.specs.declared.resolved.Edge.{Edge}
+use Rattle.program.specs.declared.contract.Edge.{Edge}
 use Rattle.names.specs.declared.state_names.StateName.TheVariants.{Unnamed}
 use Rattle.names.proofs.BehindLemmas.{single_at, singles}
-
-pub nil_left : {X : Type 0} (a b : List X) → a ++ b ≡ [] → a ≡ []
-nil_left [] b none = refl
-nil_left (x ∷ a) b none = cc
-
-pub nil_right : {X : Type 0} (a b : List X) → a ++ b ≡ [] → b ≡ []
-nil_right [] b none = none
-nil_right (x ∷ a) b none = cc
 
 -- where a named state stands among all
 pub place_at : {X : Type 0} (g : X → StateTree) (xs : List X) (named : List ℕ) (i : ℕ) → named ≡ places_named (map g xs) → i < length xs → get_or named i 0 ≡ length (counted_states (map g (take i xs)))

@@ -4,7 +4,7 @@ use Rattle.std.specs.Prelude.{Option, None, Some, Result, Ok, Err, IfOk, is_some
 use Rattle.source.specs.declared.fault.Memory.{Memory}
 use Rattle.source.specs.declared.finding.Finding.{Finding}
 use Rattle.source.specs.declared.token.Span.{Span}
-use Rattle.syntax.specs.Trees.{ItemTree, DefinitionTree, Contract, Struct, Class, StructTree}
+use Rattle.tree.specs.Trees.{ItemTree, DefinitionTree, Contract, Struct, Class, StructTree}
 use Rattle.names.specs.Expressions.{InScope, struct_field_kind, field_named, field_kind, field_findings}
 use Rattle.names.specs.Found.{unknown}
 use Rattle.names.specs.Mentions.{IsGiven, GivesIn, IsStruct, fields_declared}

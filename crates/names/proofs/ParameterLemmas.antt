@@ -2,7 +2,7 @@
 use Rattle.std.proofs.Common.{◌≡◌, ℕ, ◌+◌, ◌<◌, List, [], ◌∷◌, ◌++◌, length, take, get_or, sym, ap, ◌∙◌, append_assoc, append-nil}
 use Rattle.std.proofs.lemmas.List.{take_more}
 use Rattle.source.specs.declared.finding.Finding.{Finding}
-use Rattle.syntax.specs.declared.class as made
+use Rattle.tree.specs.declared.class as made
 use Rattle.names.specs.Found.{Adds, FindingParts}
 use Rattle.names.specs.Frames.{Turned}
 use Rattle.names.specs.Methods.{parameter_turn, parameters_turn}

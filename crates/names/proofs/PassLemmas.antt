@@ -2,20 +2,19 @@
 use Rattle.std.proofs.Common.{◌≡◌, [], ℕ, List, ◌++◌, Option, Some, None, refl}
 use Rattle.std.specs.Prelude.{Result, Ok, Err, OnOk}
 use Rattle.source.specs.declared.finding.Finding.{Finding}
-use Rattle.syntax.specs.Trees.{ClassTree, ContractTree}
+use Rattle.tree.specs.Trees.{ClassTree, ContractTree}
 use Rattle.names.specs.Found.{Adds, FindingParts}
 use Rattle.names.specs.Scopes.{AreMethods, IsClass, IsContract, IsDeclared}
 use Rattle.names.specs.declared.members.Methods.{Methods}
-use Rattle.names.specs.Values.{class_meant}
+use Rattle.names.specs.Values.{class_meant, Role, send_findings, argument_findings}
 use Rattle.names.specs.Expressions.{InScope}
 use Rattle.names.specs.Kinds.{is_silent, unless}
 use Rattle.names.specs.Shapes.{Shape}
-use Rattle.names.specs.Values.{Role, send_findings, argument_findings}
 use Rattle.names.specs.declared.kinds.Kind.{Kind}
 use Rattle.names.specs.declared.members.Declared.{Declared}
 use Rattle.names.specs.declared.kinds.Kind.TheVariants as kind
 use Rattle.source.specs.declared.token.Span.{Span}
-use Rattle.syntax.specs.declared.tree.Side.{Side}
+use Rattle.program.specs.declared.kind.Side.{Side}
 use Rattle.names.proofs.AddLemmas.{adds_then}
 
 pub on_adds : {T E : Type 0} (r : Result T E) (old mid new : List Finding) (a b : List FindingParts) → Adds old mid a → OnOk r (Adds mid new b) → OnOk r (Adds old new (a ++ b))

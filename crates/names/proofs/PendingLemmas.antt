@@ -5,8 +5,8 @@ use Rattle.std.proofs.Math.ListN.{get_or-map}
 use Rattle.std.proofs.lemmas.List.{length-map, take-map}
 use Rattle.source.specs.declared.place.Place.{Place}
 use Rattle.source.specs.declared.finding.Finding.{Finding}
-use Rattle.syntax.specs.Expressions.{ExpressionTree}
-use Rattle.syntax.specs.Operators.{Joined, Or}
+use Rattle.tree.specs.Expressions.{ExpressionTree}
+use Rattle.tree.specs.Operators.{Joined, Or}
 use Rattle.names.specs.Expressions.{InScope}
 use Rattle.names.specs.Found.{Adds, FindingParts, finding_parts}
 use Rattle.names.specs.Shapes.{Shape, shape}

@@ -5,7 +5,7 @@ use Rattle.std.proofs.lemmas.List.{length-map}
 use Rattle.std.proofs.lemmas.List.Quantifiers.{position-Some}
 use Rattle.std.proofs.lemmas.Option.{slice_get-get_or}
 use Rattle.source.specs.declared.token.Span.{Span}
-use Rattle.syntax.specs.Trees.{ContractTree, StateTree}
+use Rattle.tree.specs.Trees.{ContractTree, StateTree}
 use Rattle.names.specs.Declarations.{counted_states, first_among, names_of_states, states_of}
 use Rattle.names.specs.Places.{place_among}
 use Rattle.names.specs.Scopes.{IsDeclared}

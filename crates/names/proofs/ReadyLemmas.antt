@@ -7,10 +7,11 @@ use Rattle.std.proofs.lemmas.Bool.{eqb-true}
 use Rattle.std.proofs.lemmas.List.{nil_from_length}
 use Rattle.std.proofs.lemmas.List.Elements.{All-nil, All-cons}
 use Rattle.std.proofs.lemmas.Option.{slice_get_cases}
+use Rattle.lemmas.proofs.Lists.{nil_left, nil_right}
 use Rattle.source.specs.declared.finding.Finding.{Finding}
 use Rattle.source.specs.declared.token.Span.{Span}
-use Rattle.syntax.specs.Trees.{ContractTree, DefinitionTree, Contract, Struct, Class, ItemTree, MessageTree, StateTree, contract_of, contracts_of, item_tree}
-use Rattle.syntax.specs.declared.tree as tree
+use Rattle.tree.specs.Trees.{ContractTree, DefinitionTree, Contract, Struct, Class, ItemTree, MessageTree, StateTree, contract_of, contracts_of, item_tree}
+use Rattle.tree.specs.declared.item as tree
 use Rattle.names.specs.ContractFindings.{contract_findings, message_findings, state_findings}
 use Rattle.names.specs.Declarations.{counted_states, messages_of, names_of_contracts, names_of_messages, names_of_states, states_of}
 use Rattle.names.specs.Findings.{all_counted_states, counted_findings, definition_findings, program_findings}
@@ -20,7 +21,8 @@ use Rattle.names.specs.Methods.{items_findings}
 use Rattle.names.specs.Outlines.{outlined_messages, outlined_states}
 use Rattle.names.specs.Program.{Program}
 use Rattle.names.specs.Ready.{IsReady, all_resolved, declared_in, declared_messages, declared_states, resolved_declared}
-use Rattle.names.specs.Resolution.{ContractSeen, each_behind, message_count, resolved_contract, resolved_contracts, state_count}
+use Rattle.program.specs.Parts.{ContractSeen}
+use Rattle.names.specs.Resolution.{each_behind, message_count, resolved_contract, resolved_contracts, state_count}
 use Rattle.names.specs.Scopes.{AreDeclared, IsDeclared, IsScope}
 use Rattle.names.specs.Tables.{IsTable}
 use Rattle.names.specs.Words.{words_at}
@@ -29,7 +31,6 @@ use Rattle.names.specs.declared.members.Declared.{Declared}
 use Rattle.names.specs.declared.scope.Scope.{Scope}
 use Rattle.names.proofs.ContractLemmas.{all_declared}
 use Rattle.names.proofs.FoundLemmas.{nothing_found}
-use Rattle.names.proofs.MeantLemmas.{nil_left, nil_right}
 
 -- what each declares is what its contract has, and so is what all declare
 all_are : {X : Type 0} (f : Declared → List X) (g : ContractTree → List X) (text : List ℕ) → ((c : ContractTree) (d : Declared) → IsDeclared text c d → f d ≡ g c)

@@ -3,8 +3,8 @@ use Rattle.std.proofs.Common.{◌≡◌, ℕ, zero, suc, ◌+◌, ◌<◌, List,
 use Rattle.std.proofs.lemmas.List.{take_more, map-append}
 use Rattle.std.specs.Prelude.{option_map, option_and_then, slice_get}
 use Rattle.std.specs.Option.{option_copied}
-use Rattle.syntax.specs.Trees.{ItemTree, DefinitionTree, Contract, Struct, Class, ContractTree, StructTree, ClassTree, item_tree, definition_tree}
-use Rattle.syntax.specs.declared.tree as tree
+use Rattle.tree.specs.Trees.{ItemTree, DefinitionTree, Contract, Struct, Class, ContractTree, StructTree, ClassTree, item_tree, definition_tree}
+use Rattle.tree.specs.declared.item as tree
 use Rattle.names.specs.Program.{Program, item_at, as_contract, as_struct, as_class}
 use Rattle.names.specs.Scopes.{AllMembers, AreMembers, IsDeclared, AreFields, IsContract, IsStruct, IsClass, as_declared, as_fields, as_methods}
 use Rattle.names.specs.declared.members.Declared.{Declared}

@@ -4,16 +4,16 @@ use Rattle.std.specs.List.{enumerate_from, flat_map}
 use Rattle.std.proofs.lemmas.List.{length-map}
 use Rattle.std.proofs.lemmas.List.FromFn.{length-enumerate_from}
 use Rattle.source.specs.declared.token.Span.{Span}
-use Rattle.syntax.specs.Trees.{MessageTree, StateTree}
+use Rattle.tree.specs.Trees.{MessageTree, StateTree}
 use Rattle.names.specs.Declarations.{counted_states}
 use Rattle.names.specs.Outlines.{outlined_messages, outlined_states}
-use Rattle.names.specs.Parts.{MessageParts, StateParts, message_parts, state_parts}
+use Rattle.program.specs.Parts.{MessageParts, StateParts, message_parts, state_parts, ContractSeen, contract_seen}
 use Rattle.names.specs.Ready.{resolved_declared}
-use Rattle.names.specs.Resolution.{ContractSeen, contract_seen, counted_in, edges_from, message_meant, messages_from, numbered_message, numbered_state, printed, resolved_contract, state_meant, states_from}
+use Rattle.names.specs.Resolution.{counted_in, edges_from, message_meant, messages_from, numbered_message, numbered_state, printed, resolved_contract, state_meant, states_from}
 use Rattle.names.specs.declared.members.Declared.{Declared}
-use Rattle.names.specs.declared.resolved.Contract.{Contract}
-use Rattle.names.specs.declared.resolved.Edge.{Edge}
-use Rattle.names.specs.declared.resolved.StateId.{StateId}
+use Rattle.program.specs.declared.contract.Contract.{Contract}
+use Rattle.program.specs.declared.contract.Edge.{Edge}
+use Rattle.program.specs.declared.number.StateId.{StateId}
 use Rattle.names.proofs.MeantLemmas.{as_counted}
 
 pub seen_is : (text : List ℕ) (message state : ℕ) (name : Span) (messages : List MessageTree) (states : List StateTree) (c : Contract) → string_bytes c.name ≡ printed text name → c.first ≡ record { 0 = state }

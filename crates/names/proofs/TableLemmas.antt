@@ -9,7 +9,7 @@ use Rattle.std.proofs.lemmas.Map.Text.{is_eq-slice_cmp}
 use Rattle.names.specs.Words.{same_word}
 use Rattle.names.specs.Tables.{IsTable, entry_of}
 use Rattle.names.specs.declared.tables.Table.{Table}
-use Rattle.names.proofs.PositionLemmas.{same_position}
+use Rattle.lemmas.proofs.FirstPlaces.{same_position}
 
 first_mapped : {X Y : Type 0} (p : Y → Bool) (f : X → Y) (xs : List X) → position_or_len p (map f xs) ≡ position_or_len (λ x. p (f x)) xs
 first_mapped p f [] = refl

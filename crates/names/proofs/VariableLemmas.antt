@@ -1,14 +1,14 @@
 -- Variables that come into scope and go out of it.
-use Rattle.std.proofs.Common.{◌≡◌, ℕ, zero, suc, if◌then◌else◌, ◌+◌, ◌-◌, ◌<◌, ◌≤◌, List, [], ◌∷◌, ◌++◌, length, map, take, cond, Bool, true, false, sym, refl, ap, ◌∙◌, subst, arith, append_assoc, append-nil, ⊎_elim}
+use Rattle.std.proofs.Common.{◌≡◌, ℕ, if◌then◌else◌, ◌+◌, ◌-◌, ◌<◌, List, [], ◌∷◌, ◌++◌, length, map, take, cond, Bool, true, false, sym, refl, ap, ◌∙◌, subst, arith, append_assoc, append-nil, ⊎_elim}
 use Rattle.std.specs.Prelude.{Result, Ok, Err, OnOk, Option, None, Some, is_some, option_map, option_and_then, slice_get}
 use Rattle.std.proofs.lemmas.Bool.{cases_Bool, cond-true, cond-false}
 use Rattle.std.proofs.lemmas.Cmp.{nat_list_eq_equiv}
-use Rattle.std.proofs.Math.ListN.{length-append}
-use Rattle.std.proofs.Math.Seq.{take-append_seam}
-use Rattle.std.proofs.lemmas.List.{map-append, length-map}
+use Rattle.std.proofs.lemmas.List.{map-append, length-map, take-take}
 use Rattle.std.proofs.lemmas.List.Quantifiers.{position-Some}
 use Rattle.std.proofs.lemmas.Option.{slice_get-map, slice_get-get_or}
 use Rattle.std.proofs.lemmas.Slice.Eq.{bytes_eq-Decides}
+use Rattle.lemmas.proofs.Options.{none_is}
+use Rattle.lemmas.proofs.Lists.{front_of}
 use Rattle.source.specs.declared.fault.Memory.{Memory}
 use Rattle.source.specs.declared.finding.Finding.{Finding}
 use Rattle.source.specs.declared.token.Span.{Span}
@@ -25,7 +25,7 @@ use Rattle.names.specs.declared.tables.Table.{Table}
 use Rattle.names.specs.declared.variables.Variable.{Variable}
 use Rattle.names.specs.declared.variables.Variables.{Variables}
 use Rattle.names.proofs.AddLemmas.{adds_none, adds_then}
-use Rattle.names.proofs.PositionLemmas.{position_added}
+use Rattle.lemmas.proofs.FirstPlaces.{position_added}
 
 pub apart_push : (before words : List (List ℕ)) (w : List ℕ) → AreApart before words → first_of (before ++ words) w ≡ None → AreApart before (words ++ w ∷ [])
 apart_push before [] w h new = (subst (λ l. first_of l w ≡ None) (append-nil before) new, tt)
@@ -93,10 +93,6 @@ some_there text variables name (Some k) is =
 pub is_named : (text : List ℕ) (variables : List model.Variable) (name : Span) → is_some (variable_named text variables name) ≡ is_some (first_of (words_in text variables) (word_at text name))
 is_named text variables name = some_there text variables name (first_of (words_in text variables) (word_at text name)) refl
 
-none_is : (o : Option ℕ) → is_some o ≡ false → o ≡ None
-none_is None h = refl
-none_is (Some n) h = cc
-
 abbrev entered_if : Bool → List ℕ → Span → Kind → Frame → Turn
 entered_if taken text name k f = turn (if taken then declared_twice text name ∷ [] else [])
     (record { variables = if taken then f.variables else f.variables ++ record { name = name; kind = k } ∷ []; heap = f.heap })
@@ -152,12 +148,6 @@ popped_to text f v w front x h is list heap table =
       heap = heap ∙ h.heap;
     }
 
-front_of : {X : Type 0} (xs front : List X) (x : X) → xs ≡ front ++ x ∷ [] → take (length xs - 1) xs ≡ front
-front_of xs front x is =
-    let size = ap length is ∙ length-append front (x ∷ []) in
-    let n : length xs - 1 ≡ length front = omega (arith, size) in
-    ap (λ k. take k xs) n ∙ ap (take (length front)) is ∙ take-append_seam front (x ∷ [])
-
 pub frame_popped : (text : List ℕ) (f : Frame) (v w : Variables) (items : List Variable) (x : Variable) (word : List ℕ) → IsFrame text f v → v.list.items ≡ items ++ x ∷ [] → w.list.items ≡ items → w.heap ≡ v.heap → word ≡ word_at text x.name
     → ((words : List (List ℕ)) → IsTable (words ++ word ∷ []) v.names → first_of words word ≡ None → IsTable words w.names)
     → IsFrame text (record { variables = take (length f.variables - 1) f.variables; heap = f.heap }) w
@@ -166,13 +156,6 @@ frame_popped text f v w items x word h is list heap at table =
     subst (λ l. IsFrame text (record { variables = l; heap = f.heap }) w) (sym (front_of f.variables (map variable_seen items) (variable_seen x) split))
     (popped_to text f v w (map variable_seen items) (variable_seen x) h split (ap (map variable_seen) list) heap
     (subst (λ q. (words : List (List ℕ)) → IsTable (words ++ q ∷ []) v.names → first_of words q ≡ None → IsTable words w.names) at table))
-
--- the first so many of the first so many
-pub take_fewer : {X : Type 0} (m n : ℕ) (xs : List X) → m ≤ n → take m (take n xs) ≡ take m xs
-take_fewer zero n xs le = refl
-take_fewer (suc m) zero xs le = absurd (omega (arith, le))
-take_fewer (suc m) (suc n) [] le = refl
-take_fewer (suc m) (suc n) (x ∷ xs) le = ap (λ l. x ∷ l) (take_fewer m n xs (omega (arith, le)))
 
 -- one variable fewer
 pub left_more : (text : List ℕ) (f : Frame) (v w : Variables) (k outer : ℕ) → (let n = length v.list.items in
@@ -183,6 +166,6 @@ left_more text f v w k outer before fewer more h =
     let n = length v.list.items in
     let many = ap length (sym before.list) ∙ length-map v.list.items variable_seen in
     let last : length (take n f.variables) - 1 ≡ k = omega (arith, many, fewer) in (
-      subst (λ l. IsFrame text (record { variables = l; heap = f.heap }) w) (ap (λ i. take i (take n f.variables)) last ∙ take_fewer k n f.variables (omega (arith, fewer))) h,
-      take_fewer outer k f.variables (omega (arith, fewer, more)),
+      subst (λ l. IsFrame text (record { variables = l; heap = f.heap }) w) (ap (λ i. take i (take n f.variables)) last ∙ take-take k n f.variables (omega (arith, fewer))) h,
+      take-take outer k f.variables (omega (arith, fewer, more)),
     )

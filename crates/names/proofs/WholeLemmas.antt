@@ -8,24 +8,25 @@ use Rattle.std.proofs.lemmas.List.{get_or-map, length-map}
 use Rattle.std.proofs.lemmas.List.Elements.{All-nil, All-cons, All-head, All-tail, All-contains}
 use Rattle.std.proofs.lemmas.List.Folds.{length-flat_map-take}
 use Rattle.std.proofs.lemmas.List.Quantifiers.{position-Some}
+use Rattle.lemmas.proofs.Lists.{nil_left, nil_right}
 use Rattle.source.specs.declared.token.Span.{Span}
-use Rattle.syntax.specs.Trees.{ContractTree, Empty, MessageTree, PathTree, StateTree}
-use Rattle.syntax.specs.declared.tree as tree
+use Rattle.tree.specs.Trees.{ContractTree, Empty, MessageTree, PathTree, StateTree}
+use Rattle.tree.specs.declared.contract as tree
 use Rattle.names.specs.Declarations.{counted_in_state, counted_states, first_among, is_declared, messages_of, names_of_messages, names_of_states, paths_of, states_of, unnamed_of}
 use Rattle.names.specs.ContractFindings.{contract_findings, path_findings, state_findings}
 use Rattle.names.specs.Found.{unknown}
 use Rattle.names.specs.Listed.{asked_name}
 use Rattle.names.specs.Meant.{path_left}
-use Rattle.names.specs.Parts.{IsWhole, contract_parts}
+use Rattle.program.specs.Parts.{IsWhole, contract_parts, ContractSeen, contract_seen}
 use Rattle.names.specs.Program.{Program}
-use Rattle.names.specs.Resolution.{ContractSeen, Meanings, contract_seen, counted_in, edges_from, message_count, message_meant, numbered_message, numbered_state, path_edges, paths_edges, resolved_contract, resolved_contracts, state_count, state_meant}
+use Rattle.names.specs.Resolution.{Meanings, counted_in, edges_from, message_count, message_meant, numbered_message, numbered_state, path_edges, paths_edges, resolved_contract, resolved_contracts, state_count, state_meant}
 use Rattle.names.specs.Words.{same_word, word_at, words_at}
-use Rattle.names.specs.declared.resolved.Contract.{Contract}
-use Rattle.names.specs.declared.resolved.Edge.{Edge}
-use Rattle.names.specs.declared.resolved.MessageId.{MessageId}
-use Rattle.names.specs.declared.resolved.StateId.{StateId}
+use Rattle.program.specs.declared.contract.Contract.{Contract}
+use Rattle.program.specs.declared.contract.Edge.{Edge}
+use Rattle.program.specs.declared.number.MessageId.{MessageId}
+use Rattle.program.specs.declared.number.StateId.{StateId}
 use Rattle.names.proofs.BehindLemmas.{nothing_in}
-use Rattle.names.proofs.MeantLemmas.{as_counted, nil_left, nil_right, path_is}
+use Rattle.names.proofs.MeantLemmas.{as_counted, path_is}
 use Rattle.names.proofs.NumberLemmas.{Among, all_behind, among_numbers, once_numbered}
 use Rattle.names.proofs.ReadyLemmas.{clean_edges}
 

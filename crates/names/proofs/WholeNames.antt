@@ -1,26 +1,19 @@
 -- Expressions that are a variable and nothing more.
-use Rattle.std.proofs.Common.{◌≡◌, ◌==◌, ℕ, zero, suc, ◌<◌, true, false, List, [], ◌∷◌, length, map, sym, refl, ap, ◌∙◌, arith}
+use Rattle.std.proofs.Common.{◌≡◌, ◌==◌, ℕ, true, false, List, [], ◌∷◌, length, map, sym, refl, ap, ◌∙◌, arith}
 use Rattle.std.specs.Prelude.{Option, None}
-use Rattle.std.proofs.lemmas.Bool.{eqb-true}
+use Rattle.lemmas.proofs.Lists.{some_of, none_of}
 use Rattle.source.specs.declared.token.Span.{Span}
-use Rattle.syntax.specs.Operators as levels
-use Rattle.syntax.specs.Operators.{Operators, below}
-use Rattle.syntax.specs.Expressions.{LevelTree, AtomTree, StepOf, Chain, Unary}
-use Rattle.syntax.specs.ExpressionTrees.{step_row}
-use Rattle.syntax.specs.declared.expression.Prefix.{Prefix}
+use Rattle.tree.specs.Operators as levels
+use Rattle.tree.specs.Operators.{Operators, below}
+use Rattle.tree.specs.Expressions.{LevelTree, AtomTree, StepOf, Chain, Unary}
+use Rattle.tree.specs.ExpressionTrees.{step_row}
+use Rattle.tree.specs.declared.expression.Prefix.{Prefix}
 use Rattle.names.specs.Operands.{mentioned}
 use Rattle.names.specs.Shapes.{Shape, Joint, Joined, joint_of, shape, joined, atom_shape}
 
 joined_is_more : (l : Operators) (j : Joint) (a b : Shape) (ps : List (StepOf l)) → mentioned (joined (Joined j a b) (step_row l ps)) ≡ None
 joined_is_more l j a b [] = refl
 joined_is_more l j a b (p ∷ ps) = joined_is_more l (joint_of l) (Joined j a b) (shape p.1) ps
-
-some_of : (n m : ℕ) → n ≡ m → (n == 0) ≡ false → 0 < m
-some_of zero m is h = cc
-some_of (suc n) m is h = omega (arith, is)
-
-none_of : (n m : ℕ) → n ≡ m → (n == 0) ≡ true → m ≡ 0
-none_of n m is h = sym is ∙ eqb-true n 0 h
 
 -- with operators behind its first part it is more
 pub chain_is_more : (l : Operators) {X : Type 0} (f : X → StepOf l) (first : LevelTree (below l)) (xs : List X) (n : ℕ) (tree : LevelTree (levels.Joined l)) → tree ≡ Chain l first (step_row l (map f xs)) → n ≡ length xs → (n == 0) ≡ false → None ≡ mentioned (shape tree)

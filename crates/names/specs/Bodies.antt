@@ -3,17 +3,19 @@ use Rattle.std.specs.Prelude.{ℕ, ◌==◌, Bool, true, false, ◌&&◌, ◌||�
 use Rattle.source.specs.declared.place.Place.{Place}
 use Rattle.source.specs.declared.token.Span.{Span}
 use Rattle.source.specs.declared.finding.Code.TheVariants.{N05}
-use Rattle.syntax.specs.Trees.{ContractTree, ClassTree}
-use Rattle.syntax.specs.declared.tree as tree
+use Rattle.tree.specs.Trees.{ContractTree, ClassTree}
+use Rattle.tree.specs.declared.contract as contract_nodes
+use Rattle.tree.specs.declared.types as type_nodes
 use Rattle.names.specs.Found.{FindingParts, unknown}
-use Rattle.names.specs.Kinds.{is_silent, is_block, is_heap, same_side, unless, type_kind, type_unknown}
+use Rattle.names.specs.Kinds.{is_silent, is_block, is_heap, unless, type_kind, type_unknown}
+use Rattle.program.specs.Kinds.{same_side}
 use Rattle.names.specs.Program.{Program, contract_named}
 use Rattle.names.specs.Expressions.{InScope, meant, held, variable_findings, whole_findings, truth_findings}
 use Rattle.names.specs.Cases.{Head, head_findings, binds_turn, awaited_message, bound_params}
-use Rattle.syntax.specs.Expressions.{ExpressionTree}
-use Rattle.syntax.specs.Values.{ValueTree}
-use Rattle.syntax.specs.StatementTrees as trees
-use Rattle.syntax.specs.StatementTrees.{DeclareTree, StatementTree, StatementTrees, BlockTree, TestTree, OtherTrees, CaseTree, CaseTrees}
+use Rattle.tree.specs.Expressions.{ExpressionTree}
+use Rattle.tree.specs.Values.{ValueTree}
+use Rattle.tree.specs.StatementTrees as trees
+use Rattle.tree.specs.StatementTrees.{DeclareTree, StatementTree, StatementTrees, BlockTree, TestTree, OtherTrees, CaseTree, CaseTrees}
 use Rattle.names.specs.Shapes.{shape}
 use Rattle.names.specs.Values.{Inside, Alone, Started, asked_findings, call_findings, value_findings, target_kind, target_findings}
 use Rattle.names.specs.Variables.{Frame, Turn, turn, before, follow, closed, declared_variable}
@@ -24,7 +26,7 @@ use Rattle.names.specs.declared.kinds.Kind.TheVariants as kind
 pub record Surroundings : Type 0 where
   pub program : Program
   pub class : ClassTree
-  pub result : Option tree.Type.Type
+  pub result : Option type_nodes.Type.Type
   pub breaks : Bool
   pub continues : Bool
 
@@ -77,7 +79,7 @@ abbrev pub channel_findings : InScope → Span → Span → Span → List Findin
 channel_findings s contract first second = new_ends_findings s (contract_named s.program contract) contract first second ++ (variable_findings s first ++ variable_findings s second)
 
 -- A void method returns nothing, another what its result asks for.
-abbrev pub return_findings : InScope → Option tree.Type.Type → Span → Option ExpressionTree → List FindingParts
+abbrev pub return_findings : InScope → Option type_nodes.Type.Type → Span → Option ExpressionTree → List FindingParts
 return_findings s None word None = []
 return_findings s None word (Some e) = whole_findings s (shape e) ++ unless false word.place
 return_findings s (Some t) word None = unless false word.place
@@ -92,7 +94,7 @@ heads_of trees.NoCase = []
 heads_of (trees.MoreCases c cases) = head_of c ∷ heads_of cases
 
 -- the parameters whose values a case binds
-abbrev pub params_of_case : InScope → Head → List tree.Param.Param
+abbrev pub params_of_case : InScope → Head → List contract_nodes.Param.Param
 params_of_case s h = bound_params (awaited_message s (held (meant s h.endpoint)) h.awaited)
 
 abbrev mutual

@@ -3,15 +3,17 @@ use Rattle.std.specs.Prelude.{ℕ, Bool, true, false, ◌&&◌, ◌||◌, List, 
 use Rattle.std.specs.Str.Lossy.{utf8_lossy}
 use Rattle.source.specs.declared.token.Span.{Span}
 use Rattle.source.specs.declared.finding.Code.TheVariants.{N08, N09}
-use Rattle.syntax.specs.Trees.{MessageTree}
-use Rattle.syntax.specs.declared.tree as tree
-use Rattle.syntax.specs.declared.tree.Side.{Side}
+use Rattle.tree.specs.Trees.{MessageTree}
+use Rattle.tree.specs.declared.contract as contract_nodes
+use Rattle.program.specs.declared.kind as kind_nodes
+use Rattle.tree.specs.declared.types as type_nodes
+use Rattle.program.specs.declared.kind.Side.{Side}
 use Rattle.names.specs.Found.{FindingParts, unknown}
 use Rattle.names.specs.Kinds.{agree, is_silent, is_heap, unless, type_kind, type_unknown}
 use Rattle.names.specs.Program.{Program, as_contract, item_at}
 use Rattle.names.specs.Expressions.{InScope, meant, held, variable_findings}
-use Rattle.syntax.specs.declared.statement as made
-use Rattle.syntax.specs.declared.statement.Awaited.TheVariants.{Message, Closed}
+use Rattle.tree.specs.declared.statement as made
+use Rattle.tree.specs.declared.statement.Awaited.TheVariants.{Message, Closed}
 use Rattle.names.specs.Values.{message_written, number_of_arguments, receives}
 use Rattle.names.specs.Variables.{Frame, Turn, turn, before, follow, declared_variable}
 use Rattle.names.specs.Words.{word_at, same_word}
@@ -67,7 +69,7 @@ awaited_message s (kind.Endpoint n end) (Message m) = option_and_then (λ c. mes
 awaited_message s _ _ = None
 
 -- the kinds and the exchange-heap marks of what a case binds: those of the message's parameters, as far as they reach
-abbrev pub bound_params : Option MessageTree → List tree.Param.Param
+abbrev pub bound_params : Option MessageTree → List contract_nodes.Param.Param
 bound_params None = []
 bound_params (Some m) = m.params
 
@@ -111,23 +113,23 @@ abbrev pub head_findings : InScope → List Head → List Head → Head → List
 head_findings s all before h = variable_findings s h.endpoint ++ kind_head_findings s all before (held (meant s h.endpoint)) h
 
 -- the kind of what a message brings for this parameter, if there is one, and whether it is of the exchange heap
-abbrev pub brought_kind : Program → Option tree.Param.Param → Kind
+abbrev pub brought_kind : Program → Option contract_nodes.Param.Param → Kind
 brought_kind p None = kind.Unknown
 brought_kind p (Some x) = type_kind p x.kind
 
-abbrev pub brings_heap : Option tree.Param.Param → Bool
+abbrev pub brings_heap : Option contract_nodes.Param.Param → Bool
 brings_heap None = false
 brings_heap (Some x) = is_heap x.kind
 
 -- a name that a case binds, with a type or without, for this parameter of the message, if there is one
-abbrev pub typed_turn : Program → Option tree.Param.Param → Span → Option tree.Type.Type → Frame → Turn
+abbrev pub typed_turn : Program → Option contract_nodes.Param.Param → Span → Option type_nodes.Type.Type → Frame → Turn
 typed_turn p param name (Some t) f = before (type_unknown p t ++ unless (agree (type_kind p t) (brought_kind p param)) name.place) (declared_variable p.text name (type_kind p t) (is_heap t) f)
 typed_turn p param name None f = declared_variable p.text name (brought_kind p param) (brings_heap param) f
 
-abbrev pub bind_turn : Program → Option tree.Param.Param → made.Bind.Bind → Frame → Turn
+abbrev pub bind_turn : Program → Option contract_nodes.Param.Param → made.Bind.Bind → Frame → Turn
 bind_turn p param b f = typed_turn p param b.name b.kind f
 
-abbrev pub binds_turn : Program → List tree.Param.Param → List made.Bind.Bind → Frame → Turn
+abbrev pub binds_turn : Program → List contract_nodes.Param.Param → List made.Bind.Bind → Frame → Turn
 binds_turn p params [] f = turn [] f
 binds_turn p [] (b ∷ binds) f = follow (bind_turn p None b f) (binds_turn p [] binds)
 binds_turn p (x ∷ params) (b ∷ binds) f = follow (bind_turn p (Some x) b f) (binds_turn p params binds)

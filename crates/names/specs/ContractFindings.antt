@@ -3,8 +3,8 @@
 use Rattle.std.specs.Prelude.{ℕ, List, ◌++◌, map}
 use Rattle.std.specs.List.{flat_map}
 use Rattle.source.specs.declared.token.Span.{Span}
-use Rattle.syntax.specs.Trees.{ContractTree, MessageTree, StateTree, PathTree}
-use Rattle.syntax.specs.declared.tree.Param.{Param}
+use Rattle.tree.specs.Trees.{ContractTree, MessageTree, StateTree, PathTree}
+use Rattle.tree.specs.declared.contract.Param.{Param}
 use Rattle.names.specs.Declarations.{messages_of, states_of, paths_of, names_of_messages, names_of_states}
 use Rattle.names.specs.Found.{FindingParts}
 use Rattle.names.specs.Kinds.{type_unknown}

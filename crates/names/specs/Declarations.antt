@@ -2,7 +2,7 @@
 use Rattle.std.specs.Prelude.{ℕ, Bool, List, [], ◌∷◌, ◌++◌, map, Option, is_some}
 use Rattle.std.specs.List.{flat_map}
 use Rattle.source.specs.declared.token.Span.{Span}
-use Rattle.syntax.specs.Trees.{ContractTree, MessageTree, StateTree, BodyTree, Empty, Path, One, MemberTree, Message, State, PathTree}
+use Rattle.tree.specs.Trees.{ContractTree, MessageTree, StateTree, BodyTree, Empty, Path, One, MemberTree, Message, State, PathTree}
 use Rattle.names.specs.Firsts.{first_of}
 use Rattle.names.specs.Words.{word_at, words_at}
 

@@ -3,14 +3,14 @@ use Rattle.std.specs.Prelude.{ℕ, Bool, ◌||◌, not, List, [], ◌∷◌, ◌
 use Rattle.std.specs.Option.{option_map_or}
 use Rattle.source.specs.declared.place.Place.{Place}
 use Rattle.source.specs.declared.token.Span.{Span}
-use Rattle.syntax.specs.declared.tree.Scalar.TheVariants as scalar
+use Rattle.program.specs.declared.kind.Scalar.TheVariants as scalar
 use Rattle.names.specs.Declarations.{first_among}
 use Rattle.names.specs.Found.{FindingParts, unknown}
 use Rattle.names.specs.Kinds.{is_silent, is_unknown, is_number, is_truth, is_block, unless}
 use Rattle.names.specs.Program.{Program, as_struct, item_at}
 use Rattle.names.specs.Shapes.{Shape, Number, Truth, Mention, Field, Element, Parens, Signed, Joined, Joint, Logic, Likeness, Order, Sum, Sign, Denial, Minus}
-use Rattle.syntax.specs.Trees.{StructTree}
-use Rattle.syntax.specs.declared.class as made
+use Rattle.tree.specs.Trees.{StructTree}
+use Rattle.tree.specs.declared.class as made
 use Rattle.names.specs.Variables.{Variable, variable_named}
 use Rattle.names.specs.Words.{word_at, same_word}
 use Rattle.names.specs.declared.kinds.Kind.{Kind}

@@ -2,7 +2,7 @@
 use Rattle.std.specs.Prelude.{List, ◌++◌}
 use Rattle.std.specs.List.{flat_map}
 use Rattle.source.specs.declared.token.Span.{Span}
-use Rattle.syntax.specs.Trees.{DefinitionTree, Contract, Struct, Class, ContractTree, contracts_of}
+use Rattle.tree.specs.Trees.{DefinitionTree, Contract, Struct, Class, ContractTree, contracts_of}
 use Rattle.names.specs.ContractFindings.{contract_findings}
 use Rattle.names.specs.Declarations.{names_of_contracts, counted_states, states_of}
 use Rattle.names.specs.Found.{FindingParts}

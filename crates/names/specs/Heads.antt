@@ -5,10 +5,10 @@ use Rattle.std.specs.BTreeMap.{get}
 use Rattle.std.specs.Cmp.Lexicographic.{slice_cmp}
 use Rattle.std.specs.Option.{option_cmp}
 use Rattle.std.specs.Ordering.{nat_cmp, ordering_then}
-use Rattle.syntax.specs.StatementTrees.{SwitchTree, case_row}
-use Rattle.syntax.specs.declared.statement as made
-use Rattle.syntax.specs.declared.statement.Awaited.{Awaited}
-use Rattle.syntax.specs.declared.statement.Awaited.TheVariants.{Message, Closed}
+use Rattle.tree.specs.StatementTrees.{SwitchTree, case_row}
+use Rattle.tree.specs.declared.statement as made
+use Rattle.tree.specs.declared.statement.Awaited.{Awaited}
+use Rattle.tree.specs.declared.statement.Awaited.TheVariants.{Message, Closed}
 use Rattle.names.specs.Bodies.{head_of, heads_of}
 use Rattle.names.specs.Cases.{Head, names_endpoint, awaits_closed}
 use Rattle.names.specs.Tables.{IsTable}

@@ -3,17 +3,17 @@ use Rattle.std.specs.Prelude.{ℕ, Bool, true, false, ◌==◌, ◌&&◌, ◌||�
 use Rattle.source.specs.declared.place.Place.{Place}
 use Rattle.source.specs.declared.token.Span.{Span}
 use Rattle.source.specs.declared.finding.Code.TheVariants.{N03}
-use Rattle.syntax.specs.declared.tree.Scalar.{Scalar}
-use Rattle.syntax.specs.declared.tree.Scalar.TheVariants as scalar
-use Rattle.syntax.specs.declared.tree.Side.{Side}
-use Rattle.syntax.specs.declared.tree.Side.TheVariants as side
-use Rattle.syntax.specs.declared.tree as tree
-use Rattle.syntax.specs.declared.tree.Type.TheVariants as type
-use Rattle.syntax.specs.declared.tree.Heap.TheVariants as heap
-use Rattle.syntax.specs.Trees.{ContractTree}
+use Rattle.program.specs.declared.kind.Scalar.{Scalar}
+use Rattle.program.specs.declared.kind.Scalar.TheVariants as scalar
+use Rattle.program.specs.declared.kind.Side.{Side}
+use Rattle.tree.specs.declared.types as type_nodes
+use Rattle.tree.specs.declared.types.Type.TheVariants as type
+use Rattle.tree.specs.declared.types.Heap.TheVariants as heap
+use Rattle.tree.specs.Trees.{ContractTree}
 use Rattle.names.specs.Declarations.{states_of, names_of_states, is_declared}
 use Rattle.names.specs.Found.{FindingParts, unknown}
 use Rattle.names.specs.Program.{Program, contract_named, struct_named}
+use Rattle.program.specs.Kinds.{same_scalar, same_side}
 use Rattle.names.specs.declared.kinds.Kind.{Kind}
 use Rattle.names.specs.declared.kinds.Kind.TheVariants as kind
 
@@ -22,17 +22,6 @@ abbrev pub counts : Scalar → Bool
 counts scalar.Int = true
 counts scalar.Byte = true
 counts scalar.Bool = false
-
-abbrev pub same_scalar : Scalar → Scalar → Bool
-same_scalar scalar.Int scalar.Int = true
-same_scalar scalar.Byte scalar.Byte = true
-same_scalar scalar.Bool scalar.Bool = true
-same_scalar _ _ = false
-
-abbrev pub same_side : Side → Side → Bool
-same_side side.Imp side.Imp = true
-same_side side.Exp side.Exp = true
-same_side _ _ = false
 
 -- one of which nothing is asked
 abbrev pub is_silent : Kind → Bool
@@ -87,7 +76,7 @@ abbrev pub pointer_kind : {X : Type 0} → Option (ℕ × X) → Kind
 pointer_kind None = kind.Unknown
 pointer_kind (Some s) = kind.Pointer s.0
 
-abbrev pub type_kind : Program → tree.Type.Type → Kind
+abbrev pub type_kind : Program → type_nodes.Type.Type → Kind
 type_kind p (type.Scalar s) = kind.Scalar s
 type_kind p (type.Heap (heap.Pointer name bang)) = pointer_kind (struct_named p name)
 type_kind p (type.Heap (heap.Array element bang)) = kind.Array element
@@ -103,13 +92,13 @@ abbrev pub pointer_unknown : {X : Type 0} → List ℕ → Option X → Span →
 pointer_unknown text None name = unknown text name ∷ []
 pointer_unknown text (Some s) name = []
 
-abbrev pub type_unknown : Program → tree.Type.Type → List FindingParts
+abbrev pub type_unknown : Program → type_nodes.Type.Type → List FindingParts
 type_unknown p (type.Scalar s) = []
 type_unknown p (type.Heap (heap.Pointer name bang)) = pointer_unknown p.text (struct_named p name) name
 type_unknown p (type.Heap (heap.Array element bang)) = []
 type_unknown p (type.Heap (heap.Endpoint contract end state bang in_heap)) = endpoint_unknown p.text (contract_named p contract) contract state
 
 -- a type of the exchange heap, whether its names are declared or not
-abbrev pub is_heap : tree.Type.Type → Bool
+abbrev pub is_heap : type_nodes.Type.Type → Bool
 is_heap (type.Scalar s) = false
 is_heap (type.Heap h) = true

@@ -1,4 +1,3 @@
-pub mod Positions
 pub mod Words
 pub mod Firsts
 pub mod Tables
@@ -9,7 +8,6 @@ pub mod Found
 pub mod Listed
 pub mod ContractFindings
 pub mod Findings
-pub mod Parts
 pub mod Numbered
 pub mod Resolving
 pub mod Shapes

@@ -1,8 +1,8 @@
 -- What the names of a contract mean, as the code has it.
 use Rattle.std.specs.Prelude.{◌≡◌, ℕ, ◌+◌, ◌^◌, ◌<◌, List, [], ◌∷◌, length}
 use Rattle.source.specs.declared.token.Span.{Span}
-use Rattle.syntax.specs.Trees.{MessageTree, StateTree}
-use Rattle.syntax.specs.declared.tree as tree
+use Rattle.tree.specs.Trees.{MessageTree, StateTree}
+use Rattle.tree.specs.declared.contract as tree
 use Rattle.names.specs.Declarations.{names_of_messages, names_of_states, counted_states}
 use Rattle.names.specs.Numbered.{places_named}
 use Rattle.names.specs.Outlines.{outlined_messages, outlined_states}
@@ -10,7 +10,7 @@ use Rattle.names.specs.Resolution.{Meanings, message_meant, state_meant, edge_be
 use Rattle.names.specs.Tables.{IsTable}
 use Rattle.names.specs.Words.{words_at}
 use Rattle.names.specs.declared.meaning.Meaning.{Meaning}
-use Rattle.names.specs.declared.resolved.Edge.{Edge}
+use Rattle.program.specs.declared.contract.Edge.{Edge}
 
 abbrev pub text_of : Meaning → List ℕ
 text_of m = m.tokens.now.text.items

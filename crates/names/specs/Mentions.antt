@@ -1,7 +1,7 @@
 -- What is judged of the variables in expressions and targets.
 use Rattle.std.specs.Prelude.{◌≡◌, ℕ, List, Option, None, Some}
 use Rattle.source.specs.declared.finding.Finding.{Finding}
-use Rattle.syntax.specs.Trees.{StructTree}
+use Rattle.tree.specs.Trees.{StructTree}
 use Rattle.names.specs.Expressions.{InScope}
 use Rattle.names.specs.Found.{Adds, FindingParts}
 use Rattle.names.specs.Frames.{IsFrame}

@@ -2,14 +2,14 @@
 use Rattle.std.specs.Prelude.{false, List, [], ◌∷◌, ◌++◌, map, Option, None, Some}
 use Rattle.std.specs.List.{flat_map}
 use Rattle.source.specs.declared.token.Span.{Span}
-use Rattle.syntax.specs.declared.tree as tree
+use Rattle.tree.specs.declared.types as tree
 use Rattle.names.specs.Bodies.{block_turn}
 use Rattle.names.specs.Listed.{twice_among, past_limit}
 use Rattle.names.specs.Found.{FindingParts}
 use Rattle.names.specs.Kinds.{is_heap, type_kind, type_unknown}
 use Rattle.names.specs.Program.{Program, item_names}
-use Rattle.syntax.specs.Trees.{DefinitionTree, Class, StructTree, ClassTree, MethodTree}
-use Rattle.syntax.specs.declared.class as made
+use Rattle.tree.specs.Trees.{DefinitionTree, Class, StructTree, ClassTree, MethodTree}
+use Rattle.tree.specs.declared.class as made
 use Rattle.names.specs.Variables.{Frame, Turn, turn, before, follow, declared_variable}
 use Rattle.names.specs.declared.limits.TheConstants.{MOST_METHODS}
 

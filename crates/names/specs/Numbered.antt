@@ -2,7 +2,7 @@
 use Rattle.std.specs.Prelude.{ℕ, List, [], ◌∷◌, length, map}
 use Rattle.std.specs.List.{flat_map}
 use Rattle.source.specs.declared.token.Span.{Span}
-use Rattle.syntax.specs.Trees.{StateTree}
+use Rattle.tree.specs.Trees.{StateTree}
 use Rattle.names.specs.Declarations.{paths_of, unnamed_of, counted_states}
 use Rattle.names.specs.Resolution.{Counted, each_behind, named_state, unnamed_state}
 use Rattle.names.specs.declared.state_names.StateName.{StateName}

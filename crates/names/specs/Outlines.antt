@@ -1,6 +1,6 @@
 -- What a contract declares, in order of the text.
 use Rattle.std.specs.Prelude.{◌≡◌, List, map}
-use Rattle.syntax.specs.Trees.{ContractTree, MessageTree, StateTree, message_tree, state_tree}
+use Rattle.tree.specs.Trees.{ContractTree, MessageTree, StateTree, message_tree, state_tree}
 use Rattle.names.specs.Declarations.{messages_of, states_of}
 use Rattle.names.specs.declared.outline.Outline.{Outline}
 

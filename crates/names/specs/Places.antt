@@ -1,7 +1,7 @@
 -- Where names stand among those of their kind.
 use Rattle.std.specs.Prelude.{ℕ, List, length, take, drop, codes, if◌then◌else◌, Option, None, option_map, option_and_then, slice_get}
 use Rattle.source.specs.declared.token.Span.{Span}
-use Rattle.syntax.specs.Trees.{MessageTree, StateTree}
+use Rattle.tree.specs.Trees.{MessageTree, StateTree}
 use Rattle.names.specs.Declarations.{messages_of, states_of, names_of_messages, names_of_states, counted_states, first_among}
 use Rattle.names.specs.Firsts.{first_of}
 use Rattle.names.specs.Program.{Program, as_contract, item_at, contract_named}

@@ -4,7 +4,8 @@ use Rattle.std.specs.List.{flat_map}
 use Rattle.names.specs.Declarations.{names_of_messages, names_of_states, counted_states}
 use Rattle.names.specs.ContractFindings.{state_findings}
 use Rattle.names.specs.Outlines.{outlined_messages, outlined_states}
-use Rattle.names.specs.Resolution.{ContractSeen, each_behind, resolved_contract}
+use Rattle.program.specs.Parts.{ContractSeen}
+use Rattle.names.specs.Resolution.{each_behind, resolved_contract}
 use Rattle.names.specs.Tables.{IsTable}
 use Rattle.names.specs.Words.{words_at}
 use Rattle.names.specs.Scopes.{declared_among}

@@ -1,26 +1,17 @@
 -- The contracts of a program with their names resolved: a number stands for each. A number is how many of its kind stand
 -- before it in the text. Messages are counted, and so are states, the unnamed ones among them.
-use Rattle.std.specs.Prelude.{ℕ, ◌+◌, List, [], ◌∷◌, ◌++◌, length, map, take, codes, string_bytes}
+use Rattle.std.specs.Prelude.{ℕ, ◌+◌, List, [], ◌∷◌, ◌++◌, length, map, take, codes}
 use Rattle.std.specs.List.{flat_map, enumerate_from, range_with_len}
 use Rattle.std.specs.Option.{option_map_or}
 use Rattle.std.specs.Str.Lossy.{utf8_lossy}
 use Rattle.source.specs.declared.place.Place.{Place}
 use Rattle.source.specs.declared.token.Span.{Span}
-use Rattle.syntax.specs.Trees.{ContractTree, MessageTree, StateTree, PathTree}
-use Rattle.syntax.specs.declared.tree as tree
+use Rattle.tree.specs.Trees.{ContractTree, MessageTree, StateTree, PathTree}
+use Rattle.tree.specs.declared.contract as tree
 use Rattle.names.specs.Declarations.{messages_of, states_of, paths_of, unnamed_of, counted_states, names_of_messages, names_of_states, first_among}
-use Rattle.names.specs.Parts.{Parts, StateParts, MessageParts, contract_parts}
+use Rattle.program.specs.Parts.{StateParts, MessageParts, ContractSeen}
 use Rattle.names.specs.Words.{word_at}
-use Rattle.names.specs.declared.resolved.Contract.{Contract}
-use Rattle.names.specs.declared.resolved.Edge.{Edge}
-
--- a resolved contract without its memory: how its name is printed, and its parts
-pub record ContractSeen : Type 0 where
-  pub name : List ℕ
-  pub parts : Parts
-
-abbrev pub contract_seen : Contract → ContractSeen
-contract_seen c = record { name = string_bytes c.name; parts = contract_parts c }
+use Rattle.program.specs.declared.contract.Edge.{Edge}
 
 -- what each of these adds, given those that stand before it
 abbrev pub each_behind : {X Y : Type 0} → (List X → X → List Y) → List X → List X → List Y

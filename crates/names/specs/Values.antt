@@ -3,12 +3,14 @@ use Rattle.std.specs.Prelude.{ℕ, Bool, true, false, ◌&&◌, ◌||◌, not, L
 use Rattle.source.specs.declared.place.Place.{Place}
 use Rattle.source.specs.declared.token.Span.{Span}
 use Rattle.source.specs.declared.finding.Code.TheVariants.{N04, N07}
-use Rattle.syntax.specs.Trees.{ContractTree, MessageTree, ClassTree, MethodTree}
-use Rattle.syntax.specs.declared.tree.Side.{Side}
-use Rattle.syntax.specs.declared.tree.Side.TheVariants as side
-use Rattle.syntax.specs.declared.tree.Direction.{Direction}
-use Rattle.syntax.specs.declared.tree.Direction.TheVariants as direction
-use Rattle.syntax.specs.declared.tree as tree
+use Rattle.tree.specs.Trees.{ContractTree, MessageTree, ClassTree, MethodTree}
+use Rattle.program.specs.declared.kind.Side.{Side}
+use Rattle.program.specs.declared.kind.Side.TheVariants as side
+use Rattle.program.specs.declared.contract.Direction.{Direction}
+use Rattle.program.specs.declared.contract.Direction.TheVariants as direction
+use Rattle.program.specs.declared.contract as sign_nodes
+use Rattle.program.specs.declared.kind as kind_nodes
+use Rattle.tree.specs.declared.types as type_nodes
 use Rattle.std.specs.Str.Lossy.{utf8_lossy}
 use Rattle.names.specs.Declarations.{first_among, messages_of, names_of_messages}
 use Rattle.names.specs.Firsts.{first_of}
@@ -17,10 +19,10 @@ use Rattle.names.specs.Kinds.{agree, is_silent, is_unknown, is_block, is_heap, u
 use Rattle.names.specs.Program.{Program, struct_named, class_named, as_contract, item_at}
 use Rattle.names.specs.Expressions.{InScope, meant, held, kind_of, place_of, field_kind, field_findings, element_kind, element_findings, variable_findings, whole_findings, number_findings, is_length}
 use Rattle.names.specs.Shapes.{Shape, shape}
-use Rattle.syntax.specs.Expressions.{TargetTree, Variable, Field, Element}
-use Rattle.syntax.specs.Values as values
-use Rattle.syntax.specs.Values.{CallTree, ValueTree, NewTree, MadeTree, Expression, Call, New}
-use Rattle.syntax.specs.declared.class as made
+use Rattle.tree.specs.Expressions.{TargetTree, Variable, Field, Element}
+use Rattle.tree.specs.Values as values
+use Rattle.tree.specs.Values.{CallTree, ValueTree, NewTree, MadeTree, Expression, Call, New}
+use Rattle.tree.specs.declared.class as made
 use Rattle.names.specs.Variables as variables
 use Rattle.names.specs.Words.{word_at, words_at, same_word}
 pub use Rattle.names.specs.declared.calls.Role.{Role}
@@ -76,7 +78,7 @@ abbrev pub can_start : MethodTree → Bool
 can_start m = not (is_some m.result) && not (any_lent m.params)
 
 -- the kind of what a method gives fits what is done with it
-abbrev pub result_fits : Program → Option tree.Type.Type → Role → Bool
+abbrev pub result_fits : Program → Option type_nodes.Type.Type → Role → Bool
 result_fits p result Started = true
 result_fits p None Alone = true
 result_fits p (Some t) Alone = not (is_block (type_kind p t))

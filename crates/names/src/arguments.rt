@@ -1,7 +1,7 @@
 //! What is wrong with the names and kinds of arguments.
 
 ghost use Rattle.std.specs.Prelude.{◌≡◌, map, take, List, OnOk, IfOk, slice_get};
-ghost use Rattle.syntax.specs.ExpressionTrees.{expression_tree};
+ghost use Rattle.tree.specs.ExpressionTrees.{expression_tree};
 ghost use Rattle.names.specs.Found.{Adds};
 ghost use Rattle.names.specs.Frames.{IsFrame};
 ghost use Rattle.names.specs.Kinds.{type_kind};
@@ -19,7 +19,7 @@ use crate::variables::Variables;
 use crate::wholes::judge_asked;
 use source::{Finding, Memory};
 use std::alloc::Global;
-use syntax::{Expression, Param, Parameter};
+use tree::{Expression, Param, Parameter};
 
 /// Adds what is wrong with an argument for a parameter of this kind, if there is one.
 fn judge_argument(

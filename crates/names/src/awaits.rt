@@ -6,13 +6,14 @@ ghost use Rattle.names.specs.Found.{Adds};
 ghost use Rattle.names.specs.Program.{Program};
 ghost use Rattle.names.specs.Values.{receives};
 ghost use Rattle.names.specs.Variables.{Variable};
-ghost use Rattle.syntax.specs.Trees.{message_tree};
+ghost use Rattle.tree.specs.Trees.{message_tree};
 
 use crate::operands::{add_wrong_type, ask};
 use crate::told::judge_number;
+use program::{Direction, Side};
 use source::{Finding, Memory, Span, Tokens, texts};
 use std::alloc::Global;
-use syntax::{Awaited, Bind, Direction, Message, Side};
+use tree::{Awaited, Bind, Message};
 
 /// Whether this end receives what goes in this direction.
 pub(crate) fn receives(end: Side, direction: Direction) -> bool

@@ -1,9 +1,9 @@
 //! What is wrong with what the cases of a switch bind.
 
 ghost use Rattle.std.specs.Prelude.{◌≡◌, ◌++◌, List, Option, OnOk, option_map, slice_get};
-ghost use Rattle.syntax.specs.Trees.{message_tree};
-ghost use Rattle.syntax.specs.declared.tree.Side.{Side};
-ghost use Rattle.syntax.specs.declared.tree.Param.{Param};
+ghost use Rattle.tree.specs.Trees.{message_tree};
+ghost use Rattle.program.specs.declared.kind.Side.{Side};
+ghost use Rattle.tree.specs.declared.contract.Param.{Param};
 ghost use Rattle.names.specs.Cases.{typed_turn, bind_turn, binds_turn, brought_kind, brings_heap};
 ghost use Rattle.names.specs.Found.{Adds};
 ghost use Rattle.names.specs.Frames.{IsFrame, Turned};
@@ -20,7 +20,7 @@ use crate::types::{judge_type, kind_of_type};
 use crate::variables::Variables;
 use source::{Finding, Memory, Span};
 use std::alloc::Global;
-use syntax::{Bind, Param, Type};
+use tree::{Bind, Param, Type};
 
 /// The kind of what a message brings for this parameter, if there is one.
 fn brought_kind(scope: &Scope<'_>, parameter: Option<&Param>) -> Kind

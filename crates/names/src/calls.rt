@@ -1,9 +1,9 @@
 //! What is wrong with the names and kinds in calls.
 
 ghost use Rattle.std.specs.Prelude.{◌≡◌, ◌++◌, ◌&&◌, ◌∷◌, ℕ, [], map, drop, take, codes, List, Option, Some, None, OnOk, IfOk, option_map, if◌then◌else◌};
-ghost use Rattle.syntax.specs.ExpressionTrees.{expression_tree};
-ghost use Rattle.syntax.specs.Trees.{ContractTree, MethodTree, ClassTree, message_tree, method_tree};
-ghost use Rattle.syntax.specs.Values.{call_tree};
+ghost use Rattle.tree.specs.ExpressionTrees.{expression_tree};
+ghost use Rattle.tree.specs.Trees.{ContractTree, MethodTree, ClassTree, message_tree, method_tree};
+ghost use Rattle.tree.specs.Values.{call_tree};
 ghost use Rattle.names.specs.Bodies as bodies;
 ghost use Rattle.names.specs.Expressions.{meant, held};
 ghost use Rattle.names.specs.Found.{Adds, unknown};
@@ -26,12 +26,13 @@ use crate::surroundings::Surroundings;
 use crate::told::{add_not_started, judge_number};
 use crate::types::kind_of_type;
 use crate::variables::Variables;
+use program::{Direction, Side};
 use source::{Finding, Memory, Span};
 use std::alloc::Global;
-use syntax::{Call, Direction, Expression, Message, Side, Type};
+use tree::{Call, Expression, Message, Type};
 
 /// What is done with what a call gives.
-#[derive(Clone, Copy, Debug, PartialEq, Eq)]
+#[derive(Clone, Copy, PartialEq, Eq)]
 pub(crate) enum Role {
     /// It is a value of which this kind is asked.
     Asked(Kind),

@@ -1,7 +1,7 @@
 //! What is wrong with the cases of a switch.
 
 ghost use Rattle.std.specs.Prelude.{◌≡◌, List, Some, [], take, if◌then◌else◌, OnOk, option_map, option_and_then, slice_get};
-ghost use Rattle.syntax.specs.Trees.{message_tree};
+ghost use Rattle.tree.specs.Trees.{message_tree};
 ghost use Rattle.names.specs.Cases.{Head, awaits_too, awaited_findings, endpoint_head_findings, kind_head_findings, other_head_findings, head_findings, binds_turn, bound_params, awaited_message};
 ghost use Rattle.names.specs.Expressions.{meant, held};
 ghost use Rattle.names.specs.Found.{Adds};
@@ -24,9 +24,10 @@ use crate::kinds::Kind;
 use crate::scope::Scope;
 use crate::simple_statements::{judge_use, kind_held};
 use crate::variables::Variables;
+use program::Side;
 use source::{Finding, Memory, Span};
 use std::alloc::Global;
-use syntax::{Awaited, Bind, Case, Message, Param, Side};
+use tree::{Awaited, Bind, Case, Message, Param};
 
 /// Adds what is wrong with the head of the case at this place in its switch.
 pub(crate) fn judge_head<'a>(

@@ -2,7 +2,7 @@
 
 ghost use Rattle.std.specs.Prelude.{◌≡◌, ◌++◌, map, IfOk, OnOk};
 ghost use Rattle.std.specs.List.{flat_map};
-ghost use Rattle.syntax.specs.Trees.{ContractTree};
+ghost use Rattle.tree.specs.Trees.{ContractTree};
 ghost use Rattle.names.specs.ContractFindings.{contract_findings};
 ghost use Rattle.names.specs.Findings.{counted_findings};
 ghost use Rattle.names.specs.Found.{Adds};

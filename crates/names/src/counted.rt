@@ -2,7 +2,7 @@
 
 ghost use Rattle.std.specs.Prelude.{◌≡◌, ◌++◌, map, OnOk, IfOk};
 ghost use Rattle.std.specs.List.{flat_map};
-ghost use Rattle.syntax.specs.Trees.{path_tree, state_tree};
+ghost use Rattle.tree.specs.Trees.{path_tree, state_tree};
 ghost use Rattle.names.specs.Declarations.{unnamed_of, counted_states};
 ghost use Rattle.names.specs.Outlines.{outlined_states};
 ghost use Rattle.names.specs.Scopes.{declared_among};
@@ -11,7 +11,7 @@ use crate::members::Members;
 use crate::outline::paths;
 use source::Span;
 use std::alloc::{AllocError, Global};
-use syntax::{Edge, Path, State};
+use tree::{Edge, Path, State};
 
 /// The names at which the states of the contracts among these are counted: its own for a named state, and the message
 /// behind it for an unnamed one.

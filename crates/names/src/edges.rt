@@ -2,7 +2,7 @@
 
 ghost use Rattle.std.specs.Prelude.{◌≡◌, ◌++◌, ◌+◌, ◌^◌, ◌<◌, [], length, map, OnOk, IfOk};
 ghost use Rattle.std.specs.List.{flat_map};
-ghost use Rattle.syntax.specs.Trees.{path_tree};
+ghost use Rattle.tree.specs.Trees.{path_tree};
 ghost use Rattle.names.specs.Declarations.{unnamed_of};
 ghost use Rattle.names.specs.ContractFindings.{path_findings, state_findings};
 ghost use Rattle.names.specs.Meant.{IsMeaning, meanings, message_names, state_names, text_of, states_in};
@@ -10,10 +10,10 @@ ghost use Rattle.names.specs.Resolution.{path_edges, paths_edges, edges_from};
 
 use crate::meaning::Meaning;
 use crate::outline::paths;
-use crate::resolved::Edge;
+use program::Edge;
 use source::Memory;
 use std::alloc::Global;
-use syntax::Path;
+use tree::Path;
 
 /// The edges, in order of the text.
 pub(crate) fn edges_of(alloc: Global, meaning: &Meaning<'_, '_>) -> Result<Vec<Edge>, Memory>

@@ -2,7 +2,7 @@
 
 ghost use Rattle.std.specs.Prelude.{◌≡◌, ℕ, List, OnOk, IfOk};
 ghost use Rattle.source.specs.declared.finding.Finding.{Finding};
-ghost use Rattle.syntax.specs.ExpressionTrees.{expression_tree, conjunction_tree, equality_tree, relation_tree, sum_tree, term_tree, unary_tree, atom_tree, target_tree};
+ghost use Rattle.tree.specs.ExpressionTrees.{expression_tree, conjunction_tree, equality_tree, relation_tree, sum_tree, term_tree, unary_tree, atom_tree, target_tree};
 ghost use Rattle.names.specs.Expressions.{InScope, kind_of, expression_findings, whole_findings};
 ghost use Rattle.names.specs.Found.{Adds};
 ghost use Rattle.names.specs.Frames.{IsFrame};
@@ -20,7 +20,7 @@ use crate::variables::Variables;
 use crate::wholes::judge_whole_operand;
 use source::{Finding, Memory};
 use std::alloc::Global;
-use syntax::{Atom, Conjunction, Equality, Expression, Prefix, Relation, Sum, Target, Term, Unary};
+use tree::{Atom, Conjunction, Equality, Expression, Prefix, Relation, Sum, Target, Term, Unary};
 
 /// The kind of an expression, and where it begins; adds what is wrong in it.
 #[cycle(expressions)]

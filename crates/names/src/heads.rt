@@ -1,24 +1,24 @@
 //! The heads of the cases of a switch.
 
 ghost use Rattle.std.specs.Prelude.{◌≡◌, ℕ, List, Option, Some, take, map, IfOk, slice_get};
-ghost use Rattle.syntax.specs.StatementTrees.{switch_tree, case_tree};
+ghost use Rattle.tree.specs.StatementTrees.{switch_tree, case_tree};
 ghost use Rattle.names.specs.Bodies.{head_of};
 ghost use Rattle.names.specs.Heads.{awaiting_of, key_words, awaited_word, key_at, is_before, switch_heads};
 ghost use Rattle.names.specs.Words.{word_at};
 
-use crate::positions::first_positions;
 use crate::tables::Table;
+use lemmas::first_positions;
 use source::{Memory, Span, Tokens};
 use std::alloc::Global;
 use std::collections::BTreeMap;
-use syntax::{Awaited, Case, Switch};
+use tree::{Awaited, Case, Switch};
 
 /// What is written at the endpoint of a case and at the message that it awaits; at no message where the other end is
 /// closed.
 type Key<'a> = (&'a [u8], Option<&'a [u8]>);
 
 /// The endpoint of a case, and what is awaited there.
-#[derive(Clone, Copy, Debug)]
+#[derive(Clone, Copy)]
 pub(crate) struct Awaiting {
     endpoint: Span,
     awaited: Awaited,
@@ -26,7 +26,7 @@ pub(crate) struct Awaiting {
 
 /// Where each endpoint, and each endpoint with a message, stands first among the cases of a switch. Names are compared
 /// and never hashed.
-#[derive(Debug, Drop)]
+#[derive(Drop)]
 pub(crate) struct Heads<'a> {
     cases: BTreeMap<Key<'a>, usize>,
     endpoints: Table<'a>,

@@ -2,7 +2,7 @@
 
 ghost use Rattle.std.specs.Prelude.{◌≡◌, ◌++◌, map, IfOk, OnOk};
 ghost use Rattle.std.specs.List.{flat_map};
-ghost use Rattle.syntax.specs.Trees.{DefinitionTree, StructTree, item_tree, definition_tree, method_tree};
+ghost use Rattle.tree.specs.Trees.{DefinitionTree, StructTree, item_tree, definition_tree, method_tree};
 ghost use Rattle.names.specs.Findings.{definition_findings, program_findings};
 ghost use Rattle.names.specs.Found.{Adds};
 ghost use Rattle.names.specs.Methods.{struct_findings, items_findings, methods_in};
@@ -17,7 +17,7 @@ use crate::methods::judge_class;
 use crate::scope::{Scope, names_of_items};
 use source::{Finding, Memory, Span, Tokens};
 use std::alloc::{AllocError, Global};
-use syntax::{Definition, Item, Method};
+use tree::{Definition, Item, Method};
 
 /// Adds all that is wrong with the names and kinds of a program.
 pub(crate) fn judge_program(

@@ -2,7 +2,7 @@
 
 ghost use Rattle.std.specs.Prelude.{◌≡◌};
 
-use syntax::{Scalar, Side};
+use program::{Scalar, Side};
 
 /// What a variable holds, or an expression gives. An item is named by how many items stand before it in the text.
 #[derive(Clone, Copy, Debug, PartialEq, Eq)]

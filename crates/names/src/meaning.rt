@@ -5,7 +5,7 @@ ghost use Rattle.names.specs.Listed.{asked_name};
 ghost use Rattle.names.specs.Resolution.{edge_between};
 
 use crate::members::Declared;
-use crate::resolved::{Edge, MessageId, StateId};
+use program::{Edge, MessageId, StateId};
 use source::{Span, Tokens};
 
 /// What a contract declares, and how its messages and states are numbered.
@@ -48,7 +48,7 @@ impl Meaning<'_, '_> {
     }
 
     /// An edge between the states with these numbers.
-    pub(crate) fn edge(&self, from: u32, edge: syntax::Edge, to: u32) -> Edge
+    pub(crate) fn edge(&self, from: u32, edge: tree::Edge, to: u32) -> Edge
         requires meaning { IsMeaning self.now }
         requires declared { asked_name (text_of self.now) (message_names self.now) edge.message ≡ [] }
         ensures { result ≡ edge_between (meanings self.now) from edge to }

@@ -2,7 +2,7 @@
 
 ghost use Rattle.std.specs.Prelude.{◌≡◌, List, ℕ, map, IfOk, option_map, slice_get};
 ghost use Rattle.std.specs.Option.{option_copied};
-ghost use Rattle.syntax.specs.Trees.{ContractTree, StructTree, ClassTree, contract_tree, struct_tree, class_tree, definition_tree, message_tree, method_tree};
+ghost use Rattle.tree.specs.Trees.{ContractTree, StructTree, ClassTree, contract_tree, struct_tree, class_tree, definition_tree, message_tree, method_tree};
 ghost use Rattle.names.specs.Declarations.{first_among, names_of_messages, names_of_states};
 ghost use Rattle.names.specs.Expressions.{field_named};
 ghost use Rattle.names.specs.Outlines.{outlined_messages, outlined_states};
@@ -14,11 +14,11 @@ use crate::state_names::state_names;
 use crate::tables::Table;
 use source::{Span, Tokens};
 use std::alloc::{AllocError, Global};
-use syntax::{Class, Contract, Definition, Field, Message, Method, Struct};
+use tree::{Class, Contract, Definition, Field, Message, Method, Struct};
 
 /// What a contract declares, where each of its names is declared first, and where its named states stand among all of its
 /// states.
-#[derive(Debug, Drop)]
+#[derive(Drop)]
 pub(crate) struct Declared<'a> {
     pub(crate) outline: Outline<'a>,
     pub(crate) messages: Table<'a>,
@@ -27,14 +27,14 @@ pub(crate) struct Declared<'a> {
 }
 
 /// The fields of a struct, and where each of their names is declared first.
-#[derive(Debug, Drop)]
+#[derive(Drop)]
 pub(crate) struct Fields<'a> {
     pub(crate) list: &'a [Field],
     pub(crate) table: Table<'a>,
 }
 
 /// The methods of a class, whether each can be started, and where each of their names is declared first.
-#[derive(Debug, Drop)]
+#[derive(Drop)]
 pub(crate) struct Methods<'a> {
     pub(crate) list: &'a [Method],
     /// Found once for each method, so that no start of it reads all of its parameters.
@@ -43,7 +43,7 @@ pub(crate) struct Methods<'a> {
 }
 
 /// What an item declares within it.
-#[derive(Debug, Drop)]
+#[derive(Drop)]
 pub(crate) enum Members<'a> {
     Contract(Declared<'a>),
     Struct(Fields<'a>),

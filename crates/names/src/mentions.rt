@@ -3,7 +3,7 @@
 ghost use Rattle.std.specs.Prelude.{◌≡◌, ℕ, List, [], ◌∷◌, OnOk, IfOk, Option, option_map, is_some, codes, if◌then◌else◌};
 ghost use Rattle.source.specs.declared.finding.Finding.{Finding};
 ghost use Rattle.source.specs.declared.token.Span.{Span};
-ghost use Rattle.syntax.specs.Trees.{StructTree};
+ghost use Rattle.tree.specs.Trees.{StructTree};
 ghost use Rattle.names.specs.Expressions.{InScope, meant, held, variable_findings, field_kind, field_findings, element_kind, element_findings, struct_field_kind, field_named};
 ghost use Rattle.names.specs.Found.{Adds, unknown};
 ghost use Rattle.names.specs.Mentions.{Gives, GivesIn, IsGiven, IsStruct, fields_declared};
@@ -20,9 +20,9 @@ use crate::members::{Fields, Members};
 use crate::operands::{Operand, ask, ask_number};
 use crate::scope::Scope;
 use crate::variables::Variables;
+use program::Scalar;
 use source::{Finding, Memory, Span, Tokens};
 use std::alloc::Global;
-use syntax::Scalar;
 
 /// What a variable holds; adds the name if nothing declares it.
 pub(crate) fn judge_variable(

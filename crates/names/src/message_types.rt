@@ -2,7 +2,7 @@
 
 ghost use Rattle.std.specs.Prelude.{◌≡◌, map, OnOk, IfOk};
 ghost use Rattle.std.specs.List.{flat_map};
-ghost use Rattle.syntax.specs.Trees.{message_tree};
+ghost use Rattle.tree.specs.Trees.{message_tree};
 ghost use Rattle.names.specs.ContractFindings.{message_findings, param_names};
 ghost use Rattle.names.specs.Found.{Adds};
 ghost use Rattle.names.specs.Kinds.{type_unknown};
@@ -16,7 +16,7 @@ use crate::tables::Table;
 use crate::types::judge_type;
 use source::{Finding, Memory, Span};
 use std::alloc::Global;
-use syntax::{Message, Param};
+use tree::{Message, Param};
 
 /// Adds what is wrong with the parameters of a message.
 pub(crate) fn judge_message(

@@ -2,7 +2,7 @@
 
 ghost use Rattle.std.specs.Prelude.{OnOk};
 ghost use Rattle.std.specs.List.{flat_map};
-ghost use Rattle.syntax.specs.Trees.{ClassTree, method_tree};
+ghost use Rattle.tree.specs.Trees.{ClassTree, method_tree};
 ghost use Rattle.names.specs.Found.{Adds};
 ghost use Rattle.names.specs.Frames.{IsFrame, Turned};
 ghost use Rattle.names.specs.Methods.{result_unknown, parameter_turn, parameters_turn, method_turn, class_findings};
@@ -19,7 +19,7 @@ use crate::types::{is_heap, judge_type, kind_of_type};
 use crate::variables::Variables;
 use source::{Finding, Memory};
 use std::alloc::Global;
-use syntax::{Method, Parameter, Type};
+use tree::{Method, Parameter, Type};
 
 /// Adds what is wrong with the names and kinds in a class.
 pub(crate) fn judge_class<'a>(

@@ -1,7 +1,7 @@
 //! The kinds of the types that stand in the heads of methods and messages.
 
 ghost use Rattle.std.specs.Prelude.{◌≡◌, true, Some, OnOk, IfOk};
-ghost use Rattle.syntax.specs.declared.tree.Type.TheVariants as type;
+ghost use Rattle.tree.specs.declared.types.Type.TheVariants as type;
 ghost use Rattle.names.specs.Kinds.{type_kind};
 ghost use Rattle.names.specs.Program.{Program};
 ghost use Rattle.names.specs.Scopes.{IsScope, AreNoted};
@@ -10,13 +10,14 @@ use crate::kinds::Kind;
 use crate::scope::Scope;
 use crate::signatures::signature_types;
 use crate::types::look_up_kind;
+use program::Side;
 use source::Span;
 use std::alloc::{AllocError, Global};
 use std::collections::BTreeMap;
-use syntax::{Heap, Side};
+use tree::Heap;
 
 /// A type of the exchange heap, and its kind.
-#[derive(Clone, Copy, Debug)]
+#[derive(Clone, Copy)]
 pub(crate) struct Noted {
     pub(crate) written: Heap,
     pub(crate) kind: Kind,
@@ -24,7 +25,7 @@ pub(crate) struct Noted {
 
 /// The kinds of types, each by where the first name of its type begins. A kind is found once, so that no call reads the
 /// names in the types of the method again, which may be longer than the call.
-#[derive(Debug, Drop)]
+#[derive(Drop)]
 pub(crate) struct NotedKinds {
     pub(crate) first: BTreeMap<u32, Noted>,
 }

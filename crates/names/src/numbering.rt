@@ -1,13 +1,13 @@
 //! Numbers for the messages and the states of a contract, in order of the text.
 
 ghost use Rattle.std.specs.Prelude.{◌≡◌, ◌++◌, ◌+◌, ◌^◌, ◌<◌, length, map, codes, IfOk, string_bytes};
-ghost use Rattle.syntax.specs.Trees.{message_tree};
+ghost use Rattle.tree.specs.Trees.{message_tree};
 ghost use Rattle.names.specs.Numbered.{counted_as};
-ghost use Rattle.names.specs.Parts.{message_parts, state_parts};
+ghost use Rattle.program.specs.Parts.{message_parts, state_parts};
 ghost use Rattle.names.specs.Resolution.{messages_from, numbered_state, numbered_states, printed};
 
-use crate::resolved::{Message, MessageId, State, StateId};
 use crate::state_names::StateName;
+use program::{Message, MessageId, State, StateId};
 use source::{Memory, Span, Tokens};
 use std::alloc::Global;
 
@@ -15,7 +15,7 @@ use std::alloc::Global;
 pub(crate) fn number_messages(
     alloc: Global,
     tokens: &Tokens,
-    messages: &[&syntax::Message],
+    messages: &[&tree::Message],
     before: u32,
 ) -> Result<Vec<Message>, Memory>
     requires { before + length messages.now < 2 ^ 32 }

@@ -8,12 +8,13 @@ ghost use Rattle.names.specs.Operands.{IsJoined, IsSigned};
 ghost use Rattle.names.specs.Shapes.{sign_of};
 
 use crate::kinds::Kind;
+use program::Scalar;
 use source::{Finding, Memory, Place, texts};
 use std::alloc::Global;
-use syntax::{Prefix, PrefixOperator, Scalar};
+use tree::{Prefix, PrefixOperator};
 
 /// What an expression gives, and where it begins.
-#[derive(Clone, Copy, Debug)]
+#[derive(Clone, Copy)]
 pub(crate) struct Operand {
     pub(crate) kind: Kind,
     pub(crate) place: Place,
@@ -42,7 +43,7 @@ impl Operand {
 }
 
 /// `&&` and `||`; `==` and `!=`; `<`, `<=`, `>` and `>=`; `+`, `-` and `*`.
-#[derive(Clone, Copy, Debug, PartialEq, Eq)]
+#[derive(Clone, Copy, PartialEq, Eq)]
 pub(crate) enum Joint {
     Logic,
     Likeness,

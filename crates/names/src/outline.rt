@@ -2,16 +2,16 @@
 
 ghost use Rattle.std.specs.Prelude.{◌≡◌, ◌++◌, ◌∷◌, [], map, IfOk, OnOk};
 ghost use Rattle.std.specs.List.{flat_map};
-ghost use Rattle.syntax.specs.Trees.{contract_tree, message_tree, state_tree, member_tree, path_tree, body_tree};
+ghost use Rattle.tree.specs.Trees.{contract_tree, message_tree, state_tree, member_tree, path_tree, body_tree};
 ghost use Rattle.names.specs.Declarations.{message_among, state_among, paths_of};
 
 use source::Span;
 use std::alloc::{AllocError, Global};
 use std::slice;
-use syntax::{Contract, Member, Message, Path, State, StateBody};
+use tree::{Contract, Member, Message, Path, State, StateBody};
 
 /// The name of a contract, and its messages and states, each in order of the text.
-#[derive(Debug, Drop)]
+#[derive(Drop)]
 pub(crate) struct Outline<'a> {
     pub(crate) name: Span,
     pub(crate) messages: Vec<&'a Message>,

@@ -1,7 +1,7 @@
 //! Where names stand among those of their kind.
 
 ghost use Rattle.std.specs.Prelude.{◌≡◌, option_map};
-ghost use Rattle.syntax.specs.Trees.{message_tree};
+ghost use Rattle.tree.specs.Trees.{message_tree};
 ghost use Rattle.names.specs.Kinds.{type_kind};
 ghost use Rattle.names.specs.Places.{contract_place, message_place, sent_place, message_at, state_place};
 ghost use Rattle.names.specs.Program.{Program};
@@ -11,7 +11,7 @@ use crate::kinds::Kind;
 use crate::scope::Scope;
 use crate::types::kind_of_type;
 use source::Span;
-use syntax::{Message, Type};
+use tree::{Message, Type};
 
 impl<'a> Scope<'a> {
     ghost use Rattle.names.specs.Scopes.{IsScope};

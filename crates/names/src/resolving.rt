@@ -1,16 +1,16 @@
 //! From a tree to numbers.
 
 ghost use Rattle.std.specs.Prelude.{◌≡◌, [], ◌∷◌, ◌++◌, ◌+◌, ◌^◌, ◌<◌, All, length, map, IfErr, IfOk, OnOk};
-ghost use Rattle.syntax.specs.Trees.{contracts_of, program_tree};
-ghost use Rattle.syntax.specs.Programs.{program};
-ghost use Rattle.syntax.specs.Parsing.{Spells};
+ghost use Rattle.tree.specs.Trees.{contracts_of, program_tree};
+ghost use Rattle.tree.specs.Programs.{program};
+ghost use Rattle.tree.specs.Spelled.{Spells};
 ghost use Rattle.names.specs.Declarations.{counted_states};
 ghost use Rattle.names.specs.Findings.{program_findings};
 ghost use Rattle.names.specs.Outlines.{outlined_messages, outlined_states};
-ghost use Rattle.names.specs.Parts.{AreApart, IsWhole, contract_parts};
+ghost use Rattle.program.specs.Parts.{AreApart, IsWhole, contract_parts, contract_seen};
 ghost use Rattle.names.specs.Program.{program_of};
 ghost use Rattle.names.specs.Ready.{IsReady, declared_in, declared_messages, declared_states, resolved_declared, all_resolved};
-ghost use Rattle.names.specs.Resolution.{contract_seen, resolved_contracts};
+ghost use Rattle.names.specs.Resolution.{resolved_contracts};
 ghost use Rattle.names.specs.Resolving.{Explains};
 ghost use Rattle.names.specs.Scopes.{declared_among};
 
@@ -20,12 +20,12 @@ use crate::items::judge_program;
 use crate::meaning::Meaning;
 use crate::members::{Declared, Members};
 use crate::numbering::{number_messages, number_states};
-use crate::resolved::{Contract, Resolved, StateId};
 use crate::scope::Scope;
 use crate::state_names::state_names;
+use program::{Contract, Resolved, StateId};
 use source::{Memory, Tokens};
 use std::alloc::Global;
-use syntax::Tree;
+use tree::Tree;
 
 /// Resolves a program: its contracts in order of the text, each with its messages, states and edges.
 ///
@@ -57,7 +57,7 @@ pub fn resolve(alloc: Global, tree: &Tree, tokens: &Tokens) -> Result<Resolved, 
 }
 
 /// How many messages and how many states stand before something in the text.
-#[derive(Clone, Copy, Debug)]
+#[derive(Clone, Copy)]
 struct Before {
     messages: u32,
     states: u32,

@@ -2,7 +2,7 @@
 
 ghost use Rattle.std.specs.Prelude.{◌≡◌, IfOk, map, Option, option_map, option_and_then, slice_get};
 ghost use Rattle.std.specs.Option.{option_copied};
-ghost use Rattle.syntax.specs.Trees.{item_tree, definition_tree};
+ghost use Rattle.tree.specs.Trees.{item_tree, definition_tree};
 ghost use Rattle.names.specs.Declarations.{first_among};
 ghost use Rattle.names.specs.Program.{Program, contract_named, struct_named, class_named, item_at, item_names, as_contract, as_struct, as_class, defined_name};
 ghost use Rattle.names.specs.Expressions.{field_named};
@@ -13,11 +13,11 @@ use crate::noted::NotedKinds;
 use crate::tables::Table;
 use source::{Span, Tokens};
 use std::alloc::{AllocError, Global};
-use syntax::{Definition, Field, Item};
+use tree::{Definition, Field, Item};
 
 /// The items of a text by their names: what they declare, in order, and where each of their names is declared first. A name
 /// means the first item that declares it.
-#[derive(Debug, Drop)]
+#[derive(Drop)]
 pub struct Scope<'a> {
     pub(crate) tokens: &'a Tokens,
     pub(crate) items: &'a [Item],

@@ -2,7 +2,7 @@
 
 use crate::members::Members;
 use std::alloc::{AllocError, Global};
-use syntax::{Heap, Message, Method, Param, Parameter, Type};
+use tree::{Heap, Message, Method, Param, Parameter, Type};
 
 /// The types of the exchange heap in the heads of these methods and messages, in order.
 pub(crate) fn signature_types(

@@ -1,15 +1,16 @@
 //! What is wrong with the names and kinds in statements that hold no other statement.
 
 ghost use Rattle.std.specs.Prelude.{◌≡◌, ◌++◌, ℕ, Option, None, Some, OnOk, IfOk, option_map};
-ghost use Rattle.syntax.specs.ExpressionTrees.{expression_tree};
-ghost use Rattle.syntax.specs.StatementTrees.{declare_tree, assign_tree};
-ghost use Rattle.syntax.specs.Values.{value_tree};
+ghost use Rattle.tree.specs.ExpressionTrees.{expression_tree};
+ghost use Rattle.tree.specs.StatementTrees.{declare_tree, assign_tree};
+ghost use Rattle.tree.specs.Values.{value_tree};
 ghost use Rattle.names.specs.Bodies as bodies;
 ghost use Rattle.names.specs.Bodies.{given_findings, declaration_turn, delete_findings, is_end_of, same_end, ends_findings, new_ends_findings, channel_findings, return_findings};
 ghost use Rattle.names.specs.Expressions.{variable_findings, meant, held};
 ghost use Rattle.names.specs.Found.{Adds};
 ghost use Rattle.names.specs.Frames.{IsFrame, Turned, AreSurroundings};
-ghost use Rattle.names.specs.Kinds.{unless, same_side, is_heap};
+ghost use Rattle.names.specs.Kinds.{unless, is_heap};
+ghost use Rattle.program.specs.Kinds.{same_side};
 ghost use Rattle.names.specs.Program.{Program, contract_named};
 ghost use Rattle.names.specs.Scopes.{IsScope};
 ghost use Rattle.names.specs.Shapes.{shape};
@@ -30,7 +31,7 @@ use crate::variables::Variables;
 use crate::wholes::judge_asked;
 use source::{Finding, Memory, Span};
 use std::alloc::Global;
-use syntax::{Assign, Declare, Expression, NewChannel, Type, Value};
+use tree::{Assign, Declare, Expression, NewChannel, Type, Value};
 
 pub(crate) fn is_heap(kind: Type) -> bool
     ensures { result ≡ is_heap kind }

@@ -1,11 +1,11 @@
 //! Which methods can be started.
 
 ghost use Rattle.std.specs.Prelude.{◌≡◌, IfOk, map};
-ghost use Rattle.syntax.specs.Trees.{method_tree};
+ghost use Rattle.tree.specs.Trees.{method_tree};
 ghost use Rattle.names.specs.Values.{is_lent, any_lent, can_start};
 
 use std::alloc::{AllocError, Global};
-use syntax::{Method, Parameter, Type};
+use tree::{Method, Parameter, Type};
 
 /// A method that is called, and whether it can be started.
 #[derive(Clone, Copy)]

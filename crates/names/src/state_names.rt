@@ -2,24 +2,24 @@
 
 ghost use Rattle.std.specs.Prelude.{◌≡◌, ◌++◌, map, IfOk, OnOk};
 ghost use Rattle.std.specs.List.{flat_map};
-ghost use Rattle.syntax.specs.Trees.{path_tree, state_tree};
+ghost use Rattle.tree.specs.Trees.{path_tree, state_tree};
 ghost use Rattle.names.specs.Declarations.{unnamed_of};
 ghost use Rattle.names.specs.Numbered.{unnamed_names, places_named, names_in};
 
 use crate::outline::paths;
 use source::Span;
 use std::alloc::{AllocError, Global};
-use syntax::{Edge, Path, State};
+use tree::{Edge, Path, State};
 
 /// The name of a state, or the message behind an unnamed one.
-#[derive(Clone, Copy, Debug, PartialEq, Eq)]
+#[derive(Clone, Copy, PartialEq, Eq)]
 pub(crate) enum StateName {
     Named(Span),
     Unnamed(Span),
 }
 
 /// All states of a contract in order, and where its named ones stand among them.
-#[derive(Debug, Drop)]
+#[derive(Drop)]
 pub(crate) struct StateNames {
     pub(crate) all: Vec<StateName>,
     pub(crate) named: Vec<usize>,

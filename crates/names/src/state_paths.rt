@@ -3,7 +3,7 @@
 ghost use Rattle.std.specs.Prelude.{List, OnOk};
 ghost use Rattle.std.specs.List.{flat_map};
 ghost use Rattle.source.specs.declared.token.Span.{Span};
-ghost use Rattle.syntax.specs.Trees.{path_tree, state_tree};
+ghost use Rattle.tree.specs.Trees.{path_tree, state_tree};
 ghost use Rattle.names.specs.ContractFindings.{path_findings, state_findings};
 ghost use Rattle.names.specs.Found.{Adds};
 ghost use Rattle.names.specs.Listed.{asked_name};
@@ -17,7 +17,7 @@ use crate::outline::paths;
 use crate::tables::Table;
 use source::{Finding, Memory, Tokens};
 use std::alloc::Global;
-use syntax::{Edge, Path, State};
+use tree::{Edge, Path, State};
 
 /// Adds the messages and states on the paths of a state that its contract does not declare.
 pub(crate) fn judge_state(

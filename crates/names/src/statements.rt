@@ -1,7 +1,7 @@
 //! What is wrong with the names and kinds in statements.
 
 ghost use Rattle.std.specs.Prelude.{◌≡◌, List, Some, map, take, OnOk, slice_get, [], ◌∷◌};
-ghost use Rattle.syntax.specs.StatementTrees.{statement_tree, statement_row, block_tree, test_tree, if_tree, switch_tree, case_tree, case_row};
+ghost use Rattle.tree.specs.StatementTrees.{statement_tree, statement_row, block_tree, test_tree, if_tree, switch_tree, case_tree, case_row};
 ghost use Rattle.names.specs.Bodies as bodies;
 ghost use Rattle.names.specs.Bodies.{in_loop, in_switch, statement_turn, statements_turn, block_turn, test_turn, others_turn, case_turn, cases_turn, head_of};
 ghost use Rattle.names.specs.Cases.{Head};
@@ -21,7 +21,7 @@ use crate::variables::Variables;
 use crate::wholes::judge_truth;
 use source::{Finding, Memory};
 use std::alloc::Global;
-use syntax::{Block, Case, If, Statement, Switch, Test};
+use tree::{Block, Case, If, Statement, Switch, Test};
 
 /// The same within a loop.
 fn within_loop<'s, 'a>(around: &Surroundings<'s, 'a>) -> Surroundings<'s, 'a>

@@ -2,7 +2,7 @@
 
 use crate::members::Methods;
 use crate::scope::Scope;
-use syntax::Type;
+use tree::Type;
 
 /// The program, the class and the result of the method, and whether there is something to break off or to turn back to.
 #[derive(Clone, Copy)]

@@ -5,13 +5,13 @@ ghost use Rattle.names.specs.Firsts.{first_of};
 ghost use Rattle.names.specs.Tables.{IsTable};
 ghost use Rattle.names.specs.Words.{words_at};
 
-use crate::positions::first_positions;
+use lemmas::first_positions;
 use source::{Span, Tokens};
 use std::alloc::{AllocError, Global};
 use std::collections::BTreeMap;
 
 /// Where each name of a list is declared first. Names are compared and never hashed, so no choice of names makes it slow.
-#[derive(Debug, Drop)]
+#[derive(Drop)]
 pub struct Table<'a> {
     first: BTreeMap<&'a [u8], usize>,
 }

@@ -1,7 +1,7 @@
 //! What is wrong with the names and kinds in targets.
 
 ghost use Rattle.std.specs.Prelude.{◌++◌, IfOk, OnOk};
-ghost use Rattle.syntax.specs.ExpressionTrees.{target_tree};
+ghost use Rattle.tree.specs.ExpressionTrees.{target_tree};
 ghost use Rattle.names.specs.Expressions.{InScope, meant, held, variable_findings, field_kind, field_findings};
 ghost use Rattle.names.specs.Found.{Adds};
 ghost use Rattle.names.specs.Mentions.{Gives};
@@ -16,7 +16,7 @@ use crate::scope::Scope;
 use crate::variables::Variables;
 use source::{Finding, Memory, Span};
 use std::alloc::Global;
-use syntax::Target;
+use tree::Target;
 
 /// The kind that is asked of a value for this target; adds what is wrong with the target.
 pub(crate) fn judge_target(

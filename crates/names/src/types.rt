@@ -1,7 +1,7 @@
 //! The kinds of types that are written, and the names in them.
 
 ghost use Rattle.std.specs.Prelude.{◌≡◌, OnOk};
-ghost use Rattle.syntax.specs.Trees.{ContractTree};
+ghost use Rattle.tree.specs.Trees.{ContractTree};
 ghost use Rattle.names.specs.Found.{Adds};
 ghost use Rattle.names.specs.Kinds.{is_heap, type_kind, pointer_kind, endpoint_kind, type_unknown, pointer_unknown, endpoint_unknown};
 ghost use Rattle.names.specs.Program.{Program, contract_named, struct_named};
@@ -11,9 +11,10 @@ use crate::judging::{add_unknown, judge_name};
 use crate::kinds::Kind;
 use crate::members::Declared;
 use crate::scope::Scope;
+use program::Side;
 use source::{Finding, Memory, Span, Tokens};
 use std::alloc::Global;
-use syntax::{Heap, Side, Type};
+use tree::{Heap, Type};
 
 /// Whether it is a type of the exchange heap.
 pub(crate) fn is_heap(kind: Type) -> bool

@@ -1,7 +1,7 @@
 //! What is wrong with the names and kinds in values.
 
 ghost use Rattle.std.specs.Prelude.{◌≡◌, OnOk, IfOk};
-ghost use Rattle.syntax.specs.Values.{value_tree, new_tree, made_tree};
+ghost use Rattle.tree.specs.Values.{value_tree, new_tree, made_tree};
 ghost use Rattle.names.specs.Bodies as bodies;
 ghost use Rattle.names.specs.Found.{Adds};
 ghost use Rattle.names.specs.Frames.{IsFrame, AreSurroundings};
@@ -21,7 +21,7 @@ use crate::variables::Variables;
 use crate::wholes::{judge_asked, judge_number};
 use source::{Finding, Memory, Span};
 use std::alloc::Global;
-use syntax::{Made, New, Value};
+use tree::{Made, New, Value};
 
 /// The kind of a pointer to the struct of this name; adds that there is none.
 fn judge_structure(

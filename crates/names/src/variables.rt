@@ -13,7 +13,7 @@ use source::{Finding, Memory, Span, Tokens, texts};
 use std::alloc::Global;
 
 /// A variable: the name that declares it, and what it holds.
-#[derive(Clone, Copy, Debug, PartialEq, Eq)]
+#[derive(Clone, Copy, PartialEq, Eq)]
 pub(crate) struct Variable {
     pub(crate) name: Span,
     pub(crate) kind: Kind,
@@ -21,7 +21,7 @@ pub(crate) struct Variable {
 
 /// The variables in scope, in order of declaration, and how many of the exchange heap the method has declared so far,
 /// counted as far as one past the limit. No two in scope have one name.
-#[derive(Debug, Drop)]
+#[derive(Drop)]
 pub(crate) struct Variables<'a> {
     names: Table<'a>,
     list: Vec<Variable>,

@@ -1,7 +1,7 @@
 //! Expressions that are the whole of something: of a value, of an argument, of what is returned.
 
 ghost use Rattle.std.specs.Prelude.{◌≡◌, IfOk, OnOk, Option};
-ghost use Rattle.syntax.specs.ExpressionTrees.{expression_tree, conjunction_tree, equality_tree, relation_tree, sum_tree, term_tree, unary_tree, atom_tree, target_tree};
+ghost use Rattle.tree.specs.ExpressionTrees.{expression_tree, conjunction_tree, equality_tree, relation_tree, sum_tree, term_tree, unary_tree, atom_tree, target_tree};
 ghost use Rattle.names.specs.Expressions.{truth_findings, number_findings};
 ghost use Rattle.names.specs.Found.{Adds};
 ghost use Rattle.names.specs.Frames.{IsFrame};
@@ -20,7 +20,7 @@ use crate::scope::Scope;
 use crate::variables::Variables;
 use source::{Finding, Memory, Span};
 use std::alloc::Global;
-use syntax::{Atom, Conjunction, Equality, Expression, Relation, Sum, Target, Term, Unary};
+use tree::{Atom, Conjunction, Equality, Expression, Relation, Sum, Target, Term, Unary};
 
 /// The kind of an expression that is the whole of something, and where it begins; adds what is wrong in it.
 pub(crate) fn judge_whole_operand(

@@ -3,10 +3,10 @@ use Rattle.std.proofs.Common.{◌≡◌, ℕ, zero, suc, ◌+◌, ◌<◌, ◌�
 use Rattle.std.proofs.lemmas.List.{drop_all}
 use Rattle.std.proofs.lemmas.Result.{on_ok_weaker}
 use Rattle.std.specs.Prelude.{Result, OnOk, slice_get}
-use Rattle.syntax.specs.declared.statement.Bind.{Bind}
-use Rattle.syntax.specs.declared.tree.Param.{Param}
+use Rattle.tree.specs.declared.statement.Bind.{Bind}
+use Rattle.tree.specs.declared.contract.Param.{Param}
 use Rattle.names.specs.Program.{Program}
-use Rattle.resolved.specs.declared.method.VarId.{VarId}
+use Rattle.program.specs.declared.number.VarId.{VarId}
 use Rattle.resolving.specs.Binds.{bind_declaration, bind_told, binds_told, one_number}
 use Rattle.resolving.specs.Frames.{IsFrame, number_seen}
 use Rattle.resolving.specs.Locals.{Frame, declared, next_number}

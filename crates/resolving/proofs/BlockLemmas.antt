@@ -3,19 +3,19 @@ use Rattle.std.proofs.Common.{◌≡◌, ℕ, List, [], ◌∷◌, length, take,
 use Rattle.std.specs.Prelude.{Vec, option_map}
 use Rattle.std.specs.Global.{Global}
 use Rattle.source.specs.declared.place.Place.{Place}
-use Rattle.syntax.specs.ExpressionTrees.{expression_tree}
-use Rattle.syntax.specs.StatementTrees as trees
-use Rattle.syntax.specs.StatementTrees.{StatementTree, BlockTree, TestTree, block_tree, test_tree}
-use Rattle.syntax.specs.declared.statement as stated
+use Rattle.tree.specs.ExpressionTrees.{expression_tree}
+use Rattle.tree.specs.StatementTrees as trees
+use Rattle.tree.specs.StatementTrees.{StatementTree, BlockTree, TestTree, block_tree, test_tree}
+use Rattle.tree.specs.declared.statement as stated
 use Rattle.names.specs.Program.{Program}
-use Rattle.resolved.specs.Statements as seen
-use Rattle.resolved.specs.Statements.{StatementsSeen, StatementSeen, BlockSeen, IfSeen, TestSeen, block_seen, test_seen}
-use Rattle.resolved.specs.declared.method.VarId.{VarId}
-use Rattle.resolved.specs.declared.statement.Block as found_block
-use Rattle.resolved.specs.declared.statement.Forget.{Forget}
-use Rattle.resolved.specs.declared.statement.Mention.{Mention}
-use Rattle.resolved.specs.declared.statement.Test as found_test
-use Rattle.resolved.specs.declared.statement.Ways.{Ways}
+use Rattle.program.specs.Statements as seen
+use Rattle.program.specs.Statements.{StatementsSeen, StatementSeen, BlockSeen, TestSeen, block_seen, test_seen}
+use Rattle.program.specs.declared.number.VarId.{VarId}
+use Rattle.program.specs.declared.statement.Block as found_block
+use Rattle.program.specs.declared.statement.Forget.{Forget}
+use Rattle.program.specs.declared.statement.Mention.{Mention}
+use Rattle.program.specs.declared.statement.Test as found_test
+use Rattle.program.specs.declared.statement.Ways.{Ways}
 use Rattle.resolving.specs.Frames.{IsFrame, number_seen}
 use Rattle.resolving.specs.Locals.{Frame, number_of, forget}
 use Rattle.resolving.specs.Reads.{reads, ways}

@@ -1,12 +1,12 @@
 -- Statements and parameters, one after another.
 use Rattle.std.proofs.Common.{◌≡◌, ℕ, ◌+◌, ◌<◌, ◌≤◌, List, [], ◌∷◌, ◌++◌, length, map, take, get_or, sym, refl, ap, ◌∙◌, subst}
 use Rattle.std.proofs.lemmas.List.{take_more, take_all, map-append}
-use Rattle.syntax.specs.StatementTrees as trees
-use Rattle.syntax.specs.StatementTrees.{StatementTree}
-use Rattle.syntax.specs.declared.class as made
+use Rattle.tree.specs.StatementTrees as trees
+use Rattle.tree.specs.StatementTrees.{StatementTree}
+use Rattle.tree.specs.declared.class as made
 use Rattle.names.specs.Program.{Program}
-use Rattle.resolved.specs.Statements as seen
-use Rattle.resolved.specs.Statements.{StatementSeen}
+use Rattle.program.specs.Statements as seen
+use Rattle.program.specs.Statements.{StatementSeen}
 use Rattle.resolving.specs.Frames.{IsFrame}
 use Rattle.resolving.specs.Locals.{Frame, declared}
 use Rattle.resolving.specs.Methods.{parameter_declaration, parameters_frame}

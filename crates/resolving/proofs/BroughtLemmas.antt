@@ -4,22 +4,17 @@ use Rattle.std.specs.Global.{Vec}
 use Rattle.std.specs.List.{flat_map}
 use Rattle.std.proofs.lemmas.Grind.{flat_map-append}
 use Rattle.std.proofs.lemmas.List.{flat_map_more, map-append, take_all, take_more}
-use Rattle.syntax.specs.Trees.{ContractTree, MessageTree, contract_of, contracts_of, definition_tree, item_tree, member_tree}
-use Rattle.syntax.specs.declared.tree.Item.{Item}
-use Rattle.syntax.specs.declared.tree.Member.{Member}
-use Rattle.syntax.specs.declared.tree.Param.{Param}
+use Rattle.lemmas.proofs.Lists.{flat_more}
+use Rattle.tree.specs.Trees.{ContractTree, MessageTree, contract_of, contracts_of, definition_tree, item_tree, member_tree}
+use Rattle.tree.specs.declared.item.Item.{Item}
+use Rattle.tree.specs.declared.contract.Member.{Member}
+use Rattle.tree.specs.declared.contract.Param.{Param}
 use Rattle.names.specs.Declarations.{message_among, messages_of}
 use Rattle.names.specs.Program.{Program}
-use Rattle.resolved.specs.declared.kind.Kind.{Kind}
-use Rattle.resolving.specs.Brought.{brought, held_listed, params_held, rows}
+use Rattle.program.specs.declared.kind.Kind.{Kind}
+use Rattle.resolving.specs.Brought.{brought, held_listed, params_held}
+use Rattle.program.specs.Programs.{rows}
 use Rattle.resolving.specs.Kinds.{type_held}
-
--- what one more element adds
-flat_more : {X Y Z : Type 0} (f : Y → List Z) (g : X → Y) (xs : List X) (i : ℕ) (x : X) → i < length xs → x ≡ get_or xs i x
-    → flat_map f (map g (take (i + 1) xs)) ≡ flat_map f (map g (take i xs)) ++ f (g x)
-flat_more f g xs i x lt is =
-    let taken = ap (map g) (take_more xs i x lt ∙ ap (λ y. take i xs ++ y ∷ []) (sym is)) ∙ map-append g (take i xs) (x ∷ []) in
-    ap (flat_map f) taken ∙ sym (flat_map_more f [] (map g (take i xs)) (g x))
 
 held_more : (p : Program) (params : List Param) (i : ℕ) (d : Param) → i < length params
     → params_held p (take (i + 1) params) ≡ params_held p (take i params) ++ held_listed (type_held p (get_or params i d).kind)

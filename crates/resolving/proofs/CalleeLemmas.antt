@@ -12,20 +12,20 @@ use Rattle.std.proofs.lemmas.Option.{slice_get-map}
 use Rattle.std.proofs.lemmas.Slice.Zip.{Zip-more, either_empty_from_Zip}
 use Rattle.source.specs.declared.place.Place.{Place}
 use Rattle.source.specs.declared.token.Span.{Span}
-use Rattle.syntax.specs.Expressions.{ExpressionTree}
-use Rattle.syntax.specs.ExpressionTrees.{expression_tree}
-use Rattle.syntax.specs.Trees.{ItemTree, DefinitionTree, Contract, Struct, Class, ClassTree, item_tree, definition_tree, method_tree}
-use Rattle.syntax.specs.declared.class as made
-use Rattle.syntax.specs.declared.tree as tree
-use Rattle.syntax.specs.declared.class.Parameter.{Parameter}
-use Rattle.syntax.specs.declared.expression.Expression.{Expression}
+use Rattle.tree.specs.Expressions.{ExpressionTree}
+use Rattle.tree.specs.ExpressionTrees.{expression_tree}
+use Rattle.tree.specs.Trees.{ItemTree, DefinitionTree, Contract, Struct, Class, ClassTree, item_tree, definition_tree, method_tree}
+use Rattle.tree.specs.declared.class as made
+use Rattle.tree.specs.declared.item as tree
+use Rattle.tree.specs.declared.class.Parameter.{Parameter}
+use Rattle.tree.specs.declared.expression.Expression.{Expression}
 use Rattle.names.specs.Declarations.{first_among}
 use Rattle.names.specs.Methods.{methods_in}
 use Rattle.names.specs.Program.{Program, Numbered, as_class, item_at}
-use Rattle.resolved.specs.Statements.{CallSeen}
-use Rattle.resolved.specs.declared.call.Argument.{Argument}
-use Rattle.resolved.specs.declared.method.MethodId.{MethodId}
-use Rattle.resolved.specs.declared.statement.Mention.{Mention}
+use Rattle.program.specs.Statements.{CallSeen}
+use Rattle.program.specs.declared.call.Argument.{Argument}
+use Rattle.program.specs.declared.number.MethodId.{MethodId}
+use Rattle.program.specs.declared.statement.Mention.{Mention}
 use Rattle.resolving.specs.Callees.{Callee, methods_before, numbered, method_at}
 use Rattle.resolving.specs.Locals.{Frame}
 use Rattle.resolving.specs.Reads.{reads}

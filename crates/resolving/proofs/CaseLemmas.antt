@@ -6,17 +6,17 @@ use Rattle.std.specs.Global.{Global}
 use Rattle.std.proofs.Math.Seq.{drop-cons}
 use Rattle.std.proofs.lemmas.List.{drop_all, map-append}
 use Rattle.source.specs.declared.place.Place.{Place}
-use Rattle.syntax.specs.StatementTrees as trees
-use Rattle.syntax.specs.StatementTrees.{CaseTree, CaseTrees, SwitchTree, case_tree, case_row, statement_tree, statement_row, switch_tree}
-use Rattle.syntax.specs.declared.statement as stated
+use Rattle.tree.specs.StatementTrees as trees
+use Rattle.tree.specs.StatementTrees.{CaseTree, CaseTrees, SwitchTree, case_tree, case_row, statement_tree, statement_row, switch_tree}
+use Rattle.tree.specs.declared.statement as stated
 use Rattle.names.specs.Program.{Program}
-use Rattle.resolved.specs.Statements as seen
-use Rattle.resolved.specs.Statements.{BlockSeen, CaseSeen, CasesSeen, block_seen, case_seen}
-use Rattle.resolved.specs.declared.method.VarId.{VarId}
-use Rattle.resolved.specs.declared.statement.Awaited.{Awaited}
-use Rattle.resolved.specs.declared.statement.Block as found_block
-use Rattle.resolved.specs.declared.statement.Case as found_case
-use Rattle.resolved.specs.declared.statement.Mention.{Mention}
+use Rattle.program.specs.Statements as seen
+use Rattle.program.specs.Statements.{CaseSeen, CasesSeen, block_seen, case_seen}
+use Rattle.program.specs.declared.number.VarId.{VarId}
+use Rattle.program.specs.declared.statement.Awaited.{Awaited}
+use Rattle.program.specs.declared.statement.Block as found_block
+use Rattle.program.specs.declared.statement.Case as found_case
+use Rattle.program.specs.declared.statement.Mention.{Mention}
 use Rattle.resolving.specs.Binds.{binds_told}
 use Rattle.resolving.specs.Frames.{IsFrame}
 use Rattle.resolving.specs.Locals.{Frame}

@@ -4,9 +4,9 @@ use Rattle.std.specs.List.{flat_map, range_with_len}
 use Rattle.std.proofs.lemmas.Grind.{flat_map-append}
 use Rattle.std.proofs.lemmas.List.{flat_map_more, take_more, take-append-drop, length-append, length-map, get_or-map}
 use Rattle.std.proofs.lemmas.List.FromFn.{get_or-map-range_with_len, length-map-range_with_len, map-range_with_len_more}
-use Rattle.syntax.specs.Trees.{ItemTree, DefinitionTree, Contract, Struct, Class, contract_of, item_tree, definition_tree, method_tree}
-use Rattle.syntax.specs.declared.class as made
-use Rattle.syntax.specs.declared.tree.Item.{Item}
+use Rattle.tree.specs.Trees.{ItemTree, DefinitionTree, Contract, Struct, Class, contract_of, item_tree, definition_tree, method_tree}
+use Rattle.tree.specs.declared.class as made
+use Rattle.tree.specs.declared.item.Item.{Item}
 use Rattle.names.specs.Methods.{methods_in}
 use Rattle.names.specs.declared.limits.TheConstants.{MOST_METHODS}
 use Rattle.resolving.specs.Callees.{all_methods, methods_before}

@@ -1,19 +1,19 @@
 -- Expressions in memory as trees, a level at a time.
 use Rattle.std.proofs.Common.{◌≡◌, map, ap, ◌∙◌}
 use Rattle.std.proofs.lemmas.Simd.{map-map}
-use Rattle.syntax.specs.Operators.{Or, And, Equal, Compare, Add, Multiply, Single, Joined}
-use Rattle.syntax.specs.Expressions.{LevelTree, AtomTree, TargetTree, StepOf, Chain, Unary}
-use Rattle.syntax.specs.ExpressionTrees.{expression_tree, conjunction_tree, equality_tree, equality_step_tree, relation_tree, relation_step_tree, sum_tree, sum_step_tree, term_tree, unary_tree, atom_tree, unmarked, step_row, atom_of, target_of, conjunction_of, equality_of, equality_step_of, expression_of, relation_of, relation_step_of, sum_of, sum_step_of, term_of, unary_of}
-use Rattle.syntax.specs.declared.expression.Conjunction as conjunctions
-use Rattle.syntax.specs.declared.expression.Equality as equalitys
-use Rattle.syntax.specs.declared.expression.EqualityStep as equalitysteps
-use Rattle.syntax.specs.declared.expression.Expression as expressions
-use Rattle.syntax.specs.declared.expression.Relation as relations
-use Rattle.syntax.specs.declared.expression.RelationStep as relationsteps
-use Rattle.syntax.specs.declared.expression.Sum as sums
-use Rattle.syntax.specs.declared.expression.SumStep as sumsteps
-use Rattle.syntax.specs.declared.expression.Term as terms
-use Rattle.syntax.specs.declared.expression.Unary as unarys
+use Rattle.tree.specs.Operators.{Or, And, Equal, Compare, Add, Multiply, Single, Joined}
+use Rattle.tree.specs.Expressions.{LevelTree, AtomTree, TargetTree, StepOf, Chain, Unary}
+use Rattle.tree.specs.ExpressionTrees.{expression_tree, conjunction_tree, equality_tree, equality_step_tree, relation_tree, relation_step_tree, sum_tree, sum_step_tree, term_tree, unary_tree, atom_tree, unmarked, step_row, atom_of, target_of, conjunction_of, equality_of, equality_step_of, expression_of, relation_of, relation_step_of, sum_of, sum_step_of, term_of, unary_of}
+use Rattle.tree.specs.declared.expression.Conjunction as conjunctions
+use Rattle.tree.specs.declared.expression.Equality as equalitys
+use Rattle.tree.specs.declared.expression.EqualityStep as equalitysteps
+use Rattle.tree.specs.declared.expression.Expression as expressions
+use Rattle.tree.specs.declared.expression.Relation as relations
+use Rattle.tree.specs.declared.expression.RelationStep as relationsteps
+use Rattle.tree.specs.declared.expression.Sum as sums
+use Rattle.tree.specs.declared.expression.SumStep as sumsteps
+use Rattle.tree.specs.declared.expression.Term as terms
+use Rattle.tree.specs.declared.expression.Unary as unarys
 
 pub expression_seen : (x : expressions.Expression) → expression_tree x ≡ Chain Or (conjunction_tree (expressions.out-Expression x).first) (step_row Or (map (unmarked conjunction_tree) (expressions.out-Expression x).others.items))
 expression_seen x =

@@ -2,21 +2,21 @@
 use Rattle.std.proofs.Common.{◌≡◌, sym, ap, ◌∙◌, Box}
 use Rattle.std.specs.Global.{Global}
 use Rattle.source.specs.declared.token.Span.{Span}
-use Rattle.syntax.specs.Expressions as targets
-use Rattle.syntax.specs.Expressions.{LevelTree, StepOf, AtomTree, TargetTree}
-use Rattle.syntax.specs.ExpressionTrees.{expression_tree, target_tree, atom_of, target_of, conjunction_of, equality_of, equality_step_of, expression_of, relation_of, relation_step_of, sum_of, sum_step_of, term_of, unary_of}
-use Rattle.syntax.specs.Operators.{Joined, Single, Or, And, Equal, Compare, Add, Multiply}
-use Rattle.syntax.specs.declared.expression.Expression.{Expression}
-use Rattle.syntax.specs.declared.expression.Target as target_folds
-use Rattle.syntax.specs.declared.expression.Atom.TheOpen as target_layer
-use Rattle.syntax.specs.declared.expression.Target.TheVariants as target
-use Rattle.resolved.specs.Statements as seen
-use Rattle.resolved.specs.Statements.{StatementSeen, BlockSeen, CaseSeen, IfSeen, TestSeen, statement_seen, call_seen, send_seen}
-use Rattle.resolved.specs.declared.call.Call as resolved_call
-use Rattle.resolved.specs.declared.call.Send.{Send}
-use Rattle.resolved.specs.declared.statement.Statement.TheOpen as seen_layer
-use Rattle.resolved.specs.declared.statement.Statement.TheFolds as seen_folds
-use Rattle.resolved.specs.declared.statement.Statement.TheVariants as seen_variants
+use Rattle.tree.specs.Expressions as targets
+use Rattle.tree.specs.Expressions.{LevelTree, StepOf, AtomTree, TargetTree}
+use Rattle.tree.specs.ExpressionTrees.{expression_tree, target_tree, atom_of, target_of, conjunction_of, equality_of, equality_step_of, expression_of, relation_of, relation_step_of, sum_of, sum_step_of, term_of, unary_of}
+use Rattle.tree.specs.Operators.{Joined, Single, Or, And, Equal, Compare, Add, Multiply}
+use Rattle.tree.specs.declared.expression.Expression.{Expression}
+use Rattle.tree.specs.declared.expression.Target as target_folds
+use Rattle.tree.specs.declared.expression.Atom.TheOpen as target_layer
+use Rattle.tree.specs.declared.expression.Target.TheVariants as target
+use Rattle.program.specs.Statements as seen
+use Rattle.program.specs.Statements.{StatementSeen, BlockSeen, CaseSeen, IfSeen, TestSeen, statement_seen, call_seen, send_seen}
+use Rattle.program.specs.declared.call.Call as resolved_call
+use Rattle.program.specs.declared.call.Send.{Send}
+use Rattle.program.specs.declared.statement.Statement.TheOpen as seen_layer
+use Rattle.program.specs.declared.statement.Statement.TheFolds as seen_folds
+use Rattle.program.specs.declared.statement.Statement.TheVariants as seen_variants
 
 -- the forms of a target
 

@@ -4,26 +4,23 @@ use Rattle.std.specs.Option.{option_map_or}
 use Rattle.std.specs.List.{enumerate_from, flat_map}
 use Rattle.std.proofs.lemmas.List.{flat_map_more, length-append, length-map, length-take-le, map-append, take_all, take_more}
 use Rattle.std.proofs.lemmas.Option.{slice_get_cases}
+use Rattle.lemmas.proofs.Lists.{nil_left, nil_right, enumerate_push}
 use Rattle.source.specs.declared.token.Span.{Span}
-use Rattle.syntax.specs.Trees.{ItemTree, item_tree}
-use Rattle.syntax.specs.declared.tree.Item.{Item}
+use Rattle.tree.specs.Trees.{ItemTree, item_tree}
+use Rattle.tree.specs.declared.item.Item.{Item}
 use Rattle.names.specs.Findings.{program_findings}
 use Rattle.names.specs.Found.{limit_passed}
 use Rattle.names.specs.Listed.{past_limit, twice_among}
 use Rattle.names.specs.Methods.{items_findings, method_names, methods_in}
 use Rattle.names.specs.Program.{Program, item_names}
 use Rattle.names.specs.declared.limits.TheConstants.{MOST_METHODS}
-use Rattle.resolved.specs.Methods.{MethodSeen}
+use Rattle.program.specs.Methods.{MethodSeen}
 use Rattle.resolving.specs.Callees.{all_methods}
 use Rattle.resolving.specs.Methods.{item_told, method_told}
 
 -- the methods of the first so many items
 abbrev pub first_told : Program → List Item → ℕ → List MethodSeen
 first_told p xs i = flat_map (item_told p) (enumerate_from 0 (map item_tree (take i xs)))
-
-enumerate_push : {X : Type 0} (n : ℕ) (xs : List X) (x : X) → enumerate_from n (xs ++ x ∷ []) ≡ enumerate_from n xs ++ (n + length xs, x) ∷ []
-enumerate_push n [] x = ap (λ k. (k, x) ∷ []) (omega arith)
-enumerate_push n (y ∷ ys) x = ap (λ l. (n, y) ∷ l) (enumerate_push (n + 1) ys x ∙ ap (λ k. enumerate_from (n + 1) ys ++ (k, x) ∷ []) (omega arith))
 
 -- those of one more item
 pub items_more : (p : Program) (xs : List Item) (i : ℕ) (x : Item) → i < length xs → x ≡ get_or xs i x → first_told p xs (i + 1) ≡ first_told p xs i ++ item_told p (i, item_tree x)
@@ -57,14 +54,6 @@ told_many p n (i ∷ items) =
     length-append (map (method_told p n) methods) (flat_map (item_told p) (enumerate_from (n + 1) items))
     ∙ ap (λ k. k + length (flat_map (item_told p) (enumerate_from (n + 1) items))) (length-map methods (method_told p n))
     ∙ ap (λ k. length methods + k) (told_many p (n + 1) items) ∙ sym (length-append methods (all_methods items))
-
-nil_left : {X : Type 0} (a b : List X) → a ++ b ≡ [] → a ≡ []
-nil_left [] b none = refl
-nil_left (x ∷ a) b none = cc
-
-nil_right : {X : Type 0} (a b : List X) → a ++ b ≡ [] → b ≡ []
-nil_right [] b none = none
-nil_right (x ∷ a) b none = cc
 
 not_past : (most : ℕ) (names : List Span) → past_limit most names ≡ [] → length names ≤ most
 not_past most names none =

@@ -1,13 +1,14 @@
 -- What stood in scope before a statement stands in front behind it.
 use Rattle.std.proofs.Common.{◌≡◌, ℕ, Bool, true, false, List, [], ◌∷◌, ◌++◌, length, take, if◌then◌else◌, Option, Some, None, sym, refl, ap, ◌∙◌, append_assoc, append-nil}
 use Rattle.std.specs.Prelude.{is_some}
+use Rattle.std.proofs.lemmas.List.{take_at}
 use Rattle.source.specs.declared.place.Place.{Place}
-use Rattle.syntax.specs.StatementTrees as trees
-use Rattle.syntax.specs.StatementTrees.{StatementTree, StatementTrees, BlockTree, TestTree, OtherTrees, CaseTree, CaseTrees}
-use Rattle.syntax.specs.declared.statement as made
-use Rattle.syntax.specs.declared.tree as tree
+use Rattle.tree.specs.StatementTrees as trees
+use Rattle.tree.specs.StatementTrees.{StatementTree, StatementTrees, BlockTree, TestTree, OtherTrees, CaseTree, CaseTrees}
+use Rattle.tree.specs.declared.statement as made
+use Rattle.tree.specs.declared.contract as tree
 use Rattle.names.specs.Program.{Program}
-use Rattle.resolved.specs.declared.kind.Kind.{Kind}
+use Rattle.program.specs.declared.kind.Kind.{Kind}
 use Rattle.resolving.specs.Binds.{bind_declaration, bind_told, binds_told}
 use Rattle.resolving.specs.Locals.{Local, Frame, local_named, entered, declared, declared_as}
 use Rattle.resolving.specs.Plain.{declaration_of}
@@ -25,13 +26,9 @@ same_extends f g same = record { more = []; is = same ∙ sym (append-nil f.loca
 extends_then : (f g h : Frame) → Extends f g → Extends g h → Extends f h
 extends_then f g h first second = record { more = first.more ++ second.more; is = second.is ∙ ap (λ l. l ++ second.more) first.is ∙ append_assoc f.locals first.more second.more }
 
-take_front : {X : Type 0} (xs ys : List X) → take (length xs) (xs ++ ys) ≡ xs
-take_front [] ys = refl
-take_front (x ∷ xs) ys = ap (λ l. x ∷ l) (take_front xs ys)
-
 -- the first so many are those of the first
 pub kept : (f g : Frame) → Extends f g → take (length f.locals) g.locals ≡ f.locals
-kept f g extends = ap (take (length f.locals)) extends.is ∙ take_front f.locals extends.more
+kept f g extends = ap (take (length f.locals)) extends.is ∙ take_at f.locals extends.more _ refl
 
 one_more : (b : Bool) (ls : List Local) (l : Local) → (if b then ls else ls ++ l ∷ []) ≡ ls ++ (if b then [] else l ∷ [])
 one_more true ls l = sym (append-nil ls)

@@ -4,14 +4,15 @@ use Rattle.std.specs.List.{HoldsAt}
 use Rattle.std.specs.Prelude.{MatchOption, Option, None, Some, option_map, slice_get}
 use Rattle.std.proofs.lemmas.List.{length-map, take_all}
 use Rattle.std.proofs.lemmas.Option.{slice_get-map, slice_get_past, slice_get_read}
-use Rattle.syntax.specs.Trees.{contracts_of}
+use Rattle.tree.specs.Trees.{contracts_of}
 use Rattle.names.specs.Declarations.{messages_of, states_of}
 use Rattle.names.specs.Program.{Program}
-use Rattle.names.specs.Resolution.{contract_seen, each_behind, message_count, resolved_contract, resolved_contracts, state_count}
-use Rattle.names.specs.declared.resolved.Contract.{Contract}
-use Rattle.names.specs.declared.resolved.ContractId.{ContractId}
-use Rattle.resolved.specs.declared.kind.Kind.{Kind}
-use Rattle.resolved.specs.declared.kind.Kind.TheVariants.{Struct}
+use Rattle.program.specs.Parts.{contract_seen}
+use Rattle.names.specs.Resolution.{each_behind, message_count, resolved_contract, resolved_contracts, state_count}
+use Rattle.program.specs.declared.contract.Contract.{Contract}
+use Rattle.program.specs.declared.number.ContractId.{ContractId}
+use Rattle.program.specs.declared.kind.Kind.{Kind}
+use Rattle.program.specs.declared.kind.Kind.TheVariants.{Struct}
 use Rattle.resolving.specs.Around.{IsAround}
 use Rattle.resolving.specs.Counts.{contracts_before, structs_before}
 use Rattle.resolving.specs.Kinds.{contract_at, number_at}

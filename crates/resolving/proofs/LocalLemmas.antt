@@ -4,14 +4,15 @@ use Rattle.std.specs.Prelude.{Option, None, Some, is_some, option_map, option_an
 use Rattle.std.proofs.lemmas.List.{map-append, length-map}
 use Rattle.std.proofs.lemmas.List.Quantifiers.{position-Some}
 use Rattle.std.proofs.lemmas.Option.{slice_get-map, slice_get-get_or}
+use Rattle.lemmas.proofs.Options.{none_is}
 use Rattle.source.specs.declared.token.Span.{Span}
 use Rattle.names.specs.Firsts.{first_of}
 use Rattle.names.specs.Tables.{IsTable}
 use Rattle.names.specs.Words.{word_at, same_word}
 use Rattle.names.specs.declared.kinds.Kind.TheVariants.{Missing}
-use Rattle.resolved.specs.Methods.{variable_seen}
-use Rattle.resolved.specs.declared.kind.Kind.{Kind}
-use Rattle.resolved.specs.declared.method.VarId.{VarId}
+use Rattle.program.specs.Methods.{variable_seen}
+use Rattle.program.specs.declared.kind.Kind.{Kind}
+use Rattle.program.specs.declared.number.VarId.{VarId}
 use Rattle.resolving.specs.Frames.{AreApart, IsFrame, local_seen, number_seen, words_in}
 use Rattle.resolving.specs.Locals as model
 use Rattle.resolving.specs.Locals.{Frame, local_named, number_of, entered, counted, declared_heap}
@@ -42,10 +43,6 @@ some_there text locals name (Some k) is =
 -- a variable of a name is in scope where the name is among theirs
 is_named : (text : List ℕ) (locals : List model.Local) (name : Span) → is_some (local_named text locals name) ≡ is_some (first_of (words_in text locals) (word_at text name))
 is_named text locals name = some_there text locals name (first_of (words_in text locals) (word_at text name)) refl
-
-none_is : (o : Option ℕ) → is_some o ≡ false → o ≡ None
-none_is None h = refl
-none_is (Some n) h = cc
 
 abbrev entered_if : Bool → Declaration → Option ℕ → Frame → Frame
 entered_if taken d number f = scoped (if taken then f.locals else f.locals ++ here d number ∷ []) f.last f

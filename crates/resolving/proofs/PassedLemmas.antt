@@ -4,12 +4,12 @@ use Rattle.std.specs.Global.{Global}
 use Rattle.std.specs.Prelude.{Option, None, Some, option_map}
 use Rattle.std.proofs.lemmas.List.{drop_more, drop_all}
 use Rattle.source.specs.declared.place.Place.{Place}
-use Rattle.syntax.specs.StatementTrees.{StatementTree, BlockTree, CaseTree, IfTree, SwitchTree, TestTree, statement_tree, block_tree, case_tree, if_tree, switch_tree, test_tree, statement_row, other_row, last_other, statement_step, block_step, case_step, if_step, switch_step, test_step}
-use Rattle.syntax.specs.Trees.{MethodTree, method_tree, item_tree, definition_tree}
-use Rattle.syntax.specs.declared.class as made
-use Rattle.syntax.specs.declared.statement as stated
-use Rattle.syntax.specs.declared.statement.Statement.TheFolds as folds
-use Rattle.syntax.specs.declared.tree as tree
+use Rattle.tree.specs.StatementTrees.{StatementTree, BlockTree, CaseTree, IfTree, SwitchTree, TestTree, statement_tree, block_tree, case_tree, if_tree, switch_tree, test_tree, statement_row, other_row, last_other, statement_step, block_step, case_step, if_step, switch_step, test_step}
+use Rattle.tree.specs.Trees.{MethodTree, method_tree, item_tree, definition_tree}
+use Rattle.tree.specs.declared.class as made
+use Rattle.tree.specs.declared.statement as stated
+use Rattle.tree.specs.declared.statement.Statement.TheFolds as folds
+use Rattle.tree.specs.declared.item as tree
 use Rattle.names.specs.Methods.{methods_in}
 use Rattle.resolving.specs.Callees.{all_methods}
 use Rattle.resolving.specs.Methods.{not_yet}

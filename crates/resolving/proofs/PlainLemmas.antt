@@ -5,14 +5,14 @@ use Rattle.std.specs.Option.{option_map_or}
 use Rattle.std.specs.declared.alloc.AllocError.{AllocError}
 use Rattle.source.specs.declared.place.Place.{Place}
 use Rattle.source.specs.declared.token.Span.{Span}
-use Rattle.syntax.specs.Values.{ValueTree}
-use Rattle.syntax.specs.Expressions.{ExpressionTree}
-use Rattle.resolved.specs.Statements.{StatementSeen, CallSeen, statement_seen, call_seen}
-use Rattle.resolved.specs.declared.call.Call.{Call}
-use Rattle.resolved.specs.declared.method.VarId.{VarId}
-use Rattle.resolved.specs.declared.statement.Action.TheVariants.{Nothing, Return}
-use Rattle.resolved.specs.declared.statement.Mention.{Mention}
-use Rattle.resolved.specs.declared.statement.Statement.{Statement}
+use Rattle.tree.specs.Values.{ValueTree}
+use Rattle.tree.specs.Expressions.{ExpressionTree}
+use Rattle.program.specs.Statements.{StatementSeen, CallSeen, statement_seen, call_seen}
+use Rattle.program.specs.declared.call.Call.{Call}
+use Rattle.program.specs.declared.number.VarId.{VarId}
+use Rattle.program.specs.declared.statement.Action.TheVariants.{Nothing, Return}
+use Rattle.program.specs.declared.statement.Mention.{Mention}
+use Rattle.program.specs.declared.statement.Statement.{Statement}
 use Rattle.names.specs.Program.{Program}
 use Rattle.resolving.specs.Frames.{IsFrame}
 use Rattle.resolving.specs.Locals.{Frame, mention_of, number_of}

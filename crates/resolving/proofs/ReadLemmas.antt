@@ -1,11 +1,11 @@
 -- What the parts of an expression read, one after another.
 use Rattle.std.proofs.Common.{◌≡◌, ℕ, ◌+◌, ◌<◌, ◌≤◌, List, [], ◌∷◌, ◌++◌, length, map, take, get_or, sym, ap, ◌∙◌, append_assoc, append-nil}
 use Rattle.std.proofs.lemmas.List.{take_more, take_all, map-append}
-use Rattle.syntax.specs.Operators as levels
-use Rattle.syntax.specs.Operators.{Operators, below}
-use Rattle.syntax.specs.Expressions.{LevelTree, StepOf, Chain}
-use Rattle.syntax.specs.ExpressionTrees.{step_row}
-use Rattle.resolved.specs.declared.statement.Mention.{Mention}
+use Rattle.tree.specs.Operators as levels
+use Rattle.tree.specs.Operators.{Operators, below}
+use Rattle.tree.specs.Expressions.{LevelTree, StepOf, Chain}
+use Rattle.tree.specs.ExpressionTrees.{step_row}
+use Rattle.program.specs.declared.statement.Mention.{Mention}
 use Rattle.resolving.specs.Locals.{Local, Frame}
 use Rattle.resolving.specs.Reads.{reads, step_reads}
 use Rattle.resolving.specs.Steps.{AddsReads}

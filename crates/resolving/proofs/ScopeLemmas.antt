@@ -1,12 +1,11 @@
 -- Variables that go out of scope.
-use Rattle.std.proofs.Common.{◌≡◌, ℕ, zero, suc, ◌-◌, ◌<◌, ◌≤◌, List, [], ◌∷◌, ◌++◌, length, map, take, Option, None, sym, refl, ap, ◌∙◌, subst, arith, append_assoc, append-nil}
-use Rattle.std.proofs.Math.ListN.{length-append}
-use Rattle.std.proofs.Math.Seq.{take-append_seam}
-use Rattle.std.proofs.lemmas.List.{map-append, length-map}
+use Rattle.std.proofs.Common.{◌≡◌, ℕ, ◌-◌, ◌<◌, List, [], ◌∷◌, ◌++◌, length, map, take, Option, None, sym, ap, ◌∙◌, subst, arith, append_assoc, append-nil}
+use Rattle.std.proofs.lemmas.List.{map-append, length-map, take-take}
+use Rattle.lemmas.proofs.Lists.{front_of}
 use Rattle.names.specs.Firsts.{first_of}
 use Rattle.names.specs.Tables.{IsTable}
 use Rattle.names.specs.Words.{word_at, words_at}
-use Rattle.resolved.specs.Methods.{variable_seen}
+use Rattle.program.specs.Methods.{variable_seen}
 use Rattle.resolving.specs.Frames.{AreApart, IsFrame, local_seen, number_seen, words_in}
 use Rattle.resolving.specs.Locals as model
 use Rattle.resolving.specs.Locals.{Frame}
@@ -54,12 +53,6 @@ popped_to text f l m front x h is list last variables table =
       variables = ap (map variable_seen) variables ∙ h.variables;
     }
 
-front_of : {X : Type 0} (xs front : List X) (x : X) → xs ≡ front ++ x ∷ [] → take (length xs - 1) xs ≡ front
-front_of xs front x is =
-    let size = ap length is ∙ length-append front (x ∷ []) in
-    let n : length xs - 1 ≡ length front = omega (arith, size) in
-    ap (λ k. take k xs) n ∙ ap (take (length front)) is ∙ take-append_seam front (x ∷ [])
-
 -- the same, with the words as the code reads them
 pub frame_popped : (text : List ℕ) (f : Frame) (l m : Locals) (items : List Local) (x : Local) (word : List ℕ) → IsFrame text f l → l.list.items ≡ items ++ x ∷ [] → m.list.items ≡ items → m.last ≡ l.last → m.variables.items ≡ l.variables.items → word ≡ word_at text x.name
     → ((words : List (List ℕ)) → IsTable (words ++ word ∷ []) l.names → first_of words word ≡ None → IsTable words m.names)
@@ -69,12 +62,6 @@ frame_popped text f l m items x word h is list last variables at table =
     subst (λ k. IsFrame text (scoped k f.last f) m) (sym (front_of f.locals (map local_seen items) (local_seen x) split))
     (popped_to text f l m (map local_seen items) (local_seen x) h split (ap (map local_seen) list) last variables
     (subst (λ q. (words : List (List ℕ)) → IsTable (words ++ q ∷ []) l.names → first_of words q ≡ None → IsTable words m.names) at table))
-
-take_fewer : {X : Type 0} (m n : ℕ) (xs : List X) → m ≤ n → take m (take n xs) ≡ take m xs
-take_fewer zero n xs le = refl
-take_fewer (suc m) zero xs le = absurd (omega (arith, le))
-take_fewer (suc m) (suc n) [] le = refl
-take_fewer (suc m) (suc n) (x ∷ xs) le = ap (λ l. x ∷ l) (take_fewer m n xs (omega (arith, le)))
 
 -- of the variables in scope when a scope is left, so many are still there
 pub record Leaving (text : List ℕ) (outer : ℕ) (f : Frame) (l : Locals) : Type 0 where
@@ -91,6 +78,6 @@ leaves_more text outer f l m before fewer more h =
     let many = ap length (sym before.frame.list) ∙ length-map l.list.items local_seen in
     let last : length (take n f.locals) - 1 ≡ length m.list.items = omega (arith, many, fewer) in
     record {
-      frame = subst (λ k. IsFrame text (scoped k f.last f) m) (ap (λ i. take i (take n f.locals)) last ∙ take_fewer (length m.list.items) n f.locals (omega (arith, fewer))) h;
-      stays = take_fewer outer (length m.list.items) f.locals (omega (arith, fewer, more));
+      frame = subst (λ k. IsFrame text (scoped k f.last f) m) (ap (λ i. take i (take n f.locals)) last ∙ take-take (length m.list.items) n f.locals (omega (arith, fewer))) h;
+      stays = take-take outer (length m.list.items) f.locals (omega (arith, fewer, more));
     }

@@ -3,17 +3,17 @@ use Rattle.std.proofs.Common.{◌≡◌, Option, Some, None, Vec, map, sym, ap, 
 use Rattle.std.specs.Global.{Global}
 use Rattle.std.specs.Option.{option_map}
 use Rattle.source.specs.declared.place.Place.{Place}
-use Rattle.resolved.specs.Statements as seen
-use Rattle.resolved.specs.Statements.{StatementSeen, BlockSeen, CaseSeen, IfSeen, TestSeen, statement_seen, block_seen, case_seen, if_seen, test_seen, statement_step, block_step, case_step, if_step, test_step, statement_row, case_row, other_row}
-use Rattle.resolved.specs.declared.method.VarId.{VarId}
-use Rattle.resolved.specs.declared.statement as made
-use Rattle.resolved.specs.declared.statement.Awaited.{Awaited}
-use Rattle.resolved.specs.declared.statement.Forget.{Forget}
-use Rattle.resolved.specs.declared.statement.Mention.{Mention}
-use Rattle.resolved.specs.declared.statement.Ways.{Ways}
-use Rattle.resolved.specs.declared.statement.Statement.TheFolds as folds
-use Rattle.resolved.specs.declared.statement.Statement.TheOpen as layer
-use Rattle.resolved.specs.declared.statement.Statement.TheVariants as variants
+use Rattle.program.specs.Statements as seen
+use Rattle.program.specs.Statements.{StatementSeen, BlockSeen, CaseSeen, IfSeen, TestSeen, statement_seen, block_seen, case_seen, if_seen, test_seen, statement_step, block_step, case_step, if_step, test_step, statement_row, case_row, other_row}
+use Rattle.program.specs.declared.number.VarId.{VarId}
+use Rattle.program.specs.declared.statement as made
+use Rattle.program.specs.declared.statement.Awaited.{Awaited}
+use Rattle.program.specs.declared.statement.Forget.{Forget}
+use Rattle.program.specs.declared.statement.Mention.{Mention}
+use Rattle.program.specs.declared.statement.Ways.{Ways}
+use Rattle.program.specs.declared.statement.Statement.TheFolds as folds
+use Rattle.program.specs.declared.statement.Statement.TheOpen as layer
+use Rattle.program.specs.declared.statement.Statement.TheVariants as variants
 
 -- a block
 pub block_made : (statements : Vec made.Statement.Statement Global) (forget : Option Forget) → block_seen (made.Block.roll-Block (record { statements = statements; forget = forget })) ≡ seen.Braces (statement_row (map statement_seen statements.items)) forget

@@ -3,13 +3,13 @@ use Rattle.std.proofs.Common.{◌≡◌, ℕ, ◌+◌, ◌<◌, List, [], ◌∷
 use Rattle.std.proofs.lemmas.Grind.{flat_map-append}
 use Rattle.std.proofs.lemmas.List.{take_more, map-append}
 use Rattle.source.specs.declared.place.Place.{Place}
-use Rattle.syntax.specs.Expressions.{ExpressionTree}
-use Rattle.syntax.specs.ExpressionTrees.{expression_tree}
-use Rattle.syntax.specs.declared.expression.Expression.{Expression}
+use Rattle.tree.specs.Expressions.{ExpressionTree}
+use Rattle.tree.specs.ExpressionTrees.{expression_tree}
+use Rattle.tree.specs.declared.expression.Expression.{Expression}
 use Rattle.names.specs.Program.{Program}
-use Rattle.names.specs.declared.resolved.MessageId.{MessageId}
-use Rattle.resolved.specs.Statements.{SendSeen}
-use Rattle.resolved.specs.declared.statement.Mention.{Mention}
+use Rattle.program.specs.declared.number.MessageId.{MessageId}
+use Rattle.program.specs.Statements.{SendSeen}
+use Rattle.program.specs.declared.statement.Mention.{Mention}
 use Rattle.resolving.specs.Locals.{Frame}
 use Rattle.resolving.specs.Reads.{listed}
 use Rattle.resolving.specs.Plain.{lone, payloads}

@@ -3,16 +3,16 @@ use Rattle.std.proofs.Common.{◌≡◌, Option, Some, None, Vec, map, sym, ap, 
 use Rattle.std.specs.Global.{Global}
 use Rattle.std.specs.Option.{option_map}
 use Rattle.source.specs.declared.token.Span.{Span}
-use Rattle.syntax.specs.ExpressionTrees.{expression_tree}
-use Rattle.syntax.specs.Values.{call_tree}
-use Rattle.syntax.specs.StatementTrees as trees
-use Rattle.syntax.specs.StatementTrees.{StatementTree, BlockTree, CaseTree, IfTree, SwitchTree, TestTree, statement_tree, block_tree, case_tree, if_tree, switch_tree, test_tree, statement_step, block_step, case_step, if_step, switch_step, test_step, statement_row, case_row, other_row, declare_tree, assign_tree}
-use Rattle.syntax.specs.declared.expression.Expression.{Expression}
-use Rattle.syntax.specs.declared.value.Call.{Call}
-use Rattle.syntax.specs.declared.statement as made
-use Rattle.syntax.specs.declared.statement.Statement.TheOpen as layer
-use Rattle.syntax.specs.declared.statement.Statement.TheFolds as folds
-use Rattle.syntax.specs.declared.statement.Statement.TheVariants as variants
+use Rattle.tree.specs.ExpressionTrees.{expression_tree}
+use Rattle.tree.specs.Values.{call_tree}
+use Rattle.tree.specs.StatementTrees as trees
+use Rattle.tree.specs.StatementTrees.{StatementTree, BlockTree, CaseTree, IfTree, SwitchTree, TestTree, statement_tree, block_tree, case_tree, if_tree, switch_tree, test_tree, statement_step, block_step, case_step, if_step, switch_step, test_step, statement_row, case_row, other_row, declare_tree, assign_tree}
+use Rattle.tree.specs.declared.expression.Expression.{Expression}
+use Rattle.tree.specs.declared.value.Call.{Call}
+use Rattle.tree.specs.declared.statement as made
+use Rattle.tree.specs.declared.statement.Statement.TheOpen as layer
+use Rattle.tree.specs.declared.statement.Statement.TheFolds as folds
+use Rattle.tree.specs.declared.statement.Statement.TheVariants as variants
 
 -- a block
 pub block_is : (b : made.Block.Block) → block_tree b ≡ trees.Braces (statement_row (map statement_tree b.statements.items)) b.close

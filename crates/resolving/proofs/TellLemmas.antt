@@ -2,16 +2,16 @@
 use Rattle.std.proofs.Common.{◌≡◌, ℕ, List, map, sym, ap, ◌∙◌}
 use Rattle.std.specs.Prelude.{Bool, Option, is_some, option_map}
 use Rattle.source.specs.declared.place.Place.{Place}
-use Rattle.syntax.specs.StatementTrees.{BlockTree, statement_tree, statement_row}
-use Rattle.syntax.specs.Trees.{MethodTree, method_tree}
-use Rattle.syntax.specs.declared.class as made
+use Rattle.tree.specs.StatementTrees.{BlockTree, statement_tree, statement_row}
+use Rattle.tree.specs.Trees.{MethodTree, method_tree}
+use Rattle.tree.specs.declared.class as made
 use Rattle.names.specs.Program.{Program}
-use Rattle.resolved.specs.Methods.{MethodSeen, VariableSeen, method_seen, variable_seen}
-use Rattle.resolved.specs.Statements as seen
-use Rattle.resolved.specs.Statements.{StatementsSeen, statement_seen}
-use Rattle.resolved.specs.declared.kind.Kind.{Kind}
-use Rattle.resolved.specs.declared.method.Method.{Method}
-use Rattle.resolved.specs.declared.method.VarId.{VarId}
+use Rattle.program.specs.Methods.{MethodSeen, VariableSeen, method_seen, variable_seen}
+use Rattle.program.specs.Statements as seen
+use Rattle.program.specs.Statements.{StatementsSeen, statement_seen}
+use Rattle.program.specs.declared.kind.Kind.{Kind}
+use Rattle.program.specs.declared.method.Method.{Method}
+use Rattle.program.specs.declared.number.VarId.{VarId}
 use Rattle.resolving.specs.Frames.{IsFrame}
 use Rattle.resolving.specs.Kinds.{result_held}
 use Rattle.resolving.specs.Locals.{Frame, number_of}

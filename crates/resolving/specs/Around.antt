@@ -1,8 +1,9 @@
 -- What stands round a statement, as the code has it.
 use Rattle.std.specs.Prelude.{◌≡◌, ◌≤◌, ℕ, List, map, length}
-use Rattle.syntax.specs.Trees.{ItemTree, contracts_of, item_tree, message_tree, method_tree}
+use Rattle.tree.specs.Trees.{ItemTree, contracts_of, item_tree, message_tree, method_tree}
 use Rattle.names.specs.Program.{Program}
-use Rattle.names.specs.Resolution.{contract_seen, resolved_contracts}
+use Rattle.program.specs.Parts.{contract_seen}
+use Rattle.names.specs.Resolution.{resolved_contracts}
 use Rattle.names.specs.Scopes.{IsScope}
 use Rattle.names.specs.declared.limits.TheConstants.{MOST_METHODS}
 use Rattle.resolving.specs.Callees as model

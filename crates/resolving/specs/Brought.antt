@@ -1,12 +1,11 @@
 -- What messages bring: a block for each of their parameters that are of the exchange heap.
 use Rattle.std.specs.Prelude.{List, [], ◌∷◌, map, Option, None, Some}
-use Rattle.std.specs.Global.{Vec}
 use Rattle.std.specs.List.{flat_map}
-use Rattle.syntax.specs.Trees.{MessageTree, contracts_of}
-use Rattle.syntax.specs.declared.tree.Param.{Param}
+use Rattle.tree.specs.Trees.{MessageTree, contracts_of}
+use Rattle.tree.specs.declared.contract.Param.{Param}
 use Rattle.names.specs.Declarations.{messages_of}
 use Rattle.names.specs.Program.{Program}
-use Rattle.resolved.specs.declared.kind.Kind.{Kind}
+use Rattle.program.specs.declared.kind.Kind.{Kind}
 use Rattle.resolving.specs.Kinds.{type_held}
 
 abbrev pub held_listed : Option Kind → List Kind
@@ -23,7 +22,3 @@ brought p m = params_held p m.params
 -- what each message of a program brings; the number of a message is its place among these
 abbrev pub messages_told : Program → List (List Kind)
 messages_told p = map (brought p) (flat_map messages_of (contracts_of p.items))
-
--- what each message brings, as the code has it
-abbrev pub rows : List (Vec Kind) → List (List Kind)
-rows told = map (λ kinds. kinds.items) told

@@ -2,8 +2,8 @@
 use Rattle.std.specs.Prelude.{ℕ, ◌+◌, List, map, length, take, Option, None, Some, option_map, option_and_then, slice_get}
 use Rattle.std.specs.List.{flat_map}
 use Rattle.source.specs.declared.token.Span.{Span}
-use Rattle.syntax.specs.Trees.{ItemTree, MethodTree}
-use Rattle.syntax.specs.Values.{CallTree}
+use Rattle.tree.specs.Trees.{ItemTree, MethodTree}
+use Rattle.tree.specs.Values.{CallTree}
 use Rattle.names.specs.Declarations.{first_among}
 use Rattle.names.specs.Methods.{methods_in}
 use Rattle.names.specs.Program.{Program, as_class, class_named, item_at}

@@ -3,8 +3,8 @@ use Rattle.std.specs.Prelude.{◌≡◌, ℕ, List, [], ◌∷◌, ◌++◌, map
 use Rattle.names.specs.Firsts.{first_of}
 use Rattle.names.specs.Tables.{IsTable}
 use Rattle.names.specs.Words.{words_at}
-use Rattle.resolved.specs.Methods.{variable_seen}
-use Rattle.resolved.specs.declared.method.VarId.{VarId}
+use Rattle.program.specs.Methods.{variable_seen}
+use Rattle.program.specs.declared.number.VarId.{VarId}
 use Rattle.resolving.specs.Locals as model
 use Rattle.resolving.specs.Locals.{Frame}
 use Rattle.resolving.specs.declared.locals.Local.{Local}

@@ -2,21 +2,23 @@
 use Rattle.std.specs.Prelude.{ℕ, Option, None, Some, option_map, option_and_then, slice_get}
 use Rattle.std.specs.Option.{option_map_or}
 use Rattle.source.specs.declared.token.Span.{Span}
-use Rattle.syntax.specs.Trees.{contracts_of}
-use Rattle.syntax.specs.declared.tree as tree
-use Rattle.syntax.specs.declared.tree.Heap.TheVariants as heap
-use Rattle.syntax.specs.declared.tree.Side.{Side}
-use Rattle.syntax.specs.declared.tree.Type.TheVariants as type
+use Rattle.tree.specs.Trees.{contracts_of}
+use Rattle.tree.specs.declared.types as type_nodes
+use Rattle.program.specs.declared.kind as kind_nodes
+use Rattle.tree.specs.declared.types.Heap.TheVariants as heap
+use Rattle.program.specs.declared.kind.Side.{Side}
+use Rattle.tree.specs.declared.types.Type.TheVariants as type
 use Rattle.names.specs.Kinds.{type_kind}
 use Rattle.names.specs.Places.{contract_place, state_place}
 use Rattle.names.specs.Program.{Program}
-use Rattle.names.specs.Resolution.{ContractSeen, resolved_contracts}
+use Rattle.program.specs.Parts.{ContractSeen}
+use Rattle.names.specs.Resolution.{resolved_contracts}
 use Rattle.names.specs.declared.kinds as names
 use Rattle.names.specs.declared.kinds.Kind.TheVariants as name
-use Rattle.names.specs.declared.resolved.ContractId.{ContractId}
-use Rattle.names.specs.declared.resolved.StateId.{StateId}
-use Rattle.resolved.specs.declared.kind.Kind.{Kind}
-use Rattle.resolved.specs.declared.kind.Kind.TheVariants.{Struct, Array, Endpoint}
+use Rattle.program.specs.declared.number.ContractId.{ContractId}
+use Rattle.program.specs.declared.number.StateId.{StateId}
+use Rattle.program.specs.declared.kind.Kind.{Kind}
+use Rattle.program.specs.declared.kind.Kind.TheVariants.{Struct, Array, Endpoint}
 use Rattle.resolving.specs.Counts.{contracts_before, structs_before}
 
 -- the contract that is the item at this place, with its names resolved
@@ -54,14 +56,14 @@ kind_held p name.Missing state = None
 kind_held p name.Unknown state = None
 
 -- the state that a type names
-abbrev pub state_in : tree.Type.Type → Option Span
+abbrev pub state_in : type_nodes.Type.Type → Option Span
 state_in (type.Heap (heap.Endpoint contract side state bang in_heap)) = state
 state_in _ = None
 
 -- what a variable of this type holds
-abbrev pub type_held : Program → tree.Type.Type → Option Kind
+abbrev pub type_held : Program → type_nodes.Type.Type → Option Kind
 type_held p t = kind_held p (type_kind p t) (state_in t)
 
 -- what a method gives, where it is of the exchange heap
-abbrev pub result_held : Program → Option tree.Type.Type → Option Kind
+abbrev pub result_held : Program → Option type_nodes.Type.Type → Option Kind
 result_held p t = option_and_then (type_held p) t

@@ -5,11 +5,11 @@ use Rattle.source.specs.declared.token.Span.{Span}
 use Rattle.names.specs.Declarations.{first_among}
 use Rattle.names.specs.Words.{word_at}
 use Rattle.names.specs.declared.kinds as names
-use Rattle.resolved.specs.Methods.{VariableSeen}
-use Rattle.resolved.specs.declared.kind.Kind.{Kind}
-use Rattle.resolved.specs.declared.method.VarId.{VarId}
-use Rattle.resolved.specs.declared.statement.Forget.{Forget}
-use Rattle.resolved.specs.declared.statement.Mention.{Mention}
+use Rattle.program.specs.Methods.{VariableSeen}
+use Rattle.program.specs.declared.kind.Kind.{Kind}
+use Rattle.program.specs.declared.number.VarId.{VarId}
+use Rattle.program.specs.declared.statement.Forget.{Forget}
+use Rattle.program.specs.declared.statement.Mention.{Mention}
 use Rattle.resolving.specs.declared.locals.Declaration.{Declaration}
 
 -- a variable in scope: its name, its kind, and its number where it is one of the exchange heap

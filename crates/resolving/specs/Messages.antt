@@ -1,13 +1,13 @@
 -- The messages that names mean, and their numbers.
 use Rattle.std.specs.Prelude.{ℕ, List, Option, None, Some, option_map, option_and_then, slice_get}
 use Rattle.source.specs.declared.token.Span.{Span}
-use Rattle.syntax.specs.Trees.{MessageTree}
+use Rattle.tree.specs.Trees.{MessageTree}
 use Rattle.names.specs.Places.{message_at, message_place, sent_place}
 use Rattle.names.specs.Program.{Program}
 use Rattle.names.specs.Words.{word_at}
 use Rattle.names.specs.declared.kinds as names
 use Rattle.names.specs.declared.kinds.Kind.TheVariants as name
-use Rattle.names.specs.declared.resolved.MessageId.{MessageId}
+use Rattle.program.specs.declared.number.MessageId.{MessageId}
 use Rattle.resolving.specs.Kinds.{contract_at}
 use Rattle.resolving.specs.Locals.{Local, local_named}
 

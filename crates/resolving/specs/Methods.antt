@@ -2,17 +2,17 @@
 use Rattle.std.specs.Prelude.{ℕ, List, [], ◌∷◌, map, if◌then◌else◌, Option, None, is_some, option_map}
 use Rattle.std.specs.List.{enumerate_from, flat_map}
 use Rattle.source.specs.declared.place.Place.{Place}
-use Rattle.syntax.specs.StatementTrees as stated
-use Rattle.syntax.specs.StatementTrees.{BlockTree}
-use Rattle.syntax.specs.Trees.{ItemTree, MethodTree}
-use Rattle.syntax.specs.declared.class as made
+use Rattle.tree.specs.StatementTrees as stated
+use Rattle.tree.specs.StatementTrees.{BlockTree}
+use Rattle.tree.specs.Trees.{ItemTree, MethodTree}
+use Rattle.tree.specs.declared.class as made
 use Rattle.names.specs.Kinds.{type_kind}
 use Rattle.names.specs.Methods.{methods_in}
 use Rattle.names.specs.Program.{Program}
-use Rattle.resolved.specs.Methods.{MethodSeen}
-use Rattle.resolved.specs.Statements.{StatementsSeen}
-use Rattle.resolved.specs.declared.method.Role.{Role}
-use Rattle.resolved.specs.declared.method.Role.TheVariants.{Lent, Claimed}
+use Rattle.program.specs.Methods.{MethodSeen}
+use Rattle.program.specs.Statements.{StatementsSeen}
+use Rattle.program.specs.declared.method.Role.{Role}
+use Rattle.program.specs.declared.method.Role.TheVariants.{Lent, Claimed}
 use Rattle.resolving.specs.Callees.{all_methods}
 use Rattle.resolving.specs.Locals.{Frame, declared, number_of}
 use Rattle.resolving.specs.Kinds.{type_held, result_held}

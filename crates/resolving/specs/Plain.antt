@@ -4,24 +4,24 @@ use Rattle.std.specs.List.{flat_map}
 use Rattle.std.specs.Option.{option_map_or}
 use Rattle.source.specs.declared.place.Place.{Place}
 use Rattle.source.specs.declared.token.Span.{Span}
-use Rattle.syntax.specs.Expressions as trees
-use Rattle.syntax.specs.Expressions.{TargetTree, ExpressionTree}
-use Rattle.syntax.specs.StatementTrees as stated
-use Rattle.syntax.specs.StatementTrees.{StatementTree, StatementTrees, BlockTree, TestTree, OtherTrees, DeclareTree, CaseTree, CaseTrees}
-use Rattle.syntax.specs.Values as values
-use Rattle.syntax.specs.Values.{ValueTree, CallTree, MadeTree}
-use Rattle.syntax.specs.declared.class as declared_class
-use Rattle.syntax.specs.declared.statement as statement
+use Rattle.tree.specs.Expressions as trees
+use Rattle.tree.specs.Expressions.{TargetTree, ExpressionTree}
+use Rattle.tree.specs.StatementTrees as stated
+use Rattle.tree.specs.StatementTrees.{StatementTree, StatementTrees, BlockTree, TestTree, OtherTrees, DeclareTree, CaseTree, CaseTrees}
+use Rattle.tree.specs.Values as values
+use Rattle.tree.specs.Values.{ValueTree, CallTree, MadeTree}
+use Rattle.tree.specs.declared.class as declared_class
+use Rattle.tree.specs.declared.statement as statement
 use Rattle.names.specs.Kinds.{type_kind}
 use Rattle.names.specs.Program.{Program}
-use Rattle.names.specs.declared.resolved.ContractId.{ContractId}
-use Rattle.resolved.specs.Statements as seen
-use Rattle.resolved.specs.Statements.{CallSeen, SendSeen, StatementSeen, StatementsSeen, BlockSeen, TestSeen, OthersSeen, CaseSeen, CasesSeen}
-use Rattle.resolved.specs.declared.call.Argument.{Argument}
-use Rattle.resolved.specs.declared.method.Role.TheVariants.{Local}
-use Rattle.resolved.specs.declared.statement.Action.{Action}
-use Rattle.resolved.specs.declared.statement.Action.TheVariants.{Nothing, Use, New, Move, Delete, NewChannel, Return}
-use Rattle.resolved.specs.declared.statement.Mention.{Mention}
+use Rattle.program.specs.declared.number.ContractId.{ContractId}
+use Rattle.program.specs.Statements as seen
+use Rattle.program.specs.Statements.{CallSeen, SendSeen, StatementSeen, StatementsSeen, BlockSeen, TestSeen, OthersSeen, CaseSeen, CasesSeen}
+use Rattle.program.specs.declared.call.Argument.{Argument}
+use Rattle.program.specs.declared.method.Role.TheVariants.{Local}
+use Rattle.program.specs.declared.statement.Action.{Action}
+use Rattle.program.specs.declared.statement.Action.TheVariants.{Nothing, Use, New, Move, Delete, NewChannel, Return}
+use Rattle.program.specs.declared.statement.Mention.{Mention}
 use Rattle.resolving.specs.Locals.{Frame, mention, mention_of, declared, next_number, number_of}
 use Rattle.resolving.specs.Callees.{Callee, callee, called_name}
 use Rattle.resolving.specs.Kinds.{contract_named, type_held}

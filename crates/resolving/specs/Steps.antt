@@ -1,11 +1,11 @@
 -- What a step of the walk adds, and what it makes, whatever variables are in scope.
 use Rattle.std.specs.Prelude.{◌≡◌, ℕ, List, [], ◌∷◌, ◌++◌, Option, option_map}
-use Rattle.resolved.specs.Statements.{CallSeen, SendSeen, StatementSeen, call_seen, send_seen, statement_seen}
-use Rattle.resolved.specs.declared.statement.Mention.{Mention}
-use Rattle.resolved.specs.declared.statement.Statement.{Statement}
-use Rattle.resolved.specs.declared.call.Call.{Call}
-use Rattle.resolved.specs.declared.call.Send.{Send}
-use Rattle.resolved.specs.declared.method.VarId.{VarId}
+use Rattle.program.specs.Statements.{CallSeen, SendSeen, StatementSeen, call_seen, send_seen, statement_seen}
+use Rattle.program.specs.declared.statement.Mention.{Mention}
+use Rattle.program.specs.declared.statement.Statement.{Statement}
+use Rattle.program.specs.declared.call.Call.{Call}
+use Rattle.program.specs.declared.call.Send.{Send}
+use Rattle.program.specs.declared.number.VarId.{VarId}
 use Rattle.resolving.specs.Frames.{IsFrame}
 use Rattle.resolving.specs.Locals.{Frame}
 use Rattle.resolving.specs.Told.{Told, follow}

@@ -3,21 +3,21 @@ use Rattle.std.specs.Prelude.{ℕ, List, [], Option, None, option_and_then, opti
 use Rattle.std.specs.Option.{option_map_or}
 use Rattle.source.specs.declared.place.Place.{Place}
 use Rattle.source.specs.declared.token.Span.{Span}
-use Rattle.syntax.specs.StatementTrees as stated
-use Rattle.syntax.specs.StatementTrees.{StatementTree, StatementTrees, BlockTree, TestTree, OtherTrees, DeclareTree, CaseTree, CaseTrees}
-use Rattle.syntax.specs.declared.statement as statement
-use Rattle.syntax.specs.declared.statement.Awaited.TheVariants as waits
-use Rattle.syntax.specs.declared.tree as tree
+use Rattle.tree.specs.StatementTrees as stated
+use Rattle.tree.specs.StatementTrees.{StatementTree, StatementTrees, BlockTree, TestTree, OtherTrees, DeclareTree, CaseTree, CaseTrees}
+use Rattle.tree.specs.declared.statement as statement
+use Rattle.tree.specs.declared.statement.Awaited.TheVariants as waits
+use Rattle.tree.specs.declared.contract as tree
 use Rattle.names.specs.Cases.{bound_params}
 use Rattle.names.specs.Program.{Program}
-use Rattle.names.specs.declared.resolved.MessageId.{MessageId}
-use Rattle.resolved.specs.Statements as seen
-use Rattle.resolved.specs.Statements.{CallSeen, SendSeen, StatementSeen, StatementsSeen, BlockSeen, TestSeen, OthersSeen, CaseSeen, CasesSeen}
-use Rattle.resolved.specs.declared.statement.Action.TheVariants.{Break, Continue}
-use Rattle.resolved.specs.declared.statement.Awaited.{Awaited}
-use Rattle.resolved.specs.declared.statement.Awaited.TheVariants.{Message, Closed}
-use Rattle.resolved.specs.declared.statement.Forget.{Forget}
-use Rattle.resolved.specs.declared.statement.Mention.{Mention}
+use Rattle.program.specs.declared.number.MessageId.{MessageId}
+use Rattle.program.specs.Statements as seen
+use Rattle.program.specs.Statements.{CallSeen, SendSeen, StatementSeen, StatementsSeen, BlockSeen, TestSeen, OthersSeen, CaseSeen, CasesSeen}
+use Rattle.program.specs.declared.statement.Action.TheVariants.{Break, Continue}
+use Rattle.program.specs.declared.statement.Awaited.{Awaited}
+use Rattle.program.specs.declared.statement.Awaited.TheVariants.{Message, Closed}
+use Rattle.program.specs.declared.statement.Forget.{Forget}
+use Rattle.program.specs.declared.statement.Mention.{Mention}
 use Rattle.resolving.specs.Locals.{Frame, mention, mention_of, closed, forget}
 use Rattle.resolving.specs.Binds.{binds_told}
 use Rattle.resolving.specs.Messages.{Meant, message_named, end_contract}

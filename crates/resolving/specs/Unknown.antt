@@ -2,13 +2,13 @@
 -- declaration of its endpoint, so it is never the first.
 use Rattle.std.specs.Prelude.{List, [], ◌∷◌, Option, Some, None}
 use Rattle.source.specs.declared.place.Place.{Place}
-use Rattle.syntax.specs.StatementTrees as stated
-use Rattle.syntax.specs.StatementTrees.{StatementTree, StatementTrees, BlockTree, TestTree, OtherTrees}
-use Rattle.syntax.specs.Trees.{MethodTree}
-use Rattle.syntax.specs.declared.class as made
-use Rattle.syntax.specs.declared.tree as tree
-use Rattle.syntax.specs.declared.tree.Heap.TheVariants as heap
-use Rattle.syntax.specs.declared.tree.Type.TheVariants as type
+use Rattle.tree.specs.StatementTrees as stated
+use Rattle.tree.specs.StatementTrees.{StatementTree, StatementTrees, BlockTree, TestTree, OtherTrees}
+use Rattle.tree.specs.Trees.{MethodTree}
+use Rattle.tree.specs.declared.class as made
+use Rattle.tree.specs.declared.types as tree
+use Rattle.tree.specs.declared.types.Heap.TheVariants as heap
+use Rattle.tree.specs.declared.types.Type.TheVariants as type
 
 abbrev pub or_else : Option Place → Option Place → Option Place
 or_else None other = other

@@ -1,13 +1,13 @@
 //! Expressions that are an atom and nothing more.
 
 ghost use Rattle.std.specs.Prelude.{◌≡◌, Some, option_map};
-ghost use Rattle.syntax.specs.Expressions as trees;
-ghost use Rattle.syntax.specs.ExpressionTrees.{expression_tree, conjunction_tree, equality_tree, relation_tree, sum_tree, term_tree, unary_tree, atom_tree, target_tree};
+ghost use Rattle.tree.specs.Expressions as trees;
+ghost use Rattle.tree.specs.ExpressionTrees.{expression_tree, conjunction_tree, equality_tree, relation_tree, sum_tree, term_tree, unary_tree, atom_tree, target_tree};
 ghost use Rattle.resolving.specs.Reads.{lone_atom, atom_name, lone_name, atom_ways, ways};
 
-use resolved::Ways;
+use program::Ways;
 use source::Span;
-use syntax::{Atom, Conjunction, Equality, Expression, Relation, Sum, Target, Term, Unary};
+use tree::{Atom, Conjunction, Equality, Expression, Relation, Sum, Target, Term, Unary};
 
 /// The name, if an expression is one and nothing more.
 pub(crate) fn name_alone(expression: &Expression) -> Option<Span>

@@ -1,14 +1,15 @@
 //! What stands round a statement.
 
 ghost use Rattle.std.specs.Prelude.{◌≡◌, ◌≤◌, ◌<◌, ◌^◌, length, map};
-ghost use Rattle.syntax.specs.Trees.{item_tree};
+ghost use Rattle.tree.specs.Trees.{item_tree};
 ghost use Rattle.names.specs.declared.limits.TheConstants.{MOST_METHODS};
 ghost use Rattle.resolving.specs.Callees.{all_methods};
 ghost use Rattle.resolving.specs.Counts.{counts};
 
 use crate::counts::Before;
-use names::{Resolved, Scope};
-use syntax::Item;
+use names::Scope;
+use program::Resolved;
+use tree::Item;
 
 /// The items of the program, their names, its contracts with their names resolved, what stands before each item in the text, and
 /// the place of the class that the statement stands in. There are so few methods and contracts that their numbers fit.

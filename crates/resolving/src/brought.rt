@@ -2,17 +2,18 @@
 
 ghost use Rattle.std.specs.Prelude.{◌≡◌, ℕ, ◌++◌, IfOk, OnOk, map};
 ghost use Rattle.std.specs.List.{flat_map};
-ghost use Rattle.syntax.specs.Trees.{contract_of, definition_tree, member_tree, message_tree};
+ghost use Rattle.tree.specs.Trees.{contract_of, definition_tree, member_tree, message_tree};
 ghost use Rattle.names.specs.Declarations.{message_among, messages_of};
 ghost use Rattle.names.specs.Program.{Program};
 ghost use Rattle.resolving.specs.Around.{IsAround};
-ghost use Rattle.resolving.specs.Brought.{brought, params_held, rows};
+ghost use Rattle.resolving.specs.Brought.{brought, params_held};
+ghost use Rattle.program.specs.Programs.{rows};
 
 use crate::around::Around;
 use crate::kinds::type_held;
-use resolved::Kind;
+use program::Kind;
 use std::alloc::{AllocError, Global};
-use syntax::{Definition, Member, Message, Param};
+use tree::{Definition, Member, Message, Param};
 
 /// What stands for the parameters of the exchange heap among these, in order.
 fn params_held(

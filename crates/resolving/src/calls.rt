@@ -1,10 +1,10 @@
 //! What calls come to.
 
 ghost use Rattle.std.specs.Prelude.{◌≡◌, ◌++◌, ℕ, List, None, IfOk, OnOk, map, option_map};
-ghost use Rattle.syntax.specs.ExpressionTrees.{expression_tree};
-ghost use Rattle.syntax.specs.Trees.{ItemTree};
-ghost use Rattle.syntax.specs.Values.{call_tree};
-ghost use Rattle.resolved.specs.Statements.{call_seen};
+ghost use Rattle.tree.specs.ExpressionTrees.{expression_tree};
+ghost use Rattle.tree.specs.Trees.{ItemTree};
+ghost use Rattle.tree.specs.Values.{call_tree};
+ghost use Rattle.program.specs.Statements.{call_seen};
 ghost use Rattle.resolving.specs.Around.{IsAround, callee_seen, program_in};
 ghost use Rattle.resolving.specs.Callees as model;
 ghost use Rattle.resolving.specs.Callees.{method_at, method_of, member_callee, called_name};
@@ -20,10 +20,10 @@ use crate::locals::Locals;
 use crate::methods::methods_of;
 use crate::reads::add_reads;
 use crate::values::{alone, unread};
-use resolved::{Action, Argument, Call, Mention, MethodId, Statement};
+use program::{Action, Argument, Call, Mention, MethodId, Statement};
 use source::{Span, Tokens};
 use std::alloc::{AllocError, Global};
-use syntax::{Expression, Method, Parameter};
+use tree::{Expression, Method, Parameter};
 
 /// A method, and its number.
 #[derive(Clone, Copy)]
@@ -85,7 +85,7 @@ fn callee_of<'a>(
     tokens: &Tokens,
     around: &Around<'_, 'a>,
     locals: &Locals<'_>,
-    call: &syntax::Call,
+    call: &tree::Call,
 ) -> Option<Callee<'a>>
     ensures { (items : List ItemTree) (own : ℕ) (f : Frame) → IsAround (program_in tokens.now.text.items items) own around.now → IsFrame tokens.now.text.items f locals.now → option_map callee_seen result ≡ model.callee (program_in tokens.now.text.items items) own f.locals (call_tree call.now) }
 {
@@ -96,7 +96,7 @@ fn callee_of<'a>(
 }
 
 /// Where the name of the method stands.
-fn called_name(call: &syntax::Call) -> Span
+fn called_name(call: &tree::Call) -> Span
     ensures { result ≡ called_name call.now.name call.now.member }
 {
     match call.member {
@@ -158,7 +158,7 @@ fn call_of(
     alloc: Global,
     tokens: &Tokens,
     locals: &Locals<'_>,
-    call: &syntax::Call,
+    call: &tree::Call,
     callee: Callee<'_>,
     target: Option<Mention>,
     behind: Vec<Mention>,
@@ -190,7 +190,7 @@ fn tell_called(
     tokens: &Tokens,
     around: &Around<'_, '_>,
     locals: &Locals<'_>,
-    call: &syntax::Call,
+    call: &tree::Call,
     target: Option<Mention>,
     behind: Vec<Mention>,
 ) -> Result<Option<Call>, AllocError>
@@ -211,7 +211,7 @@ pub(crate) fn tell_call(
     tokens: &Tokens,
     around: &Around<'_, '_>,
     locals: &Locals<'_>,
-    call: &syntax::Call,
+    call: &tree::Call,
     target: Option<Mention>,
     behind: Vec<Mention>,
 ) -> Result<Statement, AllocError>
@@ -229,7 +229,7 @@ pub(crate) fn tell_start(
     tokens: &Tokens,
     around: &Around<'_, '_>,
     locals: &Locals<'_>,
-    call: &syntax::Call,
+    call: &tree::Call,
 ) -> Result<Statement, AllocError>
     ensures { (items : List ItemTree) (own : ℕ) → IsAround (program_in tokens.now.text.items items) own around.now → IfOk result (Tells tokens.now.text.items locals.now (λ f. told.started (program_in tokens.now.text.items items) own f (call_tree call.now))) }
 {

@@ -1,7 +1,7 @@
 //! The heads of cases: what they wait for, and what they bind.
 
 ghost use Rattle.std.specs.Prelude.{◌≡◌, ◌++◌, ℕ, List, IfOk, OnOk, option_map, slice_get};
-ghost use Rattle.syntax.specs.Trees.{ItemTree};
+ghost use Rattle.tree.specs.Trees.{ItemTree};
 ghost use Rattle.names.specs.Cases.{brought_kind};
 ghost use Rattle.names.specs.Program.{Program};
 ghost use Rattle.resolving.specs.Around.{IsAround, meant_seen, program_in};
@@ -15,11 +15,10 @@ use crate::around::Around;
 use crate::kinds::{kind_held, type_held};
 use crate::locals::{Declaration, Locals};
 use crate::messages::{Meant, message_named};
-use names::MessageId;
-use resolved::{Awaited, Mention, Role, VarId};
+use program::{Awaited, Mention, MessageId, Role, VarId};
 use source::{Span, Tokens};
 use std::alloc::{AllocError, Global};
-use syntax::{Bind, Param};
+use tree::{Bind, Param};
 
 /// The endpoint of a case.
 pub(crate) fn case_endpoint(tokens: &Tokens, locals: &Locals<'_>, name: Span) -> Mention
@@ -40,11 +39,11 @@ pub(crate) fn awaited_message<'a>(
     around: &Around<'_, 'a>,
     locals: &Locals<'_>,
     name: Span,
-    awaited: syntax::Awaited,
+    awaited: tree::Awaited,
 ) -> Option<Meant<'a>>
     ensures { (items : List ItemTree) (own : ℕ) (f : Frame) → IsAround (program_in tokens.now.text.items items) own around.now → IsFrame tokens.now.text.items f locals.now → option_map meant_seen result ≡ told.awaited_message (program_in tokens.now.text.items items) f name awaited }
 {
-    let syntax::Awaited::Message(word) = awaited else {
+    let tree::Awaited::Message(word) = awaited else {
         return None;
     };
     let contract = locals.contract(tokens, name)?;
@@ -52,12 +51,12 @@ pub(crate) fn awaited_message<'a>(
 }
 
 /// What a case waits for, with the number of its message.
-pub(crate) fn awaited_as(awaited: syntax::Awaited, meant: Option<Meant<'_>>) -> Awaited
+pub(crate) fn awaited_as(awaited: tree::Awaited, meant: Option<Meant<'_>>) -> Awaited
     ensures { result ≡ told.awaited_as awaited (option_map meant_seen meant.entry) }
 {
     match awaited {
-        syntax::Awaited::Message(_) => Awaited::Message(number_of(meant)),
-        syntax::Awaited::Closed(_) => Awaited::Closed,
+        tree::Awaited::Message(_) => Awaited::Message(number_of(meant)),
+        tree::Awaited::Closed(_) => Awaited::Closed,
     }
 }
 

@@ -1,17 +1,17 @@
 //! What stands before the items of a text.
 
 ghost use Rattle.std.specs.Prelude.{◌≡◌, ◌≤◌, IfOk, length, map};
-ghost use Rattle.syntax.specs.Trees.{contract_of, definition_tree, item_tree};
+ghost use Rattle.tree.specs.Trees.{contract_of, definition_tree, item_tree};
 ghost use Rattle.names.specs.declared.limits.TheConstants.{MOST_METHODS};
 ghost use Rattle.resolving.specs.Callees.{all_methods};
 ghost use Rattle.resolving.specs.Counts.{counts, struct_among};
 
 use crate::methods::methods_of;
 use std::alloc::{AllocError, Global};
-use syntax::{Definition, Item};
+use tree::{Definition, Item};
 
 /// How many methods, contracts and structs stand before an item in the text.
-#[derive(Clone, Copy, Debug)]
+#[derive(Clone, Copy)]
 pub(crate) struct Before {
     pub(crate) methods: usize,
     pub(crate) contracts: usize,

@@ -2,16 +2,15 @@
 
 ghost use Rattle.std.specs.Prelude.{◌≡◌, ℕ, None, option_map};
 ghost use Rattle.names.specs.Program.{Program};
-ghost use Rattle.names.specs.Resolution.{contract_seen};
+ghost use Rattle.program.specs.Parts.{contract_seen};
 ghost use Rattle.names.specs.declared.kinds.Kind.TheVariants.{Pointer};
 ghost use Rattle.resolving.specs.Around.{IsAround};
 ghost use Rattle.resolving.specs.Kinds as model;
 
 use crate::around::Around;
-use names::{Contract, ContractId, StateId};
-use resolved::{Kind, StructId};
+use program::{Contract, ContractId, Kind, Side, StateId, StructId};
 use source::Span;
-use syntax::{Heap, Side, Type};
+use tree::{Heap, Type};
 
 /// The contract that is the item at this place.
 pub(crate) fn contract_at<'s>(around: &Around<'s, '_>, place: usize) -> Option<&'s Contract>

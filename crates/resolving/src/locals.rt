@@ -1,8 +1,8 @@
 //! The variables in scope, and the numbers of those of the exchange heap.
 
 ghost use Rattle.std.specs.Prelude.{◌≡◌, ◌-◌, ℕ, List, length, map, take, OnOk, is_some, option_map};
-ghost use Rattle.syntax.specs.Trees.{ItemTree};
-ghost use Rattle.resolved.specs.Methods.{variable_seen};
+ghost use Rattle.tree.specs.Trees.{ItemTree};
+ghost use Rattle.program.specs.Methods.{variable_seen};
 ghost use Rattle.resolving.specs.Around.{program_in};
 ghost use Rattle.resolving.specs.Frames.{IsFrame, local_seen, number_seen};
 ghost use Rattle.resolving.specs.Messages.{contract_of, end_contract};
@@ -10,13 +10,13 @@ ghost use Rattle.resolving.specs.Methods.{no_variables};
 ghost use Rattle.resolving.specs.Locals.{Frame, local_named, mention, next_number, number_of, entered, counted, declared, declared_heap};
 
 use names::Table;
-use resolved::{Kind, Mention, Role, VarId, Variable};
+use program::{Kind, Mention, Role, VarId, Variable};
 use source::{Span, Tokens};
 use std::alloc::{AllocError, Global};
 
 /// A variable that is declared: its name, the kind of its type, what it holds where it is one of the exchange heap, and how its
 /// method comes to it.
-#[derive(Clone, Copy, Debug)]
+#[derive(Clone, Copy)]
 pub(crate) struct Declaration {
     pub(crate) name: Span,
     pub(crate) kind: names::Kind,
@@ -25,7 +25,7 @@ pub(crate) struct Declaration {
 }
 
 /// A variable in scope: the name that declares it, the kind of its type, and its number where it is one of the exchange heap.
-#[derive(Clone, Copy, Debug)]
+#[derive(Clone, Copy)]
 pub(crate) struct Local {
     name: Span,
     kind: names::Kind,
@@ -34,7 +34,7 @@ pub(crate) struct Local {
 
 /// The variables in scope, in order of declaration, the last one of the exchange heap among them, and those of the exchange
 /// heap that the method has declared so far. No two in scope have one name.
-#[derive(Debug, Drop)]
+#[derive(Drop)]
 pub(crate) struct Locals<'a> {
     names: Table<'a>,
     list: Vec<Local>,

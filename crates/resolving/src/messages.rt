@@ -7,9 +7,9 @@ ghost use Rattle.resolving.specs.Messages as model;
 
 use crate::around::Around;
 use crate::kinds::contract_at;
-use names::MessageId;
+use program::MessageId;
 use source::Span;
-use syntax::Message;
+use tree::Message;
 
 /// A message, and its number.
 #[derive(Clone, Copy)]

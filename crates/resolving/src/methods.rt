@@ -1,17 +1,19 @@
 //! The methods of a program.
 
 ghost use Rattle.std.specs.Prelude.{◌≡◌, ◌≤◌, ◌<◌, ◌^◌, ◌++◌, ℕ, List, [], length, map, IfOk, OnOk};
-ghost use Rattle.syntax.specs.Trees.{ItemTree, contracts_of, program_tree, item_tree, definition_tree, method_tree};
+ghost use Rattle.tree.specs.Trees.{ItemTree, contracts_of, program_tree, item_tree, definition_tree, method_tree};
 ghost use Rattle.names.specs.Findings.{program_findings};
 ghost use Rattle.names.specs.Methods.{methods_in};
 ghost use Rattle.names.specs.Program as model;
 ghost use Rattle.names.specs.Program.{program_of};
-ghost use Rattle.names.specs.Resolution.{contract_seen, resolved_contracts};
+ghost use Rattle.program.specs.Parts.{contract_seen};
+ghost use Rattle.names.specs.Resolution.{resolved_contracts};
 ghost use Rattle.names.specs.declared.limits.TheConstants.{MOST_METHODS};
-ghost use Rattle.resolved.specs.Methods.{method_seen};
+ghost use Rattle.program.specs.Methods.{method_seen};
 ghost use Rattle.names.specs.Scopes.{IsScope};
 ghost use Rattle.resolving.specs.Around.{IsAround, program_in};
-ghost use Rattle.resolving.specs.Brought.{brought, messages_told, rows};
+ghost use Rattle.resolving.specs.Brought.{brought, messages_told};
+ghost use Rattle.program.specs.Programs.{rows};
 ghost use Rattle.resolving.specs.Callees.{all_methods};
 ghost use Rattle.resolving.specs.Frames.{IsFrame};
 ghost use Rattle.resolving.specs.Locals.{Frame};
@@ -24,11 +26,11 @@ use crate::kinds::{result_held, type_held};
 use crate::locals::{Declaration, Locals};
 use crate::statements::tell_statements;
 use crate::staying::Staying;
-use names::{Resolved, Scope};
-use resolved::{Kind, Method, Role};
+use names::Scope;
+use program::{Kind, Method, Resolved, Role};
 use source::{Memory, Tokens};
 use std::alloc::{AllocError, Global};
-use syntax::{Definition, Item, Parameter, Tree};
+use tree::{Definition, Item, Parameter, Tree};
 
 /// How a method comes to a parameter.
 fn role_of(parameter: Parameter) -> Role
@@ -74,7 +76,7 @@ fn resolve_method(
     alloc: Global,
     tokens: &Tokens,
     around: &Around<'_, '_>,
-    method: &syntax::Method,
+    method: &tree::Method,
 ) -> Result<Method, AllocError>
     ensures { (items : List ItemTree) (own : ℕ) → IsAround (program_in tokens.now.text.items items) own around.now → IfOk result (λ m. method_seen m ≡ method_told (program_in tokens.now.text.items items) own (method_tree method.now)) }
 {
@@ -95,7 +97,7 @@ fn resolve_method(
 }
 
 /// The methods of a class, if it is one.
-pub(crate) fn methods_of(definition: &Definition) -> &[syntax::Method]
+pub(crate) fn methods_of(definition: &Definition) -> &[tree::Method]
     ensures { map method_tree result.now ≡ methods_in (definition_tree definition.now) }
 {
     match definition {
@@ -109,7 +111,7 @@ fn add_methods(
     alloc: Global,
     tokens: &Tokens,
     around: &Around<'_, '_>,
-    methods: &[syntax::Method],
+    methods: &[tree::Method],
     resolved: &mut Vec<Method>,
 ) -> Result<(), AllocError>
     ensures { (items : List ItemTree) (own : ℕ) → IsAround (program_in tokens.now.text.items items) own around.now → OnOk result (map method_seen resolved.new.items ≡ map method_seen resolved.old.items ++ map (method_told (program_in tokens.now.text.items items) own) (map method_tree methods.now)) }
@@ -122,7 +124,7 @@ fn add_methods(
 
 /// The messages and the methods of a program in order of the text: what a message brings for each of its parameters of the
 /// exchange heap, and the method with its names resolved.
-#[derive(Debug, Drop)]
+#[derive(Drop)]
 pub struct Program {
     pub messages: Vec<Vec<Kind>>,
     pub methods: Vec<Method>,

@@ -1,10 +1,10 @@
 //! What statements that hold no others come to.
 
 ghost use Rattle.std.specs.Prelude.{◌≡◌, ℕ, List, IfOk, OnOk, option_map};
-ghost use Rattle.syntax.specs.ExpressionTrees.{expression_tree, target_tree};
-ghost use Rattle.syntax.specs.StatementTrees.{declare_tree, statement_tree};
-ghost use Rattle.syntax.specs.Trees.{ItemTree};
-ghost use Rattle.syntax.specs.Values.{value_tree};
+ghost use Rattle.tree.specs.ExpressionTrees.{expression_tree, target_tree};
+ghost use Rattle.tree.specs.StatementTrees.{declare_tree, statement_tree};
+ghost use Rattle.tree.specs.Trees.{ItemTree};
+ghost use Rattle.tree.specs.Values.{value_tree};
 ghost use Rattle.names.specs.Program.{Program};
 ghost use Rattle.resolving.specs.Around.{IsAround, program_in};
 ghost use Rattle.resolving.specs.Frames.{IsFrame};
@@ -20,10 +20,10 @@ use crate::locals::{Declaration, Locals};
 use crate::reads::add_reads;
 use crate::sends::{channel_action, tell_stated};
 use crate::values::{alone, tell_assigned, tell_part, tell_read, unread};
-use resolved::{Action, Mention, Role, Statement};
+use program::{Action, Mention, Role, Statement};
 use source::{Place, Tokens};
 use std::alloc::{AllocError, Global};
-use syntax::{Declare, Expression, Target, Value};
+use tree::{Declare, Expression, Target, Value};
 
 /// What a variable has is freed.
 fn deleting(mention: Option<Mention>) -> Action
@@ -141,15 +141,15 @@ pub(crate) fn tell_plain(
     tokens: &Tokens,
     around: &Around<'_, '_>,
     locals: &Locals<'_>,
-    statement: &syntax::Statement,
+    statement: &tree::Statement,
 ) -> Result<Statement, AllocError>
     ensures { (items : List ItemTree) (own : ℕ) → IsAround (program_in tokens.now.text.items items) own around.now → IfOk result (Tells tokens.now.text.items locals.now (λ f. plain_told (program_in tokens.now.text.items items) own f (statement_tree statement.now))) }
 {
     match statement {
-        syntax::Statement::Declare(declare) => {
+        tree::Statement::Declare(declare) => {
             tell_declare(alloc, tokens, around, locals, declare)
         }
-        syntax::Statement::Assign(assign) => tell_assign(
+        tree::Statement::Assign(assign) => tell_assign(
             alloc,
             tokens,
             around,
@@ -157,15 +157,15 @@ pub(crate) fn tell_plain(
             &assign.target,
             &assign.value,
         ),
-        syntax::Statement::Call(call) => tell_stated(alloc, tokens, around, locals, call),
-        syntax::Statement::Start { call, .. } => tell_start(alloc, tokens, around, locals, call),
-        syntax::Statement::Delete(name) => {
+        tree::Statement::Call(call) => tell_stated(alloc, tokens, around, locals, call),
+        tree::Statement::Start { call, .. } => tell_start(alloc, tokens, around, locals, call),
+        tree::Statement::Delete(name) => {
             Ok(unread(alloc, deleting(locals.mention(tokens, *name))))
         }
-        syntax::Statement::NewChannel(channel) => {
+        tree::Statement::NewChannel(channel) => {
             Ok(unread(alloc, channel_action(tokens, around, locals, *channel)))
         }
-        syntax::Statement::Return { word, value } => {
+        tree::Statement::Return { word, value } => {
             tell_return(alloc, tokens, locals, word.place, value)
         }
         _ => Ok(unread(alloc, Action::Nothing)),
@@ -190,12 +190,12 @@ pub(crate) fn declare_in<'a>(
     tokens: &'a Tokens,
     around: &Around<'_, '_>,
     locals: &mut Locals<'a>,
-    statement: &syntax::Statement,
+    statement: &tree::Statement,
 ) -> Result<(), AllocError>
     ensures { (items : List ItemTree) (own : ℕ) (f : Frame) → IsAround (program_in tokens.now.text.items items) own around.now → IsFrame tokens.now.text.items f locals.old → OnOk result (IsFrame tokens.now.text.items (frame_behind (program_in tokens.now.text.items items) own f (statement_tree statement.now)) locals.new) }
 {
     match statement {
-        syntax::Statement::Declare(declare) => {
+        tree::Statement::Declare(declare) => {
             locals.declare(alloc, tokens, declaration_of(around, declare))
         }
         _ => Ok(()),

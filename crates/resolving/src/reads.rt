@@ -1,16 +1,16 @@
 //! The blocks that an expression reads, in order of the text.
 
 ghost use Rattle.std.specs.Prelude.{OnOk};
-ghost use Rattle.syntax.specs.ExpressionTrees.{expression_tree, conjunction_tree, equality_tree, relation_tree, sum_tree, term_tree, unary_tree, atom_tree, target_tree};
+ghost use Rattle.tree.specs.ExpressionTrees.{expression_tree, conjunction_tree, equality_tree, relation_tree, sum_tree, term_tree, unary_tree, atom_tree, target_tree};
 ghost use Rattle.resolving.specs.Locals.{mention};
 ghost use Rattle.resolving.specs.Reads.{reads, atom_reads, target_reads, listed};
 ghost use Rattle.resolving.specs.Steps.{AddsReads};
 
 use crate::locals::Locals;
-use resolved::Mention;
+use program::Mention;
 use source::{Span, Tokens};
 use std::alloc::AllocError;
-use syntax::{Atom, Conjunction, Equality, Expression, Relation, Sum, Target, Term, Unary};
+use tree::{Atom, Conjunction, Equality, Expression, Relation, Sum, Target, Term, Unary};
 
 /// Adds what an expression reads.
 #[cycle(expressions)]

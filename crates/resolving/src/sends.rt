@@ -1,10 +1,10 @@
 //! What sends and new channels come to.
 
 ghost use Rattle.std.specs.Prelude.{◌≡◌, ℕ, List, IfOk, map, option_map};
-ghost use Rattle.syntax.specs.ExpressionTrees.{expression_tree};
-ghost use Rattle.syntax.specs.Trees.{ItemTree};
-ghost use Rattle.syntax.specs.Values.{call_tree};
-ghost use Rattle.resolved.specs.Statements.{send_seen};
+ghost use Rattle.tree.specs.ExpressionTrees.{expression_tree};
+ghost use Rattle.tree.specs.Trees.{ItemTree};
+ghost use Rattle.tree.specs.Values.{call_tree};
+ghost use Rattle.program.specs.Statements.{send_seen};
 ghost use Rattle.resolving.specs.Around.{IsAround, meant_seen, program_in};
 ghost use Rattle.resolving.specs.Frames.{IsFrame};
 ghost use Rattle.resolving.specs.Locals.{Frame};
@@ -17,10 +17,10 @@ use crate::kinds::contract_named;
 use crate::locals::Locals;
 use crate::messages::{Meant, message_sent};
 use crate::values::{add_listed, alone};
-use resolved::{Action, Channel, Mention, Send, Statement};
+use program::{Action, Channel, Mention, Send, Statement};
 use source::{Span, Tokens};
 use std::alloc::{AllocError, Global};
-use syntax::{Call, Expression, NewChannel};
+use tree::{Call, Expression, NewChannel};
 
 /// What is given for the parameters of a message that are of the exchange heap, in order.
 fn payloads_of(

@@ -1,16 +1,16 @@
 //! What statements come to.
 
 ghost use Rattle.std.specs.Prelude.{◌≡◌, ℕ, List, map, IfOk, option_map};
-ghost use Rattle.resolved.specs.Statements as seen;
-ghost use Rattle.resolved.specs.Statements.{statement_seen, block_seen, test_seen, if_seen, case_seen};
+ghost use Rattle.program.specs.Statements as seen;
+ghost use Rattle.program.specs.Statements.{statement_seen, block_seen, test_seen, if_seen, case_seen};
 ghost use Rattle.resolving.specs.Around.{IsAround, program_in};
 ghost use Rattle.resolving.specs.Frames.{IsFrame, staying_seen};
 ghost use Rattle.resolving.specs.Locals.{Frame};
 ghost use Rattle.resolving.specs.Steps.{IsTold, walked};
 ghost use Rattle.resolving.specs.Plain.{plain_told, frame_behind};
 ghost use Rattle.resolving.specs.Told.{follow, statement_told, statements_told, block_told, test_told, others_told, case_told, cases_told};
-ghost use Rattle.syntax.specs.Trees.{ItemTree};
-ghost use Rattle.syntax.specs.StatementTrees.{MoreCases, statement_tree, statement_row, block_tree, test_tree, if_tree, last_other, case_tree, case_row, switch_tree};
+ghost use Rattle.tree.specs.Trees.{ItemTree};
+ghost use Rattle.tree.specs.StatementTrees.{MoreCases, statement_tree, statement_row, block_tree, test_tree, if_tree, last_other, case_tree, case_row, switch_tree};
 
 use crate::alone::ways_of;
 use crate::around::Around;
@@ -19,10 +19,10 @@ use crate::locals::Locals;
 use crate::plain::{declare_in, tell_plain};
 use crate::reads::add_reads;
 use crate::staying::{Staying, forgetting, tell_break, tell_continue};
-use resolved::{Block, Case, If, Statement, Test};
+use program::{Block, Case, If, Statement, Test};
 use source::{Place, Tokens};
 use std::alloc::{AllocError, Global};
-use syntax::Switch;
+use tree::Switch;
 
 /// What a statement that holds no others comes to, and what it declares.
 fn tell_alone<'a>(
@@ -30,7 +30,7 @@ fn tell_alone<'a>(
     tokens: &'a Tokens,
     around: &Around<'_, '_>,
     locals: &mut Locals<'a>,
-    statement: &syntax::Statement,
+    statement: &tree::Statement,
 ) -> Result<Statement, AllocError>
     ensures { (items : List ItemTree) (own : ℕ) (f : Frame) → IsAround (program_in tokens.now.text.items items) own around.now → IsFrame tokens.now.text.items f locals.old → IfOk result (λ s. IsTold tokens.now.text.items (record { what = plain_told (program_in tokens.now.text.items items) own f (statement_tree statement.now); frame = frame_behind (program_in tokens.now.text.items items) own f (statement_tree statement.now) }) (statement_seen s) locals.new) }
 {
@@ -47,41 +47,39 @@ fn tell_statement<'a>(
     around: &Around<'_, '_>,
     locals: &mut Locals<'a>,
     stays: Staying,
-    statement: &syntax::Statement,
+    statement: &tree::Statement,
 ) -> Result<Statement, AllocError>
     ensures { (items : List ItemTree) (own : ℕ) (f : Frame) → IsAround (program_in tokens.now.text.items items) own around.now → IsFrame tokens.now.text.items f locals.old → IfOk result (λ s. IsTold tokens.now.text.items (statement_told (program_in tokens.now.text.items items) own (staying_seen stays) (statement_tree statement.now) f) (statement_seen s) locals.new) }
 {
     match statement {
-        syntax::Statement::Block(block) => {
+        tree::Statement::Block(block) => {
             let block = tell_block(alloc, tokens, around, locals, stays, block)?;
             Ok(Statement::Block(block))
         }
-        syntax::Statement::If(branches) => {
+        tree::Statement::If(branches) => {
             let branches = tell_if(alloc, tokens, around, locals, stays, branches)?;
             Ok(Statement::If(branches))
         }
-        syntax::Statement::While(test) => {
+        tree::Statement::While(test) => {
             let inside = Staying::in_loop(locals.last());
             let test = tell_test(alloc, tokens, around, locals, inside, test)?;
             Ok(Statement::While(test))
         }
-        syntax::Statement::Break(word) => Ok(tell_break(alloc, locals, word.place, stays)),
-        syntax::Statement::Continue(word) => Ok(tell_continue(alloc, locals, word.place, stays)),
-        syntax::Statement::Switch(switch) => {
+        tree::Statement::Break(word) => Ok(tell_break(alloc, locals, word.place, stays)),
+        tree::Statement::Continue(word) => Ok(tell_continue(alloc, locals, word.place, stays)),
+        tree::Statement::Switch(switch) => {
             let inside = stays.in_switch(locals.last());
             let cases = tell_cases(alloc, tokens, around, locals, inside, switch)?;
             let place = switch.word.place;
             Ok(Statement::Switch { place, cases })
         }
-        syntax::Statement::Declare(_)
-        | syntax::Statement::Assign(_)
-        | syntax::Statement::Call(_)
-        | syntax::Statement::Start { .. }
-        | syntax::Statement::Delete(_)
-        | syntax::Statement::NewChannel(_)
-        | syntax::Statement::Return { .. } => {
-            tell_alone(alloc, tokens, around, locals, statement)
-        }
+        tree::Statement::Declare(_)
+        | tree::Statement::Assign(_)
+        | tree::Statement::Call(_)
+        | tree::Statement::Start { .. }
+        | tree::Statement::Delete(_)
+        | tree::Statement::NewChannel(_)
+        | tree::Statement::Return { .. } => { tell_alone(alloc, tokens, around, locals, statement) }
     }
 }
 
@@ -93,7 +91,7 @@ pub(crate) fn tell_statements<'a>(
     around: &Around<'_, '_>,
     locals: &mut Locals<'a>,
     stays: Staying,
-    statements: &[syntax::Statement],
+    statements: &[tree::Statement],
 ) -> Result<Vec<Statement>, AllocError>
     ensures { (items : List ItemTree) (own : ℕ) (f : Frame) → IsAround (program_in tokens.now.text.items items) own around.now → IsFrame tokens.now.text.items f locals.old → IfOk result (λ list. IsTold tokens.now.text.items (statements_told (program_in tokens.now.text.items items) own (staying_seen stays) (statement_row (map statement_tree statements.now)) f) (seen.statement_row (map statement_seen list.items)) locals.new) }
 {
@@ -112,7 +110,7 @@ fn tell_block<'a>(
     around: &Around<'_, '_>,
     locals: &mut Locals<'a>,
     stays: Staying,
-    block: &syntax::Block,
+    block: &tree::Block,
 ) -> Result<Block, AllocError>
     ensures { (items : List ItemTree) (own : ℕ) (f : Frame) → IsAround (program_in tokens.now.text.items items) own around.now → IsFrame tokens.now.text.items f locals.old → IfOk result (λ b. IsTold tokens.now.text.items (block_told (program_in tokens.now.text.items items) own (staying_seen stays) (block_tree block.now) f) (block_seen b) locals.new) }
 {
@@ -132,7 +130,7 @@ fn tell_test<'a>(
     around: &Around<'_, '_>,
     locals: &mut Locals<'a>,
     stays: Staying,
-    test: &syntax::Test,
+    test: &tree::Test,
 ) -> Result<Test, AllocError>
     ensures { (items : List ItemTree) (own : ℕ) (f : Frame) → IsAround (program_in tokens.now.text.items items) own around.now → IsFrame tokens.now.text.items f locals.old → IfOk result (λ t. IsTold tokens.now.text.items (test_told (program_in tokens.now.text.items items) own (staying_seen stays) (test_tree test.now) f) (test_seen t) locals.new) }
 {
@@ -155,7 +153,7 @@ fn tell_tests<'a>(
     around: &Around<'_, '_>,
     locals: &mut Locals<'a>,
     stays: Staying,
-    tests: &[syntax::Test],
+    tests: &[tree::Test],
 ) -> Result<Vec<Test>, AllocError>
     ensures { (items : List ItemTree) (own : ℕ) (f : Frame) → IsAround (program_in tokens.now.text.items items) own around.now → IsFrame tokens.now.text.items f locals.old → IfOk result (λ list. IsTold tokens.now.text.items (walked (test_told (program_in tokens.now.text.items items) own (staying_seen stays)) (map test_tree tests.now) f) (map test_seen list.items) locals.new) }
 {
@@ -174,7 +172,7 @@ fn tell_otherwise<'a>(
     around: &Around<'_, '_>,
     locals: &mut Locals<'a>,
     stays: Staying,
-    otherwise: &Option<syntax::Block>,
+    otherwise: &Option<tree::Block>,
 ) -> Result<Option<Block>, AllocError>
     ensures { (items : List ItemTree) (own : ℕ) (f : Frame) → IsAround (program_in tokens.now.text.items items) own around.now → IsFrame tokens.now.text.items f locals.old → IfOk result (λ b. IsTold tokens.now.text.items (others_told (program_in tokens.now.text.items items) own (staying_seen stays) (last_other (option_map block_tree otherwise.now)) f) (seen.last_other (option_map block_seen b)) locals.new) }
 {
@@ -195,7 +193,7 @@ fn tell_if<'a>(
     around: &Around<'_, '_>,
     locals: &mut Locals<'a>,
     stays: Staying,
-    branches: &syntax::If,
+    branches: &tree::If,
 ) -> Result<If, AllocError>
     ensures { (items : List ItemTree) (own : ℕ) (f : Frame) → IsAround (program_in tokens.now.text.items items) own around.now → IsFrame tokens.now.text.items f locals.old → IfOk result (λ i. IsTold tokens.now.text.items (follow seen.If (test_told (program_in tokens.now.text.items items) own (staying_seen stays) (if_tree branches.now).first f) (others_told (program_in tokens.now.text.items items) own (staying_seen stays) (if_tree branches.now).others)) (seen.If (if_seen i).first (if_seen i).others) locals.new) }
 {
@@ -249,7 +247,7 @@ fn tell_case<'a>(
     locals: &mut Locals<'a>,
     stays: Staying,
     behind: Place,
-    case: &syntax::Case,
+    case: &tree::Case,
 ) -> Result<Case, AllocError>
     ensures { (items : List ItemTree) (own : ℕ) (f : Frame) → IsAround (program_in tokens.now.text.items items) own around.now → IsFrame tokens.now.text.items f locals.old → IfOk result (λ c. IsTold tokens.now.text.items (case_told (program_in tokens.now.text.items items) own (staying_seen stays) behind (case_tree case.now) f) (case_seen c) locals.new) }
 {

@@ -1,8 +1,8 @@
 //! What stays in scope where a block, a loop or a switch is left, and what does not.
 
 ghost use Rattle.std.specs.Prelude.{◌≡◌, ℕ, List, []};
-ghost use Rattle.resolved.specs.Statements.{statement_seen};
-ghost use Rattle.resolved.specs.declared.statement.Action.TheVariants.{Break, Continue};
+ghost use Rattle.program.specs.Statements.{statement_seen};
+ghost use Rattle.program.specs.declared.statement.Action.TheVariants.{Break, Continue};
 ghost use Rattle.resolving.specs.Frames.{IsFrame, number_seen, staying_seen};
 ghost use Rattle.resolving.specs.Locals.{Frame, forget};
 ghost use Rattle.resolving.specs.Plain.{told};
@@ -10,13 +10,13 @@ ghost use Rattle.resolving.specs.Told.{left, outside, in_loop, in_switch};
 
 use crate::locals::Locals;
 use crate::values::unread;
-use resolved::{Action, Forget, Statement, VarId};
+use program::{Action, Forget, Statement, VarId};
 use source::Place;
 use std::alloc::Global;
 
 /// The last variable of the exchange heap in scope that stays at a `break`, and at a `continue`: what is declared behind it goes
 /// out of scope.
-#[derive(Clone, Copy, Debug)]
+#[derive(Clone, Copy)]
 pub(crate) struct Staying {
     pub(crate) at_break: Option<VarId>,
     pub(crate) at_continue: Option<VarId>,

@@ -1,14 +1,14 @@
 //! The first form in a text that is not analysed yet.
 
 ghost use Rattle.std.specs.Prelude.{◌≡◌, map, option_map};
-ghost use Rattle.syntax.specs.StatementTrees.{statement_tree, statement_row, block_tree, if_tree, last_other};
-ghost use Rattle.syntax.specs.Trees.{method_tree, item_tree, program_tree};
+ghost use Rattle.tree.specs.StatementTrees.{statement_tree, statement_row, block_tree, if_tree, last_other};
+ghost use Rattle.tree.specs.Trees.{method_tree, item_tree, program_tree};
 ghost use Rattle.resolving.specs.Methods.{not_yet};
 ghost use Rattle.resolving.specs.Unknown.{unknown_type, or_else, unknown_statement, unknown_statements, unknown_block, unknown_test, unknown_others, unknown_params, unknown_result, unknown_method, unknown_methods};
 
 use crate::methods::methods_of;
 use source::Place;
-use syntax::{Block, Heap, If, Item, Method, Parameter, Statement, Tree, Type};
+use tree::{Block, Heap, If, Item, Method, Parameter, Statement, Tree, Type};
 
 /// An endpoint.
 fn unknown_type(kind: Type) -> Option<Place>

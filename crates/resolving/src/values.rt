@@ -1,11 +1,11 @@
 //! What a variable takes, and what a value reads.
 
 ghost use Rattle.std.specs.Prelude.{◌≡◌, ◌++◌, ℕ, List, [], IfOk, OnOk};
-ghost use Rattle.syntax.specs.ExpressionTrees.{expression_tree};
-ghost use Rattle.syntax.specs.Trees.{ItemTree};
-ghost use Rattle.syntax.specs.Values as values;
-ghost use Rattle.syntax.specs.Values.{call_tree, value_tree, made_tree};
-ghost use Rattle.resolved.specs.Statements.{statement_seen};
+ghost use Rattle.tree.specs.ExpressionTrees.{expression_tree};
+ghost use Rattle.tree.specs.Trees.{ItemTree};
+ghost use Rattle.tree.specs.Values as values;
+ghost use Rattle.tree.specs.Values.{call_tree, value_tree, made_tree};
+ghost use Rattle.program.specs.Statements.{statement_seen};
 ghost use Rattle.resolving.specs.Around.{IsAround, program_in};
 ghost use Rattle.resolving.specs.Steps.{AddsReads, Tells};
 ghost use Rattle.resolving.specs.Frames.{IsFrame};
@@ -18,10 +18,10 @@ use crate::around::Around;
 use crate::calls::tell_call;
 use crate::locals::Locals;
 use crate::reads::add_reads;
-use resolved::{Action, Mention, Simple, Statement};
+use program::{Action, Mention, Simple, Statement};
 use source::Tokens;
 use std::alloc::{AllocError, Global};
-use syntax::{Expression, Made, Value};
+use tree::{Expression, Made, Value};
 
 /// A statement that reads these, and then does this.
 fn reading(reads: Vec<Mention>, action: Action) -> Statement
@@ -197,7 +197,7 @@ fn tell_part_called(
     locals: &Locals<'_>,
     mut index: Vec<Mention>,
     whole: Option<Mention>,
-    call: &syntax::Call,
+    call: &tree::Call,
 ) -> Result<Statement, AllocError>
     ensures { (items : List ItemTree) (own : ℕ) → IsAround (program_in tokens.now.text.items items) own around.now → IfOk result (Tells tokens.now.text.items locals.now (λ f. part_taken (program_in tokens.now.text.items items) own f index.items whole (values.Call (call_tree call.now)))) }
 {

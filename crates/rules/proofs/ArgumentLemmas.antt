@@ -8,9 +8,9 @@ use Rattle.std.specs.Ordering.{nat_cmp}
 use Rattle.std.proofs.lemmas.Bool.Decides.{nat_tests}
 use Rattle.std.proofs.lemmas.List.{at_drop_all, at_drop_more}
 use Rattle.source.specs.declared.finding.Finding.{Finding}
-use Rattle.resolved.specs.Methods.{MethodSeen}
-use Rattle.resolved.specs.declared.call.Argument.{Argument}
-use Rattle.resolved.specs.declared.statement.Mention.{Mention}
+use Rattle.program.specs.Methods.{MethodSeen}
+use Rattle.program.specs.declared.call.Argument.{Argument}
+use Rattle.program.specs.declared.statement.Mention.{Mention}
 use Rattle.rules.specs.Checks.{StandsFor, check_seen, first_again}
 use Rattle.rules.specs.RuleTable.{Check, Pair, checked, claimed, given_before, has_nat, name_of, refused}
 use Rattle.rules.specs.Texts.{twice}

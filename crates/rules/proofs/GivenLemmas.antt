@@ -2,8 +2,8 @@
 use Rattle.std.proofs.Common.{◌≡◌, ℕ, Bool, true, false, List, [], ◌∷◌, Option, None, Some, if◌then◌else◌, refl}
 use Rattle.source.specs.Findings.{FindingParts}
 use Rattle.source.specs.declared.place.Place.{Place}
-use Rattle.resolved.specs.Methods.{MethodSeen}
-use Rattle.resolved.specs.declared.statement.Mention.{Mention}
+use Rattle.program.specs.Methods.{MethodSeen}
+use Rattle.program.specs.declared.statement.Mention.{Mention}
 use Rattle.rules.specs.Checks.{first_kept}
 use Rattle.rules.specs.RuleTable.{Check, Pair, Step, Goes, Fails, checked, given_back, is_kept, name_of, refused}
 use Rattle.rules.specs.Texts.{still_owned}

@@ -7,8 +7,8 @@ use Rattle.flow.specs.declared.graph.Graph.{Graph}
 use Rattle.flow.specs.declared.graph.Instr.{Instr}
 use Rattle.flow.specs.Graphs.{GraphSeen, graph_seen, instruction_seen}
 use Rattle.flow.specs.Lowering.{graph_of}
-use Rattle.resolved.specs.declared.method.Method.{Method}
-use Rattle.resolved.specs.Methods.{MethodSeen, method_seen, variable_seen}
+use Rattle.program.specs.declared.method.Method.{Method}
+use Rattle.program.specs.Methods.{MethodSeen, method_seen, variable_seen}
 use Rattle.rules.specs.declared.row.Leaf.{Leaf}
 use Rattle.rules.specs.RuleTable.{Goes, Pair}
 use Rattle.rules.specs.Steps.{entry_leaf, method_entry, method_outcome, outcome, point_outcome}

@@ -1,8 +1,8 @@
 -- Variables in scope, from the last one outwards.
 use Rattle.std.proofs.Common.{◌≡◌, ℕ, zero, suc, ◌+◌, ◌-◌, ◌<◌, ◌≤◌, Bool, true, false, List, [], ◌∷◌, ◌++◌, length, Option, None, Some, if◌then◌else◌, refl, sym, ap, ◌∙◌, arith}
-use Rattle.resolved.specs.Methods.{MethodSeen, VariableSeen}
-use Rattle.resolved.specs.declared.method.VarId.{VarId}
-use Rattle.resolved.specs.declared.statement.Mention.{Mention}
+use Rattle.program.specs.Methods.{MethodSeen, VariableSeen}
+use Rattle.program.specs.declared.number.VarId.{VarId}
+use Rattle.program.specs.declared.statement.Mention.{Mention}
 use Rattle.rules.specs.Checks.{first_kept, if_kept, kept_or}
 use Rattle.rules.specs.RuleTable.{is_kept}
 use Rattle.rules.specs.Scopes.{between, is_this, outer_of}

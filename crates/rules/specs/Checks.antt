@@ -3,9 +3,9 @@ use Rattle.std.specs.Prelude.{◌≡◌, ℕ, List, [], ◌∷◌, ◌++◌, Opt
 use Rattle.std.specs.Option.{option_map}
 use Rattle.source.specs.Findings.{finding_parts}
 use Rattle.source.specs.declared.finding.Finding.{Finding}
-use Rattle.resolved.specs.Methods.{MethodSeen}
-use Rattle.resolved.specs.declared.call.Argument.{Argument}
-use Rattle.resolved.specs.declared.statement.Mention.{Mention}
+use Rattle.program.specs.Methods.{MethodSeen}
+use Rattle.program.specs.declared.call.Argument.{Argument}
+use Rattle.program.specs.declared.statement.Mention.{Mention}
 use Rattle.rules.specs.RuleTable.{Check, Pair, checked, has_nat, is_kept}
 use Rattle.rules.specs.declared.row.Leaf.{Leaf}
 

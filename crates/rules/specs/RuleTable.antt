@@ -5,11 +5,11 @@ use Rattle.std.specs.List.{flat_map}
 use Rattle.std.specs.Option.{option_map_or}
 use Rattle.source.specs.Findings.{FindingParts}
 use Rattle.source.specs.declared.place.Place.{Place}
-use Rattle.resolved.specs.Methods.{MethodSeen}
-use Rattle.resolved.specs.declared.call.Argument.{Argument}
-use Rattle.resolved.specs.declared.method.Role.{Role}
-use Rattle.resolved.specs.declared.method.Role.TheVariants as role
-use Rattle.resolved.specs.declared.statement.Mention.{Mention}
+use Rattle.program.specs.Methods.{MethodSeen}
+use Rattle.program.specs.declared.call.Argument.{Argument}
+use Rattle.program.specs.declared.method.Role.{Role}
+use Rattle.program.specs.declared.method.Role.TheVariants as role
+use Rattle.program.specs.declared.statement.Mention.{Mention}
 use Rattle.flow.specs.Graphs.{Instruction, Use, New, Move, Delete, NewChannel, Send, Switch, Branch, Forget, Call, Start, Return, Stop}
 use Rattle.flow.specs.declared.graph.Branches.{Branches}
 use Rattle.flow.specs.declared.graph.Branches.TheVariants.{Either, Only}
@@ -23,6 +23,8 @@ use Rattle.rules.specs.declared.row.Leaf.TheVariants.{Nothing, Block}
 pub data Step (X F : Type 0) : Type 0 where
   Goes : (to : List X) → Step X F
   Fails : (finding : F) → Step X F
+  -- the table has no line for such an instruction
+  Unruled : Step X F
 
 -- a point and a row
 abbrev pub Pair : Type 0
@@ -125,18 +127,17 @@ module _ (m : MethodSeen) where
   abbrev pub instruction_outcome : Instruction → List Leaf → Step Pair FindingParts
   instruction_outcome (Use v next) row = checked (has_something row v ∷ []) ((next, row) ∷ [])
   instruction_outcome (New v arguments next) row = checked (is_not_lent v ∷ has_nothing row v ∷ []) ((next, set row v.variable.0 Block) ∷ [])
+  instruction_outcome (NewChannel c next) row = Unruled
   instruction_outcome (Move v w next) row =
       checked (is_another v w ∷ is_not_lent w ∷ has_something row w ∷ is_not_lent v ∷ has_nothing row v ∷ [])
       ((next, set (set row v.variable.0 (leaf_at row w.variable.0)) w.variable.0 Nothing) ∷ [])
   instruction_outcome (Delete v next) row = checked (is_not_lent v ∷ has_something row v ∷ []) ((next, set row v.variable.0 Nothing) ∷ [])
-  -- These three have no line yet. No program with endpoints comes here: its check answers that it is not analysed yet.
-  instruction_outcome (NewChannel c next) row = Goes []
-  instruction_outcome (Send place e message payloads next) row = Goes []
-  instruction_outcome (Switch place cases) row = Goes []
-  instruction_outcome (Branch place branches) row = Goes (ways branches row)
-  instruction_outcome (Forget f next) row = checked (given_back row f.place None (declared_between m f.outer (Some f.last))) ((next, row) ∷ [])
+  instruction_outcome (Send place e message payloads next) row = Unruled
+  instruction_outcome (Switch place cases) row = Unruled
   instruction_outcome (Call place method arguments target next) row =
       checked (all_arguments row arguments ++ target_checks (claimed row arguments) target) ((next, given_block (claimed row arguments) target) ∷ [])
   instruction_outcome (Start place method arguments next) row = checked (all_arguments row arguments) ((next, claimed row arguments) ∷ [])
+  instruction_outcome (Branch place branches) row = Goes (ways branches row)
+  instruction_outcome (Forget f next) row = checked (given_back row f.place None (declared_between m f.outer (Some f.last))) ((next, row) ∷ [])
   instruction_outcome (Return place value scope) row = checked (value_checks row value ++ given_back row place value (declared_between m None scope)) []
   instruction_outcome (Stop place) row = Fails (no_result place)

@@ -1,14 +1,15 @@
 -- Steps of a program: from a point and a row of a method to what comes of them.
 use Rattle.std.specs.Prelude.{ℕ, List, [], map, Option, Some, None, slice_get}
 use Rattle.source.specs.Findings.{FindingParts, finding_parts}
-use Rattle.resolved.specs.Methods.{MethodSeen}
-use Rattle.resolved.specs.declared.method.Role.{Role}
-use Rattle.resolved.specs.declared.method.Role.TheVariants as role
+use Rattle.program.specs.Methods.{MethodSeen}
+use Rattle.program.specs.declared.method.Role.{Role}
+use Rattle.program.specs.declared.method.Role.TheVariants as role
 use Rattle.flow.specs.Graphs.{Instruction}
 use Rattle.flow.specs.Lowering.{graph_of}
 use Rattle.rules.specs.Rows.{leaves_of}
-use Rattle.rules.specs.RuleTable.{Step, Goes, Fails, Pair, instruction_outcome}
+use Rattle.rules.specs.RuleTable.{Step, Goes, Fails, Unruled, Pair, instruction_outcome}
 use Rattle.rules.specs.declared.outcome.Outcome.{Outcome}
+use Rattle.rules.specs.declared.outcome.Outcome.TheVariants as outcomes
 use Rattle.rules.specs.declared.outcome.Outcome.TheVariants.{Next, Found}
 use Rattle.rules.specs.declared.row.Leaf.{Leaf}
 use Rattle.rules.specs.declared.row.Leaf.TheVariants.{Nothing, Block}
@@ -20,6 +21,7 @@ pair_seen p = (p.0, leaves_of p.1)
 abbrev pub outcome_seen : Outcome → Step Pair FindingParts
 outcome_seen (Next pairs) = Goes (map pair_seen pairs.items)
 outcome_seen (Found finding) = Fails (finding_parts finding)
+outcome_seen outcomes.Unruled = Unruled
 
 -- the outcome at a point; where no instruction is, nothing follows
 abbrev pub point_outcome : MethodSeen → List Leaf → Option Instruction → Step Pair FindingParts

@@ -1,14 +1,14 @@
 //! The checks of calls and starts, and what their arguments leave behind.
 
 ghost use Rattle.std.specs.Prelude.{◌≡◌, [], ◌∷◌, IfOk};
-ghost use Rattle.resolved.specs.Methods.{method_seen};
+ghost use Rattle.program.specs.Methods.{method_seen};
 ghost use Rattle.rules.specs.Checks.{StandsFor, first_again};
 ghost use Rattle.rules.specs.Rows.{leaves_of};
 ghost use Rattle.rules.specs.RuleTable.{all_arguments, argument_checks, claimed, given_before, given_block, target_checks, value_checks};
 
 use crate::checks::{given_again, has_nothing, has_something, is_not_lent};
 use crate::row::{Leaf, Row};
-use resolved::{Argument, Mention, Method};
+use program::{Argument, Mention, Method};
 use source::{Finding, Memory};
 use std::alloc::Global;
 use std::collections::BTreeSet;

@@ -2,7 +2,7 @@
 
 ghost use Rattle.std.specs.Prelude.{◌≡◌, List, [], ◌∷◌, IfOk, option_map};
 ghost use Rattle.source.specs.Findings.{finding_parts};
-ghost use Rattle.resolved.specs.Methods.{method_seen};
+ghost use Rattle.program.specs.Methods.{method_seen};
 ghost use Rattle.rules.specs.Checks as checks;
 ghost use Rattle.rules.specs.Checks.{check_seen};
 ghost use Rattle.rules.specs.Rows.{leaves_of};
@@ -12,7 +12,7 @@ ghost use Rattle.rules.specs.Texts as texts;
 ghost use Rattle.rules.specs.Scopes.{declared_between, is_this, outer_of};
 
 use crate::row::Row;
-use resolved::{Mention, Method, Role, VarId};
+use program::{Mention, Method, Role, VarId};
 use source::texts::{given_twice, is_lent, not_owned, overwritten, still_owned};
 use source::{Finding, Memory, Place};
 use std::alloc::Global;

@@ -3,13 +3,13 @@
 
 mod arguments;
 mod checks;
+mod lowered;
 mod outcome;
-mod program;
 mod row;
 mod stepping;
 mod table;
 
+pub use lowered::Program;
 pub use outcome::Outcome;
-pub use program::Program;
 pub use row::{Leaf, MOST_LEAVES, MOST_STATES, Row};
 pub use stepping::{entry, step};

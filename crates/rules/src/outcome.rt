@@ -4,10 +4,12 @@ use crate::row::Row;
 use source::Finding;
 
 /// What a step comes to.
-#[derive(Debug, Drop)]
+#[derive(Drop)]
 pub enum Outcome {
     /// The method goes on at one of these points, with that row there; where there is none, it ends.
     Next(Vec<(usize, Row)>),
     /// What is wrong there. The method does not go on.
     Found(Finding),
+    /// The rule table has no line for the instruction there: a new channel, a send or a switch. The method is not followed further.
+    Unruled,
 }

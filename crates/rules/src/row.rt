@@ -3,7 +3,7 @@
 ghost use Rattle.std.specs.Prelude.{◌≡◌, ◌↔◌, IfOk, IfSome, IsSome, IsTrue, set};
 ghost use Rattle.rules.specs.Rows.{AreLeaves, IsNumbered, is_owned, is_something, leaf_at, leaves_of};
 
-use resolved::VarId;
+use program::VarId;
 use source::Memory;
 use std::alloc::Global;
 

@@ -5,11 +5,11 @@ ghost use Rattle.rules.specs.Programs.{methods_of};
 ghost use Rattle.rules.specs.Rows.{leaves_of};
 ghost use Rattle.rules.specs.Steps.{entry_leaf, entry_of, outcome, outcome_seen, pair_seen};
 
+use crate::lowered::Program;
 use crate::outcome::Outcome;
-use crate::program::Program;
 use crate::row::{Leaf, Row};
 use crate::table::applied;
-use resolved::{MethodId, Role, Variable};
+use program::{MethodId, Role, Variable};
 use source::Memory;
 use std::alloc::Global;
 

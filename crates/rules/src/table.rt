@@ -4,19 +4,19 @@
 ghost use Rattle.std.specs.Prelude.{◌≡◌, IfOk, [], ◌∷◌};
 ghost use Rattle.flow.specs.Graphs as graphs;
 ghost use Rattle.flow.specs.Graphs.{Use, New, Move, Delete, Return, instruction_seen};
-ghost use Rattle.resolved.specs.Methods.{method_seen};
+ghost use Rattle.program.specs.Methods.{method_seen};
 ghost use Rattle.rules.specs.Rows.{leaves_of};
 ghost use Rattle.rules.specs.RuleTable.{Goes, Fails, ways, instruction_outcome};
 ghost use Rattle.rules.specs.Steps.{outcome_seen};
 ghost use Rattle.rules.specs.Texts as texts;
-ghost use Rattle.resolved.specs.declared.method.MethodId.{MethodId};
+ghost use Rattle.program.specs.declared.number.MethodId.{MethodId};
 
 use crate::arguments::{can_give_all, can_return, can_take, claim_all, give_block};
 use crate::checks::{has_nothing, has_something, is_another, is_given_back, is_not_lent};
 use crate::outcome::Outcome;
 use crate::row::{Leaf, Row};
 use flow::{Branches, Instr};
-use resolved::{Argument, Forget, Mention, Method, VarId};
+use program::{Argument, Forget, Mention, Method, VarId};
 use source::texts::no_result;
 use source::{Memory, Place};
 use std::alloc::Global;
@@ -33,15 +33,15 @@ pub(crate) fn applied(
     match instruction {
         Instr::Use { at, next } => use_(alloc, method, row, *at, *next),
         Instr::New { target, next, .. } => new(alloc, method, row, *target, *next),
+        Instr::NewChannel { .. } => Ok(Outcome::Unruled),
         Instr::Move {
             target,
             source,
             next,
         } => move_(alloc, method, row, *target, *source, *next),
         Instr::Delete { at, next } => delete(alloc, method, row, *at, *next),
-        Instr::NewChannel { .. } | Instr::Send { .. } | Instr::Switch { .. } => not_yet(alloc),
-        Instr::Branch { branches, .. } => branch(alloc, row, *branches),
-        Instr::Forget { forget, next } => forget_(alloc, method, row, *forget, *next),
+        Instr::Send { .. } => Ok(Outcome::Unruled),
+        Instr::Switch { .. } => Ok(Outcome::Unruled),
         Instr::Call {
             arguments,
             target,
@@ -53,6 +53,8 @@ pub(crate) fn applied(
             next,
             ..
         } => start(alloc, method, row, arguments, *next),
+        Instr::Branch { branches, .. } => branch(alloc, row, *branches),
+        Instr::Forget { forget, next } => forget_(alloc, method, row, *forget, *next),
         Instr::Return {
             place,
             value,
@@ -60,13 +62,6 @@ pub(crate) fn applied(
         } => return_(alloc, method, row, *place, *value, *scope),
         Instr::Stop { place } => stop(alloc, *place),
     }
-}
-
-/// An instruction without a line in the table yet: nothing follows. No program with endpoints comes here.
-fn not_yet(alloc: Global) -> Result<Outcome, Memory>
-    ensures { IfOk result (λ o. outcome_seen o ≡ Goes []) }
-{
-    Ok(Outcome::Next(Vec::new(alloc)))
 }
 
 /// The method goes on at one point, with this row.
@@ -169,47 +164,6 @@ fn delete(
     goes(alloc, next, after)
 }
 
-/// A condition. The row stays as it is, each way that it can go.
-fn branch(alloc: Global, row: &Row, branches: Branches) -> Result<Outcome, Memory>
-    ensures { IfOk result (λ o. outcome_seen o ≡ Goes (ways branches (leaves_of row.now))) }
-{
-    let mut pairs = Vec::new(alloc);
-    match branches {
-        Branches::Either { inside, past } => {
-            pairs.push((inside, row.copied(alloc)?))?;
-            pairs.push((past, row.copied(alloc)?))?;
-        }
-        Branches::Only(point) => pairs.push((point, row.copied(alloc)?))?,
-    }
-    Ok(Outcome::Next(pairs))
-}
-
-/// Variables go out of scope; they have nothing.
-fn forget_(
-    alloc: Global,
-    method: &Method,
-    row: &Row,
-    forget: Forget,
-    next: usize,
-) -> Result<Outcome, Memory>
-    ensures { IfOk result (λ o. outcome_seen o ≡ instruction_outcome (method_seen method.now) (graphs.Forget forget next) (leaves_of row.now)) }
-{
-    let last = Some(forget.last);
-    if let Some(finding) = is_given_back(
-        alloc,
-        method,
-        row,
-        forget.place,
-        None,
-        forget.outer,
-        last,
-    )? {
-        return Ok(Outcome::Found(finding));
-    }
-    let after = row.copied(alloc)?;
-    goes(alloc, next, after)
-}
-
 /// A call. What is claimed is gone, what is lent comes back, and what takes a block has one.
 fn call(
     alloc: Global,
@@ -248,6 +202,47 @@ fn start(
     }
     let mut after = row.copied(alloc)?;
     claim_all(&mut after, arguments);
+    goes(alloc, next, after)
+}
+
+/// A condition. The row stays as it is, each way that it can go.
+fn branch(alloc: Global, row: &Row, branches: Branches) -> Result<Outcome, Memory>
+    ensures { IfOk result (λ o. outcome_seen o ≡ Goes (ways branches (leaves_of row.now))) }
+{
+    let mut pairs = Vec::new(alloc);
+    match branches {
+        Branches::Either { inside, past } => {
+            pairs.push((inside, row.copied(alloc)?))?;
+            pairs.push((past, row.copied(alloc)?))?;
+        }
+        Branches::Only(point) => pairs.push((point, row.copied(alloc)?))?,
+    }
+    Ok(Outcome::Next(pairs))
+}
+
+/// Variables go out of scope; they have nothing.
+fn forget_(
+    alloc: Global,
+    method: &Method,
+    row: &Row,
+    forget: Forget,
+    next: usize,
+) -> Result<Outcome, Memory>
+    ensures { IfOk result (λ o. outcome_seen o ≡ instruction_outcome (method_seen method.now) (graphs.Forget forget next) (leaves_of row.now)) }
+{
+    let last = Some(forget.last);
+    if let Some(finding) = is_given_back(
+        alloc,
+        method,
+        row,
+        forget.place,
+        None,
+        forget.outer,
+        last,
+    )? {
+        return Ok(Outcome::Found(finding));
+    }
+    let after = row.copied(alloc)?;
     goes(alloc, next, after)
 }
 

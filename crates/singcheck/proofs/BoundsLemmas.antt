@@ -4,9 +4,8 @@ use Rattle.std.specs.Prelude.{string_bytes}
 use Rattle.std.specs.List.{AllZip, concat}
 use Rattle.std.proofs.lemmas.List.{append_assoc, append-nil, length-map, take_all}
 use Rattle.std.proofs.lemmas.Slice.Zip.{all_zipped_more}
-use Rattle.names.specs.Parts.{contract_parts}
-use Rattle.names.specs.Resolution.{ContractSeen, contract_seen}
-use Rattle.names.specs.declared.resolved.Contract.{Contract}
+use Rattle.program.specs.Parts.{contract_parts, ContractSeen, contract_seen}
+use Rattle.program.specs.declared.contract.Contract.{Contract}
 use Rattle.contracts.specs.Sounds.{sound_parts}
 use Rattle.contracts.specs.declared.sound.Sound.{Sound}
 use Rattle.singcheck.specs.Answers.{AreBounds, IsBoundsLine}

@@ -3,10 +3,10 @@ use Rattle.std.proofs.Common.{◌≡◌, ℕ, List, [], ◌∷◌, map, None, re
 use Rattle.std.specs.Prelude.{◌≢◌, length, Contains}
 use Rattle.source.specs.Findings.{FindingParts, finding_parts}
 use Rattle.source.specs.declared.finding.Finding.{Finding}
-use Rattle.syntax.specs.Trees.{ItemTree}
-use Rattle.names.specs.Resolution.{ContractSeen}
+use Rattle.tree.specs.Trees.{ItemTree}
+use Rattle.program.specs.Parts.{ContractSeen}
 use Rattle.contracts.specs.Conditions.{AreExactly}
-use Rattle.resolved.specs.Methods.{MethodSeen}
+use Rattle.program.specs.Methods.{MethodSeen}
 use Rattle.resolving.specs.Methods.{methods_told, not_yet}
 use Rattle.singcheck.specs.Checks.{AreCheckFindings, OfMethods, Checks, HasMethods, IsSoundProgram, IsWrong}
 use Rattle.singcheck.specs.Lines.{clear_line}

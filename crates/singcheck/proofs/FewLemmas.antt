@@ -2,13 +2,14 @@
 use Rattle.std.proofs.Common.{◌≡◌, ℕ, suc, ◌≤◌, List, [], ◌∷◌, ◌++◌, length, map, refl, ap, arith}
 use Rattle.std.proofs.lemmas.List.{length-append, length-map}
 use Rattle.source.specs.declared.token.Token.{Token}
-use Rattle.syntax.specs.Grammar.{access_word}
-use Rattle.syntax.specs.Parsing.{Spells}
-use Rattle.syntax.specs.Programs.{definition, item, program}
-use Rattle.syntax.specs.Spelling.{optional, word}
-use Rattle.syntax.specs.Symbols.{End, symbols}
-use Rattle.syntax.specs.Trees.{ContractTree, DefinitionTree, Contract, Struct, Class, ItemTree, contract_of, contracts_of}
-use Rattle.names.specs.Resolution.{ContractSeen, each_behind, resolved_contracts}
+use Rattle.tree.specs.Grammar.{access_word}
+use Rattle.tree.specs.Spelled.{Spells}
+use Rattle.tree.specs.Programs.{definition, item, program}
+use Rattle.tree.specs.Spelling.{optional, word}
+use Rattle.tree.specs.Symbols.{End, symbols}
+use Rattle.tree.specs.Trees.{ContractTree, DefinitionTree, Contract, Struct, Class, ItemTree, contract_of, contracts_of}
+use Rattle.program.specs.Parts.{ContractSeen}
+use Rattle.names.specs.Resolution.{each_behind, resolved_contracts}
 
 -- a contract has a symbol of its own
 in_definition : (d : DefinitionTree) → length (contract_of d) ≤ length (definition d)

@@ -5,9 +5,8 @@ use Rattle.std.proofs.lemmas.List.{map-append}
 use Rattle.std.proofs.lemmas.List.Elements.{Contains-append_left, Contains-append_right, Contains-append_cases, Contains-get_or, Contains-push, Contains-push_cases}
 use Rattle.source.specs.Findings.{FindingParts, finding_parts}
 use Rattle.source.specs.declared.finding.Finding.{Finding}
-use Rattle.names.specs.Parts.{Parts, contract_parts}
-use Rattle.names.specs.Resolution.{ContractSeen, contract_seen}
-use Rattle.names.specs.declared.resolved.Contract.{Contract}
+use Rattle.program.specs.Parts.{Parts, contract_parts, ContractSeen, contract_seen}
+use Rattle.program.specs.declared.contract.Contract.{Contract}
 use Rattle.contracts.specs.Conditions as conditions
 use Rattle.contracts.specs.Conditions.{AreExactly, IsSound}
 use Rattle.contracts.specs.Sounds.{sound_parts}

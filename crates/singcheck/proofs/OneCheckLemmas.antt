@@ -1,10 +1,11 @@
 -- A text has one answer of a check.
 use Rattle.std.proofs.Common.{◌≡◌, ℕ, List, length, refl, sym, ap, ◌∙◌, subst}
 use Rattle.source.specs.Findings.{FindingParts}
-use Rattle.syntax.specs.Trees.{contracts_of}
-use Rattle.names.specs.Resolution.{ContractSeen, resolved_contracts}
+use Rattle.tree.specs.Trees.{contracts_of}
+use Rattle.program.specs.Parts.{ContractSeen}
+use Rattle.names.specs.Resolution.{resolved_contracts}
 use Rattle.contracts.specs.Conditions.{AreExactly}
-use Rattle.resolved.specs.Methods.{MethodSeen}
+use Rattle.program.specs.Methods.{MethodSeen}
 use Rattle.resolving.specs.Methods.{methods_told}
 use Rattle.singcheck.specs.Answers.{AreFindings}
 use Rattle.singcheck.specs.Checks.{AreCheckFindings, Before, OfMethods, Checks, HasMethods, IsClear, IsWrong}

@@ -12,15 +12,17 @@ use Rattle.source.specs.Findings.{FindingParts}
 use Rattle.source.specs.Tokens.{AreTokens}
 use Rattle.source.specs.declared.fault.TextFault.{TextFault}
 use Rattle.source.specs.declared.token.Token.{Token}
-use Rattle.syntax.specs.Parsing.{Spells, IsFirstWrong, Viable, whole}
-use Rattle.syntax.specs.Programs.{program}
-use Rattle.syntax.specs.Symbols.{Symbol, End, symbols}
-use Rattle.syntax.specs.Trees.{ItemTree, contracts_of}
-use Rattle.syntax.specs.declared.tree.Sign.{Sign}
+use Rattle.tree.specs.Spelled.{Spells, whole}
+use Rattle.syntax.specs.Parsing.{IsFirstWrong, Viable}
+use Rattle.tree.specs.Programs.{program}
+use Rattle.tree.specs.Symbols.{Symbol, End, symbols}
+use Rattle.tree.specs.Trees.{ItemTree, contracts_of}
+use Rattle.program.specs.declared.contract.Sign.{Sign}
 use Rattle.names.specs.Findings.{program_findings}
-use Rattle.names.specs.Resolution.{ContractSeen, resolved_contracts}
-use Rattle.names.specs.declared.resolved.Edge.{Edge}
-use Rattle.names.specs.declared.resolved.StateId.{StateId}
+use Rattle.program.specs.Parts.{ContractSeen}
+use Rattle.names.specs.Resolution.{resolved_contracts}
+use Rattle.program.specs.declared.contract.Edge.{Edge}
+use Rattle.program.specs.declared.number.StateId.{StateId}
 use Rattle.contracts.specs.Bounds.{IsBound}
 use Rattle.contracts.specs.Conditions.{AreExactly, IsSound}
 use Rattle.singcheck.specs.Answers.{AreBounds, AreFindings, IsBoundsLine, IsBroken, IsFaulty, IsMisnamed, IsNoProgram, IsProgram, IsResolved, OfText, OfSyntax, OfNames, OfContracts, fault_findings, wrong_token}

@@ -5,10 +5,11 @@ use Rattle.std.specs.Global.{Global}
 use Rattle.source.specs.Findings.{finding_parts}
 use Rattle.source.specs.declared.finding.Finding.{Finding}
 use Rattle.source.specs.declared.fault.Memory.{Memory}
-use Rattle.syntax.specs.Trees.{ItemTree, contracts_of}
+use Rattle.tree.specs.Trees.{ItemTree, contracts_of}
 use Rattle.names.specs.Findings.{program_findings}
-use Rattle.names.specs.Resolution.{contract_seen, resolved_contracts}
-use Rattle.names.specs.declared.resolved.Resolved.{Resolved}
+use Rattle.program.specs.Parts.{contract_seen}
+use Rattle.names.specs.Resolution.{resolved_contracts}
+use Rattle.program.specs.declared.contract.Resolved.{Resolved}
 use Rattle.names.specs.Program.{Program}
 use Rattle.names.specs.Resolving.{AreAll, Explains}
 use Rattle.names.specs.declared.fault.NameFaults.{NameFaults}

@@ -8,7 +8,7 @@ use Rattle.std.proofs.lemmas.List.Elements.{Contains-append_left, Contains-appen
 use Rattle.source.specs.Findings.{FindingParts, finding_parts}
 use Rattle.source.specs.declared.finding.Finding.{Finding}
 use Rattle.contracts.specs.Conditions.{AreExactly}
-use Rattle.resolved.specs.Methods.{MethodSeen}
+use Rattle.program.specs.Methods.{MethodSeen}
 use Rattle.analyse.specs.Tasks.{numbers_below, number_of}
 use Rattle.analyse.specs.declared.task.Task.{Task}
 use Rattle.analyse.specs.Verdicts.{IsMethodVerdict, too_many_pairs, place_of_method}
@@ -78,19 +78,29 @@ task_at before rest task n e =
     (sym here ∙ ap (λ l. get_or l (length before) 0) (sym parts ∙ e) ∙ number_at n (length before) below, below)
 
 -- one more task
-pub analysed_more : (methods : List MethodSeen) (before rest all : List Task) (task : Task) (old new : List Finding) → AreAnalysed methods before all old → all ≡ task ∷ rest → AddsVerdict methods (number_of task) old new → AreAnalysed methods (before ++ task ∷ []) rest new
-analysed_more methods before rest all task old new so_far is adds =
-    let at = task_at before rest task (length methods) (subst (λ l. map number_of (before ++ l) ≡ numbers_below (length methods)) is so_far.tasks) in
+pub analysed_more : (methods : List MethodSeen) (rest all : List Task) (task : Task) (old new : List Finding) → AreAnalysed methods all old → all ≡ task ∷ rest → AddsVerdict methods (number_of task) old new → AreAnalysed methods rest new
+analysed_more methods rest all task old new so_far is adds =
+    let before = so_far.done in
+    let tasks = subst (λ l. map number_of (before ++ l) ≡ numbers_below (length methods)) is so_far.tasks in
+    let at = task_at before rest task (length methods) tasks in
     let more = wrong_more methods (length before) old new so_far.exactly (subst (λ k. AddsVerdict methods k old new) at.0 adds) in
     let size : length before + 1 ≡ length (before ++ task ∷ []) = sym (length-append before (task ∷ [])) in
     record {
-      tasks = ap (map number_of) (append_assoc before (task ∷ []) rest) ∙ subst (λ l. map number_of (before ++ l) ≡ numbers_below (length methods)) is so_far.tasks;
+      done = before ++ task ∷ [];
+      tasks = ap (map number_of) (append_assoc before (task ∷ []) rest) ∙ tasks;
       exactly = subst (λ k. AreExactly (IsWrongBelow methods k) (map finding_parts new)) size more;
     }
 
+-- a task that is left is one of a method
+pub task_there : (methods : List MethodSeen) (rest all : List Task) (task : Task) (found : List Finding) → AreAnalysed methods all found → all ≡ task ∷ rest → number_of task < length methods
+task_there methods rest all task found so_far is =
+    let at = task_at so_far.done rest task (length methods) (subst (λ l. map number_of (so_far.done ++ l) ≡ numbers_below (length methods)) is so_far.tasks) in
+    omega (arith, at.0, at.1)
+
 -- and all of them
-pub analysed_all : (methods : List MethodSeen) (before rest : List Task) (found : List Finding) → AreAnalysed methods before rest found → rest ≡ [] → AreExactly (IsWrong methods) (map finding_parts found)
-analysed_all methods before rest found analysed none =
+pub analysed_all : (methods : List MethodSeen) (rest : List Task) (found : List Finding) → AreAnalysed methods rest found → rest ≡ [] → AreExactly (IsWrong methods) (map finding_parts found)
+analysed_all methods rest found analysed none =
+    let before = analysed.done in
     let tasks = ap (map number_of) (sym (append-nil before)) ∙ subst (λ l. map number_of (before ++ l) ≡ numbers_below (length methods)) none analysed.tasks in
     let size = ap length tasks in
     let mapped = length-map before number_of in
@@ -99,8 +109,9 @@ analysed_all methods before rest found analysed none =
     subst (λ k. AreExactly (IsWrongBelow methods k) (map finding_parts found)) all analysed.exactly
 
 -- none yet
-pub analysed_none : (methods : List MethodSeen) (all : List Task) → map number_of all ≡ numbers_below (length methods) → AreAnalysed methods [] all []
+pub analysed_none : (methods : List MethodSeen) (all : List Task) → map number_of all ≡ numbers_below (length methods) → AreAnalysed methods all []
 analysed_none methods all tasks = record {
+  done = [];
   tasks = tasks;
   exactly = record {
     right = λ f h. absurd (none_of f h);

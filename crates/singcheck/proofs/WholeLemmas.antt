@@ -1,8 +1,8 @@
 -- The contracts of a program are whole, each by its place.
 use Rattle.std.proofs.Common.{◌≡◌, ℕ, zero, suc, List, [], ◌∷◌, map, Some, subst, arith}
 use Rattle.std.specs.Prelude.{All, slice_get}
-use Rattle.names.specs.Parts.{Parts, IsWhole, contract_parts}
-use Rattle.names.specs.declared.resolved.Contract.{Contract}
+use Rattle.program.specs.Parts.{Parts, IsWhole, contract_parts}
+use Rattle.program.specs.declared.contract.Contract.{Contract}
 
 pub whole_at : (contracts : List Contract) (i : ℕ) (parts : Parts) → All (λ c. IsWhole (contract_parts c)) contracts → slice_get (map contract_parts contracts) i ≡ Some parts → IsWhole parts
 whole_at [] i parts all e = absurd (cc)

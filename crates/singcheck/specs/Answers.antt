@@ -11,12 +11,14 @@ use Rattle.source.specs.declared.fault.TextFault.{TextFault}
 use Rattle.source.specs.declared.fault.TextFault.TheVariants as faults
 use Rattle.source.specs.declared.finding.Code.TheVariants.{S01, S02, S03, S04, S05, S06}
 use Rattle.source.specs.declared.token.Token.{Token}
-use Rattle.syntax.specs.Parsing.{Spells, IsFirstWrong}
-use Rattle.syntax.specs.Programs.{program}
-use Rattle.syntax.specs.Trees.{ItemTree, contracts_of}
-use Rattle.syntax.specs.declared.tree.Side.TheVariants.{Exp, Imp}
+use Rattle.tree.specs.Spelled.{Spells}
+use Rattle.syntax.specs.Parsing.{IsFirstWrong}
+use Rattle.tree.specs.Programs.{program}
+use Rattle.tree.specs.Trees.{ItemTree, contracts_of}
+use Rattle.program.specs.declared.kind.Side.TheVariants.{Exp, Imp}
 use Rattle.names.specs.Findings.{program_findings}
-use Rattle.names.specs.Resolution.{ContractSeen, resolved_contracts}
+use Rattle.program.specs.Parts.{ContractSeen}
+use Rattle.names.specs.Resolution.{resolved_contracts}
 use Rattle.contracts.specs.Bounds.{IsBound, sign_to}
 use Rattle.contracts.specs.Conditions as conditions
 use Rattle.contracts.specs.Conditions.{AreExactly, IsSound}

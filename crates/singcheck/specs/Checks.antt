@@ -3,11 +3,12 @@
 use Rattle.std.specs.Prelude.{◌≡◌, ◌≢◌, ◌<◌, ◌+◌, ◌⊎◌, ℕ, List, [], length, All, Some, None}
 use Rattle.source.specs.Findings.{FindingParts}
 use Rattle.source.specs.declared.place.Place.{Place}
-use Rattle.syntax.specs.Trees.{ItemTree, contracts_of}
+use Rattle.tree.specs.Trees.{ItemTree, contracts_of}
 use Rattle.names.specs.Findings.{program_findings}
-use Rattle.names.specs.Resolution.{ContractSeen, resolved_contracts}
+use Rattle.program.specs.Parts.{ContractSeen}
+use Rattle.names.specs.Resolution.{resolved_contracts}
 use Rattle.contracts.specs.Conditions.{AreExactly, IsSound}
-use Rattle.resolved.specs.Methods.{MethodSeen}
+use Rattle.program.specs.Methods.{MethodSeen}
 use Rattle.resolving.specs.Methods.{methods_told, not_yet}
 use Rattle.rules.specs.Steps.{outcome, entry_of}
 use Rattle.analyse.specs.Reach.{Reaches, Finds}

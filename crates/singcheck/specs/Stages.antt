@@ -2,8 +2,8 @@
 use Rattle.std.specs.Prelude.{◌≡◌, ◌<◌, ◌^◌, ℕ, List, [], ◌∷◌, ◌++◌, length, map, All}
 use Rattle.source.specs.Findings.{FindingParts, finding_parts}
 use Rattle.source.specs.declared.finding.Finding.{Finding}
-use Rattle.names.specs.Resolution.{ContractSeen, contract_seen}
-use Rattle.names.specs.declared.resolved.Resolved.{Resolved}
+use Rattle.program.specs.Parts.{ContractSeen, contract_seen}
+use Rattle.program.specs.declared.contract.Resolved.{Resolved}
 use Rattle.contracts.specs.Conditions as conditions
 use Rattle.contracts.specs.Conditions.{AreExactly, IsSound}
 use Rattle.contracts.specs.Parts.{Parts}
@@ -11,10 +11,10 @@ use Rattle.contracts.specs.Sounds.{sound_parts}
 use Rattle.singcheck.specs.Answers.{AreFindings, IsBoundsLine, IsResolved, IsBroken}
 use Rattle.source.specs.Tokens.{AreTokens}
 use Rattle.source.specs.declared.token.Tokens.{Tokens}
-use Rattle.syntax.specs.Parsing.{Spells}
-use Rattle.syntax.specs.Programs.{program}
-use Rattle.syntax.specs.Trees.{ItemTree, program_tree}
-use Rattle.syntax.specs.declared.tree.Tree.{Tree}
+use Rattle.tree.specs.Spelled.{Spells}
+use Rattle.tree.specs.Programs.{program}
+use Rattle.tree.specs.Trees.{ItemTree, program_tree}
+use Rattle.tree.specs.declared.item.Tree.{Tree}
 use Rattle.singcheck.specs.Checks.{IsSoundProgram}
 use Rattle.singcheck.specs.declared.stages.Clean.{Clean}
 use Rattle.singcheck.specs.declared.stages.Judging.{Judging}

@@ -3,7 +3,7 @@ use Rattle.std.specs.Prelude.{◌≡◌, ◌<◌, ◌++◌, ℕ, List, length, m
 use Rattle.source.specs.Findings.{FindingParts, finding_parts}
 use Rattle.source.specs.declared.finding.Finding.{Finding}
 use Rattle.contracts.specs.Conditions.{AreExactly}
-use Rattle.resolved.specs.Methods.{MethodSeen}
+use Rattle.program.specs.Methods.{MethodSeen}
 use Rattle.analyse.specs.Tasks.{number_of, numbers_below}
 use Rattle.analyse.specs.declared.task.Task.{Task}
 use Rattle.singcheck.specs.Checks.{IsFoundIn}
@@ -18,7 +18,8 @@ pub record AddsVerdict (methods : List MethodSeen) (n : ℕ) (old new : List Fin
 abbrev pub IsWrongBelow : List MethodSeen → ℕ → FindingParts → Type 0
 IsWrongBelow methods most f = (n : ℕ) × (n < most) × IsFoundIn methods n f
 
--- the methods of these tasks are done, and those are left
-pub record AreAnalysed (methods : List MethodSeen) (done left : List Task) (found : List Finding) : Type 0 where
+-- the methods of some tasks are done, and those of these are left
+pub record AreAnalysed (methods : List MethodSeen) (left : List Task) (found : List Finding) : Type 0 where
+  pub done : List Task
   pub tasks : map number_of (done ++ left) ≡ numbers_below (length methods)
   pub exactly : AreExactly (IsWrongBelow methods (length done)) (map finding_parts found)

@@ -15,10 +15,9 @@ use crate::reports::{Report, report_of};
 use crate::stages::{Clean, Staged, run_stages};
 use crate::writing::write_all;
 use contracts::Sound;
-use names::Contract;
+use program::{Contract, Side};
 use source::Memory;
 use std::alloc::Global;
-use syntax::Side;
 
 /// Reads a program text, and writes the greatest length of each queue of its contracts, or its findings.
 ///

@@ -3,10 +3,10 @@
 ghost use Rattle.std.specs.Prelude.{◌≡◌, ◌<◌, ◌^◌, [], true, map, length, List, IfOk, IfErr, OnOk};
 ghost use Rattle.source.specs.Findings.{finding_parts};
 ghost use Rattle.source.specs.Tokens.{AreTokens};
-ghost use Rattle.syntax.specs.Parsing.{Spells};
-ghost use Rattle.syntax.specs.Programs.{program};
-ghost use Rattle.syntax.specs.Trees.{program_tree};
-ghost use Rattle.names.specs.Resolution.{contract_seen};
+ghost use Rattle.tree.specs.Spelled.{Spells};
+ghost use Rattle.tree.specs.Programs.{program};
+ghost use Rattle.tree.specs.Trees.{program_tree};
+ghost use Rattle.program.specs.Parts.{contract_seen};
 ghost use Rattle.singcheck.specs.Checks.{Checks, IsSoundProgram};
 ghost use Rattle.singcheck.specs.CheckFaults.{AreUnfit, Explains, IsTextFault, workers_fit, slots_fit};
 ghost use Rattle.singcheck.specs.Reports.{IsReport};
@@ -18,13 +18,13 @@ use crate::lines::add_clear;
 use crate::reports::{Report, report_of};
 use crate::stages::{Parsed, Staged, named, parse_text};
 use crate::verdicts::analyse_methods;
-use names::Resolved;
+use program::Resolved;
 use resolving::first_unknown;
 use rules::Program;
 use source::{Finding, Memory, Tokens};
 use std::alloc::Global;
-use syntax::Tree;
-use wellformed::Methods;
+use tree::Tree;
+use wellformed::well_formed_methods;
 
 /// Checks a text: the report of the first stage that has findings (the text, its names, its contracts, its methods), with
 /// status `Found`, or the line `ok: C contracts, M methods`, with status `Empty`.
@@ -126,7 +126,7 @@ fn check_methods<G: Gate>(
         return Err(CheckFault::NotYet(place));
     }
     let contracts = resolved.contracts.len();
-    let methods = Methods::resolve(alloc, tree, tokens, resolved)?;
+    let methods = well_formed_methods(alloc, tree, tokens, resolved)?;
     let count = methods.list().len();
     let program = Program::new(alloc, methods)?;
     let findings = analyse_methods(alloc, &program, gate)?;

@@ -50,7 +50,7 @@ pub trait Sink {
 }
 
 /// A reader or a writer of std, and how often it has failed. Its bytes are known as that one tells them.
-#[derive(Debug, Drop)]
+#[derive(Drop)]
 pub struct Counted<D> {
     pub device: D,
     pub failures: u64,

@@ -7,7 +7,7 @@ pub trait Gate {
 }
 
 /// The gate that holds nobody.
-#[derive(Clone, Copy, Debug, PartialEq, Eq)]
+#[derive(Clone, Copy, PartialEq, Eq)]
 pub struct Open;
 
 impl Gate for Open {

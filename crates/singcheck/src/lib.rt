@@ -32,6 +32,3 @@ pub use reading::MAX_READ;
 pub use reports::Report;
 pub use request::Ask;
 pub use running::run_check;
-
-#[cfg(test)]
-mod tests;

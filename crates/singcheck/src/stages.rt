@@ -5,20 +5,20 @@ ghost use Rattle.source.specs.Findings.{finding_parts};
 ghost use Rattle.source.specs.Marks.{body_of};
 ghost use Rattle.source.specs.Places.{place_of};
 ghost use Rattle.source.specs.Tokens.{AreTokens};
-ghost use Rattle.syntax.specs.Parsing.{Spells};
-ghost use Rattle.syntax.specs.Programs.{program};
-ghost use Rattle.syntax.specs.Trees.{program_tree};
-ghost use Rattle.names.specs.Parts.{IsWhole, contract_parts};
-ghost use Rattle.names.specs.Resolution.{ContractSeen, contract_seen};
-ghost use Rattle.contracts.specs.Parts.{parts_of};
+ghost use Rattle.tree.specs.Spelled.{Spells};
+ghost use Rattle.tree.specs.Programs.{program};
+ghost use Rattle.tree.specs.Trees.{program_tree};
+ghost use Rattle.program.specs.Parts.{IsWhole, contract_parts, ContractSeen, contract_seen};
 ghost use Rattle.singcheck.specs.Answers.{IsResolved, fault_findings, wrong_token};
-ghost use Rattle.singcheck.specs.Stages.{IsParsed, IsSoundTree, IsStaged, Judges, AddsAll, KeepsContracts};
+ghost use Rattle.singcheck.specs.Stages.{IsParsed, IsSoundTree, IsStaged, Judges, KeepsContracts};
 
-use contracts::{Edges, Sound, SoundFault, edges, faults};
-use names::{ContractId, NameFaults, Resolved, resolve};
+use contracts::{Judged, Sound, edges};
+use names::{NameFaults, resolve};
+use program::{ContractId, Resolved};
 use source::{Finding, Memory, TextFault, Tokens, lex, texts};
 use std::alloc::Global;
-use syntax::{SyntaxFault, Tree, parse};
+use syntax::{SyntaxFault, parse};
+use tree::Tree;
 
 /// What the stages of a text, its names and its contracts answer. A later one only looks where the earlier ones found
 /// nothing.
@@ -160,26 +160,10 @@ fn judge(
         → slice_get (map contract_seen resolved.now.contracts.items) id.0 ≡ Some c
         → Judges c judging.old judging.new) }
 {
-    match Sound::new(alloc, edges(alloc, resolved, id)?) {
-        Ok(sound) => {
-            judging.sounds.push(sound)?;
-            Ok(())
-        }
-        Err(SoundFault::Found) => {
-            let edges = edges(alloc, resolved, id)?;
-            add_faults(alloc, &edges, &mut judging.findings)
-        }
-        Err(SoundFault::Memory) => Err(Memory),
+    match Sound::judge(alloc, edges(alloc, resolved, id)?)? {
+        Judged::Sound(sound) => judging.sounds.push(sound)?,
+        Judged::Broken(mut found) => judging.findings.append(&mut found)?,
     }
-}
-
-/// Adds all that is wrong with a contract.
-fn add_faults(alloc: Global, edges: &Edges, findings: &mut Vec<Finding>) -> Result<(), Memory>
-    requires { IsWhole (parts_of edges.now) }
-    ensures { OnOk result (AddsAll (parts_of edges.now) findings.old.items findings.new.items) }
-{
-    let mut more = faults(alloc, edges)?;
-    findings.append(&mut more)?;
     Ok(())
 }
 

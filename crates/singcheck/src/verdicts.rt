@@ -9,7 +9,7 @@ ghost use Rattle.singcheck.specs.Checks.{IsWrong};
 ghost use Rattle.singcheck.specs.Verdicts.{AddsVerdict};
 
 use crate::gate::Gate;
-use analyse::{Task, analyse, tasks};
+use analyse::{Task, analyse, give_up_all, tasks};
 use rules::Program;
 use source::{Finding, Memory};
 use std::alloc::Global;
@@ -24,10 +24,18 @@ pub(crate) fn analyse_methods<G: Gate>(
     ensures { IfOk result (λ found. AreExactly (IsWrong (methods_of program.now)) (map finding_parts found.items)) }
 {
     let mut found = Vec::new(alloc);
-    for task in tasks(alloc, program)? {
+    let mut left = tasks(alloc, program)?.into_iter();
+    while let Some(task) = left.next() {
         gate.enter(task.method().0);
-        add_verdict(alloc, program, task, &mut found)?;
+        match add_verdict(alloc, program, task, &mut found) {
+            Ok(()) => {}
+            Err(memory) => {
+                give_up_all(left);
+                return Err(memory);
+            }
+        }
     }
+    left.destroy_empty();
     Ok(found)
 }
 

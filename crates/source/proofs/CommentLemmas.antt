@@ -2,8 +2,9 @@
 use Rattle.std.proofs.Common.{◌≡◌, ℕ, zero, suc, ◌+◌, ◌-◌, ◌<◌, ◌≤◌, Bool, true, false, List, [], ◌∷◌, length, get_or, take, Some, None, Option, sym, refl, ◌∙◌, ap, subst, arith, not, drop, ◌++◌, take-append-drop}
 use Rattle.bstr.specs.Find.{IsFirstByte, is_byte}
 use Rattle.std.proofs.lemmas.List.{take_rest}
-use Rattle.std.specs.Prelude.{unwrap_or, ◌||◌, ◌==◌}
+use Rattle.std.specs.Prelude.{unwrap_or, ◌==◌}
 use Rattle.std.specs.List.{list_all}
+use Rattle.std.proofs.Math.Bool.{or-false}
 use Rattle.source.specs.Comments.{closes}
 use Rattle.source.specs.Pieces.{is_piece}
 use Rattle.source.specs.Places.{ends_line}
@@ -15,12 +16,8 @@ use Rattle.source.proofs.FirstLemmas.{all_taken, not_all_taken}
 abbrev pub in_line : ℕ → Bool
 in_line b = not (ends_line b)
 
-or_none : (t : Bool) → (t || false) ≡ t
-or_none true = refl
-or_none false = refl
-
 front_line : (bs : List ℕ) → is_piece (47 ∷ 47 ∷ bs) ≡ list_all in_line bs
-front_line bs = front_slash (47 ∷ bs) ∙ or_none (list_all in_line bs)
+front_line bs = front_slash (47 ∷ bs) ∙ or-false (list_all in_line bs)
 
 front_block : (bs : List ℕ) → is_piece (47 ∷ 42 ∷ bs) ≡ closes bs
 front_block bs = front_slash (42 ∷ bs)

@@ -1,10 +1,10 @@
 -- A text has one fault at most, and none where it is cut whole.
-use Rattle.std.proofs.Common.{◌≡◌, ◌≢◌, ◌⊎◌, ◌-◌, inl, inr, ⊎_elim, Some, ℕ, ◌<◌, ◌≤◌, Bool, true, false, not, List, [], ◌∷◌, ◌++◌, length, take, drop, sym, ap, ◌∙◌, subst, refl, arith, append_assoc}
+use Rattle.std.proofs.Common.{◌≡◌, ◌≢◌, ◌⊎◌, ◌-◌, inl, inr, ⊎_elim, Some, ℕ, ◌<◌, ◌≤◌, true, false, not, List, [], ◌∷◌, ◌++◌, length, take, drop, sym, ap, ◌∙◌, subst, refl, arith, append_assoc}
 use Rattle.std.specs.Prelude.{◌&&◌, nat_lt, if◌then◌else◌}
 use Rattle.std.specs.Char.{is_ascii_digit}
 use Rattle.std.specs.Option.{option_map_or}
 use Rattle.std.specs.List.{concat, list_all}
-use Rattle.std.proofs.lemmas.Bool.{false≢true}
+use Rattle.std.proofs.lemmas.Bool.{false≢true, and_parts, not-true}
 use Rattle.std.proofs.lemmas.Bool.Decides.{nat_tests}
 use Rattle.std.proofs.lemmas.List.{take_rest}
 use Rattle.source.specs.Brackets.{depth_after, depth_behind, depth_of}
@@ -24,12 +24,8 @@ use Rattle.source.specs.declared.place.Place.{Place}
 use Rattle.source.specs.declared.fault.TextFault.{TextFault}
 use Rattle.source.specs.declared.fault.TextFault.TheVariants.{Stray, OpenComment, TooLong, TooDeep, TooLarge, Memory}
 use Rattle.source.proofs.CutLemmas.{first_same, first_or_none, front_same}
-use Rattle.source.proofs.LexedLemmas.{and_first, and_second, shallow}
+use Rattle.source.proofs.LexedLemmas.{shallow}
 use Rattle.source.proofs.FrontLemmas.{digit_no_word}
-
-not_false : (b : Bool) → not b ≡ true → b ≡ false
-not_false true h = absurd (false≢true h)
-not_false false h = refl
 
 -- the first piece of those without a fault
 pub record IsFine (depth : ℕ) (p : List ℕ) : Type 0 where
@@ -38,14 +34,14 @@ pub record IsFine (depth : ℕ) (p : List ℕ) : Type 0 where
 
 pub fine_first : (depth : ℕ) (p : List ℕ) (ps : List (List ℕ)) → are_allowed depth (p ∷ ps) ≡ true → IsFine depth p
 fine_first depth p ps h =
-    let this = and_first (not (is_too_deep depth p) && not (is_too_large p)) (are_allowed (depth_behind depth p) ps) h in
+    let this = (and_parts (not (is_too_deep depth p) && not (is_too_large p)) (are_allowed (depth_behind depth p) ps) h).0 in
     record {
-      shallow = not_false (is_too_deep depth p) (and_first (not (is_too_deep depth p)) (not (is_too_large p)) this);
-      small = not_false (is_too_large p) (and_second (not (is_too_deep depth p)) (not (is_too_large p)) this);
+      shallow = not-true (is_too_deep depth p) ((and_parts (not (is_too_deep depth p)) (not (is_too_large p)) this).0);
+      small = not-true (is_too_large p) ((and_parts (not (is_too_deep depth p)) (not (is_too_large p)) this).1);
     }
 
 pub fine_others : (depth : ℕ) (p : List ℕ) (ps : List (List ℕ)) → are_allowed depth (p ∷ ps) ≡ true → are_allowed (depth_behind depth p) ps ≡ true
-fine_others depth p ps h = and_second (not (is_too_deep depth p) && not (is_too_large p)) (are_allowed (depth_behind depth p) ps) h
+fine_others depth p ps h = (and_parts (not (is_too_deep depth p) && not (is_too_large p)) (are_allowed (depth_behind depth p) ps) h).1
 
 -- where a piece without a fault stands first, no fault stands
 fine_deep : (depth : ℕ) (text p : List ℕ) → IsFirstPiece text (length p) → take (length p) text ≡ p → IsFine depth p → IsTooDeep depth text → ⊥
@@ -77,12 +73,12 @@ end_none Memory place depth f = f
 number_depth : (depth : ℕ) (p : List ℕ) → is_number p ≡ true → depth_behind depth p ≡ depth
 number_depth depth [] h = absurd (false≢true h)
 number_depth depth (b ∷ bs) h =
-    let digit = and_first (is_ascii_digit b) (list_all is_ascii_digit bs) h in
+    let digit = (and_parts (is_ascii_digit b) (list_all is_ascii_digit bs) h).0 in
     λ i. option_map_or (depth_after depth) (if digit_no_word b digit i && list_all in_word bs then Some (word_kind (b ∷ bs)) else (if h i then Some Number else symbol (b ∷ bs))) depth
 
 large_not_deep : (depth : ℕ) (p : List ℕ) → depth ≤ 100 → is_too_large p ≡ true → is_too_deep depth p ≡ true → ⊥
 large_not_deep depth p low large deep =
-    let same = number_depth depth p (and_first (is_number p) (nat_lt 2147483647 (number_value p)) large) in
+    let same = number_depth depth p ((and_parts (is_number p) (nat_lt 2147483647 (number_value p)) large).0) in
     false≢true (sym (shallow depth low) ∙ ap (λ d. nat_lt 100 d) (sym same) ∙ deep)
 
 deep_or_large : (depth : ℕ) (text : List ℕ) → depth ≤ 100 → IsTooDeep depth text → IsTooLarge text → ⊥

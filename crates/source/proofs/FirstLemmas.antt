@@ -1,9 +1,8 @@
 -- Which piece stands first, by the bytes at the front.
 use Rattle.std.proofs.Common.{◌≡◌, ℕ, zero, suc, ◌<◌, ◌≤◌, Bool, true, false, List, [], ◌∷◌, length, get_or, take, Some, None, sym, refl, ◌∙◌, arith}
-use Rattle.std.specs.Prelude.{is_some, ◌||◌, ◌&&◌}
+use Rattle.std.specs.Prelude.{is_some, ◌||◌, ◌&&◌, if◌then◌else◌}
 use Rattle.std.specs.List.{list_all}
 use Rattle.std.specs.Char.{is_ascii_digit}
-use Rattle.std.specs.Prelude.{if◌then◌else◌}
 use Rattle.std.proofs.lemmas.Bool.Decides.{nat_tests}
 use Rattle.std.proofs.lemmas.Bool.{and_right, false≢true}
 use Rattle.source.specs.declared.kind.Kind.TheVariants.{Number}

@@ -4,6 +4,7 @@ use Rattle.std.specs.Prelude.{is_some, not, ◌||◌, ◌&&◌, ◌==◌}
 use Rattle.std.specs.List.{list_all}
 use Rattle.std.specs.Char.{is_ascii_digit}
 use Rattle.std.proofs.lemmas.Bool.Decides.{nat_tests}
+use Rattle.std.proofs.Math.Bool.{or-false}
 use Rattle.source.specs.Classes.{is_blank_byte, starts_word, in_word}
 use Rattle.source.specs.Comments.{is_comment, closes}
 use Rattle.source.specs.Places.{ends_line}
@@ -69,23 +70,19 @@ no_symbol b [] h k = ap is_some h
 no_symbol b (c ∷ []) h k = ap is_some (k c)
 no_symbol b (c ∷ d ∷ bs) h k = refl
 
-or_false : (t : Bool) → (t || false) ≡ t
-or_false true = refl
-or_false false = refl
-
 -- what goes on a word
 pub front_word : (b : ℕ) (bs : List ℕ) → starts_word b ≡ true → is_piece (b ∷ bs) ≡ list_all in_word bs
 front_word b bs h =
     let t = list_all in_word bs in
     let only : is_piece (b ∷ bs) ≡ ((t || false) || false) = λ i. no_blank b bs (word_no_blank b h) i || no_comment b bs (word_no_slash b h) i || h i && t || word_no_digit b h i && list_all is_ascii_digit bs || no_symbol b bs (word_no_single b h) (λ c. word_no_double b c h) i in
-    only ∙ ap (λ v. v || false) (or_false t) ∙ or_false t
+    only ∙ ap (λ v. v || false) (or-false t) ∙ or-false t
 
 -- what goes on a number
 pub front_digit : (b : ℕ) (bs : List ℕ) → is_ascii_digit b ≡ true → is_piece (b ∷ bs) ≡ list_all is_ascii_digit bs
 front_digit b bs h =
     let t = list_all is_ascii_digit bs in
     let only : is_piece (b ∷ bs) ≡ (t || false) = λ i. no_blank b bs (digit_no_blank b h) i || no_comment b bs (digit_no_slash b h) i || digit_no_word b h i && list_all in_word bs || h i && t || no_symbol b bs (digit_no_single b h) (λ c. digit_no_double b c h) i in
-    only ∙ or_false t
+    only ∙ or-false t
 
 -- nothing goes on a blank
 pub front_blank : (b c : ℕ) (bs : List ℕ) → is_blank_byte b ≡ true → is_piece (b ∷ c ∷ bs) ≡ false

@@ -1,10 +1,10 @@
 -- What the lexer keeps from piece to piece.
-use Rattle.std.proofs.Common.{◌≡◌, ℕ, ◌+◌, ◌<◌, ◌≤◌, Bool, true, false, not, List, [], ◌∷◌, ◌++◌, length, take, drop, Some, sym, ap, ◌∙◌, subst, refl, arith}
+use Rattle.std.proofs.Common.{◌≡◌, ℕ, ◌+◌, ◌<◌, ◌≤◌, true, false, not, List, [], ◌∷◌, ◌++◌, length, take, drop, Some, sym, ap, ◌∙◌, subst, refl, arith}
 use Rattle.std.specs.Prelude.{◌&&◌, nat_lt}
 use Rattle.std.specs.List.{concat}
 use Rattle.std.specs.Option.{option_map_or}
 use Rattle.std.proofs.Math.Seq.{take-add}
-use Rattle.std.proofs.lemmas.Bool.{false≢true}
+use Rattle.std.proofs.lemmas.Bool.{and_parts}
 use Rattle.std.proofs.lemmas.Bool.Decides.{nat_tests}
 use Rattle.std.proofs.lemmas.List.{drop-drop, length-take-le, length-drop}
 use Rattle.source.specs.Brackets.{depth_after, depth_behind, depth_of}
@@ -33,20 +33,12 @@ pub record IsReached (mark : ℕ) (body : List ℕ) (at : ℕ) (list : List Toke
   pub depth_is : depth ≡ depth_of 0 pieces
   pub low : depth ≤ 100
 
-pub and_first : (a b : Bool) → (a && b) ≡ true → a ≡ true
-and_first true b h = refl
-and_first false b h = absurd (false≢true h)
-
-pub and_second : (a b : Bool) → (a && b) ≡ true → b ≡ true
-and_second true b h = h
-and_second false b h = absurd (false≢true h)
-
 -- one more piece without a fault
 allowed_push : (d : ℕ) (ps : List (List ℕ)) (p : List ℕ) → are_allowed d ps ≡ true → is_too_deep (depth_of d ps) p ≡ false → is_too_large p ≡ false → are_allowed d (ps ++ p ∷ []) ≡ true
 allowed_push d [] p h deep large = λ i. not (deep i) && not (large i) && true
 allowed_push d (q ∷ ps) p h deep large =
-    let this = and_first (not (is_too_deep d q) && not (is_too_large q)) (are_allowed (depth_behind d q) ps) h in
-    let others = and_second (not (is_too_deep d q) && not (is_too_large q)) (are_allowed (depth_behind d q) ps) h in
+    let this = (and_parts (not (is_too_deep d q) && not (is_too_large q)) (are_allowed (depth_behind d q) ps) h).0 in
+    let others = (and_parts (not (is_too_deep d q) && not (is_too_large q)) (are_allowed (depth_behind d q) ps) h).1 in
     let more = allowed_push (depth_behind d q) ps p others deep large in
     λ i. this i && more i
 

@@ -1,9 +1,9 @@
 -- Reserved words by their length.
 use Rattle.std.proofs.Common.{◌≡◌, ◌≢◌, ℕ, Bool, true, false, cond, List, [], ◌∷◌, length, Some, sym, refl, ◌∙◌, ap, arith, eqb-true, eq-eqb}
-use Rattle.std.specs.Prelude.{◌==◌, ◌||◌, ◌&&◌, find, nat_eq, unwrap_or, if◌then◌else◌}
+use Rattle.std.specs.Prelude.{◌==◌, ◌||◌, find, nat_eq, unwrap_or, if◌then◌else◌}
 use Rattle.std.specs.List.{list_all}
 use Rattle.std.specs.Cmp.Lexicographic.{pointwise}
-use Rattle.std.proofs.lemmas.Bool.{false≢true}
+use Rattle.std.proofs.lemmas.Bool.{false≢true, and_parts}
 use Rattle.std.proofs.lemmas.Bool.Decides.{nat_tests}
 use Rattle.source.specs.declared.kind.Kind.{Kind}
 use Rattle.source.specs.declared.kind.Kind.TheVariants.{Name}
@@ -15,20 +15,12 @@ abbrev pub of_length : ℕ → List Kind → List Kind
 of_length n [] = []
 of_length n (k ∷ ks) = if length (word_text k) == n then k ∷ of_length n ks else of_length n ks
 
-and_second : (a b : Bool) → (a && b) ≡ true → b ≡ true
-and_second true b h = h
-and_second false b h = absurd (false≢true h)
-
-and_first : (a b : Bool) → (a && b) ≡ true → a ≡ true
-and_first true b h = refl
-and_first false b h = h
-
 -- the same texts have the same length
 same_length : (xs ys : List ℕ) → pointwise nat_eq xs ys ≡ true → length xs ≡ length ys
 same_length [] [] h = refl
 same_length [] (y ∷ ys) h = absurd (false≢true h)
 same_length (x ∷ xs) [] h = absurd (false≢true h)
-same_length (x ∷ xs) (y ∷ ys) h = omega (arith, same_length xs ys (and_second (nat_eq x y) (pointwise nat_eq xs ys) h))
+same_length (x ∷ xs) (y ∷ ys) h = omega (arith, same_length xs ys ((and_parts (nat_eq x y) (pointwise nat_eq xs ys) h).1))
 
 abbrev is_written : List ℕ → Kind → Bool
 is_written word k = pointwise nat_eq (word_text k) word
@@ -58,10 +50,10 @@ has_length n = n == 2 || n == 3 || n == 4 || n == 5 || n == 6 || n == 7 || n == 
 of_no_length : (ks : List Kind) (n : ℕ) → list_all (λ k. has_length (length (word_text k))) ks ≡ true → has_length n ≡ false → of_length n ks ≡ []
 of_no_length [] n all h = refl
 of_no_length (k ∷ ks) n all h =
-    by (of_no_length ks n (and_second (has_length (length (word_text k))) (list_all (λ k. has_length (length (word_text k))) ks) all) h) (length (word_text k) == n) refl
+    by (of_no_length ks n ((and_parts (has_length (length (word_text k))) (list_all (λ k. has_length (length (word_text k))) ks) all).1) h) (length (word_text k) == n) refl
   where
     by : of_length n ks ≡ [] → (t : Bool) → (length (word_text k) == n) ≡ t → (if t then k ∷ of_length n ks else of_length n ks) ≡ []
-    by none true is = absurd (false≢true (sym h ∙ ap has_length (sym (eqb-true (length (word_text k)) n is)) ∙ and_first (has_length (length (word_text k))) (list_all (λ k. has_length (length (word_text k))) ks) all))
+    by none true is = absurd (false≢true (sym h ∙ ap has_length (sym (eqb-true (length (word_text k)) n is)) ∙ (and_parts (has_length (length (word_text k))) (list_all (λ k. has_length (length (word_text k))) ks) all).0))
     by none false is = none
 
 no_length : (n : ℕ) → n ≢ 2 → n ≢ 3 → n ≢ 4 → n ≢ 5 → n ≢ 6 → n ≢ 7 → n ≢ 8 → n ≢ 10 → n ≢ 13 → has_length n ≡ false

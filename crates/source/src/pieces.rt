@@ -14,7 +14,7 @@ use crate::{comments, numbers, symbols, words};
 use bstr::Finder;
 
 /// A blank, a comment or a token: how many bytes it has, and of which kind the token is.
-#[derive(Clone, Copy, Debug)]
+#[derive(Clone, Copy)]
 pub(crate) struct Piece {
     pub(crate) kind: Option<Kind>,
     pub(crate) len: usize,

@@ -22,7 +22,7 @@ pub struct Token {
 }
 
 /// A text, its tokens in order, and the place one past its last byte.
-#[derive(Debug, Drop)]
+#[derive(Drop)]
 pub struct Tokens {
     pub text: Vec<u8>,
     pub list: Vec<Token>,

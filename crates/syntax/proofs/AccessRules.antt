@@ -2,13 +2,13 @@
 use Rattle.std.proofs.Common.{◌≡◌, Some, refl, ap}
 use Rattle.source.specs.declared.kind.Kind.{Kind}
 use Rattle.source.specs.declared.kind.Kind.TheVariants as kind
-use Rattle.syntax.specs.Symbols.{by_kind}
-use Rattle.syntax.specs.Spelling.{word, optional}
+use Rattle.tree.specs.Symbols.{by_kind}
+use Rattle.tree.specs.Spelling.{word, optional}
 use Rattle.syntax.specs.Reading.{never, optional_at}
-use Rattle.syntax.specs.Grammar.{access_word}
+use Rattle.tree.specs.Grammar.{access_word}
 use Rattle.syntax.specs.Firsts.{access_of, opens_access}
-use Rattle.syntax.specs.declared.tree as tree
-use Rattle.syntax.specs.declared.tree.Access.TheVariants as access
+use Rattle.tree.specs.declared.item as tree
+use Rattle.tree.specs.declared.item.Access.TheVariants as access
 use Rattle.syntax.proofs.Pieces.{Piece}
 use Rattle.syntax.proofs.Beginnings.{splits_self}
 use Rattle.syntax.proofs.Options.{opt_piece}

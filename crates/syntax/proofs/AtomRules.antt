@@ -5,12 +5,14 @@ use Rattle.std.specs.List.{flat_map}
 use Rattle.source.specs.declared.kind.Kind.{Kind}
 use Rattle.source.specs.declared.kind.Kind.TheVariants as kind
 use Rattle.source.specs.declared.token.Span.{Span}
-use Rattle.syntax.specs.Symbols.{Symbol, Fixed, Placed, Named, is_kind, by_kind, kind_at, kind_is}
-use Rattle.syntax.specs.Spelling.{word, placed, name, within, parens, optional}
+use Rattle.tree.specs.Symbols.{Symbol, Fixed, Placed, Named, is_kind, by_kind, kind_at, kind_is}
+use Rattle.tree.specs.Spelling.{word, placed, name, within, parens, optional}
 use Rattle.syntax.specs.Reading.{never, Stops, leads, optional_at}
-use Rattle.syntax.specs.Operators.{Or, Single, Joined, prefix, opens_prefix, opens_rest}
-use Rattle.syntax.specs.Expressions.{LevelTree, AtomTree, TargetTree, Unary, Number, True, False, Target, Parens, Variable, Field, Element, ExpressionTree, level, atom, target, expression, dot_name, level_on, level_at, target_at, atom_at}
-use Rattle.syntax.specs.declared.expression.Prefix.{Prefix}
+use Rattle.tree.specs.Operators.{Or, Single, Joined, prefix}
+use Rattle.syntax.specs.OperatorReads.{opens_prefix, opens_rest}
+use Rattle.tree.specs.Expressions.{LevelTree, AtomTree, TargetTree, Unary, Number, True, False, Target, Parens, Variable, Field, Element, ExpressionTree, level, atom, target, expression, dot_name}
+use Rattle.syntax.specs.ExpressionReads.{level_on, level_at, target_at, atom_at}
+use Rattle.tree.specs.declared.expression.Prefix.{Prefix}
 use Rattle.syntax.proofs.Pieces.{Piece, Follows, Meets, via_piece, next, stops_with}
 use Rattle.syntax.proofs.Beginnings.{Begins, Starts, splits_self}
 use Rattle.syntax.proofs.Repeats.{many_piece}

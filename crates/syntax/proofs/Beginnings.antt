@@ -1,7 +1,7 @@
 -- By which symbols a piece begins.
 use Rattle.std.proofs.Common.{◌≡◌, ◌<◌, suc, length, arith, Bool, true, false, List, [], ◌∷◌, ◌++◌, sym, refl, ap, ◌∙◌, subst}
 use Rattle.std.proofs.lemmas.Bool.{true≢false}
-use Rattle.syntax.specs.Symbols.{Symbol}
+use Rattle.tree.specs.Symbols.{Symbol}
 use Rattle.syntax.specs.Reading.{never, Stops, leads, Fails}
 use Rattle.syntax.proofs.Pieces.{Piece}
 

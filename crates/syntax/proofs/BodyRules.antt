@@ -5,11 +5,11 @@ use Rattle.std.specs.List.{flat_map}
 use Rattle.source.specs.declared.kind.Kind.{Kind}
 use Rattle.source.specs.declared.kind.Kind.TheVariants as kind
 use Rattle.source.specs.declared.token.Span.{Span}
-use Rattle.syntax.specs.Symbols.{Fixed, Named, is_kind, by_kind, kind_is}
-use Rattle.syntax.specs.Spelling.{word, when}
+use Rattle.tree.specs.Symbols.{Fixed, Named, is_kind, by_kind, kind_is}
+use Rattle.tree.specs.Spelling.{word, when}
 use Rattle.syntax.specs.Reading.{never, when_at}
-use Rattle.syntax.specs.Trees.{PathTree, BodyTree, Empty, Path, One, StateTree}
-use Rattle.syntax.specs.Grammar.{line, body, state}
+use Rattle.tree.specs.Trees.{PathTree, BodyTree, Empty, Path, One, StateTree}
+use Rattle.tree.specs.Grammar.{line, body, state}
 use Rattle.syntax.specs.Firsts.{opens_sign}
 use Rattle.syntax.specs.States.{lines, one, one_at, state_on, body_at, state_at}
 use Rattle.syntax.proofs.Pieces.{Piece, Follows, Meets, ReadsOneWay, both_piece, next, via_piece, wide_way}

@@ -3,21 +3,22 @@ use Rattle.std.proofs.Common.{◌≡◌, Bool, true, false, List, [], ◌∷◌,
 use Rattle.std.specs.Prelude.{not}
 use Rattle.source.specs.declared.kind.Kind.TheVariants as kind
 use Rattle.source.specs.declared.token.Span.{Span}
-use Rattle.syntax.specs.Symbols.{Symbol, Fixed, Placed, Named, is_kind, by_kind}
-use Rattle.syntax.specs.Spelling.{placed, name, optional, listed, parens}
+use Rattle.tree.specs.Symbols.{Symbol, Fixed, Placed, Named, is_kind, by_kind}
+use Rattle.tree.specs.Spelling.{placed, name, optional, listed, parens}
 use Rattle.syntax.specs.Reading.{never, Stops, optional_at}
-use Rattle.syntax.specs.Grammar.{scalar_word, value_type}
+use Rattle.tree.specs.Grammar.{scalar_word, value_type}
 use Rattle.syntax.specs.Firsts.{opens_type}
 use Rattle.syntax.specs.Types.{array_tail, pointer_tail, endpoint_tail, scalar_type, scalar_at, endpoint_on, tail_at, of_scalar, of_tail, of_named}
-use Rattle.syntax.specs.StatementGrammar.{awaited, bind}
+use Rattle.tree.specs.StatementGrammar.{awaited, bind}
 use Rattle.syntax.specs.StatementParts.{CaseFrontTree, case_front, typed, named_bind, scalar_bind, of_typed, opens_tail, bind_on, bind_at, binds_on, binds_at}
-use Rattle.syntax.specs.declared.statement.Awaited.{Awaited}
-use Rattle.syntax.specs.declared.statement.Awaited.TheVariants.{Message, Closed}
-use Rattle.syntax.specs.declared.statement.Bind.{Bind}
-use Rattle.syntax.specs.declared.tree as tree
-use Rattle.syntax.specs.declared.tree.Scalar.TheVariants as scalar
-use Rattle.syntax.specs.declared.tree.Type.TheVariants as type
-use Rattle.syntax.specs.declared.tree.Heap.TheVariants as heap
+use Rattle.tree.specs.declared.statement.Awaited.{Awaited}
+use Rattle.tree.specs.declared.statement.Awaited.TheVariants.{Message, Closed}
+use Rattle.tree.specs.declared.statement.Bind.{Bind}
+use Rattle.tree.specs.declared.types as type_nodes
+use Rattle.program.specs.declared.kind as kind_nodes
+use Rattle.program.specs.declared.kind.Scalar.TheVariants as scalar
+use Rattle.tree.specs.declared.types.Type.TheVariants as type
+use Rattle.tree.specs.declared.types.Heap.TheVariants as heap
 use Rattle.syntax.specs.declared.fronts as parts
 use Rattle.syntax.specs.declared.fronts.NamedTail.TheVariants as tail
 use Rattle.syntax.proofs.Pieces.{Piece, Follows, Meets, ReadsOneWay, both_piece, next, via_piece, wide_way}
@@ -108,7 +109,7 @@ of_named_bind p = of_typed p.0 p.1
 abbrev pub of_scalar_bind : parts.ScalarType.ScalarType × Span → Bind
 of_scalar_bind p = record { kind = Some (of_scalar p.0); name = p.1 }
 
-type_behind : (t : tree.Type.Type) (span : Span) (starts : Symbol → Bool) → Begins value_type starts t → Begins bind starts (record { kind = Some t; name = span })
+type_behind : (t : type_nodes.Type.Type) (span : Span) (starts : Symbol → Bool) → Begins value_type starts t → Begins bind starts (record { kind = Some t; name = span })
 type_behind t span starts b = record { head = b.head; tail = b.tail ++ name span; is = ap (λ l. l ++ name span) b.is; first = b.first }
 
 pub named_bind_form : Form bind named_bind of_named_bind (is_kind kind.Name)
@@ -122,11 +123,11 @@ named_bind_form = record {
     same span None = refl
     same span (Some p) = ap (λ l. l ++ name p.1) (named_form.same (record { name = span; tail = p.0 }))
 
-    typed_form : (t : tree.Type.Type) (span : Span) → FormOf value_type of_named (is_kind kind.Name) t → FormOf bind of_named_bind (is_kind kind.Name) (record { kind = Some t; name = span })
+    typed_form : (t : type_nodes.Type.Type) (span : Span) → FormOf value_type of_named (is_kind kind.Name) t → FormOf bind of_named_bind (is_kind kind.Name) (record { kind = Some t; name = span })
     typed_form t span (Same n is) = Same (n.name, Some (n.tail, span)) (ap (λ t. record { kind = Some t; name = span }) is)
     typed_form t span (Other b) = Other (type_behind t span (λ y. not (is_kind kind.Name y)) b)
 
-    each : (o : Option tree.Type.Type) (span : Span) → FormOf bind of_named_bind (is_kind kind.Name) (record { kind = o; name = span })
+    each : (o : Option type_nodes.Type.Type) (span : Span) → FormOf bind of_named_bind (is_kind kind.Name) (record { kind = o; name = span })
     each None span = Same (span, None) refl
     each (Some t) span = typed_form t span (named_form.each t)
 
@@ -140,11 +141,11 @@ scalar_bind_form = record {
     first : (s : parts.ScalarType.ScalarType) (span : Span) → Begins scalar_type (λ y. not (is_kind kind.Name y)) s → Begins scalar_bind (λ y. not (is_kind kind.Name y)) (s, span)
     first s span b = record { head = b.head; tail = b.tail ++ name span; is = ap (λ l. l ++ name span) b.is; first = b.first }
 
-    typed_form : (t : tree.Type.Type) (span : Span) → FormOf value_type of_scalar (λ y. not (is_kind kind.Name y)) t → FormOf bind of_scalar_bind (λ y. not (is_kind kind.Name y)) (record { kind = Some t; name = span })
+    typed_form : (t : type_nodes.Type.Type) (span : Span) → FormOf value_type of_scalar (λ y. not (is_kind kind.Name y)) t → FormOf bind of_scalar_bind (λ y. not (is_kind kind.Name y)) (record { kind = Some t; name = span })
     typed_form t span (Same s is) = Same (s, span) (ap (λ t. record { kind = Some t; name = span }) is)
     typed_form t span (Other b) = Other (type_behind t span (λ y. not (not (is_kind kind.Name y))) b)
 
-    each : (o : Option tree.Type.Type) (span : Span) → FormOf bind of_scalar_bind (λ y. not (is_kind kind.Name y)) (record { kind = o; name = span })
+    each : (o : Option type_nodes.Type.Type) (span : Span) → FormOf bind of_scalar_bind (λ y. not (is_kind kind.Name y)) (record { kind = o; name = span })
     each None span = Other (record { head = Named span; tail = []; is = refl; first = refl })
     each (Some t) span = typed_form t span (scalar_form.each t)
 
@@ -171,7 +172,7 @@ bind_piece = record { some = record { kind = None; name = named_piece.some }; ea
     scalar_way : (s : parts.ScalarType.ScalarType) (span : Span) → ReadsOneWay bind bind_on bind_at (of_scalar_bind (s, span))
     scalar_way s span = form_way scalar_bind_form (λ _ r h. h) (wide_way (λ y h. refl) (scalar_bind_piece.each (s, span)))
 
-    way : (o : Option tree.Type.Type) (span : Span) → ReadsOneWay bind bind_on bind_at (record { kind = o; name = span })
+    way : (o : Option type_nodes.Type.Type) (span : Span) → ReadsOneWay bind bind_on bind_at (record { kind = o; name = span })
     way None span = named_way span None
     way (Some (type.Scalar s)) span = scalar_way (record { scalar = s; array = None }) span
     way (Some (type.Heap (heap.Pointer other b))) span = named_way other (Some (tail.Pointer b, span))
@@ -183,12 +184,12 @@ bind_piece = record { some = record { kind = None; name = named_piece.some }; ea
 pub type_starts : Starts value_type (by_kind opens_type)
 type_starts = record { each = begins }
   where
-    opens : (s : tree.Scalar.Scalar) → opens_type (Some (scalar_word s)) ≡ true
+    opens : (s : kind_nodes.Scalar.Scalar) → opens_type (Some (scalar_word s)) ≡ true
     opens scalar.Int = refl
     opens scalar.Bool = refl
     opens scalar.Byte = refl
 
-    begins : (t : tree.Type.Type) → Begins value_type (by_kind opens_type) t
+    begins : (t : type_nodes.Type.Type) → Begins value_type (by_kind opens_type) t
     begins (type.Scalar s) = record { head = Fixed (scalar_word s); tail = []; is = refl; first = opens s }
     begins (type.Heap (heap.Pointer other b)) = record { head = Named other; tail = pointer_tail b; is = refl; first = refl }
     begins (type.Heap (heap.Array s b)) = record { head = Fixed (scalar_word s); tail = array_tail b; is = refl; first = opens s }
@@ -196,7 +197,7 @@ type_starts = record { each = begins }
 
 -- "(" [ bind { "," bind } ] ")"
 
-bind_apart : (o : Option tree.Type.Type) (y : Symbol) → bind_on y ≡ false → optional_at bind_on (λ _. never) o y ≡ false
+bind_apart : (o : Option type_nodes.Type.Type) (y : Symbol) → bind_on y ≡ false → optional_at bind_on (λ _. never) o y ≡ false
 bind_apart None y h = h
 bind_apart (Some t) y h = refl
 
@@ -208,7 +209,7 @@ bind_item = record {
   leaves = record { apart = λ b y h. bind_apart b.kind y (apart_kinds opens_tail kind.Comma refl y h) };
 }
   where
-    begins : (o : Option tree.Type.Type) (span : Span) → Begins bind (by_kind opens_type) (record { kind = o; name = span })
+    begins : (o : Option type_nodes.Type.Type) (span : Span) → Begins bind (by_kind opens_type) (record { kind = o; name = span })
     begins None span = record { head = Named span; tail = []; is = refl; first = refl }
     begins (Some t) span = type_behind t span (by_kind opens_type) (type_starts.each t)
 

@@ -2,7 +2,7 @@
 use Rattle.std.proofs.Common.{◌≡◌, Bool, true, false, List, [], ◌∷◌, ◌++◌, sym, refl, ap, ◌∙◌, subst, append_assoc}
 use Rattle.std.specs.Prelude.{◌||◌}
 use Rattle.std.specs.List.{flat_map}
-use Rattle.syntax.specs.Symbols.{Symbol}
+use Rattle.tree.specs.Symbols.{Symbol}
 use Rattle.syntax.specs.Reading.{never, Stops, leads, Fails, Takes, last_at, many_at}
 use Rattle.syntax.proofs.Pieces.{ReadsOneWay, Piece, Follows, both, both_way, both_piece, fails_first, fails_second, fails_here, fails_after, ends, meets, or_left, or_right, stops_left, stops_right, stops_both}
 use Rattle.syntax.proofs.Beginnings.{Starts, Splits, Leaves, row_starts}

@@ -1,8 +1,8 @@
 -- One of several forms, told by its first symbol.
-use Rattle.std.proofs.Common.{◌≡◌, Bool, true, false, List, [], ◌∷◌, ◌++◌, sym, refl, ap, ◌∙◌, subst}
+use Rattle.std.proofs.Common.{◌≡◌, Bool, true, false, List, [], ◌∷◌, ◌++◌, sym, ap, ◌∙◌, subst}
 use Rattle.std.specs.Prelude.{not}
-use Rattle.std.proofs.lemmas.Bool.{true≢false}
-use Rattle.syntax.specs.Symbols.{Symbol}
+use Rattle.std.proofs.lemmas.Bool.{true≢false, not-true}
+use Rattle.tree.specs.Symbols.{Symbol}
 use Rattle.syntax.specs.Reading.{Stops, leads, Fails}
 use Rattle.syntax.proofs.Pieces.{ReadsOneWay}
 use Rattle.syntax.proofs.Beginnings.{Begins, Starts, leads_back}
@@ -18,15 +18,11 @@ pub record Form {X Z : Type 0} (spell : Z → List Symbol) (a : X → List Symbo
   pub same : (x : X) → spell (make x) ≡ a x
   pub each : (z : Z) → FormOf spell make starts z
 
-not_true : (b : Bool) → not b ≡ true → b ≡ false
-not_true true h = sym h
-not_true false h = refl
-
 other_head : {X Z : Type 0} (spell : Z → List Symbol) (a : X → List Symbol) (starts : Symbol → Bool) (x : X) (z : Z) (r s : List Symbol) → Begins a starts x → Begins spell (λ y. not (starts y)) z → a x ++ r ≡ spell z ++ s → ⊥
 other_head spell a starts x z r s b c e =
     let e' : b.head ∷ (b.tail ++ r) ≡ c.head ∷ (c.tail ++ s) = ap (λ l. l ++ r) (sym b.is) ∙ e ∙ ap (λ l. l ++ s) c.is in
     let heads : b.head ≡ c.head = cc in
-    true≢false (sym b.first ∙ ap starts heads ∙ not_true (starts c.head) c.first)
+    true≢false (sym b.first ∙ ap starts heads ∙ not-true (starts c.head) c.first)
 
 module _ {X Z : Type 0} {spell : Z → List Symbol} {a : X → List Symbol} {make : X → Z} {starts f : Symbol → Bool} (form : Form spell a make starts) where
   pub form_way : {at : X → Symbol → Bool} {later : Z → Symbol → Bool} {x : X} → ((x : X) (r : List Symbol) → Stops (later (make x)) r → Stops (at x) r) → ReadsOneWay a f at x → ReadsOneWay spell f later (make x)
@@ -55,7 +51,7 @@ module _ {X Z : Type 0} {spell : Z → List Symbol} {a : X → List Symbol} {mak
       other_leads : (z : Z) (r ys : List Symbol) → Begins spell (λ y. not (starts y)) z → spell z ++ r ≡ ys → leads starts ys ≡ true → ⊥
       other_leads z r ys c e l =
           let first : c.head ∷ (c.tail ++ r) ≡ ys = ap (λ l. l ++ r) (sym c.is) ∙ e in
-          true≢false (sym (ap (leads starts) first ∙ l) ∙ not_true (starts c.head) c.first)
+          true≢false (sym (ap (leads starts) first ∙ l) ∙ not-true (starts c.head) c.first)
 
       none : (z : Z) → FormOf spell make starts z → (r s : List Symbol) → Stops f r → spell z ++ r ≡ (h.front ++ h.next ∷ []) ++ s → ⊥
       none z (Same x is) r s hr e = h.rejects x r s hr (ap (λ l. l ++ r) (sym (form.same x)) ∙ ap (λ z. spell z ++ r) (sym is) ∙ e)

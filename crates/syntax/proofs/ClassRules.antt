@@ -5,20 +5,21 @@ use Rattle.std.specs.List.{flat_map}
 use Rattle.source.specs.declared.kind.Kind.{Kind}
 use Rattle.source.specs.declared.kind.Kind.TheVariants as kind
 use Rattle.source.specs.declared.token.Span.{Span}
-use Rattle.syntax.specs.Symbols.{Symbol, Fixed, by_kind, is_kind, kind_at}
-use Rattle.syntax.specs.Spelling.{name, when, listed, braced, parens}
+use Rattle.tree.specs.Symbols.{Symbol, Fixed, by_kind, is_kind, kind_at}
+use Rattle.tree.specs.Spelling.{name, when, listed, braced, parens}
 use Rattle.syntax.specs.Reading.{never, Stops, optional_at, when_at, listed_on, listed_at}
-use Rattle.syntax.specs.Grammar.{access_word, value_type}
+use Rattle.tree.specs.Grammar.{access_word, value_type}
 use Rattle.syntax.specs.Firsts.{opens_access, opens_type, opens_parameter, opens_method}
 use Rattle.syntax.specs.Types.{type_on}
-use Rattle.syntax.specs.StatementTrees.{BlockTree}
-use Rattle.syntax.specs.StatementGrammar.{block}
-use Rattle.syntax.specs.Trees.{MethodTree, ClassTree}
-use Rattle.syntax.specs.Programs.{result_type, claims_words, parameter, method, class}
+use Rattle.tree.specs.StatementTrees.{BlockTree}
+use Rattle.tree.specs.StatementGrammar.{block}
+use Rattle.tree.specs.Trees.{MethodTree, ClassTree}
+use Rattle.tree.specs.Programs.{result_type, claims_words, parameter, method, class}
 use Rattle.syntax.specs.ClassParts.{result_at}
-use Rattle.syntax.specs.declared.class as made
-use Rattle.syntax.specs.declared.tree as tree
-use Rattle.syntax.specs.declared.tree.Access.TheVariants as access
+use Rattle.tree.specs.declared.class as made
+use Rattle.tree.specs.declared.item as item_nodes
+use Rattle.tree.specs.declared.types as type_nodes
+use Rattle.tree.specs.declared.item.Access.TheVariants as access
 use Rattle.syntax.proofs.Pieces.{Piece, Follows, Meets, ReadsOneWay, both, both_piece, next, via_piece, wide_way}
 use Rattle.syntax.proofs.Beginnings.{Begins, Starts, splits_self}
 use Rattle.syntax.proofs.Repeats.{many_piece}
@@ -52,13 +53,13 @@ maybe_claims_piece = when_piece claims_words claims_piece claims_starts splits_s
 
 -- parameter = [ claims ] type ID .
 
-abbrev pub typed_name : tree.Type.Type × Span → List Symbol
+abbrev pub typed_name : type_nodes.Type.Type × Span → List Symbol
 typed_name = both value_type name
 
 pub typed_name_piece : Piece typed_name never (λ _. never)
 typed_name_piece = both_piece type_piece named_piece type_follows type_meets
 
-type_stops : (p : tree.Type.Type × Span) (r : List Symbol) → Stops (is_kind kind.OpenBracket) (typed_name p ++ r)
+type_stops : (p : type_nodes.Type.Type × Span) (r : List Symbol) → Stops (is_kind kind.OpenBracket) (typed_name p ++ r)
 type_stops p r =
     let b = type_starts.each p.0 in
     subst (λ l. Stops (is_kind kind.OpenBracket) ((l ++ name p.1) ++ r)) (sym b.is) (kinds_apart opens_type kind.OpenBracket refl b.head b.first)
@@ -73,10 +74,10 @@ never_stops (y ∷ r) = refl
 claims_meets : Meets {X = Bool} (when_at (is_kind kind.OpenBracket)) typed_name (λ _. never)
 claims_meets = record { here = elim [ true ↦ λ p r h. never_stops (typed_name p ++ r) | false ↦ λ p r h. type_stops p r ] }
 
-abbrev pub parameter_to : made.Parameter.Parameter → Bool × (tree.Type.Type × Span)
+abbrev pub parameter_to : made.Parameter.Parameter → Bool × (type_nodes.Type.Type × Span)
 parameter_to p = (p.claims, (p.kind, p.name))
 
-abbrev pub parameter_from : Bool × (tree.Type.Type × Span) → made.Parameter.Parameter
+abbrev pub parameter_from : Bool × (type_nodes.Type.Type × Span) → made.Parameter.Parameter
 parameter_from p = record { claims = p.0; kind = p.1.0; name = p.1.1 }
 
 pub parameter_piece : Piece parameter never (λ _. never)
@@ -89,7 +90,7 @@ parameter_item = record { piece = parameter_piece; begin = record { each = λ p.
     typed (Some kind.OpenBracket) h = refl
     typed k h = h
 
-    begins : (c : Bool) (t : tree.Type.Type) (span : Span) → Begins parameter (by_kind opens_parameter) (record { claims = c; kind = t; name = span })
+    begins : (c : Bool) (t : type_nodes.Type.Type) (span : Span) → Begins parameter (by_kind opens_parameter) (record { claims = c; kind = t; name = span })
     begins true t span = record { head = Fixed kind.OpenBracket; tail = _; is = refl; first = refl }
     begins false t span =
         let b = type_starts.each t in
@@ -108,16 +109,16 @@ parameters_piece = parens_piece parameters_inside parameter_list_piece
 
 -- result = "void" | type .
 
-abbrev pub of_void : Unit {0} → Option tree.Type.Type
+abbrev pub of_void : Unit {0} → Option type_nodes.Type.Type
 of_void u = None
 
-abbrev pub of_type : tree.Type.Type → Option tree.Type.Type
+abbrev pub of_type : type_nodes.Type.Type → Option type_nodes.Type.Type
 of_type t = Some t
 
 pub void_form : Form result_type (fixed kind.Void) of_void (is_kind kind.Void)
 void_form = record { first = record { each = λ u. record { head = Fixed kind.Void; tail = []; is = refl; first = refl } }; same = λ u. refl; each = each }
   where
-    each : (o : Option tree.Type.Type) → FormOf result_type of_void (is_kind kind.Void) o
+    each : (o : Option type_nodes.Type.Type) → FormOf result_type of_void (is_kind kind.Void) o
     each None = Same tt refl
     each (Some t) =
         let b = type_starts.each t in
@@ -126,19 +127,19 @@ void_form = record { first = record { each = λ u. record { head = Fixed kind.Vo
 pub type_form : Form result_type value_type of_type (λ y. not (is_kind kind.Void y))
 type_form = record { first = record { each = first }; same = λ t. refl; each = each }
   where
-    first : (t : tree.Type.Type) → Begins value_type (λ y. not (is_kind kind.Void y)) t
+    first : (t : type_nodes.Type.Type) → Begins value_type (λ y. not (is_kind kind.Void y)) t
     first t =
         let b = type_starts.each t in
         record { head = b.head; tail = b.tail; is = b.is; first = ap not (kinds_apart opens_type kind.Void refl b.head b.first) }
 
-    each : (o : Option tree.Type.Type) → FormOf result_type of_type (λ y. not (is_kind kind.Void y)) o
+    each : (o : Option type_nodes.Type.Type) → FormOf result_type of_type (λ y. not (is_kind kind.Void y)) o
     each None = Other (record { head = Fixed kind.Void; tail = []; is = refl; first = refl })
     each (Some t) = Same t refl
 
 pub result_piece : Piece result_type type_on result_at
 result_piece = record { some = None; each = way }
   where
-    way : (o : Option tree.Type.Type) → ReadsOneWay result_type type_on result_at o
+    way : (o : Option type_nodes.Type.Type) → ReadsOneWay result_type type_on result_at o
     way None = form_way void_form (λ _ r h. h) (wide_way (λ y h. refl) ((fixed_piece kind.Void).each tt))
     way (Some t) = form_way type_form (λ _ r h. h) (type_piece.each t)
 
@@ -162,7 +163,7 @@ result_meets = record { here = elim [ None ↦ λ p r h. never_stops (signature 
 pub result_end : Piece (both result_type signature) never (λ _. never)
 result_end = both_piece result_piece signature_piece result_follows result_meets
 
-abbrev pub behind_access : Unit {0} × (Option tree.Type.Type × Signature) → List Symbol
+abbrev pub behind_access : Unit {0} × (Option type_nodes.Type.Type × Signature) → List Symbol
 behind_access = both (fixed kind.Static) (both result_type signature)
 
 pub behind_piece : Piece behind_access never (λ _. never)
@@ -171,13 +172,13 @@ behind_piece = next (fixed_piece kind.Static) result_end
 pub method_follows : Follows (by_kind opens_access) behind_access never
 method_follows = record { each = λ p r h. refl }
 
-method_meets : Meets {X = Option tree.Access.Access} (optional_at (by_kind opens_access) (λ _. never)) behind_access (λ _. never)
+method_meets : Meets {X = Option item_nodes.Access.Access} (optional_at (by_kind opens_access) (λ _. never)) behind_access (λ _. never)
 method_meets = record { here = elim [ None ↦ λ p r h. refl | Some a ↦ λ p r h. refl ] }
 
-abbrev pub method_to : MethodTree → Option tree.Access.Access × (Unit {0} × (Option tree.Type.Type × Signature))
+abbrev pub method_to : MethodTree → Option item_nodes.Access.Access × (Unit {0} × (Option type_nodes.Type.Type × Signature))
 method_to m = (m.access, (tt, (m.result, (m.name, ((m.open_paren, m.params), m.body)))))
 
-abbrev pub method_from : Option tree.Access.Access × (Unit {0} × (Option tree.Type.Type × Signature)) → MethodTree
+abbrev pub method_from : Option item_nodes.Access.Access × (Unit {0} × (Option type_nodes.Type.Type × Signature)) → MethodTree
 method_from p = record { access = p.0; result = p.1.1.0; name = p.1.1.1.0; open_paren = p.1.1.1.1.0.0; params = p.1.1.1.1.0.1; body = p.1.1.1.1.1 }
 
 pub method_piece : Piece method never (λ _. never)
@@ -186,12 +187,12 @@ method_piece = via_piece method_to method_from (λ _. refl) (both_piece access_p
 pub method_starts : Starts method (by_kind opens_method)
 method_starts = record { each = λ m. begins m.access m }
   where
-    worded : (a : tree.Access.Access) → opens_method (Some (access_word a)) ≡ true
+    worded : (a : item_nodes.Access.Access) → opens_method (Some (access_word a)) ≡ true
     worded access.Public = refl
     worded access.Private = refl
     worded access.Internal = refl
 
-    begins : (o : Option tree.Access.Access) (m : MethodTree) → Begins method (by_kind opens_method) (record m { access = o })
+    begins : (o : Option item_nodes.Access.Access) (m : MethodTree) → Begins method (by_kind opens_method) (record m { access = o })
     begins None m = record { head = Fixed kind.Static; tail = _; is = refl; first = refl }
     begins (Some a) m = record { head = Fixed (access_word a); tail = _; is = refl; first = worded a }
 

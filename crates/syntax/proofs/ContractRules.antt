@@ -5,16 +5,17 @@ use Rattle.std.specs.List.{flat_map}
 use Rattle.std.proofs.lemmas.List.{map-append}
 use Rattle.source.specs.declared.kind.Kind.TheVariants as kind
 use Rattle.source.specs.declared.token.Span.{Span}
-use Rattle.syntax.specs.Symbols.{Symbol, Fixed, Placed, by_kind}
-use Rattle.syntax.specs.Spelling.{placed}
+use Rattle.tree.specs.Symbols.{Symbol, Fixed, Placed, by_kind}
+use Rattle.tree.specs.Spelling.{placed}
 use Rattle.syntax.specs.Reading.{never, Stops, last_at, many_at}
-use Rattle.syntax.specs.Trees.{member_tree, MessageTree, BodyTree, Empty, Path, One, StateTree, MemberTree, Message, State, ContractTree}
-use Rattle.syntax.specs.Grammar.{direction_word, message, state, member, contract}
+use Rattle.tree.specs.Trees.{member_tree, MessageTree, BodyTree, Empty, Path, One, StateTree, MemberTree, Message, State, ContractTree}
+use Rattle.tree.specs.Grammar.{direction_word, message, state, member, contract}
 use Rattle.syntax.specs.Firsts.{opens_message, opens_member}
 use Rattle.syntax.specs.States.{state_on, body_at, state_at, member_at, members_on}
-use Rattle.syntax.specs.declared.tree as tree
-use Rattle.syntax.specs.declared.tree.Member.{Member}
-use Rattle.syntax.specs.declared.tree.Direction.TheVariants as direction
+use Rattle.program.specs.declared.contract as sign_nodes
+use Rattle.tree.specs.declared.contract as contract_nodes
+use Rattle.tree.specs.declared.contract.Member.{Member}
+use Rattle.program.specs.declared.contract.Direction.TheVariants as direction
 use Rattle.syntax.proofs.Pieces.{Piece, Follows, Meets, ReadsOneWay, both, both_piece, next, via_piece, wide_way, or_left, or_right}
 use Rattle.syntax.proofs.Beginnings.{Starts, Splits, Leaves, splits_self}
 use Rattle.syntax.proofs.Repeats.{many_piece, many_open_piece, many_stops, row_stops, last_more}
@@ -31,11 +32,11 @@ messages_piece = many_piece message_starts splits_self message_piece
 
 -- member = message | state .
 
-direction_head : (d : tree.Direction.Direction) → not (not (opens_message (Some (direction_word d)))) ≡ true
+direction_head : (d : sign_nodes.Direction.Direction) → not (not (opens_message (Some (direction_word d)))) ≡ true
 direction_head direction.In = refl
 direction_head direction.Out = refl
 
-direction_opens : (d : tree.Direction.Direction) → opens_member (Some (direction_word d)) ≡ true
+direction_opens : (d : sign_nodes.Direction.Direction) → opens_member (Some (direction_word d)) ≡ true
 direction_opens direction.In = refl
 direction_opens direction.Out = refl
 

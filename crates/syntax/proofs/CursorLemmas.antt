@@ -7,7 +7,7 @@ use Rattle.source.specs.declared.token.Span.{Span}
 use Rattle.source.specs.declared.token.Token.{Token}
 use Rattle.std.specs.Prelude.{if◌then◌else◌}
 use Rattle.std.proofs.lemmas.Bool.{true≢false}
-use Rattle.syntax.specs.Symbols.{Symbol, Fixed, Placed, Named, End, is_placed, kind_at, by_kind, seen_as, symbols}
+use Rattle.tree.specs.Symbols.{Symbol, Fixed, Placed, Named, End, is_placed, kind_at, by_kind, seen_as, symbols}
 use Rattle.syntax.specs.Reading.{never, Fails, leads}
 use Rattle.syntax.proofs.Pieces.{Piece}
 

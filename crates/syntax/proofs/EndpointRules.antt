@@ -3,12 +3,12 @@ use Rattle.std.proofs.Common.{◌≡◌, Bool, true, false, List, [], ◌++◌, 
 use Rattle.std.specs.Prelude.{◌||◌, is_some}
 use Rattle.source.specs.declared.kind.Kind.TheVariants as kind
 use Rattle.source.specs.declared.token.Span.{Span}
-use Rattle.syntax.specs.Symbols.{Symbol, Fixed, is_kind, kind_is}
-use Rattle.syntax.specs.Spelling.{word, name, optional, when}
+use Rattle.tree.specs.Symbols.{Symbol, Fixed, is_kind, kind_is}
+use Rattle.tree.specs.Spelling.{word, name, optional, when}
 use Rattle.syntax.specs.Reading.{never, Stops, Fails, Takes, optional_at, when_at, open_at}
-use Rattle.syntax.specs.Grammar.{side_word, bang_word, in_heap_words, colon_name}
+use Rattle.tree.specs.Grammar.{side_word, bang_word, in_heap_words, colon_name}
 use Rattle.syntax.specs.Types.{endpoint_end, endpoint_tail, endpoint_on, endpoint_at}
-use Rattle.syntax.specs.declared.tree as tree
+use Rattle.program.specs.declared.kind as tree
 use Rattle.syntax.specs.declared.fronts as parts
 use Rattle.syntax.proofs.Pieces.{Piece, Follows, both, next, fails_here, fails_after, fails_first, fails_second, via_piece, via_fails, same_piece, same_fails, or_right, stops_left, stops_both, stops_never}
 use Rattle.syntax.proofs.Beginnings.{Starts, Splits, Leaves, splits_self}

@@ -4,17 +4,19 @@ use Rattle.std.proofs.lemmas.List.{map-append}
 use Rattle.std.specs.List.{flat_map}
 use Rattle.source.specs.declared.kind.Kind.TheVariants as kind
 use Rattle.source.specs.declared.token.Span.{Span}
-use Rattle.syntax.specs.Symbols.{Symbol, Placed, Named, by_kind, kind_at}
-use Rattle.syntax.specs.Spelling.{within, parens, name, optional}
+use Rattle.tree.specs.Symbols.{Symbol, Placed, Named, by_kind, kind_at}
+use Rattle.tree.specs.Spelling.{within, parens, name, optional}
 use Rattle.syntax.specs.Reading.{never, Stops, leads, Fails, Takes, Reads, AtFault, last_at}
 use Rattle.syntax.specs.declared.cursor.Stuck.{Stuck}
 use Rattle.syntax.specs.declared.cursor.Stuck.TheVariants.{Unexpected, Memory}
-use Rattle.syntax.specs.Operators.{Operators, Or, And, Equal, Compare, Add, Multiply, Level, Single, Joined, below, OperatorOf, operator, joins, prefix, opens_prefix, opens_rest}
-use Rattle.syntax.specs.Expressions.{LevelTree, AtomTree, Unary, Chain, Done, Number, True, False, Target, Parens, Variable, Field, Element, ExpressionTree, steps, expression_on, expression_at, opens_expression, StepOf, level, atom, target, step, expression, level_on, level_at, step_at, steps_end, target_on, target_at, atom_at, dot_name}
-use Rattle.syntax.specs.ExpressionTrees.{step_row}
-use Rattle.syntax.specs.declared.expression.Prefix.{Prefix}
-use Rattle.syntax.specs.declared.expression.PrefixOperator.{PrefixOperator}
-use Rattle.syntax.specs.declared.expression.PrefixOperator.TheVariants as prefixes
+use Rattle.tree.specs.Operators.{Operators, Or, And, Equal, Compare, Add, Multiply, Level, Single, Joined, below, OperatorOf, operator, prefix}
+use Rattle.syntax.specs.OperatorReads.{joins, opens_prefix, opens_rest}
+use Rattle.tree.specs.Expressions.{LevelTree, AtomTree, Unary, Chain, Done, Number, True, False, Target, Parens, Variable, Field, Element, ExpressionTree, steps, StepOf, level, atom, target, step, expression, dot_name}
+use Rattle.syntax.specs.ExpressionReads.{expression_on, expression_at, opens_expression, level_on, level_at, step_at, steps_end, target_on, target_at, atom_at}
+use Rattle.tree.specs.ExpressionTrees.{step_row}
+use Rattle.tree.specs.declared.expression.Prefix.{Prefix}
+use Rattle.tree.specs.declared.expression.PrefixOperator.{PrefixOperator}
+use Rattle.tree.specs.declared.expression.PrefixOperator.TheVariants as prefixes
 use Rattle.syntax.proofs.Pieces.{Piece, ReadsOneWay, both, via_fails, same_fails, wide_fails, fails_first, fails_second, fails_here, fails_after, stops_never, stops_with}
 use Rattle.syntax.proofs.Beginnings.{Begins, Starts, splits_self}
 use Rattle.syntax.proofs.Repeats.{last_more}

@@ -2,9 +2,11 @@
 use Rattle.std.proofs.Common.{refl}
 use Rattle.std.specs.List.{flat_map}
 use Rattle.source.specs.declared.kind.Kind.TheVariants as kind
-use Rattle.syntax.specs.Symbols.{by_kind}
-use Rattle.syntax.specs.Operators.{Operators, Level, Single, below, joins}
-use Rattle.syntax.specs.Expressions.{LevelTree, StepTrees, AtomTree, TargetTree, Unary, Chain, Done, More, Number, True, False, Target, Parens, Variable, Field, Element, level, atom, target, step, level_on, level_at, steps_end, target_on, target_at, atom_at}
+use Rattle.tree.specs.Symbols.{by_kind}
+use Rattle.tree.specs.Operators.{Operators, Level, Single, below}
+use Rattle.syntax.specs.OperatorReads.{joins}
+use Rattle.tree.specs.Expressions.{LevelTree, StepTrees, AtomTree, TargetTree, Unary, Chain, Done, More, Number, True, False, Target, Parens, Variable, Field, Element, level, atom, target, step}
+use Rattle.syntax.specs.ExpressionReads.{level_on, level_at, steps_end, target_on, target_at, atom_at}
 use Rattle.syntax.proofs.Pieces.{ReadsOneWay, both_way, via_way, same_way, wide_way, ends, meets}
 use Rattle.syntax.proofs.Beginnings.{splits_self}
 use Rattle.syntax.proofs.Options.{none_way, some_way}

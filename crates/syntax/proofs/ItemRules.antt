@@ -2,14 +2,14 @@
 use Rattle.std.proofs.Common.{◌≡◌, true, Option, Some, None, refl}
 use Rattle.std.specs.Prelude.{not, ◌||◌}
 use Rattle.source.specs.declared.kind.Kind.TheVariants as kind
-use Rattle.syntax.specs.Symbols.{Fixed, by_kind, is_kind, kind_is}
+use Rattle.tree.specs.Symbols.{Fixed, by_kind, is_kind, kind_is}
 use Rattle.syntax.specs.Reading.{never, optional_at}
-use Rattle.syntax.specs.Trees.{DefinitionTree, Contract, Struct, Class, ItemTree}
-use Rattle.syntax.specs.Grammar.{access_word, contract}
-use Rattle.syntax.specs.Programs.{struct, class, definition, item, program}
+use Rattle.tree.specs.Trees.{DefinitionTree, Contract, Struct, Class, ItemTree}
+use Rattle.tree.specs.Grammar.{access_word, contract}
+use Rattle.tree.specs.Programs.{struct, class, definition, item, program}
 use Rattle.syntax.specs.Firsts.{opens_access, opens_item}
-use Rattle.syntax.specs.declared.tree as tree
-use Rattle.syntax.specs.declared.tree.Access.TheVariants as access
+use Rattle.tree.specs.declared.item as tree
+use Rattle.tree.specs.declared.item.Access.TheVariants as access
 use Rattle.syntax.proofs.Pieces.{Piece, Follows, Meets, ReadsOneWay, both_piece, via_piece}
 use Rattle.syntax.proofs.Beginnings.{Begins, Starts, splits_self}
 use Rattle.syntax.proofs.Repeats.{many_piece}

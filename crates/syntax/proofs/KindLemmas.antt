@@ -5,8 +5,8 @@ use Rattle.std.proofs.lemmas.Bool.{true≢false}
 use Rattle.source.specs.declared.kind.Kind.{Kind}
 use Rattle.source.specs.contracts.kind.Kind.{the_type}
 use denote.Enum.Bare.{same_true, true_same}
-use Rattle.syntax.specs.Symbols.{Symbol, Fixed, Placed, kind_at, kind_is, by_kind, is_kind}
-use Rattle.syntax.specs.Spelling.{placed}
+use Rattle.tree.specs.Symbols.{Symbol, Fixed, Placed, kind_at, kind_is, by_kind, is_kind}
+use Rattle.tree.specs.Spelling.{placed}
 use Rattle.syntax.specs.Reading.{Stops, leads}
 use Rattle.syntax.proofs.Beginnings.{Starts, leads_stops}
 use Rattle.syntax.proofs.CursorLemmas.{fixed, leads_of, leads_by}

@@ -3,8 +3,8 @@ use Rattle.std.proofs.Common.{◌≡◌, Bool, true, false, List, [], ◌∷◌,
 use Rattle.std.specs.List.{flat_map}
 use Rattle.source.specs.declared.kind.Kind.{Kind}
 use Rattle.source.specs.declared.kind.Kind.TheVariants.{Comma}
-use Rattle.syntax.specs.Symbols.{Symbol, Fixed, by_kind, is_kind}
-use Rattle.syntax.specs.Spelling.{comma, listed, optional}
+use Rattle.tree.specs.Symbols.{Symbol, Fixed, by_kind, is_kind}
+use Rattle.tree.specs.Spelling.{comma, listed, optional}
 use Rattle.syntax.specs.Reading.{never, Stops, leads, Fails, optional_at, listed_on, listed_at}
 use Rattle.syntax.proofs.Pieces.{Piece, both, both_piece, via_piece, via_fails, same_piece, same_fails, fails_first, fails_second, ends, meets, stops_never, or_left, or_right}
 use Rattle.syntax.proofs.Beginnings.{Starts, Splits, splits_self, row_starts}

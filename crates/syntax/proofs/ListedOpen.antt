@@ -4,8 +4,8 @@ use Rattle.std.specs.Prelude.{◌||◌}
 use Rattle.std.specs.List.{flat_map}
 use Rattle.source.specs.declared.kind.Kind.{Kind}
 use Rattle.source.specs.declared.kind.Kind.TheVariants.{Comma}
-use Rattle.syntax.specs.Symbols.{Symbol, Fixed, by_kind, is_kind}
-use Rattle.syntax.specs.Spelling.{comma, listed, optional}
+use Rattle.tree.specs.Symbols.{Symbol, Fixed, by_kind, is_kind}
+use Rattle.tree.specs.Spelling.{comma, listed, optional}
 use Rattle.syntax.specs.Reading.{never, Stops, leads, Fails, Takes, optional_at, last_at, many_at, listed_open_on, listed_open_at}
 use Rattle.syntax.proofs.Pieces.{Piece, Follows, both, next, via_piece, via_fails, same_piece, same_fails, fails_here, fails_after, fails_first, fails_second, or_left, or_right, stops_left}
 use Rattle.syntax.proofs.Beginnings.{Starts, Splits, Leaves, row_starts}

@@ -3,14 +3,15 @@ use Rattle.std.proofs.Common.{◌≡◌, List, [], ◌∷◌, Some, refl, ap}
 use Rattle.source.specs.declared.kind.Kind.{Kind}
 use Rattle.source.specs.declared.kind.Kind.TheVariants as kind
 use Rattle.source.specs.declared.token.Span.{Span}
-use Rattle.syntax.specs.Symbols.{by_kind}
-use Rattle.syntax.specs.Spelling.{listed, parens}
+use Rattle.tree.specs.Symbols.{by_kind}
+use Rattle.tree.specs.Spelling.{listed, parens}
 use Rattle.syntax.specs.Reading.{never, listed_on, listed_at}
-use Rattle.syntax.specs.Trees.{MessageTree}
-use Rattle.syntax.specs.Grammar.{direction_word, param, message}
+use Rattle.tree.specs.Trees.{MessageTree}
+use Rattle.tree.specs.Grammar.{direction_word, param, message}
 use Rattle.syntax.specs.Firsts.{direction_of, opens_type, opens_message}
-use Rattle.syntax.specs.declared.tree as tree
-use Rattle.syntax.specs.declared.tree.Direction.TheVariants as direction
+use Rattle.program.specs.declared.contract as sign_nodes
+use Rattle.tree.specs.declared.contract as contract_nodes
+use Rattle.program.specs.declared.contract.Direction.TheVariants as direction
 use Rattle.syntax.proofs.Pieces.{Piece, next, via_piece}
 use Rattle.syntax.proofs.Beginnings.{Starts, row_starts}
 use Rattle.syntax.proofs.Enclosed.{InParens, parens_piece}
@@ -24,16 +25,16 @@ use Rattle.syntax.proofs.TypeForms.{param_item}
 pub directions : Words direction_word direction_of
 directions = record { some = direction.In; known = known; blank = refl; only = only; plain = plain }
   where
-    known : (d : tree.Direction.Direction) → direction_of (Some (direction_word d)) ≡ Some d
+    known : (d : sign_nodes.Direction.Direction) → direction_of (Some (direction_word d)) ≡ Some d
     known direction.In = refl
     known direction.Out = refl
 
-    only : (k : Kind) (d : tree.Direction.Direction) → direction_of (Some k) ≡ Some d → k ≡ direction_word d
+    only : (k : Kind) (d : sign_nodes.Direction.Direction) → direction_of (Some k) ≡ Some d → k ≡ direction_word d
     only kind.In d e = ap direction_word (one_some e)
     only kind.Out d e = ap direction_word (one_some e)
     only k d e = absurd (none_some e)
 
-    plain : (d : tree.Direction.Direction) → direction_word d ≡ kind.Name → ⊥
+    plain : (d : sign_nodes.Direction.Direction) → direction_word d ≡ kind.Name → ⊥
     plain direction.In e = cc
     plain direction.Out e = cc
 
@@ -50,10 +51,10 @@ params_piece = parens_piece params_inside param_list_piece
 
 -- message = direction "message" ID params ";" .
 
-abbrev pub message_to : MessageTree → tree.Direction.Direction × (Unit {0} × (Span × ((Span × List tree.Param.Param) × Unit {0})))
+abbrev pub message_to : MessageTree → sign_nodes.Direction.Direction × (Unit {0} × (Span × ((Span × List contract_nodes.Param.Param) × Unit {0})))
 message_to m = (m.direction, (tt, (m.name, ((m.open_paren, m.params), tt))))
 
-abbrev pub message_from : tree.Direction.Direction × (Unit {0} × (Span × ((Span × List tree.Param.Param) × Unit {0}))) → MessageTree
+abbrev pub message_from : sign_nodes.Direction.Direction × (Unit {0} × (Span × ((Span × List contract_nodes.Param.Param) × Unit {0}))) → MessageTree
 message_from p = record { direction = p.0; name = p.1.1.0; open_paren = p.1.1.1.0.0; params = p.1.1.1.0.1 }
 
 pub message_piece : Piece message never (λ _. never)

@@ -3,17 +3,17 @@ use Rattle.std.proofs.Common.{◌≡◌, Bool, true, List, [], ◌++◌, Option,
 use Rattle.std.specs.Prelude.{not, ◌||◌}
 use Rattle.source.specs.declared.kind.Kind.TheVariants as kind
 use Rattle.source.specs.declared.token.Span.{Span}
-use Rattle.syntax.specs.Symbols.{Symbol, Fixed, Placed, Named, is_kind, by_kind, kind_is}
-use Rattle.syntax.specs.Spelling.{word, name, within}
+use Rattle.tree.specs.Symbols.{Symbol, Fixed, Placed, Named, is_kind, by_kind, kind_is}
+use Rattle.tree.specs.Spelling.{word, name, within}
 use Rattle.syntax.specs.Reading.{never}
-use Rattle.syntax.specs.Grammar.{side_word}
+use Rattle.tree.specs.Grammar.{side_word}
 use Rattle.syntax.specs.Firsts.{opens_side}
 use Rattle.syntax.specs.Types.{endpoint_end, endpoint_on, endpoint_at, pointer_tail}
-use Rattle.syntax.specs.Expressions.{ExpressionTree, expression}
-use Rattle.syntax.specs.Values.{ValueTree}
+use Rattle.tree.specs.Expressions.{ExpressionTree, expression}
+use Rattle.tree.specs.Values.{ValueTree}
 use Rattle.syntax.specs.StatementParts.{declared, assigned, called, channel_ends}
-use Rattle.syntax.specs.declared.tree as tree
-use Rattle.syntax.specs.declared.tree.Side.TheVariants as side
+use Rattle.program.specs.declared.kind as tree
+use Rattle.program.specs.declared.kind.Side.TheVariants as side
 use Rattle.syntax.specs.declared.fronts as parts
 use Rattle.syntax.specs.declared.fronts.NamedTail.TheVariants as tail
 use Rattle.syntax.specs.declared.statement_ends.ChannelEnds.{ChannelEnds}

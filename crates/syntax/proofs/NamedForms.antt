@@ -3,20 +3,21 @@ use Rattle.std.proofs.Common.{◌≡◌, true, false, List, [], ◌++◌, Option
 use Rattle.std.specs.Prelude.{not, ◌||◌}
 use Rattle.source.specs.declared.kind.Kind.TheVariants as kind
 use Rattle.source.specs.declared.token.Span.{Span}
-use Rattle.syntax.specs.Symbols.{Symbol, Fixed, Named, is_kind, by_kind, kind_is, kind_at}
-use Rattle.syntax.specs.Spelling.{word, name}
+use Rattle.tree.specs.Symbols.{Symbol, Fixed, Named, is_kind, by_kind, kind_is, kind_at}
+use Rattle.tree.specs.Spelling.{word, name}
 use Rattle.syntax.specs.Reading.{never, leads, Fails}
-use Rattle.syntax.specs.Grammar.{scalar_word}
+use Rattle.tree.specs.Grammar.{scalar_word}
 use Rattle.syntax.specs.Firsts.{opens_side}
-use Rattle.syntax.specs.Expressions.{TargetTree, Variable, Field, Element, ExpressionTree}
-use Rattle.syntax.specs.Values.{ValueTree}
-use Rattle.syntax.specs.StatementTrees.{StatementTree, Declare, Assign, Call, NewChannel}
-use Rattle.syntax.specs.StatementGrammar.{statement}
+use Rattle.tree.specs.Expressions.{TargetTree, Variable, Field, Element, ExpressionTree}
+use Rattle.tree.specs.Values.{ValueTree}
+use Rattle.tree.specs.StatementTrees.{StatementTree, Declare, Assign, Call, NewChannel}
+use Rattle.tree.specs.StatementGrammar.{statement}
 use Rattle.syntax.specs.StatementFirsts.{statement_on, statement_at}
-use Rattle.syntax.specs.declared.tree as tree
-use Rattle.syntax.specs.declared.tree.Scalar.TheVariants as scalar
-use Rattle.syntax.specs.declared.tree.Type.TheVariants as type
-use Rattle.syntax.specs.declared.tree.Heap.TheVariants as heap
+use Rattle.tree.specs.declared.types as type_nodes
+use Rattle.program.specs.declared.kind as kind_nodes
+use Rattle.program.specs.declared.kind.Scalar.TheVariants as scalar
+use Rattle.tree.specs.declared.types.Type.TheVariants as type
+use Rattle.tree.specs.declared.types.Heap.TheVariants as heap
 use Rattle.syntax.proofs.Pieces.{ReadsOneWay, both, next, wide_way, wide_fails, fails_after, stops_never}
 use Rattle.syntax.proofs.Choices.{Form, FormOf, Same, Other, form_way, form_fails}
 use Rattle.syntax.proofs.KindLemmas.{kind_other, other_leads}
@@ -57,12 +58,12 @@ named_form = record {
     same first (Plain (Indexed e v)) = refl
     same first (Plain (Assigned v)) = refl
 
-    scalar_other : (s : tree.Scalar.Scalar) → not (kind_is kind.Name (Some (scalar_word s))) ≡ true
+    scalar_other : (s : kind_nodes.Scalar.Scalar) → not (kind_is kind.Name (Some (scalar_word s))) ≡ true
     scalar_other scalar.Int = refl
     scalar_other scalar.Bool = refl
     scalar_other scalar.Byte = refl
 
-    declare : (t : tree.Type.Type) (span : Span) (o : Option ValueTree) → FormOf statement of_named (is_kind kind.Name) (Declare (record { kind = t; name = span; value = o }))
+    declare : (t : type_nodes.Type.Type) (span : Span) (o : Option ValueTree) → FormOf statement of_named (is_kind kind.Name) (Declare (record { kind = t; name = span; value = o }))
     declare (type.Scalar s) span o = Other (record { head = Fixed (scalar_word s); tail = _; is = refl; first = scalar_other s })
     declare (type.Heap (heap.Array s b)) span o = Other (record { head = Fixed (scalar_word s); tail = _; is = refl; first = scalar_other s })
     declare (type.Heap (heap.Pointer first b)) span o = Same (first, Pointed b (span, o)) refl

@@ -4,15 +4,16 @@ use Rattle.std.specs.Prelude.{not}
 use Rattle.source.specs.declared.kind.Kind.{Kind}
 use Rattle.source.specs.declared.kind.Kind.TheVariants as kind
 use Rattle.source.specs.declared.token.Span.{Span}
-use Rattle.syntax.specs.Symbols.{Fixed, Placed, is_kind, by_kind}
-use Rattle.syntax.specs.Spelling.{placed}
+use Rattle.tree.specs.Symbols.{Fixed, Placed, is_kind, by_kind}
+use Rattle.tree.specs.Spelling.{placed}
 use Rattle.syntax.specs.Reading.{never}
-use Rattle.syntax.specs.Operators.{Operators, Or, And, Equal, Compare, Add, Multiply, operator, equality_word, equality_of, relation_word, relation_of, prefix_word, prefix_of, prefix, opens_prefix, sum_operator, joins}
-use Rattle.syntax.specs.declared.expression as tree
-use Rattle.syntax.specs.declared.expression.EqualityOperator.TheVariants as equality
-use Rattle.syntax.specs.declared.expression.RelationOperator.TheVariants as relation
-use Rattle.syntax.specs.declared.expression.SumOperator.TheVariants as sum
-use Rattle.syntax.specs.declared.expression.PrefixOperator.TheVariants as prefixes
+use Rattle.tree.specs.Operators.{Operators, Or, And, Equal, Compare, Add, Multiply, operator, equality_word, relation_word, prefix_word, prefix, sum_operator}
+use Rattle.syntax.specs.OperatorReads.{equality_of, relation_of, prefix_of, opens_prefix, joins}
+use Rattle.tree.specs.declared.expression as tree
+use Rattle.tree.specs.declared.expression.EqualityOperator.TheVariants as equality
+use Rattle.tree.specs.declared.expression.RelationOperator.TheVariants as relation
+use Rattle.tree.specs.declared.expression.SumOperator.TheVariants as sum
+use Rattle.tree.specs.declared.expression.PrefixOperator.TheVariants as prefixes
 use Rattle.syntax.proofs.Pieces.{Piece, ReadsOneWay, via_piece}
 use Rattle.syntax.proofs.Beginnings.{Starts}
 use Rattle.syntax.proofs.Choices.{Form, Same, Other, form_way}

@@ -1,8 +1,8 @@
 -- A piece, or nothing.
 use Rattle.std.proofs.Common.{◌≡◌, Bool, true, false, List, [], ◌∷◌, ◌++◌, Option, Some, None, sym, refl, ap, ◌∙◌, subst, append_assoc}
 use Rattle.std.specs.Prelude.{is_some}
-use Rattle.syntax.specs.Symbols.{Symbol}
-use Rattle.syntax.specs.Spelling.{optional, when}
+use Rattle.tree.specs.Symbols.{Symbol}
+use Rattle.tree.specs.Spelling.{optional, when}
 use Rattle.syntax.specs.Reading.{never, Stops, leads, Rejects, Fails, optional_at, when_at, open_at}
 use Rattle.syntax.proofs.Pieces.{ReadsOneWay, Piece, Follows, both, stops_with, stops_left, stops_right, via_piece, via_fails, same_piece, same_fails}
 use Rattle.syntax.proofs.Beginnings.{Starts, Splits, Leaves, starts_not, stops_leads, leads_back}

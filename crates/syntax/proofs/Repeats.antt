@@ -3,7 +3,7 @@ use Rattle.std.proofs.Common.{◌≡◌, Bool, true, false, List, [], ◌∷◌,
 use Rattle.std.specs.Prelude.{◌||◌}
 use Rattle.std.specs.List.{flat_map}
 use Rattle.std.proofs.lemmas.List.{flat_map_more}
-use Rattle.syntax.specs.Symbols.{Symbol}
+use Rattle.tree.specs.Symbols.{Symbol}
 use Rattle.syntax.specs.Reading.{never, Stops, leads, Rejects, Fails, last_at, many_at}
 use Rattle.syntax.proofs.Pieces.{ReadsOneWay, Piece, stops_with, stops_left, stops_right, same_way, same_piece}
 use Rattle.syntax.proofs.Beginnings.{Starts, Splits, Leaves, starts_not, stops_leads, leads_back}

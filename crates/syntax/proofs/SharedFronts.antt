@@ -1,9 +1,8 @@
 -- Forms that begin alike: each is told by what stands behind the front that they share.
-use Rattle.std.proofs.Common.{◌≡◌, Bool, true, false, List, [], ◌∷◌, ◌++◌, sym, refl, ap, ◌∙◌, subst, append_assoc}
+use Rattle.std.proofs.Common.{◌≡◌, Bool, true, false, List, [], ◌∷◌, ◌++◌, sym, refl, ap, ◌∙◌, subst, append_assoc, inl, inr}
 use Rattle.std.specs.Prelude.{◌⊎◌}
-use Rattle.std.proofs.Common.{inl, inr}
 use Rattle.std.proofs.lemmas.List.{append_cancel_right}
-use Rattle.syntax.specs.Symbols.{Symbol}
+use Rattle.tree.specs.Symbols.{Symbol}
 use Rattle.syntax.specs.Reading.{Stops, leads, Fails}
 use Rattle.syntax.proofs.Pieces.{stops_with}
 use Rattle.syntax.proofs.Beginnings.{leads_back}

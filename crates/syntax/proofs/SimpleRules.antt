@@ -3,12 +3,14 @@ use Rattle.std.proofs.Common.{List, Option, Some, None, refl}
 use Rattle.source.specs.declared.kind.Kind.{Kind}
 use Rattle.source.specs.declared.kind.Kind.TheVariants as kind
 use Rattle.source.specs.declared.token.Span.{Span}
-use Rattle.syntax.specs.Symbols.{Fixed, by_kind, is_kind}
-use Rattle.syntax.specs.Spelling.{name, optional}
+use Rattle.tree.specs.Symbols.{Fixed, by_kind, is_kind}
+use Rattle.tree.specs.Spelling.{name, optional}
 use Rattle.syntax.specs.Reading.{never, optional_at}
-use Rattle.syntax.specs.Expressions.{ExpressionTree, expression, dot_name, opens_expression, expression_on, expression_at}
-use Rattle.syntax.specs.Values.{ValueTree, CallTree, value_spelling, value_on, value_at, arguments}
-use Rattle.syntax.specs.StatementGrammar.{init}
+use Rattle.tree.specs.Expressions.{ExpressionTree, expression, dot_name}
+use Rattle.syntax.specs.ExpressionReads.{opens_expression, expression_on, expression_at}
+use Rattle.tree.specs.Values.{ValueTree, CallTree, value_spelling, arguments}
+use Rattle.syntax.specs.ValueReads.{value_on, value_at}
+use Rattle.tree.specs.StatementGrammar.{init}
 use Rattle.syntax.specs.StatementParts.{init_on, result_on, declared, assigned, called, channel_ends, jump, delete, start, return_parts}
 use Rattle.syntax.specs.declared.statement_ends.ChannelEnds.{ChannelEnds}
 use Rattle.syntax.proofs.Pieces.{Piece, Follows, Meets, both, both_piece, next, via_piece, or_left, or_right}

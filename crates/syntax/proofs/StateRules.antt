@@ -4,15 +4,16 @@ use Rattle.std.specs.List.{flat_map}
 use Rattle.source.specs.declared.kind.Kind.{Kind}
 use Rattle.source.specs.declared.kind.Kind.TheVariants as kind
 use Rattle.source.specs.declared.token.Span.{Span}
-use Rattle.syntax.specs.Symbols.{Symbol, by_kind}
-use Rattle.syntax.specs.Spelling.{word, placed, name}
+use Rattle.tree.specs.Symbols.{Symbol, by_kind}
+use Rattle.tree.specs.Spelling.{word, placed, name}
 use Rattle.syntax.specs.Reading.{never, Stops, leads, Fails}
-use Rattle.syntax.specs.Trees.{PathTree}
-use Rattle.syntax.specs.Grammar.{sign_word, edge, path}
+use Rattle.tree.specs.Trees.{PathTree}
+use Rattle.tree.specs.Grammar.{sign_word, edge, path}
 use Rattle.syntax.specs.Firsts.{sign_of, opens_sign}
 use Rattle.syntax.specs.States.{hop}
-use Rattle.syntax.specs.declared.tree as tree
-use Rattle.syntax.specs.declared.tree.Sign.TheVariants as sign
+use Rattle.tree.specs.declared.contract as contract_nodes
+use Rattle.program.specs.declared.contract as sign_nodes
+use Rattle.program.specs.declared.contract.Sign.TheVariants as sign
 use Rattle.syntax.specs.declared.states.Hop.{Hop}
 use Rattle.syntax.proofs.Pieces.{Piece, both, next, fails_here, fails_after, via_piece, via_fails, same_piece, same_fails, stops_never}
 use Rattle.syntax.proofs.Beginnings.{Starts, splits_self, row_starts}
@@ -25,25 +26,25 @@ use Rattle.syntax.proofs.CursorLemmas.{fixed_piece, named_piece}
 pub signs : Words sign_word sign_of
 signs = record { some = sign.Send; known = known; blank = refl; only = only; plain = plain }
   where
-    known : (s : tree.Sign.Sign) → sign_of (Some (sign_word s)) ≡ Some s
+    known : (s : sign_nodes.Sign.Sign) → sign_of (Some (sign_word s)) ≡ Some s
     known sign.Send = refl
     known sign.Receive = refl
 
-    only : (k : Kind) (s : tree.Sign.Sign) → sign_of (Some k) ≡ Some s → k ≡ sign_word s
+    only : (k : Kind) (s : sign_nodes.Sign.Sign) → sign_of (Some k) ≡ Some s → k ≡ sign_word s
     only kind.Bang s e = ap sign_word (one_some e)
     only kind.Question s e = ap sign_word (one_some e)
     only k s e = absurd (none_some e)
 
-    plain : (s : tree.Sign.Sign) → sign_word s ≡ kind.Name → ⊥
+    plain : (s : sign_nodes.Sign.Sign) → sign_word s ≡ kind.Name → ⊥
     plain sign.Send e = cc
     plain sign.Receive e = cc
 
 -- hop = sign "->" ID .
 
-abbrev pub hop_to : Hop → (tree.Sign.Sign × Span) × (Unit {0} × Span)
+abbrev pub hop_to : Hop → (sign_nodes.Sign.Sign × Span) × (Unit {0} × Span)
 hop_to h = ((h.sign, h.mark), (tt, h.target))
 
-abbrev pub hop_from : (tree.Sign.Sign × Span) × (Unit {0} × Span) → Hop
+abbrev pub hop_from : (sign_nodes.Sign.Sign × Span) × (Unit {0} × Span) → Hop
 hop_from p = record { sign = p.0.0; mark = p.0.1; target = p.1.1 }
 
 pub hop_piece : Piece hop never (λ _. never)
@@ -61,7 +62,7 @@ abbrev trail : Trail → List Symbol
 trail = both name (both hop (flat_map hop))
 
 -- an edge's sign, and what follows it
-abbrev behind : tree.Sign.Sign → Span → List tree.Edge.Edge → Span → Hop × List Hop
+abbrev behind : sign_nodes.Sign.Sign → Span → List contract_nodes.Edge.Edge → Span → Hop × List Hop
 behind sign mark [] target = (record { sign = sign; mark = mark; target = target }, [])
 behind sign mark (e ∷ es) target = (record { sign = sign; mark = mark; target = e.message }, (behind e.sign e.mark es target).0 ∷ (behind e.sign e.mark es target).1)
 
@@ -69,22 +70,22 @@ abbrev trail_of : PathTree → Trail
 trail_of p = (p.first.message, behind p.first.sign p.first.mark p.others p.target)
 
 -- a name, and the edges that begin with it
-abbrev edges_from : Span → List Hop → List tree.Edge.Edge × Span
+abbrev edges_from : Span → List Hop → List contract_nodes.Edge.Edge × Span
 edges_from span [] = ([], span)
 edges_from span (h ∷ hs) = (record { message = span; sign = h.sign; mark = h.mark } ∷ (edges_from h.target hs).0, (edges_from h.target hs).1)
 
 abbrev path_of : Trail → PathTree
 path_of t = record { first = record { message = t.0; sign = t.1.0.sign; mark = t.1.0.mark }; others = (edges_from t.1.0.target t.1.1).0; target = (edges_from t.1.0.target t.1.1).1 }
 
-behind_sign : (s : tree.Sign.Sign) (m : Span) (es : List tree.Edge.Edge) (target : Span) → (behind s m es target).0.sign ≡ s
+behind_sign : (s : sign_nodes.Sign.Sign) (m : Span) (es : List contract_nodes.Edge.Edge) (target : Span) → (behind s m es target).0.sign ≡ s
 behind_sign s m [] target = refl
 behind_sign s m (e ∷ es) target = refl
 
-behind_mark : (s : tree.Sign.Sign) (m : Span) (es : List tree.Edge.Edge) (target : Span) → (behind s m es target).0.mark ≡ m
+behind_mark : (s : sign_nodes.Sign.Sign) (m : Span) (es : List contract_nodes.Edge.Edge) (target : Span) → (behind s m es target).0.mark ≡ m
 behind_mark s m [] target = refl
 behind_mark s m (e ∷ es) target = refl
 
-edges_back : (s : tree.Sign.Sign) (m : Span) (es : List tree.Edge.Edge) (target : Span) → edges_from (behind s m es target).0.target (behind s m es target).1 ≡ (es, target)
+edges_back : (s : sign_nodes.Sign.Sign) (m : Span) (es : List contract_nodes.Edge.Edge) (target : Span) → edges_from (behind s m es target).0.target (behind s m es target).1 ≡ (es, target)
 edges_back s m [] target = refl
 edges_back s m (e ∷ es) target =
     let h = edges_back e.sign e.mark es target in
@@ -104,7 +105,7 @@ trail_back p =
 path_back : (t : Trail) → trail_of (path_of t) ≡ t
 path_back t = λ i. (t.0, behind_back t.1.0 t.1.1 i)
 
-behind_spelled : (s : tree.Sign.Sign) (m : Span) (es : List tree.Edge.Edge) (target : Span) → hop (behind s m es target).0 ++ flat_map hop (behind s m es target).1 ≡ placed (sign_word s) m ++ (word kind.Arrow ++ (flat_map edge es ++ name target))
+behind_spelled : (s : sign_nodes.Sign.Sign) (m : Span) (es : List contract_nodes.Edge.Edge) (target : Span) → hop (behind s m es target).0 ++ flat_map hop (behind s m es target).1 ≡ placed (sign_word s) m ++ (word kind.Arrow ++ (flat_map edge es ++ name target))
 behind_spelled s m [] target = refl
 behind_spelled s m (e ∷ es) target = ap (λ t. placed (sign_word s) m ++ (word kind.Arrow ++ (name e.message ++ t))) (behind_spelled e.sign e.mark es target)
 

@@ -5,12 +5,12 @@ use Rattle.std.specs.List.{flat_map}
 use Rattle.source.specs.declared.kind.Kind.{Kind}
 use Rattle.source.specs.declared.kind.Kind.TheVariants as kind
 use Rattle.source.specs.declared.token.Span.{Span}
-use Rattle.syntax.specs.Symbols.{Symbol, Fixed, Placed, is_kind, by_kind, kind_is}
-use Rattle.syntax.specs.Spelling.{word, placed, name, optional, braced, listed, parens}
+use Rattle.tree.specs.Symbols.{Symbol, Fixed, Placed, is_kind, by_kind, kind_is}
+use Rattle.tree.specs.Spelling.{word, placed, name, optional, braced, listed, parens}
 use Rattle.syntax.specs.Reading.{never, Stops, Fails, optional_at}
-use Rattle.syntax.specs.Expressions.{ExpressionTree, expression}
-use Rattle.syntax.specs.StatementTrees.{StatementTree, If, BlockTree, Braces, TestTree, Test, OtherTrees, NoOther, Else, ElseIf, CaseTree, Case, IfTree, SwitchTree, statement_row}
-use Rattle.syntax.specs.StatementGrammar.{awaited, bind, statement, block, test, others, case}
+use Rattle.tree.specs.Expressions.{ExpressionTree, expression}
+use Rattle.tree.specs.StatementTrees.{StatementTree, If, BlockTree, Braces, TestTree, Test, OtherTrees, NoOther, Else, ElseIf, CaseTree, Case, IfTree, SwitchTree, statement_row}
+use Rattle.tree.specs.StatementGrammar.{awaited, bind, statement, block, test, others, case}
 use Rattle.syntax.specs.StatementParts.{CaseFrontTree, case_front}
 use Rattle.syntax.specs.StatementFirsts.{opens_statement, statement_on, others_at, statement_at, statements_on, statements_at, statement_list, case_at, cases_on, cases_at}
 use Rattle.syntax.proofs.Pieces.{Follows, Meets, ReadsOneWay, both, both_way, via_way, via_fails, same_fails, or_left, or_right, ends, meets}

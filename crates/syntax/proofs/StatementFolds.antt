@@ -3,15 +3,15 @@ use Rattle.std.proofs.Common.{◌≡◌, Option, Some, None, Vec, sym, ap, ◌�
 use Rattle.std.specs.Global.{Global}
 use Rattle.std.specs.Option.{option_map}
 use Rattle.source.specs.declared.token.Span.{Span}
-use Rattle.syntax.specs.ExpressionTrees.{expression_tree}
-use Rattle.syntax.specs.Values.{call_tree}
-use Rattle.syntax.specs.StatementTrees.{StatementTree, Block, Declare, Assign, Call, Start, Delete, NewChannel, If, While, Break, Continue, Return, Switch, BlockTree, Braces, CaseTree, Case, IfTree, SwitchTree, TestTree, Test, statement_row, case_row, other_row, declare_tree, assign_tree, statement_step, block_step, case_step, if_step, switch_step, test_step, statement_tree, block_tree, case_tree, if_tree, switch_tree, test_tree}
-use Rattle.syntax.specs.declared.expression.Expression.{Expression}
-use Rattle.syntax.specs.declared.value as value
-use Rattle.syntax.specs.declared.statement as made
-use Rattle.syntax.specs.declared.statement.Statement.TheVariants as variant
-use Rattle.syntax.specs.declared.statement.Statement.TheOpen as layer
-use Rattle.syntax.specs.declared.statement.Statement.TheFolds.{fold-roll-Statement, fold-roll-Block, fold-roll-Case, fold-roll-If, fold-roll-Switch, fold-roll-Test}
+use Rattle.tree.specs.ExpressionTrees.{expression_tree}
+use Rattle.tree.specs.Values.{call_tree}
+use Rattle.tree.specs.StatementTrees.{StatementTree, Block, Declare, Assign, Call, Start, Delete, NewChannel, If, While, Break, Continue, Return, Switch, BlockTree, Braces, CaseTree, Case, IfTree, SwitchTree, TestTree, Test, statement_row, case_row, other_row, declare_tree, assign_tree, statement_step, block_step, case_step, if_step, switch_step, test_step, statement_tree, block_tree, case_tree, if_tree, switch_tree, test_tree}
+use Rattle.tree.specs.declared.expression.Expression.{Expression}
+use Rattle.tree.specs.declared.value as value
+use Rattle.tree.specs.declared.statement as made
+use Rattle.tree.specs.declared.statement.Statement.TheVariants as variant
+use Rattle.tree.specs.declared.statement.Statement.TheOpen as layer
+use Rattle.tree.specs.declared.statement.Statement.TheFolds.{fold-roll-Statement, fold-roll-Block, fold-roll-Case, fold-roll-If, fold-roll-Switch, fold-roll-Test}
 
 pub made_block : (b : made.Block.Block) → statement_tree (variant.Block b) ≡ Block (block_tree b)
 made_block b = ap statement_tree (sym (variant.rolls-Block b)) ∙ fold-roll-Statement StatementTree BlockTree CaseTree IfTree SwitchTree TestTree statement_step block_step case_step if_step switch_step test_step (layer.Block b)

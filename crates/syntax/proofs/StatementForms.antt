@@ -4,22 +4,23 @@ use Rattle.std.specs.Prelude.{not, is_some}
 use Rattle.source.specs.declared.kind.Kind.{Kind}
 use Rattle.source.specs.declared.kind.Kind.TheVariants as kind
 use Rattle.source.specs.declared.token.Span.{Span}
-use Rattle.syntax.specs.Symbols.{Symbol, Fixed, Placed, Named, is_kind, by_kind, kind_is}
-use Rattle.syntax.specs.Spelling.{word, placed}
+use Rattle.tree.specs.Symbols.{Symbol, Fixed, Placed, Named, is_kind, by_kind, kind_is}
+use Rattle.tree.specs.Spelling.{word, placed}
 use Rattle.syntax.specs.Reading.{never, Stops, optional_at}
-use Rattle.syntax.specs.Grammar.{scalar_word}
+use Rattle.tree.specs.Grammar.{scalar_word}
 use Rattle.syntax.specs.Firsts.{scalar_of}
 use Rattle.syntax.specs.Types.{scalar_type, scalar_at, of_scalar}
-use Rattle.syntax.specs.Expressions.{ExpressionTree}
-use Rattle.syntax.specs.Values.{ValueTree, CallTree}
-use Rattle.syntax.specs.StatementTrees.{StatementTree, Block, Declare, Assign, Call, Start, Delete, NewChannel, If, While, Break, Continue, Return, Switch, BlockTree, Braces, TestTree, Test, IfTree, SwitchTree, case_row}
-use Rattle.syntax.specs.StatementGrammar.{statement, block, test, others, case}
+use Rattle.tree.specs.Expressions.{ExpressionTree}
+use Rattle.tree.specs.Values.{ValueTree, CallTree}
+use Rattle.tree.specs.StatementTrees.{StatementTree, Block, Declare, Assign, Call, Start, Delete, NewChannel, If, While, Break, Continue, Return, Switch, BlockTree, Braces, TestTree, Test, IfTree, SwitchTree, case_row}
+use Rattle.tree.specs.StatementGrammar.{statement, block, test, others, case}
 use Rattle.syntax.specs.StatementParts.{if_parts, switch_parts, declared, jump, delete, start, return_parts}
 use Rattle.syntax.specs.StatementFirsts.{case_list}
-use Rattle.syntax.specs.declared.tree as tree
-use Rattle.syntax.specs.declared.tree.Scalar.TheVariants as scalar
-use Rattle.syntax.specs.declared.tree.Type.TheVariants as type
-use Rattle.syntax.specs.declared.tree.Heap.TheVariants as heap
+use Rattle.tree.specs.declared.types as type_nodes
+use Rattle.program.specs.declared.kind as kind_nodes
+use Rattle.program.specs.declared.kind.Scalar.TheVariants as scalar
+use Rattle.tree.specs.declared.types.Type.TheVariants as type
+use Rattle.tree.specs.declared.types.Heap.TheVariants as heap
 use Rattle.syntax.specs.declared.fronts as parts
 use Rattle.syntax.proofs.Pieces.{Piece, Follows, Meets, both, both_piece}
 use Rattle.syntax.proofs.Beginnings.{Begins, Starts}
@@ -148,7 +149,7 @@ scalar_declared_piece = both_piece scalar_type_piece declared_piece declared_fol
 abbrev pub opens_scalar : Option Kind → Bool
 opens_scalar k = is_some (scalar_of k)
 
-scalar_opens : (s : tree.Scalar.Scalar) → opens_scalar (Some (scalar_word s)) ≡ true
+scalar_opens : (s : kind_nodes.Scalar.Scalar) → opens_scalar (Some (scalar_word s)) ≡ true
 scalar_opens scalar.Int = refl
 scalar_opens scalar.Bool = refl
 scalar_opens scalar.Byte = refl
@@ -163,7 +164,7 @@ scalar_declared_form = record {
   each = each;
 }
   where
-    declare : (t : tree.Type.Type) (span : Span) (o : Option ValueTree) → FormOf statement of_declared (by_kind opens_scalar) (Declare (record { kind = t; name = span; value = o }))
+    declare : (t : type_nodes.Type.Type) (span : Span) (o : Option ValueTree) → FormOf statement of_declared (by_kind opens_scalar) (Declare (record { kind = t; name = span; value = o }))
     declare (type.Scalar s) span o = Same (record { scalar = s; array = None }, (span, o)) refl
     declare (type.Heap (heap.Array s b)) span o = Same (record { scalar = s; array = Some b }, (span, o)) refl
     declare (type.Heap (heap.Pointer first b)) span o = Other (record { head = Named first; tail = _; is = refl; first = refl })

@@ -4,17 +4,17 @@ use Rattle.std.specs.Prelude.{not, is_some}
 use Rattle.source.specs.declared.kind.Kind.{Kind}
 use Rattle.source.specs.declared.kind.Kind.TheVariants as kind
 use Rattle.source.specs.declared.token.Span.{Span}
-use Rattle.syntax.specs.Symbols.{Symbol, Fixed, Placed, Named, by_kind, is_kind, kind_is, kind_at}
+use Rattle.tree.specs.Symbols.{Symbol, Fixed, Placed, Named, by_kind, is_kind, kind_is, kind_at}
 use Rattle.syntax.specs.Reading.{leads}
 use Rattle.syntax.specs.Firsts.{scalar_of, opens_type}
-use Rattle.syntax.specs.Grammar.{value_type}
-use Rattle.syntax.specs.Expressions.{TargetTree, Variable, Field, Element}
-use Rattle.syntax.specs.Values.{ValueTree}
-use Rattle.syntax.specs.StatementTrees.{StatementTree, Block, Declare, Assign, Call, Start, Delete, NewChannel, If, While, Break, Continue, Return, Switch, Braces, Test}
-use Rattle.syntax.specs.StatementGrammar.{statement}
+use Rattle.tree.specs.Grammar.{value_type}
+use Rattle.tree.specs.Expressions.{TargetTree, Variable, Field, Element}
+use Rattle.tree.specs.Values.{ValueTree}
+use Rattle.tree.specs.StatementTrees.{StatementTree, Block, Declare, Assign, Call, Start, Delete, NewChannel, If, While, Break, Continue, Return, Switch, Braces, Test}
+use Rattle.tree.specs.StatementGrammar.{statement}
 use Rattle.syntax.specs.StatementParts.{declared}
 use Rattle.syntax.specs.StatementFirsts.{lead_of, opens_statement}
-use Rattle.syntax.specs.declared.tree as tree
+use Rattle.tree.specs.declared.types as tree
 use Rattle.syntax.specs.declared.leads.Lead.{Lead}
 use Rattle.syntax.specs.declared.leads.Lead.TheVariants as lead
 use Rattle.syntax.specs.declared.leads.Simple.TheVariants as simple

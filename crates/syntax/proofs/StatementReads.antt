@@ -1,15 +1,15 @@
 -- What functions that read statements have read, and where they fail.
-use Rattle.std.proofs.Common.{◌≡◌, Bool, true, List, [], ◌∷◌, ◌++◌, Option, refl, sym, ap, ◌∙◌, subst, append_assoc}
+use Rattle.std.proofs.Common.{◌≡◌, Bool, true, List, [], ◌∷◌, ◌++◌, Option, refl, sym, ap, ◌∙◌, subst, append_assoc, map, ℕ, ◌<◌, ◌≤◌, arith}
 use Rattle.std.specs.List.{flat_map}
 use Rattle.source.specs.declared.kind.Kind.{Kind}
 use Rattle.source.specs.declared.kind.Kind.TheVariants as kind
 use Rattle.source.specs.declared.token.Span.{Span}
-use Rattle.syntax.specs.Symbols.{Symbol, Fixed, is_kind}
-use Rattle.syntax.specs.Spelling.{word, placed, braced, parens}
-use Rattle.syntax.specs.Reading.{never, Stops, leads, Fails}
-use Rattle.syntax.specs.Expressions.{ExpressionTree, expression}
-use Rattle.syntax.specs.StatementTrees.{StatementTree, BlockTree, TestTree, Test, CaseTree, IfTree, SwitchTree, last_other, other_row}
-use Rattle.syntax.specs.StatementGrammar.{statement, block, test, others, case}
+use Rattle.tree.specs.Symbols.{Symbol, Fixed, is_kind}
+use Rattle.tree.specs.Spelling.{word, placed, braced, parens}
+use Rattle.syntax.specs.Reading.{never, Stops, leads, Fails, last_at}
+use Rattle.tree.specs.Expressions.{ExpressionTree, expression}
+use Rattle.tree.specs.StatementTrees.{StatementTree, BlockTree, TestTree, Test, CaseTree, IfTree, SwitchTree, last_other, other_row}
+use Rattle.tree.specs.StatementGrammar.{statement, block, test, others, case}
 use Rattle.syntax.specs.StatementParts.{if_parts, if_at, switch_parts, CaseFrontTree, case_front}
 use Rattle.syntax.specs.StatementFirsts.{statement_on, others_at, statements_at, case_at}
 use Rattle.syntax.proofs.Pieces.{Piece, ReadsOneWay, both_way, via_fails, same_fails, wide_way, fails_after, ends, meets, stops_never}
@@ -17,9 +17,7 @@ use Rattle.syntax.proofs.Options.{open_opt_fails}
 use Rattle.syntax.proofs.Choices.{form_way, form_fails}
 use Rattle.syntax.proofs.CursorLemmas.{fixed_piece}
 use Rattle.syntax.proofs.StatementRows.{row_list}
-use Rattle.std.proofs.Common.{map, ℕ, ◌<◌, ◌≤◌, arith}
 use Rattle.std.proofs.lemmas.List.{flat_map_more, map-append}
-use Rattle.syntax.specs.Reading.{last_at}
 use Rattle.syntax.proofs.Repeats.{last_more}
 use Rattle.syntax.proofs.StatementCycle.{block_from, block_spelled, block_there, case_from, case_spelled, case_there, case_parts, OtherTree, Last, Further, behind_else, else_part, else_to, else_from, else_if, other_at, others_to, others_from, others_there, others_spelled, else_starts, else_opens, last_form, further_form, else_way, if_to, if_from}
 use Rattle.syntax.proofs.StatementWays.{block_piece, test_piece, others_piece}

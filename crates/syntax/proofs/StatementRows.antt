@@ -1,8 +1,8 @@
 -- Rows of statements and cases, and the same as lists.
 use Rattle.std.proofs.Common.{◌≡◌, List, [], ◌∷◌, ◌++◌, refl, ap}
 use Rattle.std.specs.List.{flat_map}
-use Rattle.syntax.specs.StatementTrees.{StatementTree, StatementTrees, NoStatement, MoreStatements, CaseTree, CaseTrees, NoCase, MoreCases, statement_row, case_row}
-use Rattle.syntax.specs.StatementGrammar.{statement, statements, case, cases}
+use Rattle.tree.specs.StatementTrees.{StatementTree, StatementTrees, NoStatement, MoreStatements, CaseTree, CaseTrees, NoCase, MoreCases, statement_row, case_row}
+use Rattle.tree.specs.StatementGrammar.{statement, statements, case, cases}
 use Rattle.syntax.specs.StatementFirsts.{statement_list, case_list}
 
 pub list_row : (xs : StatementTrees) → statement_row (statement_list xs) ≡ xs

@@ -5,14 +5,14 @@ use Rattle.source.specs.declared.kind.Kind.{Kind}
 use Rattle.source.specs.declared.kind.Kind.TheVariants as kind
 use Rattle.source.specs.declared.token.Span.{Span}
 use Rattle.syntax.specs.Reading.{never}
-use Rattle.syntax.specs.Expressions.{TargetTree, Variable, Field, Element, ExpressionTree}
-use Rattle.syntax.specs.Values.{ValueTree}
-use Rattle.syntax.specs.StatementTrees.{StatementTree, Block, Declare, Assign, Call, Start, Delete, NewChannel, If, While, Break, Continue, Return, Switch, StatementTrees, NoStatement, MoreStatements, BlockTree, Braces, TestTree, Test, OtherTrees, NoOther, Else, ElseIf, CaseTree, Case, CaseTrees, NoCase, MoreCases}
-use Rattle.syntax.specs.StatementGrammar.{statement, block, test, others, case}
+use Rattle.tree.specs.Expressions.{TargetTree, Variable, Field, Element, ExpressionTree}
+use Rattle.tree.specs.Values.{ValueTree}
+use Rattle.tree.specs.StatementTrees.{StatementTree, Block, Declare, Assign, Call, Start, Delete, NewChannel, If, While, Break, Continue, Return, Switch, StatementTrees, NoStatement, MoreStatements, BlockTree, Braces, TestTree, Test, OtherTrees, NoOther, Else, ElseIf, CaseTree, Case, CaseTrees, NoCase, MoreCases}
+use Rattle.tree.specs.StatementGrammar.{statement, block, test, others, case}
 use Rattle.syntax.specs.StatementFirsts.{statement_on, others_at, statement_at, statements_on, statements_at, statement_list, case_at, cases_on, cases_at, case_list}
-use Rattle.syntax.specs.declared.tree as tree
-use Rattle.syntax.specs.declared.tree.Type.TheVariants as type
-use Rattle.syntax.specs.declared.tree.Heap.TheVariants as heap
+use Rattle.tree.specs.declared.types as tree
+use Rattle.tree.specs.declared.types.Type.TheVariants as type
+use Rattle.tree.specs.declared.types.Heap.TheVariants as heap
 use Rattle.syntax.proofs.Pieces.{Piece, ReadsOneWay, both, both_way, both_piece, via_way, same_way, wide_way, ends, meets, stops_never}
 use Rattle.syntax.proofs.Repeats.{nil_open_way, cons_open_way, many_open_piece}
 use Rattle.syntax.proofs.Options.{open_none_way, open_some_way}

@@ -3,17 +3,18 @@ use Rattle.std.proofs.Common.{◌≡◌, true, false, List, Option, Some, None, 
 use Rattle.std.specs.List.{flat_map}
 use Rattle.source.specs.declared.kind.Kind.TheVariants as kind
 use Rattle.source.specs.declared.token.Span.{Span}
-use Rattle.syntax.specs.Symbols.{Symbol, Fixed, by_kind}
-use Rattle.syntax.specs.Spelling.{word, name, braced}
+use Rattle.tree.specs.Symbols.{Symbol, Fixed, by_kind}
+use Rattle.tree.specs.Spelling.{word, name, braced}
 use Rattle.syntax.specs.Reading.{never, optional_at}
-use Rattle.syntax.specs.Grammar.{access_word, scalar_word}
+use Rattle.tree.specs.Grammar.{access_word, scalar_word}
 use Rattle.syntax.specs.Firsts.{opens_access, opens_field}
-use Rattle.syntax.specs.Trees.{StructTree}
-use Rattle.syntax.specs.Programs.{field, struct}
-use Rattle.syntax.specs.declared.class as made
-use Rattle.syntax.specs.declared.tree as tree
-use Rattle.syntax.specs.declared.tree.Access.TheVariants as access
-use Rattle.syntax.specs.declared.tree.Scalar.TheVariants as scalar
+use Rattle.tree.specs.Trees.{StructTree}
+use Rattle.tree.specs.Programs.{field, struct}
+use Rattle.tree.specs.declared.class as made
+use Rattle.tree.specs.declared.item as item_nodes
+use Rattle.program.specs.declared.kind as kind_nodes
+use Rattle.tree.specs.declared.item.Access.TheVariants as access
+use Rattle.program.specs.declared.kind.Scalar.TheVariants as scalar
 use Rattle.syntax.proofs.Pieces.{Piece, Follows, Meets, both, both_piece, next, via_piece}
 use Rattle.syntax.proofs.Beginnings.{Begins, Starts, splits_self}
 use Rattle.syntax.proofs.Repeats.{many_piece}
@@ -26,7 +27,7 @@ use Rattle.syntax.proofs.AccessRules.{access_piece}
 -- field = [ access ] scalar ID ";" .
 
 abbrev Behind : Type 0
-Behind = tree.Scalar.Scalar × (Span × Unit {0})
+Behind = kind_nodes.Scalar.Scalar × (Span × Unit {0})
 
 abbrev pub behind_access : Behind → List Symbol
 behind_access = both (λ s. word (scalar_word s)) (both name (fixed kind.Semicolon))
@@ -34,13 +35,13 @@ behind_access = both (λ s. word (scalar_word s)) (both name (fixed kind.Semicol
 pub behind_piece : Piece behind_access never (λ _. never)
 behind_piece = next (words_piece scalars) (next named_piece (fixed_piece kind.Semicolon))
 
-abbrev pub field_to : made.Field.Field → Option tree.Access.Access × Behind
+abbrev pub field_to : made.Field.Field → Option item_nodes.Access.Access × Behind
 field_to f = (f.access, (f.kind, (f.name, tt)))
 
-abbrev pub field_from : Option tree.Access.Access × Behind → made.Field.Field
+abbrev pub field_from : Option item_nodes.Access.Access × Behind → made.Field.Field
 field_from p = record { access = p.0; kind = p.1.0; name = p.1.1.0 }
 
-apart : (s : tree.Scalar.Scalar) → opens_access (Some (scalar_word s)) ≡ false
+apart : (s : kind_nodes.Scalar.Scalar) → opens_access (Some (scalar_word s)) ≡ false
 apart scalar.Int = refl
 apart scalar.Bool = refl
 apart scalar.Byte = refl
@@ -48,7 +49,7 @@ apart scalar.Byte = refl
 pub field_follows : Follows (by_kind opens_access) behind_access never
 field_follows = record { each = λ p r h. apart p.0 }
 
-field_meets : Meets {X = Option tree.Access.Access} (optional_at (by_kind opens_access) (λ _. never)) behind_access (λ _. never)
+field_meets : Meets {X = Option item_nodes.Access.Access} (optional_at (by_kind opens_access) (λ _. never)) behind_access (λ _. never)
 field_meets = record { here = elim [ None ↦ λ p r h. apart p.0 | Some a ↦ λ p r h. refl ] }
 
 pub field_piece : Piece field never (λ _. never)
@@ -57,17 +58,17 @@ field_piece = via_piece field_to field_from (λ _. refl) (both_piece access_piec
 pub field_starts : Starts field (by_kind opens_field)
 field_starts = record { each = λ f. begins f.access f.kind f.name }
   where
-    worded : (a : tree.Access.Access) → opens_field (Some (access_word a)) ≡ true
+    worded : (a : item_nodes.Access.Access) → opens_field (Some (access_word a)) ≡ true
     worded access.Public = refl
     worded access.Private = refl
     worded access.Internal = refl
 
-    typed : (s : tree.Scalar.Scalar) → opens_field (Some (scalar_word s)) ≡ true
+    typed : (s : kind_nodes.Scalar.Scalar) → opens_field (Some (scalar_word s)) ≡ true
     typed scalar.Int = refl
     typed scalar.Bool = refl
     typed scalar.Byte = refl
 
-    begins : (o : Option tree.Access.Access) (s : tree.Scalar.Scalar) (span : Span) → Begins field (by_kind opens_field) (record { access = o; kind = s; name = span })
+    begins : (o : Option item_nodes.Access.Access) (s : kind_nodes.Scalar.Scalar) (span : Span) → Begins field (by_kind opens_field) (record { access = o; kind = s; name = span })
     begins None s span = record { head = Fixed (scalar_word s); tail = _; is = refl; first = typed s }
     begins (Some a) s span = record { head = Fixed (access_word a); tail = _; is = refl; first = worded a }
 

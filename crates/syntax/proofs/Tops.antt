@@ -1,22 +1,19 @@
 -- A whole text's tokens: read to the end, or wrong at one of them.
 use Rattle.std.proofs.Common.{◌≡◌, Bool, false, ℕ, ◌+◌, ◌-◌, ◌≤◌, take, drop, length-drop, suc, length, arith, List, [], ◌∷◌, ◌++◌, sym, refl, ap, ◌∙◌, subst, append_assoc}
-use Rattle.std.proofs.lemmas.List.{take-append-drop}
+use Rattle.std.proofs.lemmas.List.{take-append-drop, take_at}
 use Rattle.source.specs.declared.kind.Kind.{Kind}
 use Rattle.source.specs.declared.kind.Kind.TheVariants.{Name}
 use Rattle.source.specs.declared.token.Span.{Span}
 use Rattle.source.specs.declared.token.Token.{Token}
-use Rattle.syntax.specs.Symbols.{Symbol, End, seen_as, symbols}
+use Rattle.tree.specs.Symbols.{Symbol, End, seen_as, symbols}
 use Rattle.syntax.specs.Reading.{never, Stops, Fails}
-use Rattle.syntax.specs.Parsing.{IsFirstWrong, Viable, Spells, whole}
+use Rattle.syntax.specs.Parsing.{IsFirstWrong, Viable}
+use Rattle.tree.specs.Spelled.{Spells, whole}
 use Rattle.syntax.proofs.Pieces.{Piece, Follows, fails_first, fails_second, via_fails}
 
 len_both : (xs ys : List Symbol) → length (xs ++ ys) ≡ length xs + length ys
 len_both [] ys = omega arith
 len_both (x ∷ xs) ys = let h = len_both xs ys in omega arith
-
-take_front : (xs ys : List Symbol) → take (length xs) (xs ++ ys) ≡ xs
-take_front [] ys = refl
-take_front (x ∷ xs) ys = ap (λ t. x ∷ t) (take_front xs ys)
 
 append_nil : (xs : List Symbol) → xs ++ [] ≡ xs
 append_nil [] = refl
@@ -24,12 +21,12 @@ append_nil (x ∷ xs) = ap (λ t. x ∷ t) (append_nil xs)
 
 -- what is read up to a symbol, and with it
 front_is : (old front : List Symbol) (next : Symbol) (rest : List Symbol) (k : ℕ) → old ≡ front ++ next ∷ rest → length front ≡ k → take k old ≡ front
-front_is old front next rest k is count = ap (λ t. take k t) is ∙ ap (λ n. take n (front ++ next ∷ rest)) (sym count) ∙ take_front front (next ∷ rest)
+front_is old front next rest k is count = ap (λ t. take k t) is ∙ ap (λ n. take n (front ++ next ∷ rest)) (sym count) ∙ take_at front (next ∷ rest) _ refl
 
 front_more : (old front : List Symbol) (next : Symbol) (rest : List Symbol) (k : ℕ) → old ≡ front ++ next ∷ rest → length front ≡ k → take (k + 1) old ≡ front ++ next ∷ []
 front_more old front next rest k is count =
     let counted : length (front ++ next ∷ []) ≡ k + 1 = len_both front (next ∷ []) ∙ ap (λ n. n + 1) count in
-    ap (λ t. take (k + 1) t) (is ∙ sym (append_assoc front (next ∷ []) rest)) ∙ ap (λ n. take n ((front ++ next ∷ []) ++ rest)) (sym counted) ∙ take_front (front ++ next ∷ []) rest
+    ap (λ t. take (k + 1) t) (is ∙ sym (append_assoc front (next ∷ []) rest)) ∙ ap (λ n. take n ((front ++ next ∷ []) ++ rest)) (sym counted) ∙ take_at (front ++ next ∷ []) rest _ refl
 
 first_wrong : {X : Type 0} {a : X → List Symbol} {new : List Symbol} (ts : List Token) (k : ℕ) → k + length new ≡ length (symbols ts) → Fails (whole a) never (symbols ts) new → IsFirstWrong a ts k
 first_wrong {X} {a} {new} ts k is h = record {

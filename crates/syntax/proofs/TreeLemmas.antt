@@ -4,25 +4,25 @@ use Rattle.std.specs.Prelude.{Vec}
 use Rattle.std.specs.Global.{Global}
 use Rattle.std.proofs.lemmas.Simd.{map-map}
 use Rattle.source.specs.declared.token.Span.{Span}
-use Rattle.syntax.specs.Operators.{Or, And, Equal, Compare, Add, Multiply, Single, Joined}
-use Rattle.syntax.specs.Expressions.{LevelTree, AtomTree, TargetTree, Unary, Chain, Number, True, False, Target, Field, StepOf}
-use Rattle.syntax.specs.ExpressionTrees.{step_row, unmarked, atom_of, target_of, conjunction_of, equality_of, equality_step_of, expression_of, relation_of, relation_step_of, sum_of, sum_step_of, term_of, unary_of, atom_tree, target_tree, conjunction_tree, equality_tree, equality_step_tree, expression_tree, relation_tree, relation_step_tree, sum_tree, sum_step_tree, term_tree, unary_tree}
-use Rattle.syntax.specs.declared.expression.Prefix.{Prefix}
-use Rattle.syntax.specs.declared.expression.Atom.TheVariants as atom
-use Rattle.syntax.specs.declared.expression.Atom.TheOpen as layer
-use Rattle.syntax.specs.declared.expression.Target.TheVariants as place
-use Rattle.syntax.specs.declared.expression.Atom as atoms
-use Rattle.syntax.specs.declared.expression.Target as targets
-use Rattle.syntax.specs.declared.expression.Conjunction as conjunctions
-use Rattle.syntax.specs.declared.expression.Equality as equalities
-use Rattle.syntax.specs.declared.expression.EqualityStep as equality_steps
-use Rattle.syntax.specs.declared.expression.Expression as expressions
-use Rattle.syntax.specs.declared.expression.Relation as relations
-use Rattle.syntax.specs.declared.expression.RelationStep as relation_steps
-use Rattle.syntax.specs.declared.expression.Sum as sums
-use Rattle.syntax.specs.declared.expression.SumStep as sum_steps
-use Rattle.syntax.specs.declared.expression.Term as terms
-use Rattle.syntax.specs.declared.expression.Unary as unaries
+use Rattle.tree.specs.Operators.{Or, And, Equal, Compare, Add, Multiply, Single, Joined}
+use Rattle.tree.specs.Expressions.{LevelTree, AtomTree, TargetTree, Unary, Chain, Number, True, False, Target, Field, StepOf}
+use Rattle.tree.specs.ExpressionTrees.{step_row, unmarked, atom_of, target_of, conjunction_of, equality_of, equality_step_of, expression_of, relation_of, relation_step_of, sum_of, sum_step_of, term_of, unary_of, atom_tree, target_tree, conjunction_tree, equality_tree, equality_step_tree, expression_tree, relation_tree, relation_step_tree, sum_tree, sum_step_tree, term_tree, unary_tree}
+use Rattle.tree.specs.declared.expression.Prefix.{Prefix}
+use Rattle.tree.specs.declared.expression.Atom.TheVariants as atom
+use Rattle.tree.specs.declared.expression.Atom.TheOpen as layer
+use Rattle.tree.specs.declared.expression.Target.TheVariants as place
+use Rattle.tree.specs.declared.expression.Atom as atoms
+use Rattle.tree.specs.declared.expression.Target as targets
+use Rattle.tree.specs.declared.expression.Conjunction as conjunctions
+use Rattle.tree.specs.declared.expression.Equality as equalities
+use Rattle.tree.specs.declared.expression.EqualityStep as equality_steps
+use Rattle.tree.specs.declared.expression.Expression as expressions
+use Rattle.tree.specs.declared.expression.Relation as relations
+use Rattle.tree.specs.declared.expression.RelationStep as relation_steps
+use Rattle.tree.specs.declared.expression.Sum as sums
+use Rattle.tree.specs.declared.expression.SumStep as sum_steps
+use Rattle.tree.specs.declared.expression.Term as terms
+use Rattle.tree.specs.declared.expression.Unary as unaries
 
 pub expression_made : (first : conjunctions.Conjunction) (others : Vec conjunctions.Conjunction Global) → expression_tree (expressions.roll-Expression (record { first = first; others = others })) ≡ Chain Or (conjunction_tree first) (step_row Or (map (unmarked conjunction_tree) others.items))
 expression_made first others = expressions.fold-roll-Expression AtomTree TargetTree (LevelTree (Joined And)) (LevelTree (Joined Equal)) (StepOf Equal) (LevelTree (Joined Or)) (LevelTree (Joined Compare)) (StepOf Compare) (LevelTree (Joined Add)) (StepOf Add) (LevelTree (Joined Multiply)) (LevelTree Single)

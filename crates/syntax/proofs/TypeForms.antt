@@ -3,16 +3,18 @@ use Rattle.std.proofs.Common.{◌≡◌, Bool, true, false, List, [], ◌++◌, 
 use Rattle.std.specs.Prelude.{not}
 use Rattle.source.specs.declared.kind.Kind.TheVariants as kind
 use Rattle.source.specs.declared.token.Span.{Span}
-use Rattle.syntax.specs.Symbols.{Symbol, Fixed, Named, is_kind, by_kind, kind_is}
-use Rattle.syntax.specs.Spelling.{name, optional}
+use Rattle.tree.specs.Symbols.{Symbol, Fixed, Named, is_kind, by_kind, kind_is}
+use Rattle.tree.specs.Spelling.{name, optional}
 use Rattle.syntax.specs.Reading.{never, Stops, optional_at}
-use Rattle.syntax.specs.Grammar.{scalar_word, value_type, param}
+use Rattle.tree.specs.Grammar.{scalar_word, value_type, param}
 use Rattle.syntax.specs.Firsts.{opens_type}
 use Rattle.syntax.specs.Types.{bang_in_heap, array_tail, scalar_type, scalar_at, pointer_tail, endpoint_tail, endpoint_on, endpoint_at, named_tail, tail_at, named_type, named_at, type_on, type_at, of_array, of_scalar, of_tail, of_named}
-use Rattle.syntax.specs.declared.tree as tree
-use Rattle.syntax.specs.declared.tree.Scalar.TheVariants as scalar
-use Rattle.syntax.specs.declared.tree.Type.TheVariants as type
-use Rattle.syntax.specs.declared.tree.Heap.TheVariants as heap
+use Rattle.tree.specs.declared.types as type_nodes
+use Rattle.tree.specs.declared.contract as contract_nodes
+use Rattle.program.specs.declared.kind as kind_nodes
+use Rattle.program.specs.declared.kind.Scalar.TheVariants as scalar
+use Rattle.tree.specs.declared.types.Type.TheVariants as type
+use Rattle.tree.specs.declared.types.Heap.TheVariants as heap
 use Rattle.syntax.specs.declared.fronts as parts
 use Rattle.syntax.specs.declared.fronts.NamedTail.TheVariants as tail
 use Rattle.syntax.proofs.Pieces.{Piece, Follows, Meets, ReadsOneWay, both_piece, next, via_piece, wide_way, or_left, or_right}
@@ -65,12 +67,12 @@ named_type_piece = via_piece named_to named_from (λ _. refl) (next named_piece 
 
 -- type = named_type | scalar_type .
 
-scalar_not_name : (s : tree.Scalar.Scalar) → not (kind_is kind.Name (Some (scalar_word s))) ≡ true
+scalar_not_name : (s : kind_nodes.Scalar.Scalar) → not (kind_is kind.Name (Some (scalar_word s))) ≡ true
 scalar_not_name scalar.Int = refl
 scalar_not_name scalar.Bool = refl
 scalar_not_name scalar.Byte = refl
 
-abbrev scalar_head : tree.Scalar.Scalar → Symbol
+abbrev scalar_head : kind_nodes.Scalar.Scalar → Symbol
 scalar_head s = Fixed (scalar_word s)
 
 pub named_form : Form value_type named_type of_named (is_kind kind.Name)
@@ -84,7 +86,7 @@ named_form = record {
     same span (tail.Pointer b) = refl
     same span (tail.Endpoint e) = refl
 
-    each : (t : tree.Type.Type) → FormOf value_type of_named (is_kind kind.Name) t
+    each : (t : type_nodes.Type.Type) → FormOf value_type of_named (is_kind kind.Name) t
     each (type.Scalar s) = Other (record { head = scalar_head s; tail = []; is = refl; first = scalar_not_name s })
     each (type.Heap (heap.Pointer span b)) = Same (record { name = span; tail = tail.Pointer b }) refl
     each (type.Heap (heap.Array s b)) = Other (record { head = scalar_head s; tail = array_tail b; is = refl; first = scalar_not_name s })
@@ -97,11 +99,11 @@ scalar_form = record {
   each = each;
 }
   where
-    same : (s : tree.Scalar.Scalar) (o : Option (Option Span)) → value_type (of_array s o) ≡ scalar_type (record { scalar = s; array = o })
+    same : (s : kind_nodes.Scalar.Scalar) (o : Option (Option Span)) → value_type (of_array s o) ≡ scalar_type (record { scalar = s; array = o })
     same s None = refl
     same s (Some b) = refl
 
-    each : (t : tree.Type.Type) → FormOf value_type of_scalar (λ y. not (is_kind kind.Name y)) t
+    each : (t : type_nodes.Type.Type) → FormOf value_type of_scalar (λ y. not (is_kind kind.Name y)) t
     each (type.Scalar s) = Same (record { scalar = s; array = None }) refl
     each (type.Heap (heap.Pointer span b)) = Other (record { head = Named span; tail = pointer_tail b; is = refl; first = refl })
     each (type.Heap (heap.Array s b)) = Same (record { scalar = s; array = Some b }) refl
@@ -132,7 +134,7 @@ stops_named n = stops n.name n.tail
 pub scalar_stops : (s : parts.ScalarType.ScalarType) (r : List Symbol) → Stops (type_at (of_scalar s)) r → Stops (scalar_at s) r
 scalar_stops s = stops s.scalar s.array
   where
-    stops : (s : tree.Scalar.Scalar) (o : Option (Option Span)) (r : List Symbol) → Stops (type_at (of_array s o)) r → Stops (optional_at (is_kind kind.OpenBracket) (λ _. never) o) r
+    stops : (s : kind_nodes.Scalar.Scalar) (o : Option (Option Span)) (r : List Symbol) → Stops (type_at (of_array s o)) r → Stops (optional_at (is_kind kind.OpenBracket) (λ _. never) o) r
     stops s None r h = h
     stops s (Some b) r h = h
 
@@ -145,7 +147,7 @@ type_piece = record { some = type.Scalar scalar.Int; each = way }
     scalar_way : (s : parts.ScalarType.ScalarType) → ReadsOneWay value_type type_on type_at (of_scalar s)
     scalar_way s = form_way scalar_form scalar_stops (wide_way scalar_wide (scalar_type_piece.each s))
 
-    way : (t : tree.Type.Type) → ReadsOneWay value_type type_on type_at t
+    way : (t : type_nodes.Type.Type) → ReadsOneWay value_type type_on type_at t
     way (type.Scalar s) = scalar_way (record { scalar = s; array = None })
     way (type.Heap (heap.Pointer span b)) = named_way (record { name = span; tail = tail.Pointer b })
     way (type.Heap (heap.Array s b)) = scalar_way (record { scalar = s; array = Some b })
@@ -153,10 +155,10 @@ type_piece = record { some = type.Scalar scalar.Int; each = way }
 
 -- param = type ID .
 
-abbrev pub param_to : tree.Param.Param → tree.Type.Type × Span
+abbrev pub param_to : contract_nodes.Param.Param → type_nodes.Type.Type × Span
 param_to p = (p.kind, p.name)
 
-abbrev pub param_from : tree.Type.Type × Span → tree.Param.Param
+abbrev pub param_from : type_nodes.Type.Type × Span → contract_nodes.Param.Param
 param_from p = record { kind = p.0; name = p.1 }
 
 pub type_follows : Follows type_on name never
@@ -165,13 +167,13 @@ type_follows = record { each = λ span r h. refl }
 pub type_meets : Meets type_at name (λ _. never)
 type_meets = record { here = λ t span r h. apart t span }
   where
-    ends_apart : (end : tree.Side.Side) (state : Option Span) (bang : Option Span) (in_heap : Bool) (span : Span) → endpoint_at (record { side = end; state = state; bang = bang; in_heap = in_heap }) (Named span) ≡ false
+    ends_apart : (end : kind_nodes.Side.Side) (state : Option Span) (bang : Option Span) (in_heap : Bool) (span : Span) → endpoint_at (record { side = end; state = state; bang = bang; in_heap = in_heap }) (Named span) ≡ false
     ends_apart end state bang true span = refl
     ends_apart end state (Some mark) false span = refl
     ends_apart end None None false span = refl
     ends_apart end (Some other) None false span = refl
 
-    apart : (t : tree.Type.Type) (span : Span) → type_at t (Named span) ≡ false
+    apart : (t : type_nodes.Type.Type) (span : Span) → type_at t (Named span) ≡ false
     apart (type.Scalar s) span = refl
     apart (type.Heap (heap.Pointer other b)) span = refl
     apart (type.Heap (heap.Array s b)) span = refl
@@ -183,12 +185,12 @@ param_piece = via_piece param_to param_from (λ _. refl) (both_piece type_piece 
 pub param_item : Item param opens_type
 param_item = record { piece = param_piece; begin = record { each = λ p. begins p.kind p.name }; apart = refl }
   where
-    scalar_opens : (s : tree.Scalar.Scalar) → opens_type (Some (scalar_word s)) ≡ true
+    scalar_opens : (s : kind_nodes.Scalar.Scalar) → opens_type (Some (scalar_word s)) ≡ true
     scalar_opens scalar.Int = refl
     scalar_opens scalar.Bool = refl
     scalar_opens scalar.Byte = refl
 
-    begins : (t : tree.Type.Type) (span : Span) → Begins param (by_kind opens_type) (record { kind = t; name = span })
+    begins : (t : type_nodes.Type.Type) (span : Span) → Begins param (by_kind opens_type) (record { kind = t; name = span })
     begins (type.Scalar s) span = record { head = scalar_head s; tail = name span; is = refl; first = scalar_opens s }
     begins (type.Heap (heap.Pointer other b)) span = record { head = Named other; tail = pointer_tail b ++ name span; is = refl; first = refl }
     begins (type.Heap (heap.Array s b)) span = record { head = scalar_head s; tail = array_tail b ++ name span; is = refl; first = scalar_opens s }

@@ -3,15 +3,15 @@ use Rattle.std.proofs.Common.{◌≡◌, ◌∷◌, Option, Some, None, refl, ap
 use Rattle.source.specs.declared.kind.Kind.{Kind}
 use Rattle.source.specs.declared.kind.Kind.TheVariants as kind
 use Rattle.source.specs.declared.token.Span.{Span}
-use Rattle.syntax.specs.Symbols.{Fixed, is_kind}
-use Rattle.syntax.specs.Spelling.{word, optional}
+use Rattle.tree.specs.Symbols.{Fixed, is_kind}
+use Rattle.tree.specs.Spelling.{word, optional}
 use Rattle.syntax.specs.Reading.{never, optional_at}
-use Rattle.syntax.specs.Grammar.{scalar_word, side_word, bang_word, in_heap_words}
+use Rattle.tree.specs.Grammar.{scalar_word, side_word, bang_word, in_heap_words}
 use Rattle.syntax.specs.Firsts.{scalar_of, side_of}
 use Rattle.syntax.specs.Types.{bang_in_heap, array_tail, scalar_type, scalar_at, pointer_tail}
-use Rattle.syntax.specs.declared.tree as tree
-use Rattle.syntax.specs.declared.tree.Scalar.TheVariants as scalar
-use Rattle.syntax.specs.declared.tree.Side.TheVariants as side
+use Rattle.program.specs.declared.kind as tree
+use Rattle.program.specs.declared.kind.Scalar.TheVariants as scalar
+use Rattle.program.specs.declared.kind.Side.TheVariants as side
 use Rattle.syntax.specs.declared.fronts as parts
 use Rattle.syntax.proofs.Pieces.{Piece, Follows, Meets, both_piece, next, via_piece}
 use Rattle.syntax.proofs.Beginnings.{Starts, splits_self}

@@ -5,17 +5,19 @@ use Rattle.std.specs.Global.{Global}
 use Rattle.std.proofs.lemmas.Bool.{true≢false}
 use Rattle.source.specs.declared.kind.Kind.TheVariants as kind
 use Rattle.source.specs.declared.token.Span.{Span}
-use Rattle.syntax.specs.Symbols.{Symbol, is_kind, by_kind, kind_is}
-use Rattle.syntax.specs.Spelling.{name}
+use Rattle.tree.specs.Symbols.{Symbol, is_kind, by_kind, kind_is}
+use Rattle.tree.specs.Spelling.{name}
 use Rattle.syntax.specs.Reading.{Stops, leads, Fails}
-use Rattle.syntax.specs.Operators.{Level, Single, Joined, Or}
-use Rattle.syntax.specs.Expressions.{LevelTree, TargetTree, Unary, Chain, Done, More, Target, Variable, Field, ExpressionTree, level, level_at, target, target_on, target_at, expression, expression_on, expression_at, dot_name}
-use Rattle.syntax.specs.ExpressionTrees.{unary_tree, target_tree}
-use Rattle.syntax.specs.Values.{Expression, value_at, is_callee}
-use Rattle.syntax.specs.declared.expression.Prefix.{Prefix}
-use Rattle.syntax.specs.declared.expression.Target as targets
-use Rattle.syntax.specs.declared.expression.Unary as unaries
-use Rattle.syntax.specs.declared.expression.Atom.TheVariants as made
+use Rattle.tree.specs.Operators.{Level, Single, Joined, Or}
+use Rattle.tree.specs.Expressions.{LevelTree, TargetTree, Unary, Chain, Done, More, Target, Variable, Field, ExpressionTree, level, target, expression, dot_name}
+use Rattle.syntax.specs.ExpressionReads.{level_at, target_on, target_at, expression_on, expression_at}
+use Rattle.tree.specs.ExpressionTrees.{unary_tree, target_tree}
+use Rattle.tree.specs.Values.{Expression}
+use Rattle.syntax.specs.ValueReads.{value_at, is_callee}
+use Rattle.tree.specs.declared.expression.Prefix.{Prefix}
+use Rattle.tree.specs.declared.expression.Target as targets
+use Rattle.tree.specs.declared.expression.Unary as unaries
+use Rattle.tree.specs.declared.expression.Atom.TheVariants as made
 use Rattle.syntax.proofs.Pieces.{stops_with}
 use Rattle.syntax.proofs.Choices.{form_fails}
 use Rattle.syntax.proofs.SharedFronts.{append_nil, tails}

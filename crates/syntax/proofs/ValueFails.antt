@@ -4,15 +4,17 @@ use Rattle.std.specs.Prelude.{◌||◌, ◌&&◌, not, ◌⊎◌}
 use Rattle.std.proofs.lemmas.Bool.{true≢false}
 use Rattle.source.specs.declared.kind.Kind.TheVariants as kind
 use Rattle.source.specs.declared.token.Span.{Span}
-use Rattle.syntax.specs.Symbols.{Symbol, Fixed, Placed, Named, is_kind, by_kind, kind_is, kind_at}
-use Rattle.syntax.specs.Spelling.{name, optional}
+use Rattle.tree.specs.Symbols.{Symbol, Fixed, Placed, Named, is_kind, by_kind, kind_is, kind_at}
+use Rattle.tree.specs.Spelling.{name, optional}
 use Rattle.syntax.specs.Reading.{never, Stops, leads, Fails}
-use Rattle.syntax.specs.Grammar.{scalar_word}
-use Rattle.syntax.specs.Operators.{Joined, Or}
-use Rattle.syntax.specs.Expressions.{Target, Variable, Field, ExpressionTree, expression, expression_on, dot_name, opens_expression}
-use Rattle.syntax.specs.Values.{CallTree, MadeTree, NewTree, ValueTree, Struct, Array, Expression, Call, New, arguments, call, made_struct, made_array, made_spelling, new_spelling, value_spelling, value_on, value_at, is_callee, opens_value}
-use Rattle.syntax.specs.declared.tree.Scalar.{Scalar}
-use Rattle.syntax.specs.declared.tree.Scalar.TheVariants as scalar
+use Rattle.tree.specs.Grammar.{scalar_word}
+use Rattle.tree.specs.Operators.{Joined, Or}
+use Rattle.tree.specs.Expressions.{Target, Variable, Field, ExpressionTree, expression, dot_name}
+use Rattle.syntax.specs.ExpressionReads.{expression_on, opens_expression}
+use Rattle.tree.specs.Values.{CallTree, MadeTree, NewTree, ValueTree, Struct, Array, Expression, Call, New, arguments, call, made_struct, made_array, made_spelling, new_spelling, value_spelling}
+use Rattle.syntax.specs.ValueReads.{value_on, value_at, is_callee, opens_value}
+use Rattle.program.specs.declared.kind.Scalar.{Scalar}
+use Rattle.program.specs.declared.kind.Scalar.TheVariants as scalar
 use Rattle.syntax.proofs.Pieces.{Piece, ReadsOneWay, next, via_piece, via_fails, fails_first, fails_after, stops_never, or_left, or_right}
 use Rattle.syntax.proofs.Beginnings.{Begins, Starts, splits_self}
 use Rattle.syntax.proofs.Options.{opt_fails}

@@ -5,12 +5,15 @@ use Rattle.std.proofs.lemmas.Bool.{true≢false}
 use Rattle.source.specs.declared.kind.Kind.{Kind}
 use Rattle.source.specs.declared.kind.Kind.TheVariants as kind
 use Rattle.source.specs.declared.token.Span.{Span}
-use Rattle.syntax.specs.Symbols.{Symbol, Fixed, Placed, Named, is_kind, by_kind, kind_is}
-use Rattle.syntax.specs.Spelling.{name, optional}
+use Rattle.tree.specs.Symbols.{Symbol, Fixed, Placed, Named, is_kind, by_kind, kind_is}
+use Rattle.tree.specs.Spelling.{name, optional}
 use Rattle.syntax.specs.Reading.{never, Stops, leads, Fails, optional_at}
-use Rattle.syntax.specs.Operators.{Or, And, Equal, Compare, Add, Multiply, after_expression}
-use Rattle.syntax.specs.Expressions.{AtomTree, Unary, Chain, Done, Target, Variable, Field, ExpressionTree, atom, expression, expression_on, expression_at, dot_name, opens_expression}
-use Rattle.syntax.specs.Values.{CallTree, NewTree, ValueTree, Expression, Call, New, arguments, call, new_spelling, value_spelling, value_on, value_at, is_callee}
+use Rattle.tree.specs.Operators.{Or, And, Equal, Compare, Add, Multiply}
+use Rattle.syntax.specs.OperatorReads.{after_expression}
+use Rattle.tree.specs.Expressions.{AtomTree, Unary, Chain, Done, Target, Variable, Field, ExpressionTree, atom, expression, dot_name}
+use Rattle.syntax.specs.ExpressionReads.{expression_on, expression_at, opens_expression}
+use Rattle.tree.specs.Values.{CallTree, NewTree, ValueTree, Expression, Call, New, arguments, call, new_spelling, value_spelling}
+use Rattle.syntax.specs.ValueReads.{value_on, value_at, is_callee}
 use Rattle.syntax.proofs.Pieces.{Piece, next, via_piece, via_fails, fails_after, fails_second, stops_with, stops_never, or_left, or_right, both_piece, Follows, Meets}
 use Rattle.syntax.proofs.Beginnings.{Starts, splits_self, stops_leads}
 use Rattle.syntax.proofs.Options.{opt_piece}

@@ -2,17 +2,19 @@
 use Rattle.std.proofs.Common.{◌≡◌, false, List, [], ◌∷◌, refl, ap}
 use Rattle.std.specs.Prelude.{◌||◌}
 use Rattle.source.specs.declared.kind.Kind.TheVariants as kind
-use Rattle.syntax.specs.Symbols.{Fixed, is_kind}
-use Rattle.syntax.specs.Spelling.{listed}
+use Rattle.tree.specs.Symbols.{Fixed, is_kind}
+use Rattle.tree.specs.Spelling.{listed}
 use Rattle.syntax.specs.Reading.{never}
-use Rattle.syntax.specs.Expressions.{ExpressionTree, expression, expression_on, expression_at, opens_expression}
-use Rattle.syntax.specs.Values.{arguments, expressions_on, expressions_at}
+use Rattle.tree.specs.Expressions.{ExpressionTree, expression}
+use Rattle.syntax.specs.ExpressionReads.{expression_on, expression_at, opens_expression}
+use Rattle.tree.specs.Values.{arguments}
+use Rattle.syntax.specs.ValueReads.{expressions_on, expressions_at}
 use Rattle.syntax.proofs.Pieces.{Piece}
 use Rattle.syntax.proofs.Enclosed.{InParens, parens_piece}
 use Rattle.syntax.proofs.KindLemmas.{apart_kinds}
 use Rattle.syntax.proofs.ListedOpen.{OpenItem, listed_open_piece}
 use Rattle.syntax.proofs.ExpressionFails.{expression_piece, expression_starts, expression_apart}
-use Rattle.syntax.specs.Operators.{after_expression}
+use Rattle.syntax.specs.OperatorReads.{after_expression}
 
 -- arguments = "(" [ expression { "," expression } ] ")" .
 

@@ -4,8 +4,8 @@ use Rattle.std.specs.Prelude.{is_some}
 use Rattle.source.specs.declared.kind.Kind.{Kind}
 use Rattle.source.specs.declared.kind.Kind.TheVariants.{Name}
 use Rattle.source.specs.declared.token.Span.{Span}
-use Rattle.syntax.specs.Symbols.{Symbol, Fixed, Placed, is_placed, kind_at, by_kind}
-use Rattle.syntax.specs.Spelling.{word, placed}
+use Rattle.tree.specs.Symbols.{Symbol, Fixed, Placed, is_placed, kind_at, by_kind}
+use Rattle.tree.specs.Spelling.{word, placed}
 use Rattle.syntax.specs.Reading.{never, Stops, Fails}
 use Rattle.syntax.proofs.Pieces.{Piece}
 use Rattle.syntax.proofs.Beginnings.{Starts, none_fails}

@@ -1,9 +1,9 @@
 -- Methods by what they could go on.
 use Rattle.std.specs.Prelude.{Bool, Option, Some, None}
-use Rattle.syntax.specs.Symbols.{Symbol}
+use Rattle.tree.specs.Symbols.{Symbol}
 use Rattle.syntax.specs.Reading.{never}
 use Rattle.syntax.specs.Types.{type_at}
-use Rattle.syntax.specs.declared.tree as tree
+use Rattle.tree.specs.declared.types as tree
 
 -- by what this result type could go on
 abbrev pub result_at : Option tree.Type.Type → Symbol → Bool

@@ -2,42 +2,44 @@
 use Rattle.std.specs.Prelude.{Bool, ◌||◌, Option, Some, None, is_some}
 use Rattle.source.specs.declared.kind.Kind.{Kind}
 use Rattle.source.specs.declared.kind.Kind.TheVariants as kind
-use Rattle.syntax.specs.Symbols.{kind_is}
-use Rattle.syntax.specs.declared.tree as tree
-use Rattle.syntax.specs.declared.tree.Access.TheVariants as access
-use Rattle.syntax.specs.declared.tree.Direction.TheVariants as direction
-use Rattle.syntax.specs.declared.tree.Sign.TheVariants as sign
-use Rattle.syntax.specs.declared.tree.Scalar.TheVariants as scalar
-use Rattle.syntax.specs.declared.tree.Side.TheVariants as side
+use Rattle.tree.specs.Symbols.{kind_is}
+use Rattle.tree.specs.declared.item as item_nodes
+use Rattle.program.specs.declared.contract as sign_nodes
+use Rattle.program.specs.declared.kind as kind_nodes
+use Rattle.tree.specs.declared.item.Access.TheVariants as access
+use Rattle.program.specs.declared.contract.Direction.TheVariants as direction
+use Rattle.program.specs.declared.contract.Sign.TheVariants as sign
+use Rattle.program.specs.declared.kind.Scalar.TheVariants as scalar
+use Rattle.program.specs.declared.kind.Side.TheVariants as side
 
 -- the access word of this kind, if it is one
-abbrev pub access_of : Option Kind → Option tree.Access.Access
+abbrev pub access_of : Option Kind → Option item_nodes.Access.Access
 access_of (Some kind.Public) = Some access.Public
 access_of (Some kind.Private) = Some access.Private
 access_of (Some kind.Internal) = Some access.Internal
 access_of _ = None
 
 -- the direction of this kind, if it is one
-abbrev pub direction_of : Option Kind → Option tree.Direction.Direction
+abbrev pub direction_of : Option Kind → Option sign_nodes.Direction.Direction
 direction_of (Some kind.In) = Some direction.In
 direction_of (Some kind.Out) = Some direction.Out
 direction_of _ = None
 
 -- the sign of this kind, if it is one
-abbrev pub sign_of : Option Kind → Option tree.Sign.Sign
+abbrev pub sign_of : Option Kind → Option sign_nodes.Sign.Sign
 sign_of (Some kind.Bang) = Some sign.Send
 sign_of (Some kind.Question) = Some sign.Receive
 sign_of _ = None
 
 -- the scalar of this kind, if it is one
-abbrev pub scalar_of : Option Kind → Option tree.Scalar.Scalar
+abbrev pub scalar_of : Option Kind → Option kind_nodes.Scalar.Scalar
 scalar_of (Some kind.Int) = Some scalar.Int
 scalar_of (Some kind.Bool) = Some scalar.Bool
 scalar_of (Some kind.Byte) = Some scalar.Byte
 scalar_of _ = None
 
 -- the side of this kind, if it is one
-abbrev pub side_of : Option Kind → Option tree.Side.Side
+abbrev pub side_of : Option Kind → Option kind_nodes.Side.Side
 side_of (Some kind.Imp) = Some side.Imp
 side_of (Some kind.Exp) = Some side.Exp
 side_of _ = None

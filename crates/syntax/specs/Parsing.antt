@@ -1,17 +1,10 @@
--- What it means that tokens are a spelling, or where they go wrong.
-use Rattle.std.specs.Prelude.{◌≡◌, ◌+◌, ◌++◌, ◌∷◌, [], ℕ, List, take, Result, MatchResult}
+-- Where tokens go wrong that are no spelling.
+use Rattle.std.specs.Prelude.{◌≡◌, ◌+◌, ◌++◌, ℕ, List, take, Result, MatchResult}
 use Rattle.source.specs.declared.token.Token.{Token}
-use Rattle.syntax.specs.Symbols.{Symbol, End, symbols}
+use Rattle.tree.specs.Symbols.{Symbol, symbols}
+use Rattle.tree.specs.Spelled.{whole, Spells}
 use Rattle.syntax.specs.declared.fault.SyntaxFault.{SyntaxFault}
 use Rattle.syntax.specs.declared.fault.SyntaxFault.TheVariants.{Memory}
-
--- a tree's spelling, and the end behind it
-abbrev pub whole : {X : Type 0} → (X → List Symbol) → X → List Symbol
-whole spell x = spell x ++ End ∷ []
-
--- the tokens are the spelling of this tree
-abbrev pub Spells : {X : Type 0} → (X → List Symbol) → X → List Token → Type 0
-Spells spell x tokens = whole spell x ≡ symbols tokens
 
 -- some tree's spelling begins so
 pub record Viable {X : Type 0} (spell : X → List Symbol) (front : List Symbol) : Type 0 where

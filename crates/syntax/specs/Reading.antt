@@ -4,9 +4,9 @@ use Rattle.std.specs.List.{flat_map}
 use Rattle.std.specs.Global.{Global}
 use Rattle.source.specs.declared.kind.Kind.{Kind}
 use Rattle.source.specs.declared.kind.Kind.TheVariants.{Comma}
-use Rattle.syntax.specs.Symbols.{Symbol, is_kind, by_kind}
+use Rattle.tree.specs.Symbols.{Symbol, is_kind, by_kind}
 use Rattle.source.specs.declared.token.Span.{Span}
-use Rattle.syntax.specs.Spelling.{word, placed, optional}
+use Rattle.tree.specs.Spelling.{word, placed, optional}
 use Rattle.syntax.specs.declared.cursor.Stuck.{Stuck}
 use Rattle.syntax.specs.declared.cursor.Stuck.TheVariants.{Unexpected, Memory}
 

@@ -5,18 +5,20 @@ use Rattle.std.specs.List.{flat_map}
 use Rattle.source.specs.declared.kind.Kind.{Kind}
 use Rattle.source.specs.declared.kind.Kind.TheVariants as kind
 use Rattle.source.specs.declared.token.Span.{Span}
-use Rattle.syntax.specs.Symbols.{Symbol, is_kind, kind_is, by_kind}
-use Rattle.syntax.specs.Spelling.{word, placed, name, row, optional, listed, parens}
+use Rattle.tree.specs.Symbols.{Symbol, is_kind, kind_is, by_kind}
+use Rattle.tree.specs.Spelling.{word, placed, name, row, optional, listed, parens}
 use Rattle.syntax.specs.Reading.{never, optional_at, listed_open_on, listed_open_at}
-use Rattle.syntax.specs.Expressions.{ExpressionTree, expression, opens_expression, expression_on}
-use Rattle.syntax.specs.ExpressionTrees.{expression_tree}
-use Rattle.syntax.specs.Values.{ValueTree, CallTree, value_spelling, value_on, arguments, call}
-use Rattle.syntax.specs.declared.expression.Expression.{Expression}
-use Rattle.syntax.specs.StatementTrees.{IfTree, SwitchTree}
-use Rattle.syntax.specs.StatementGrammar.{init, awaited, bind, test, others, case}
+use Rattle.tree.specs.Expressions.{ExpressionTree, expression}
+use Rattle.syntax.specs.ExpressionReads.{opens_expression, expression_on}
+use Rattle.tree.specs.ExpressionTrees.{expression_tree}
+use Rattle.tree.specs.Values.{ValueTree, CallTree, value_spelling, arguments, call}
+use Rattle.syntax.specs.ValueReads.{value_on}
+use Rattle.tree.specs.declared.expression.Expression.{Expression}
+use Rattle.tree.specs.StatementTrees.{IfTree, SwitchTree}
+use Rattle.tree.specs.StatementGrammar.{init, awaited, bind, test, others, case}
 use Rattle.syntax.specs.StatementFirsts.{others_at}
-use Rattle.syntax.specs.declared.statement.Awaited.{Awaited}
-use Rattle.syntax.specs.declared.statement.Bind.{Bind}
+use Rattle.tree.specs.declared.statement.Awaited.{Awaited}
+use Rattle.tree.specs.declared.statement.Bind.{Bind}
 use Rattle.syntax.specs.Firsts.{opens_type}
 use Rattle.syntax.specs.Types.{scalar_type, named_tail, of_tail}
 use Rattle.syntax.specs.declared.cases.CaseFront.{CaseFront}

@@ -2,12 +2,12 @@
 use Rattle.std.specs.Prelude.{Bool, ◌||◌, List, [], ◌∷◌}
 use Rattle.std.specs.List.{flat_map}
 use Rattle.source.specs.declared.kind.Kind.TheVariants as kind
-use Rattle.syntax.specs.Symbols.{Symbol, is_kind, by_kind}
+use Rattle.tree.specs.Symbols.{Symbol, is_kind, by_kind}
 use Rattle.source.specs.declared.token.Span.{Span}
-use Rattle.syntax.specs.Spelling.{word, placed, name, row, when, braced}
+use Rattle.tree.specs.Spelling.{word, placed, name, row, when, braced}
 use Rattle.syntax.specs.Reading.{never, when_at}
-use Rattle.syntax.specs.ContractTrees.{PathTree, BodyTree, Empty, Path, One, StateTree, MemberTree, Message, State}
-use Rattle.syntax.specs.Grammar.{line, sign_word}
+use Rattle.tree.specs.ContractTrees.{PathTree, BodyTree, Empty, Path, One, StateTree, MemberTree, Message, State}
+use Rattle.tree.specs.Grammar.{line, sign_word}
 use Rattle.syntax.specs.Firsts.{opens_member}
 use Rattle.syntax.specs.declared.states.Hop.{Hop}
 

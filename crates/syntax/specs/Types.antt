@@ -1,15 +1,15 @@
 -- Types by their fronts: one that begins with a name, one that begins with a scalar.
 use Rattle.std.specs.Prelude.{Bool, ◌||◌, List, [], ◌∷◌, Option, Some, None, is_some}
 use Rattle.source.specs.declared.kind.Kind.TheVariants as kind
-use Rattle.syntax.specs.Symbols.{Symbol, is_kind}
-use Rattle.syntax.specs.Spelling.{word, name, row, optional, when}
+use Rattle.tree.specs.Symbols.{Symbol, is_kind}
+use Rattle.tree.specs.Spelling.{word, name, row, optional, when}
 use Rattle.syntax.specs.Reading.{never, optional_at, open_at}
 use Rattle.source.specs.declared.token.Span.{Span}
-use Rattle.syntax.specs.Grammar.{scalar_word, side_word, bang_word, in_heap_words, colon_name}
-use Rattle.syntax.specs.declared.tree.Scalar.{Scalar}
-use Rattle.syntax.specs.declared.tree as tree
-use Rattle.syntax.specs.declared.tree.Type.TheVariants as type
-use Rattle.syntax.specs.declared.tree.Heap.TheVariants as heap
+use Rattle.tree.specs.Grammar.{scalar_word, side_word, bang_word, in_heap_words, colon_name}
+use Rattle.program.specs.declared.kind.Scalar.{Scalar}
+use Rattle.tree.specs.declared.types as type_nodes
+use Rattle.tree.specs.declared.types.Type.TheVariants as type
+use Rattle.tree.specs.declared.types.Heap.TheVariants as heap
 use Rattle.syntax.specs.declared.fronts as parts
 use Rattle.syntax.specs.declared.fronts.NamedTail.TheVariants as tail
 
@@ -47,21 +47,21 @@ abbrev pub named_type : parts.NamedType.NamedType → List Symbol
 named_type n = row (name n.name ∷ named_tail n.tail ∷ [])
 
 -- a scalar, or an array of it
-abbrev pub of_array : Scalar → Option (Option Span) → tree.Type.Type
+abbrev pub of_array : Scalar → Option (Option Span) → type_nodes.Type.Type
 of_array scalar None = type.Scalar scalar
 of_array scalar (Some bang) = type.Heap (heap.Array scalar bang)
 
 -- the type that begins with this scalar
-abbrev pub of_scalar : parts.ScalarType.ScalarType → tree.Type.Type
+abbrev pub of_scalar : parts.ScalarType.ScalarType → type_nodes.Type.Type
 of_scalar s = of_array s.scalar s.array
 
 -- what a name and what follows it are
-abbrev pub of_tail : Span → parts.NamedTail.NamedTail → tree.Type.Type
+abbrev pub of_tail : Span → parts.NamedTail.NamedTail → type_nodes.Type.Type
 of_tail span (tail.Pointer bang) = type.Heap (heap.Pointer span bang)
 of_tail span (tail.Endpoint e) = type.Heap (heap.Endpoint span e.side e.state e.bang e.in_heap)
 
 -- the type that begins with this name
-abbrev pub of_named : parts.NamedType.NamedType → tree.Type.Type
+abbrev pub of_named : parts.NamedType.NamedType → type_nodes.Type.Type
 of_named n = of_tail n.name n.tail
 
 -- by what the type of some endpoint could go on
@@ -90,7 +90,7 @@ abbrev pub type_on : Symbol → Bool
 type_on y = is_kind kind.OpenBracket y || endpoint_on y
 
 -- by what this type could go on
-abbrev pub type_at : tree.Type.Type → Symbol → Bool
+abbrev pub type_at : type_nodes.Type.Type → Symbol → Bool
 type_at (type.Scalar s) = is_kind kind.OpenBracket
 type_at (type.Heap (heap.Array element bang)) = never
 type_at (type.Heap (heap.Pointer span bang)) = never

@@ -1,15 +1,15 @@
 //! Reads access words.
 
 ghost use Rattle.std.specs.Prelude.{◌≡◌};
-ghost use Rattle.syntax.specs.Symbols.{by_kind};
-ghost use Rattle.syntax.specs.Spelling.{word, optional};
+ghost use Rattle.tree.specs.Symbols.{by_kind};
+ghost use Rattle.tree.specs.Spelling.{word, optional};
 ghost use Rattle.syntax.specs.Reading.{never, Takes, optional_at};
-ghost use Rattle.syntax.specs.Grammar.{access_word};
+ghost use Rattle.tree.specs.Grammar.{access_word};
 ghost use Rattle.syntax.specs.Firsts.{access_of, opens_access};
 
 use crate::cursor::Cursor;
-use crate::tree::Access;
 use source::Kind;
+use tree::Access;
 
 /// [ "public" | "private" | "internal" ]
 pub fn access(cursor: &mut Cursor<'_>) -> Option<Access>

@@ -1,21 +1,20 @@
 //! Reads what stands before the statements of a case.
 
 ghost use Rattle.std.specs.Prelude.{◌≡◌};
-ghost use Rattle.syntax.specs.Spelling.{comma, listed, parens};
+ghost use Rattle.tree.specs.Spelling.{comma, listed, parens};
 ghost use Rattle.syntax.specs.Reading.{Reads, ReadsEnded, ReadsOption};
-ghost use Rattle.syntax.specs.StatementGrammar.{awaited, bind};
+ghost use Rattle.tree.specs.StatementGrammar.{awaited, bind};
 ghost use Rattle.syntax.specs.StatementParts.{case_front, case_front_tree, typed, of_typed, opens_tail, bind_on, bind_at, binds_on, binds_at};
 
 use crate::cursor::{Cursor, Stuck};
 use crate::fronts::{NamedTail, NamedType};
-use crate::statement::{Awaited, Bind};
-use crate::tree::Type;
 use crate::types::{is_type, named_tail, scalar_type};
 use source::{Kind, Span};
 use std::alloc::Global;
+use tree::{Awaited, Bind, Type};
 
 /// What stands before the statements of a case.
-#[derive(Debug, Drop)]
+#[derive(Drop)]
 pub struct CaseFront {
     pub word: Span,
     pub endpoint: Span,

@@ -2,23 +2,22 @@
 
 ghost use Rattle.std.specs.Prelude.{◌≡◌, map};
 ghost use Rattle.std.specs.List.{flat_map};
-ghost use Rattle.syntax.specs.Symbols.{is_kind, by_kind};
-ghost use Rattle.syntax.specs.Spelling.{when, comma, listed, braced, parens};
+ghost use Rattle.tree.specs.Symbols.{is_kind, by_kind};
+ghost use Rattle.tree.specs.Spelling.{when, comma, listed, braced, parens};
 ghost use Rattle.syntax.specs.Reading.{Reads, ReadsEnded, ReadsRow, when_at, listed_on, listed_at};
 ghost use Rattle.syntax.specs.Firsts.{opens_parameter, opens_method};
 ghost use Rattle.syntax.specs.Types.{type_on};
-ghost use Rattle.syntax.specs.Trees.{method_tree, class_tree};
-ghost use Rattle.syntax.specs.Programs.{result_type, claims_words, parameter, method, class};
+ghost use Rattle.tree.specs.Trees.{method_tree, class_tree};
+ghost use Rattle.tree.specs.Programs.{result_type, claims_words, parameter, method, class};
 ghost use Rattle.syntax.specs.ClassParts.{result_at};
 
 use crate::access::access;
-use crate::class::{Class, Method, Parameter};
 use crate::cursor::{Cursor, Stuck};
 use crate::statements::block;
-use crate::tree::Type;
 use crate::types::value_type;
 use source::{Kind, Span};
 use std::alloc::Global;
+use tree::{Class, Method, Parameter, Type};
 
 /// class = "class" ID methods .
 pub fn class(alloc: Global, cursor: &mut Cursor<'_>) -> Result<Class, Stuck>

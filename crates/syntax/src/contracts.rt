@@ -2,19 +2,19 @@
 
 ghost use Rattle.std.specs.Prelude.{◌≡◌, map};
 ghost use Rattle.std.specs.List.{flat_map};
-ghost use Rattle.syntax.specs.Symbols.{kind_is, by_kind};
+ghost use Rattle.tree.specs.Symbols.{kind_is, by_kind};
 ghost use Rattle.syntax.specs.Reading.{ReadsRow, Reads, ReadsEnded, many_at};
-ghost use Rattle.syntax.specs.Grammar.{message, member, contract};
+ghost use Rattle.tree.specs.Grammar.{message, member, contract};
 ghost use Rattle.syntax.specs.Firsts.{opens_message, opens_member};
 ghost use Rattle.syntax.specs.States.{state_on, member_at, members_on};
-ghost use Rattle.syntax.specs.Trees.{message_tree, member_tree, contract_tree};
+ghost use Rattle.tree.specs.Trees.{message_tree, member_tree, contract_tree};
 
 use crate::cursor::{Cursor, Stuck};
 use crate::messages::{is_message, message};
 use crate::states::state;
-use crate::tree::{Contract, Member, Message};
 use source::Kind;
 use std::alloc::Global;
+use tree::{Contract, Member, Message};
 
 /// contract = "contract" ID "{" { message } state { member } "}" .
 pub fn contract(alloc: Global, cursor: &mut Cursor<'_>) -> Result<Contract, Stuck>

@@ -2,8 +2,8 @@
 
 ghost use Rattle.std.specs.Prelude.{◌≡◌, ◌≢◌, ◌+◌, length, ◌↔◌, ◌∷◌, [], List, true, false, IsTrue, IsSome};
 ghost use Rattle.source.specs.declared.kind.Kind.{Kind};
-ghost use Rattle.syntax.specs.Symbols.{Symbol, Fixed, Placed, Named, is_placed, kind_at, is_kind, symbols};
-ghost use Rattle.syntax.specs.Spelling.{word, placed, name, optional, when};
+ghost use Rattle.tree.specs.Symbols.{Symbol, Fixed, Placed, Named, is_placed, kind_at, is_kind, symbols};
+ghost use Rattle.tree.specs.Spelling.{word, placed, name, optional, when};
 ghost use Rattle.syntax.specs.Reading.{Takes, ReadsEnded, never, optional_at, when_at};
 
 use source::{Kind, Span, Token};
@@ -11,7 +11,7 @@ use std::alloc::{AllocError, AllocFailed};
 use std::marker::Model;
 
 /// Why there is no tree.
-#[derive(Debug, Drop)]
+#[derive(Drop)]
 pub enum Stuck {
     /// No program goes on with the token at which the cursor stands.
     Unexpected,
@@ -49,7 +49,7 @@ pub struct Cursor<'a> {
 
 impl<'a> Model for Cursor<'a> {
     ghost use Rattle.std.specs.Prelude.{◌≤◌, List, length, drop};
-    ghost use Rattle.syntax.specs.Symbols.{Symbol, symbols};
+    ghost use Rattle.tree.specs.Symbols.{Symbol, symbols};
 
     ghost Value = { List Symbol };
 

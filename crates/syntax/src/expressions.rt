@@ -3,24 +3,26 @@
 ghost use Rattle.std.specs.Prelude.{◌≡◌, ◌≤◌, ◌++◌, length, map, OnOk};
 ghost use Rattle.std.specs.List.{flat_map};
 ghost use Rattle.source.specs.declared.kind.Kind.{Kind};
-ghost use Rattle.syntax.specs.Symbols.{by_kind};
-ghost use Rattle.syntax.specs.Spelling.{name, within, parens};
+ghost use Rattle.tree.specs.Symbols.{by_kind};
+ghost use Rattle.tree.specs.Spelling.{name, within, parens};
 ghost use Rattle.syntax.specs.Reading.{Stops, ReadsRow, Reads, ReadsEnded, never};
-ghost use Rattle.syntax.specs.Operators.{Or, And, Equal, Compare, Add, Multiply, Single, Joined, joins, prefix, opens_prefix};
-ghost use Rattle.syntax.specs.Expressions.{level, level_on, level_at, expression, step, step_at, steps_end, atom, atom_at, target, target_at, target_on, dot_name, opens_expression};
-ghost use Rattle.syntax.specs.ExpressionTrees.{expression_tree, conjunction_tree, equality_tree, equality_step_tree, relation_tree, relation_step_tree, sum_tree, sum_step_tree, term_tree, unary_tree, atom_tree, target_tree, unmarked};
+ghost use Rattle.tree.specs.Operators.{Or, And, Equal, Compare, Add, Multiply, Single, Joined, prefix};
+ghost use Rattle.syntax.specs.OperatorReads.{joins, opens_prefix};
+ghost use Rattle.tree.specs.Expressions.{level, expression, step, atom, target, dot_name};
+ghost use Rattle.syntax.specs.ExpressionReads.{level_on, level_at, step_at, steps_end, atom_at, target_at, target_on, opens_expression};
+ghost use Rattle.tree.specs.ExpressionTrees.{expression_tree, conjunction_tree, equality_tree, equality_step_tree, relation_tree, relation_step_tree, sum_tree, sum_step_tree, term_tree, unary_tree, atom_tree, target_tree, unmarked};
 
 use crate::cursor::{Cursor, Stuck};
-use crate::expression::{
-    Atom, Conjunction, Equality, EqualityStep, Expression, Prefix, Relation, RelationStep, Sum,
-    SumStep, Target, Term, Unary,
-};
 use crate::operators::{
     equality_operator, is_equality, is_prefix, is_relation, is_sum, prefix, relation_operator,
     sum_operator,
 };
 use source::{Kind, Span};
 use std::alloc::Global;
+use tree::{
+    Atom, Conjunction, Equality, EqualityStep, Expression, Prefix, Relation, RelationStep, Sum,
+    SumStep, Target, Term, Unary,
+};
 
 /// Whether an expression begins with this token.
 pub fn is_expression(kind: Option<Kind>) -> bool

@@ -1,31 +1,32 @@
 //! Types by their fronts: one that begins with a scalar, one that begins with a name.
 
-use crate::tree::{Heap, Scalar, Side, Type};
+use program::{Scalar, Side};
 use source::Span;
+use tree::{Heap, Type};
 
 /// A type that begins with a scalar; of an array, the `!` behind its brackets.
-#[derive(Clone, Copy, Debug)]
+#[derive(Clone, Copy)]
 pub struct ScalarType {
     pub scalar: Scalar,
     pub array: Option<Option<Span>>,
 }
 
 /// A type that begins with a name.
-#[derive(Clone, Copy, Debug)]
+#[derive(Clone, Copy)]
 pub struct NamedType {
     pub name: Span,
     pub tail: NamedTail,
 }
 
 /// What follows that name; of a pointer, the `!` behind the star.
-#[derive(Clone, Copy, Debug)]
+#[derive(Clone, Copy)]
 pub enum NamedTail {
     Pointer(Option<Span>),
     Endpoint(EndpointTail),
 }
 
 /// What follows the name of a contract in the type of an endpoint.
-#[derive(Clone, Copy, Debug)]
+#[derive(Clone, Copy)]
 pub struct EndpointTail {
     pub side: Side,
     pub state: Option<Span>,

@@ -3,17 +3,17 @@
 ghost use Rattle.std.specs.Prelude.{◌≡◌};
 ghost use Rattle.syntax.specs.Reading.{ReadsRow, ReadsEnded};
 ghost use Rattle.syntax.specs.Firsts.{opens_item};
-ghost use Rattle.syntax.specs.Trees.{definition_tree, item_tree};
-ghost use Rattle.syntax.specs.Programs.{definition, item, program};
+ghost use Rattle.tree.specs.Trees.{definition_tree, item_tree};
+ghost use Rattle.tree.specs.Programs.{definition, item, program};
 
 use crate::access::access;
 use crate::classes::class;
 use crate::contracts::contract;
 use crate::cursor::{Cursor, Stuck};
 use crate::structs::structure;
-use crate::tree::{Definition, Item};
 use source::Kind;
 use std::alloc::Global;
+use tree::{Definition, Item};
 
 /// Whether an item begins with this token.
 fn is_item(kind: Option<Kind>) -> bool

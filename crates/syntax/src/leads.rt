@@ -6,7 +6,7 @@ ghost use Rattle.syntax.specs.StatementFirsts.{lead_of};
 use source::Kind;
 
 /// A statement by its first token.
-#[derive(Clone, Copy, Debug)]
+#[derive(Clone, Copy)]
 pub enum Lead {
     Block,
     If,
@@ -16,7 +16,7 @@ pub enum Lead {
 }
 
 /// A statement that holds no other, by its first token.
-#[derive(Clone, Copy, Debug)]
+#[derive(Clone, Copy)]
 pub enum Simple {
     Name,
     Scalar,

@@ -1,18 +1,19 @@
 //! Reads messages.
 
 ghost use Rattle.std.specs.Prelude.{◌≡◌};
-ghost use Rattle.syntax.specs.Symbols.{kind_is, by_kind};
-ghost use Rattle.syntax.specs.Spelling.{word, comma, listed, parens};
+ghost use Rattle.tree.specs.Symbols.{kind_is, by_kind};
+ghost use Rattle.tree.specs.Spelling.{word, comma, listed, parens};
 ghost use Rattle.syntax.specs.Reading.{ReadsWord, ReadsOption, ReadsRow, Reads, ReadsEnded, listed_on, listed_at};
-ghost use Rattle.syntax.specs.Grammar.{direction_word, param, message};
+ghost use Rattle.tree.specs.Grammar.{direction_word, param, message};
 ghost use Rattle.syntax.specs.Firsts.{direction_of, opens_message, opens_type};
-ghost use Rattle.syntax.specs.Trees.{message_tree};
+ghost use Rattle.tree.specs.Trees.{message_tree};
 
 use crate::cursor::{Cursor, Stuck};
-use crate::tree::{Direction, Message, Param};
 use crate::types::{is_type, value_type};
+use program::Direction;
 use source::{Kind, Span};
 use std::alloc::Global;
+use tree::{Message, Param};
 
 /// Whether a message begins with this token.
 pub fn is_message(kind: Option<Kind>) -> bool

@@ -2,11 +2,12 @@
 
 ghost use Rattle.std.specs.Prelude.{◌≡◌};
 ghost use Rattle.syntax.specs.Reading.{ReadsWord, ReadsRow, ReadsEnded};
-ghost use Rattle.syntax.specs.Operators.{Or, And, Equal, Compare, Add, Multiply, joins, equality_of, relation_of, prefix_of, prefix, opens_prefix, equality_word, relation_word, sum_operator};
+ghost use Rattle.tree.specs.Operators.{Or, And, Equal, Compare, Add, Multiply, prefix, equality_word, relation_word, sum_operator};
+ghost use Rattle.syntax.specs.OperatorReads.{joins, equality_of, relation_of, prefix_of, opens_prefix};
 
 use crate::cursor::{Cursor, Stuck};
-use crate::expression::{EqualityOperator, Prefix, PrefixOperator, RelationOperator, SumOperator};
 use source::{Kind, Span};
+use tree::{EqualityOperator, Prefix, PrefixOperator, RelationOperator, SumOperator};
 
 /// The equality that this token is.
 fn equality_of(kind: Option<Kind>) -> Option<EqualityOperator>

@@ -1,16 +1,17 @@
 //! The tree of a whole text.
 
 ghost use Rattle.std.specs.Prelude.{ℕ, IfOk, IsErrOf};
-ghost use Rattle.syntax.specs.Trees.{program_tree};
-ghost use Rattle.syntax.specs.Programs.{program};
-ghost use Rattle.syntax.specs.Parsing.{Spells, IsFirstWrong, FindsTree};
+ghost use Rattle.tree.specs.Trees.{program_tree};
+ghost use Rattle.tree.specs.Programs.{program};
+ghost use Rattle.tree.specs.Spelled.{Spells};
+ghost use Rattle.syntax.specs.Parsing.{IsFirstWrong, FindsTree};
 
 use crate::cursor::{Cursor, Stuck};
 use crate::fault::SyntaxFault;
 use crate::items::items;
-use crate::tree::Tree;
 use source::Tokens;
 use std::alloc::Global;
+use tree::Tree;
 
 /// The tree of a program, from the first token of a text to its last.
 ///

@@ -1,26 +1,23 @@
 //! Reads statements that hold no other, by their first tokens.
 
 ghost use Rattle.std.specs.Prelude.{◌≡◌, ◌≢◌, ◌++◌};
-ghost use Rattle.syntax.specs.Symbols.{kind_at};
-ghost use Rattle.syntax.specs.Spelling.{word, name};
+ghost use Rattle.tree.specs.Symbols.{kind_at};
+ghost use Rattle.tree.specs.Spelling.{word, name};
 ghost use Rattle.syntax.specs.Reading.{Reads};
-ghost use Rattle.syntax.specs.StatementTrees.{statement_tree};
-ghost use Rattle.syntax.specs.StatementGrammar.{statement};
+ghost use Rattle.tree.specs.StatementTrees.{statement_tree};
+ghost use Rattle.tree.specs.StatementGrammar.{statement};
 ghost use Rattle.syntax.specs.StatementFirsts.{lead_of, statement_on, statement_at};
 
 use crate::cursor::{Cursor, Stuck};
-use crate::expression::Target;
 use crate::expressions::read_index;
 use crate::leads::{Lead, Simple};
-use crate::statement::{Assign, Declare, NewChannel, Statement};
 use crate::statement_ends::{
     assigned, called, channel_ends, declared, delete, jump, return_statement, start,
 };
-use crate::tree::{Heap, Type};
 use crate::types::{endpoint_end, is_side, pointer_tail, scalar_type};
-use crate::value::Call;
 use source::{Kind, Span};
 use std::alloc::Global;
+use tree::{Assign, Call, Declare, Heap, NewChannel, Statement, Target, Type};
 
 /// A statement that begins so and holds no other.
 pub fn simple_statement(

@@ -2,22 +2,23 @@
 
 ghost use Rattle.std.specs.Prelude.{◌≡◌, true};
 ghost use Rattle.std.specs.Option.{option_map};
-ghost use Rattle.syntax.specs.Symbols.{is_placed, kind_is, is_kind, by_kind};
-ghost use Rattle.syntax.specs.Spelling.{optional};
+ghost use Rattle.tree.specs.Symbols.{is_placed, kind_is, is_kind, by_kind};
+ghost use Rattle.tree.specs.Spelling.{optional};
 ghost use Rattle.syntax.specs.Reading.{Reads, ReadsEnded, ReadsOption, optional_at, never};
-ghost use Rattle.syntax.specs.Expressions.{expression, dot_name, opens_expression, expression_on, expression_at};
-ghost use Rattle.syntax.specs.ExpressionTrees.{expression_tree};
-ghost use Rattle.syntax.specs.Values.{value_tree, value_on, value_at, call_tree, call};
-ghost use Rattle.syntax.specs.StatementGrammar.{init};
+ghost use Rattle.tree.specs.Expressions.{expression, dot_name};
+ghost use Rattle.syntax.specs.ExpressionReads.{opens_expression, expression_on, expression_at};
+ghost use Rattle.tree.specs.ExpressionTrees.{expression_tree};
+ghost use Rattle.tree.specs.Values.{value_tree, call_tree, call};
+ghost use Rattle.syntax.specs.ValueReads.{value_on, value_at};
+ghost use Rattle.tree.specs.StatementGrammar.{init};
 ghost use Rattle.syntax.specs.StatementParts.{init_on, result_on, declared, assigned, called, called_tree, channel_ends, jump, delete, start, return_parts};
 
 use crate::cursor::{Cursor, Stuck};
-use crate::expression::Expression;
 use crate::expressions::{dot_name, is_expression, read_expression};
-use crate::value::{Call, Value};
 use crate::values::{read_arguments, read_value};
 use source::{Kind, Span};
 use std::alloc::Global;
+use tree::{Call, Expression, Value};
 
 /// declared = ID [ init ] ";" .
 pub fn declared(alloc: Global, cursor: &mut Cursor<'_>) -> Result<(Span, Option<Value>), Stuck>
@@ -69,7 +70,7 @@ pub fn called(alloc: Global, cursor: &mut Cursor<'_>) -> Result<(Span, Vec<Expre
 }
 
 /// What stands behind a contract's name and the dot, where a channel is made.
-#[derive(Clone, Copy, Debug)]
+#[derive(Clone, Copy)]
 pub struct ChannelEnds {
     pub word: Span,
     pub open: Span,

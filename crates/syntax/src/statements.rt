@@ -2,10 +2,10 @@
 
 ghost use Rattle.std.specs.Prelude.{◌≡◌, true, map};
 ghost use Rattle.std.specs.List.{flat_map};
-ghost use Rattle.syntax.specs.Symbols.{is_placed, kind_at};
+ghost use Rattle.tree.specs.Symbols.{is_placed, kind_at};
 ghost use Rattle.syntax.specs.Reading.{Reads, ReadsEnded};
-ghost use Rattle.syntax.specs.StatementTrees.{statement_tree, block_tree, case_tree, if_tree, switch_tree, test_tree};
-ghost use Rattle.syntax.specs.StatementGrammar.{statement, block, test, case};
+ghost use Rattle.tree.specs.StatementTrees.{statement_tree, block_tree, case_tree, if_tree, switch_tree, test_tree};
+ghost use Rattle.tree.specs.StatementGrammar.{statement, block, test, case};
 ghost use Rattle.syntax.specs.StatementFirsts.{lead_of, statement_on, statement_at, statements_on, statements_at, case_at, cases_on, cases_at};
 ghost use Rattle.syntax.specs.StatementParts.{if_parts, if_at, switch_parts};
 
@@ -14,9 +14,9 @@ use crate::cursor::{Cursor, Stuck};
 use crate::expressions::read_parens;
 use crate::leads::{Lead, lead_of};
 use crate::simple::simple_statement;
-use crate::statement::{Block, Case, If, Statement, Switch, Test};
 use source::Kind;
 use std::alloc::Global;
+use tree::{Block, Case, If, Statement, Switch, Test};
 
 /// { statement }
 #[cycle(statement)]

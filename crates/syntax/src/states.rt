@@ -2,18 +2,19 @@
 
 ghost use Rattle.std.specs.Prelude.{◌≡◌, map};
 ghost use Rattle.std.specs.List.{flat_map};
-ghost use Rattle.syntax.specs.Symbols.{kind_is, by_kind, is_kind};
-ghost use Rattle.syntax.specs.Spelling.{word};
+ghost use Rattle.tree.specs.Symbols.{kind_is, by_kind, is_kind};
+ghost use Rattle.tree.specs.Spelling.{word};
 ghost use Rattle.syntax.specs.Reading.{ReadsMark, ReadsOption, ReadsRow, Reads, ReadsEnded};
-ghost use Rattle.syntax.specs.Grammar.{sign_word, path, line, body, state};
+ghost use Rattle.tree.specs.Grammar.{sign_word, path, line, body, state};
 ghost use Rattle.syntax.specs.Firsts.{sign_of, opens_sign};
 ghost use Rattle.syntax.specs.States.{hop, lines, one, one_at, state_on, body_at, state_at};
-ghost use Rattle.syntax.specs.Trees.{path_tree, body_tree, state_tree};
+ghost use Rattle.tree.specs.Trees.{path_tree, body_tree, state_tree};
 
 use crate::cursor::{Cursor, Stuck};
-use crate::tree::{Edge, Path, Sign, State, StateBody};
+use program::Sign;
 use source::{Kind, Span};
 use std::alloc::Global;
+use tree::{Edge, Path, State, StateBody};
 
 /// state = "state" ID ":" body .
 pub fn state(alloc: Global, cursor: &mut Cursor<'_>) -> Result<State, Stuck>
@@ -86,7 +87,7 @@ fn line(alloc: Global, cursor: &mut Cursor<'_>) -> Result<Path, Stuck>
 }
 
 /// The sign of an edge, where it lies, and the name behind it.
-#[derive(Clone, Copy, Debug)]
+#[derive(Clone, Copy)]
 pub struct Hop {
     pub sign: Sign,
     pub mark: Span,

@@ -2,19 +2,19 @@
 
 ghost use Rattle.std.specs.Prelude.{◌≡◌, map};
 ghost use Rattle.std.specs.List.{flat_map};
-ghost use Rattle.syntax.specs.Symbols.{by_kind};
-ghost use Rattle.syntax.specs.Spelling.{braced};
+ghost use Rattle.tree.specs.Symbols.{by_kind};
+ghost use Rattle.tree.specs.Spelling.{braced};
 ghost use Rattle.syntax.specs.Reading.{Reads, ReadsEnded};
 ghost use Rattle.syntax.specs.Firsts.{opens_field};
-ghost use Rattle.syntax.specs.Trees.{struct_tree};
-ghost use Rattle.syntax.specs.Programs.{field, struct};
+ghost use Rattle.tree.specs.Trees.{struct_tree};
+ghost use Rattle.tree.specs.Programs.{field, struct};
 
 use crate::access::access;
-use crate::class::{Field, Struct};
 use crate::cursor::{Cursor, Stuck};
 use crate::types::scalar;
 use source::{Kind, Span};
 use std::alloc::Global;
+use tree::{Field, Struct};
 
 /// struct = "rep" "struct" ID fields .
 pub fn structure(alloc: Global, cursor: &mut Cursor<'_>) -> Result<Struct, Stuck>

@@ -2,23 +2,24 @@
 
 ghost use Rattle.std.specs.Prelude.{◌≡◌, ◌++◌, map};
 ghost use Rattle.source.specs.declared.kind.Kind.{Kind};
-ghost use Rattle.syntax.specs.Symbols.{kind_at};
-ghost use Rattle.syntax.specs.Spelling.{name, comma, listed, parens, optional};
+ghost use Rattle.tree.specs.Symbols.{kind_at};
+ghost use Rattle.tree.specs.Spelling.{name, comma, listed, parens, optional};
 ghost use Rattle.syntax.specs.Reading.{Stops, Reads, ReadsEnded};
-ghost use Rattle.syntax.specs.Expressions.{expression, expression_on, expression_at, target, target_at, dot_name};
-ghost use Rattle.syntax.specs.ExpressionTrees.{expression_tree, target_tree};
-ghost use Rattle.syntax.specs.Values.{arguments, expressions_on, expressions_at, call_tree, call, made_tree, made_spelling, made_struct, made_array, new_tree, new_spelling, value_tree, value_spelling, value_on, value_at, opens_value};
+ghost use Rattle.tree.specs.Expressions.{expression, target, dot_name};
+ghost use Rattle.syntax.specs.ExpressionReads.{expression_on, expression_at, target_at};
+ghost use Rattle.tree.specs.ExpressionTrees.{expression_tree, target_tree};
+ghost use Rattle.tree.specs.Values.{arguments, call_tree, call, made_tree, made_spelling, made_struct, made_array, new_tree, new_spelling, value_tree, value_spelling};
+ghost use Rattle.syntax.specs.ValueReads.{expressions_on, expressions_at, value_on, value_at, opens_value};
 
 use crate::cursor::{Cursor, Stuck};
-use crate::expression::{Atom, Expression, Target, Unary};
 use crate::expressions::{
     dot_name, expression_from, is_expression, read_expression, read_index, target_from,
 };
-use crate::tree::Scalar;
 use crate::types::scalar;
-use crate::value::{Call, Made, New, Value};
+use program::Scalar;
 use source::{Kind, Span};
 use std::alloc::Global;
+use tree::{Atom, Call, Expression, Made, New, Target, Unary, Value};
 
 /// Whether a value begins with this token.
 pub fn is_value(kind: Option<Kind>) -> bool

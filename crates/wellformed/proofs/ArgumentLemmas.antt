@@ -4,9 +4,9 @@ use Rattle.std.specs.List.{flat_map}
 use Rattle.std.specs.Option.{option_map_or}
 use Rattle.std.specs.Prelude.{Option, None, Some, option_and_then, slice_get, IsSomeAnd}
 use Rattle.source.specs.declared.token.Span.{Span}
-use Rattle.syntax.specs.Expressions.{ExpressionTree}
-use Rattle.syntax.specs.declared.class.Parameter.{Parameter}
-use Rattle.syntax.specs.declared.tree.Param.{Param}
+use Rattle.tree.specs.Expressions.{ExpressionTree}
+use Rattle.tree.specs.declared.class.Parameter.{Parameter}
+use Rattle.tree.specs.declared.contract.Param.{Param}
 use Rattle.names.specs.Expressions.{kind_of, place_of, held, whole_findings}
 use Rattle.names.specs.Kinds.{agree, alike, is_block, type_kind, type_unknown, unless}
 use Rattle.names.specs.Program.{Program}
@@ -14,20 +14,20 @@ use Rattle.names.specs.Shapes.{shape}
 use Rattle.names.specs.Values.{argument_findings, asked_findings, parameter_kinds}
 use Rattle.names.specs.Variables as names
 use Rattle.names.specs.declared.kinds as declared
-use Rattle.resolved.specs.Methods.{VariableSeen}
-use Rattle.resolved.specs.declared.call.Argument.{Argument}
-use Rattle.resolved.specs.declared.kind.Kind.{Kind}
-use Rattle.resolved.specs.declared.method.Role.{Role}
-use Rattle.resolved.specs.declared.method.Role.TheVariants as role
-use Rattle.resolved.specs.declared.statement.Mention.{Mention}
+use Rattle.program.specs.Methods.{VariableSeen}
+use Rattle.program.specs.declared.call.Argument.{Argument}
+use Rattle.program.specs.declared.kind.Kind.{Kind}
+use Rattle.program.specs.declared.method.Role.{Role}
+use Rattle.program.specs.declared.method.Role.TheVariants as role
+use Rattle.program.specs.declared.statement.Mention.{Mention}
 use Rattle.resolving.specs.Brought.{held_listed, params_held}
 use Rattle.resolving.specs.Kinds.{type_held, state_in}
 use Rattle.resolving.specs.Locals.{Frame, mention, mention_of}
 use Rattle.resolving.specs.Methods.{role_of}
 use Rattle.resolving.specs.Plain.{arguments, argument_reads, given, lone, payloads}
 use Rattle.resolving.specs.Reads.{reads, lone_name, listed}
-use Rattle.wellformed.specs.Lists.{Each}
-use Rattle.wellformed.specs.WellFormed.{Setting, IsMention, Holds, HoldAll, AreGiven, is_claimed, same_type}
+use Rattle.program.specs.Lists.{Each}
+use Rattle.program.specs.WellFormed.{Setting, IsMention, Holds, HoldAll, AreGiven, is_claimed, same_type}
 use Rattle.wellformed.proofs.ListLemmas.{each_append, both_none}
 use Rattle.wellformed.proofs.Standing.{IsKnown, IsHeld, AreStanding, heading, scope_of}
 use Rattle.wellformed.proofs.ExpressionLemmas.{block_lone, lone_shape, reads_within, whole_known}

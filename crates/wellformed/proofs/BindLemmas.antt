@@ -3,24 +3,24 @@ use Rattle.std.proofs.Common.{◌≡◌, ℕ, suc, ◌<◌, ◌≤◌, Bool, tru
 use Rattle.std.specs.Prelude.{Option, None, Some, option_map, IfSome}
 use Rattle.source.specs.declared.place.Place.{Place}
 use Rattle.source.specs.declared.token.Span.{Span}
-use Rattle.syntax.specs.declared.statement as made
-use Rattle.syntax.specs.declared.tree as tree
-use Rattle.syntax.specs.declared.tree.Param.{Param}
+use Rattle.tree.specs.declared.statement as made
+use Rattle.tree.specs.declared.types as type_nodes
+use Rattle.tree.specs.declared.contract.Param.{Param}
 use Rattle.names.specs.Cases.{bind_turn, binds_turn, brings_heap, brought_kind, typed_turn}
 use Rattle.names.specs.Kinds.{agree, is_heap, type_kind, type_unknown, unless}
 use Rattle.names.specs.Program.{Program}
 use Rattle.names.specs.Variables as names
 use Rattle.names.specs.declared.kinds.Kind.{Kind}
-use Rattle.resolved.specs.Methods.{VariableSeen}
-use Rattle.resolved.specs.declared.kind as held
-use Rattle.resolved.specs.declared.method.Role.TheVariants.{Local}
-use Rattle.resolved.specs.declared.method.VarId.{VarId}
+use Rattle.program.specs.Methods.{VariableSeen}
+use Rattle.program.specs.declared.kind as held
+use Rattle.program.specs.declared.method.Role.TheVariants.{Local}
+use Rattle.program.specs.declared.number.VarId.{VarId}
 use Rattle.resolving.specs.Binds.{bind_told, binds_told, bound_as, one_number}
 use Rattle.resolving.specs.Kinds.{kind_held, state_in, type_held}
 use Rattle.resolving.specs.Locals.{Frame, declared, forget, forgotten, next_number, number_of, same_last}
-use Rattle.wellformed.specs.Lists.{Each}
-use Rattle.wellformed.specs.Scopes.{LeadsOut, IsForgotten, AreNested, outer_of}
-use Rattle.wellformed.specs.WellFormed.{Setting, AreRising, AreBound}
+use Rattle.program.specs.Lists.{Each}
+use Rattle.program.specs.Scopes.{LeadsOut, IsForgotten, AreNested, outer_of}
+use Rattle.program.specs.WellFormed.{Setting, AreRising, AreBound}
 use Rattle.wellformed.proofs.GrowthLemmas.{binds_grow, within_before}
 use Rattle.wellformed.proofs.KindLemmas.{held_as, type_known}
 use Rattle.wellformed.proofs.ListLemmas.{both_none, each_then}
@@ -52,14 +52,14 @@ next_bound p vs name kind (Some held) f after behind bound within rest =
       outside = (record { steps = 0; is = declared_outer p vs name kind held Local f within }, each_then (λ v. LeadsOut vs (outer_of vs v) (last_of g)) (λ v. LeadsOut vs (outer_of vs v) (last_of f)) (λ v leads. leads_then vs (outer_of vs v) (last_of g) (last_of f) leads inner) bound rest.outside);
     }
 
-bind_bound : (p : Program) (vs : List VariableSeen) (param : Option Param) (name : Span) (kind : Option tree.Type.Type) (f after : Frame) (behind : names.Frame) (bound : List VarId)
+bind_bound : (p : Program) (vs : List VariableSeen) (param : Option Param) (name : Span) (kind : Option type_nodes.Type.Type) (f after : Frame) (behind : names.Frame) (bound : List VarId)
     → Within vs (declared p.text (bound_as p param name kind) f) → Binding p vs (declared p.text (bound_as p param name kind) f) after behind bound
     → Binding p vs f after behind (one_number (next_number (bound_as p param name kind).held f) ++ bound)
 bind_bound p vs param name (Some t) f after behind bound within rest = next_bound p vs name (type_kind p t) (type_held p t) f after behind bound within rest
 bind_bound p vs param name None f after behind bound within rest = next_bound p vs name (brought_kind p param) (kind_held p (brought_kind p param) None) f after behind bound within rest
 
 -- a name that a case binds comes into scope
-bind_stands : (p : Program) (vs : List VariableSeen) (param : Option Param) (name : Span) (kind : Option tree.Type.Type) (f : Frame) (g : names.Frame)
+bind_stands : (p : Program) (vs : List VariableSeen) (param : Option Param) (name : Span) (kind : Option type_nodes.Type.Type) (f : Frame) (g : names.Frame)
     → IsKnown p (brought_kind p param) → AreStanding p vs f g → Within vs (declared p.text (bound_as p param name kind) f) → (typed_turn p param name kind g).found ≡ []
     → AreStanding p vs (declared p.text (bound_as p param name kind) f) (typed_turn p param name kind g).frame
 bind_stands p vs param name (Some t) f g brought standing within none =

@@ -3,29 +3,28 @@ use Rattle.std.proofs.Common.{◌≡◌, Bool, true, false, List, [], ◌∷◌,
 use Rattle.std.specs.List.{flat_map}
 use Rattle.std.specs.Prelude.{Option, None, Some, option_map, slice_get, IsSomeAnd}
 use Rattle.source.specs.declared.token.Span.{Span}
-use Rattle.syntax.specs.Trees.{MessageTree, contracts_of}
-use Rattle.syntax.specs.declared.statement as made
-use Rattle.syntax.specs.declared.tree as tree
-use Rattle.syntax.specs.declared.tree.Param.{Param}
+use Rattle.tree.specs.Trees.{MessageTree, contracts_of}
+use Rattle.tree.specs.declared.statement as made
+use Rattle.tree.specs.declared.types as type_nodes
+use Rattle.tree.specs.declared.contract.Param.{Param}
 use Rattle.names.specs.Cases.{bind_turn, binds_turn, typed_turn}
 use Rattle.names.specs.Declarations.{messages_of}
 use Rattle.names.specs.Kinds.{agree, alike, is_block, type_kind, type_unknown, unless}
 use Rattle.names.specs.Program.{Program}
 use Rattle.names.specs.Resolution.{resolved_contracts}
 use Rattle.names.specs.Variables as names
-use Rattle.names.specs.Variables.{declared_variable}
 use Rattle.names.specs.Words.{word_at}
 use Rattle.names.specs.declared.kinds.Kind.{Kind}
-use Rattle.resolved.specs.Methods.{VariableSeen}
-use Rattle.resolved.specs.declared.kind as held
-use Rattle.resolved.specs.declared.method.Role.TheVariants.{Local}
-use Rattle.resolved.specs.declared.method.VarId.{VarId}
+use Rattle.program.specs.Methods.{VariableSeen}
+use Rattle.program.specs.declared.kind as held
+use Rattle.program.specs.declared.method.Role.TheVariants.{Local}
+use Rattle.program.specs.declared.number.VarId.{VarId}
 use Rattle.resolving.specs.Binds.{bind_told, binds_told, bound_as, one_number}
 use Rattle.resolving.specs.Brought.{brought, held_listed, messages_told, params_held}
 use Rattle.resolving.specs.Kinds.{kind_held, state_in, type_held}
 use Rattle.resolving.specs.Locals.{Frame, declared, next_number, number_of}
-use Rattle.wellformed.specs.Lists.{Each}
-use Rattle.wellformed.specs.WellFormed.{HoldAll, Holds, IsKind, Setting, same_type}
+use Rattle.program.specs.Lists.{Each}
+use Rattle.program.specs.WellFormed.{HoldAll, Holds, IsKind, Setting, same_type}
 use Rattle.wellformed.proofs.GrowthLemmas.{binds_grow, within_before}
 use Rattle.wellformed.proofs.KindLemmas.{Holding, agree_alike, alike_block, alike_held, alike_self, block_holds, held_kind, scalar_holds, type_known}
 use Rattle.wellformed.proofs.ListLemmas.{both_none, each_append}
@@ -60,7 +59,7 @@ one_holds p s name a k own asked f true block like sure known within ks vs rest 
     one_with p s name a f (kind_held p a own) (kind_held p k asked) (Some x.held) (Some y.held) ks vs x.is y.is (declared_at p s name a x.held y.held f same here, rest)
 
 -- a name that a case binds for this parameter
-bound_holds : (p : Program) (s : Setting) (x : Param) (name : Span) (kind : Option tree.Type.Type) (f : Frame) (g : names.Frame) → IsKnown p (type_kind p x.kind)
+bound_holds : (p : Program) (s : Setting) (x : Param) (name : Span) (kind : Option type_nodes.Type.Type) (f : Frame) (g : names.Frame) → IsKnown p (type_kind p x.kind)
     → Within s.variables (declared p.text (bound_as p (Some x) name kind) f) → (typed_turn p (Some x) name kind g).found ≡ [] → (ks : List held.Kind.Kind) (vs : List VarId) → HoldAll s ks vs
     → HoldAll s (held_listed (type_held p x.kind) ++ ks) (one_number (next_number (bound_as p (Some x) name kind).held f) ++ vs)
 bound_holds p s x name (Some t) f g known within none ks vs rest =

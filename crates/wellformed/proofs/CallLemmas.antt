@@ -4,10 +4,10 @@ use Rattle.std.proofs.lemmas.List.{length-map}
 use Rattle.std.specs.List.{flat_map}
 use Rattle.std.specs.Prelude.{Option, None, Some, is_some, option_map, option_and_then, slice_get, IsSomeAnd}
 use Rattle.source.specs.declared.token.Span.{Span}
-use Rattle.syntax.specs.Expressions.{ExpressionTree}
-use Rattle.syntax.specs.Trees.{ClassTree, MethodTree}
-use Rattle.syntax.specs.Values.{CallTree}
-use Rattle.syntax.specs.declared.tree as tree
+use Rattle.tree.specs.Expressions.{ExpressionTree}
+use Rattle.tree.specs.Trees.{ClassTree, MethodTree}
+use Rattle.tree.specs.Values.{CallTree}
+use Rattle.tree.specs.declared.types as tree
 use Rattle.names.specs.Expressions.{held, variable_findings}
 use Rattle.names.specs.Found.{unknown}
 use Rattle.names.specs.Kinds.{unless}
@@ -16,15 +16,15 @@ use Rattle.names.specs.Shapes.{shape}
 use Rattle.names.specs.Values.{argument_findings, call_findings, class_findings, class_meant, front_findings, is_alone, member_findings, method_findings, method_named, number_of_arguments, parameter_kinds, result_fits, start_findings}
 use Rattle.names.specs.Variables as names
 use Rattle.names.specs.Variables.{variable_named}
-use Rattle.resolved.specs.declared.statement.Mention.{Mention}
+use Rattle.program.specs.declared.statement.Mention.{Mention}
 use Rattle.resolving.specs.Callees.{callee, front_callee, member_callee}
 use Rattle.resolving.specs.Kinds.{result_held}
 use Rattle.resolving.specs.Locals.{Local, Frame, local_named}
 use Rattle.resolving.specs.Messages.{contract_of, end_contract, message_sent}
 use Rattle.resolving.specs.Methods.{method_told}
 use Rattle.resolving.specs.Plain.{call_of, send_told, sent, sent_by}
-use Rattle.wellformed.specs.Lists.{Each}
-use Rattle.wellformed.specs.WellFormed.{Setting, IsCallOf, IsMention, IsTaken, parameters}
+use Rattle.program.specs.Lists.{Each}
+use Rattle.program.specs.WellFormed.{Setting, IsCallOf, IsMention, IsTaken, parameters}
 use Rattle.wellformed.proofs.ArgumentLemmas.{arguments_given, given_parameters, reads_mentioned}
 use Rattle.wellformed.proofs.FindingLemmas.{as_many, unless_none}
 use Rattle.wellformed.proofs.MentionLemmas.{held_known}

@@ -6,9 +6,9 @@ use Rattle.std.specs.Option.{option_map_or}
 use Rattle.std.specs.Prelude.{Option, None, Some, ◌==◌, ◌&&◌, ◌||◌, if◌then◌else◌, option_and_then, option_map, slice_get}
 use Rattle.source.specs.declared.place.Place.{Place}
 use Rattle.source.specs.declared.token.Span.{Span}
-use Rattle.syntax.specs.StatementTrees.{Case, CaseTree, CaseTrees, MoreCases, NoCase}
-use Rattle.syntax.specs.declared.statement.Awaited.{Awaited}
-use Rattle.syntax.specs.declared.statement.Awaited.TheVariants.{Closed, Message}
+use Rattle.tree.specs.StatementTrees.{Case, CaseTree, CaseTrees, MoreCases, NoCase}
+use Rattle.tree.specs.declared.statement.Awaited.{Awaited}
+use Rattle.tree.specs.declared.statement.Awaited.TheVariants.{Closed, Message}
 use Rattle.names.specs.Bodies.{Surroundings, case_turn, cases_turn, head_of, heads_of, scope_in}
 use Rattle.names.specs.Cases.{Head, awaits_closed, endpoint_head_findings, head_findings, is_closed, kind_head_findings, lack_findings, lacks_closed, names_endpoint, other_awaited_findings, same_name}
 use Rattle.names.specs.Expressions.{InScope, held, meant, variable_findings}
@@ -19,11 +19,11 @@ use Rattle.names.specs.Variables as names
 use Rattle.names.specs.Words.{same_word, word_at, words_at}
 use Rattle.names.specs.declared.kinds.Kind.{Kind}
 use Rattle.names.specs.declared.kinds.Kind.TheVariants as kind
-use Rattle.resolved.specs.Methods.{VariableSeen}
+use Rattle.program.specs.Methods.{VariableSeen}
 use Rattle.resolving.specs.Locals.{Frame, Local, mention_of}
 use Rattle.resolving.specs.Told.{Staying, behind_case, case_endpoint, case_told, cases_told}
-use Rattle.wellformed.specs.Lists.{Each}
-use Rattle.wellformed.specs.WellFormed.{endpoints, closes, is_among}
+use Rattle.program.specs.Lists.{Each}
+use Rattle.program.specs.WellFormed.{endpoints, closes, is_among}
 use Rattle.wellformed.proofs.MentionLemmas.{held_known}
 use Rattle.wellformed.proofs.ListLemmas.{both_none, each_append}
 use Rattle.wellformed.proofs.Standing.{AreStanding, IsKnown, scope_of}

@@ -4,25 +4,26 @@ use Rattle.std.proofs.lemmas.Bool.{eqb-true}
 use Rattle.std.specs.Option.{option_map_or}
 use Rattle.std.specs.Prelude.{Option, None, Some, option_map, option_and_then, slice_get, IsSomeAnd}
 use Rattle.source.specs.declared.token.Span.{Span}
-use Rattle.syntax.specs.Trees.{ClassTree, ContractTree}
-use Rattle.syntax.specs.declared.statement as made
-use Rattle.syntax.specs.declared.tree as tree
-use Rattle.syntax.specs.declared.tree.Side.{Side}
+use Rattle.tree.specs.Trees.{ClassTree, ContractTree}
+use Rattle.tree.specs.declared.statement as made
+use Rattle.tree.specs.declared.types as type_nodes
+use Rattle.program.specs.declared.kind.Side.{Side}
 use Rattle.names.specs.Bodies.{channel_findings, ends_findings, is_end_of, new_ends_findings, same_end}
 use Rattle.names.specs.Expressions.{held, meant, variable_findings}
-use Rattle.names.specs.Kinds.{is_block, is_silent, same_side, unless}
+use Rattle.names.specs.Kinds.{is_block, is_silent, unless}
+use Rattle.program.specs.Kinds.{same_side}
 use Rattle.names.specs.Program.{Numbered, Program}
 use Rattle.names.specs.Program as items
 use Rattle.names.specs.Variables as names
 use Rattle.names.specs.declared.kinds as declared
 use Rattle.names.specs.declared.kinds.Kind.TheVariants as kind
-use Rattle.resolved.specs.declared.kind.Kind.{Kind}
-use Rattle.resolved.specs.declared.kind.Kind.TheVariants.{Endpoint}
-use Rattle.resolved.specs.declared.statement.Action.TheVariants as does
+use Rattle.program.specs.declared.kind.Kind.{Kind}
+use Rattle.program.specs.declared.kind.Kind.TheVariants.{Endpoint}
+use Rattle.program.specs.declared.statement.Action.TheVariants as does
 use Rattle.resolving.specs.Kinds.{contract_named, contract_number, number_at}
 use Rattle.resolving.specs.Locals.{Frame, mention, mention_of}
 use Rattle.resolving.specs.Plain.{channel, channel_of, ends_of}
-use Rattle.wellformed.specs.WellFormed.{IsAction, Setting, are_ends}
+use Rattle.program.specs.WellFormed.{IsAction, Setting, are_ends}
 use Rattle.wellformed.proofs.ContractLemmas.{contract_is_at}
 use Rattle.wellformed.proofs.FindingLemmas.{unless_none}
 use Rattle.wellformed.proofs.MentionLemmas.{block_mentioned, held_known}
@@ -113,7 +114,7 @@ named_fits p class s f g n None named standing first second none = cc
 named_fits p class s f g n (Some c) named standing first second none = found_fits p class s f g n c named standing first second none
 
 -- a new channel
-pub channel_fits : (p : Program) (t : ClassTree) (class : ℕ) (result : Option tree.Type.Type) (s : Setting) (f : Frame) (g : names.Frame) (n : made.NewChannel.NewChannel)
+pub channel_fits : (p : Program) (t : ClassTree) (class : ℕ) (result : Option type_nodes.Type.Type) (s : Setting) (f : Frame) (g : names.Frame) (n : made.NewChannel.NewChannel)
     → Around p t class result s → AreStanding p s.variables f g → channel_findings (scope_of p g) n.contract n.first n.second ≡ [] → IsAction s (channel p class f n)
 channel_fits p t class result s f g n around standing none =
     let named = items.contract_named p n.contract in

@@ -4,12 +4,12 @@ use Rattle.std.proofs.lemmas.Bool.{not-true}
 use Rattle.std.specs.Option.{option_map_or}
 use Rattle.std.specs.Prelude.{Option, None, Some, is_some, IsSomeAnd}
 use Rattle.source.specs.declared.token.Span.{Span}
-use Rattle.syntax.specs.Expressions as trees
-use Rattle.syntax.specs.Expressions.{LevelTree, StepTrees, AtomTree, TargetTree, ExpressionTree}
-use Rattle.syntax.specs.Operators.{Level, Operators}
-use Rattle.syntax.specs.Trees.{StructTree}
-use Rattle.syntax.specs.declared.class as made
-use Rattle.syntax.specs.declared.tree.Scalar.TheVariants as scalar
+use Rattle.tree.specs.Expressions as trees
+use Rattle.tree.specs.Expressions.{LevelTree, StepTrees, AtomTree, TargetTree, ExpressionTree}
+use Rattle.tree.specs.Operators.{Level, Operators}
+use Rattle.tree.specs.Trees.{StructTree}
+use Rattle.tree.specs.declared.class as made
+use Rattle.program.specs.declared.kind.Scalar.TheVariants as scalar
 use Rattle.names.specs.Expressions.{kind_of, place_of, held, meant, expression_findings, whole_findings, field_kind, field_findings, field_named, struct_field_kind, is_length, element_kind, element_findings, variable_findings, mention_findings, asked_number, sign_asked, left_asked, right_asked, signed_kind, joined_kind}
 use Rattle.names.specs.Found.{unknown}
 use Rattle.names.specs.Kinds.{is_block, is_number, is_truth, is_unknown, unless}
@@ -19,11 +19,11 @@ use Rattle.names.specs.Shapes.{Shape, Sign, shape, joined, joint_of, atom_shape}
 use Rattle.names.specs.Variables as names
 use Rattle.names.specs.declared.kinds as declared
 use Rattle.names.specs.declared.kinds.Kind.TheVariants as kind
-use Rattle.resolved.specs.Methods.{VariableSeen}
-use Rattle.resolved.specs.declared.statement.Mention.{Mention}
+use Rattle.program.specs.Methods.{VariableSeen}
+use Rattle.program.specs.declared.statement.Mention.{Mention}
 use Rattle.resolving.specs.Locals.{Frame, mention}
 use Rattle.resolving.specs.Reads.{reads, step_reads, atom_reads, target_reads, listed, lone_name, atom_name}
-use Rattle.wellformed.specs.Lists.{Each}
+use Rattle.program.specs.Lists.{Each}
 use Rattle.wellformed.proofs.KindLemmas.{known_certain}
 use Rattle.wellformed.proofs.ListLemmas.{both_none, each_append}
 use Rattle.wellformed.proofs.FindingLemmas.{none_said, unless_none}

@@ -3,23 +3,24 @@ use Rattle.std.proofs.Common.{◌≡◌, ℕ, zero, suc, ◌<◌, List, [], ◌�
 use Rattle.std.specs.Prelude.{Option, None, Some, option_map, slice_get, IfSome}
 use Rattle.source.specs.declared.place.Place.{Place}
 use Rattle.source.specs.declared.token.Span.{Span}
-use Rattle.syntax.specs.StatementTrees as trees
-use Rattle.syntax.specs.StatementTrees.{StatementTree, StatementTrees, BlockTree, TestTree, OtherTrees, CaseTree, CaseTrees}
-use Rattle.syntax.specs.declared.statement as made
-use Rattle.syntax.specs.declared.tree as tree
+use Rattle.tree.specs.StatementTrees as trees
+use Rattle.tree.specs.StatementTrees.{StatementTree, StatementTrees, BlockTree, TestTree, OtherTrees, CaseTree, CaseTrees}
+use Rattle.tree.specs.declared.statement as made
+use Rattle.tree.specs.declared.contract as contract_nodes
+use Rattle.tree.specs.declared.types as type_nodes
 use Rattle.names.specs.Cases.{brought_kind}
 use Rattle.names.specs.Kinds.{type_kind}
 use Rattle.names.specs.Program.{Program}
 use Rattle.names.specs.declared.kinds.Kind.{Kind}
-use Rattle.resolved.specs.Methods.{VariableSeen}
-use Rattle.resolved.specs.declared.kind as held
-use Rattle.resolved.specs.declared.method.Role.{Role}
-use Rattle.resolved.specs.declared.method.Role.TheVariants.{Local}
+use Rattle.program.specs.Methods.{VariableSeen}
+use Rattle.program.specs.declared.kind as held
+use Rattle.program.specs.declared.method.Role.{Role}
+use Rattle.program.specs.declared.method.Role.TheVariants.{Local}
 use Rattle.resolving.specs.Binds.{bind_told, binds_told, bound_as}
 use Rattle.resolving.specs.Kinds.{kind_held, state_in, type_held}
 use Rattle.resolving.specs.Locals.{Frame, closed, declared, number_of}
 use Rattle.resolving.specs.Told.{Staying, in_loop, in_switch, behind_case, awaited_message, awaited_params, statement_told, statements_told, block_told, test_told, others_told, case_told, cases_told}
-use Rattle.wellformed.specs.Scopes.{AreNested}
+use Rattle.program.specs.Scopes.{AreNested}
 use Rattle.wellformed.proofs.ListLemmas.{each_append}
 use Rattle.wellformed.proofs.Standing.{Grows, IsLocal, Within, declares}
 
@@ -78,20 +79,20 @@ held_grows : (p : Program) (name : Span) (kind : Kind) (state : Option Span) (he
 held_grows p name kind state None is f = same_grows p f _ refl
 held_grows p name kind state (Some held) is f = record { more = _ ∷ []; is = refl; local = (record { is = refl; kind = kind; held = record { state = state; is = is } }, tt) }
 
-bind_grows : (p : Program) (param : Option tree.Param.Param) (name : Span) (kind : Option tree.Type.Type) (f : Frame) → Grows p f (declared p.text (bound_as p param name kind) f)
+bind_grows : (p : Program) (param : Option contract_nodes.Param.Param) (name : Span) (kind : Option type_nodes.Type.Type) (f : Frame) → Grows p f (declared p.text (bound_as p param name kind) f)
 bind_grows p param name (Some t) f = held_grows p name (type_kind p t) (state_in t) (type_held p t) refl f
 bind_grows p param name None f = held_grows p name (brought_kind p param) None (kind_held p (brought_kind p param) None) refl f
 
-pub binds_grow : (p : Program) (params : List tree.Param.Param) (binds : List made.Bind.Bind) (f : Frame) → Grows p f (binds_told p params binds f).frame
+pub binds_grow : (p : Program) (params : List contract_nodes.Param.Param) (binds : List made.Bind.Bind) (f : Frame) → Grows p f (binds_told p params binds f).frame
 binds_grow p params [] f = same_grows p f f refl
 binds_grow p [] (b ∷ binds) f = grows_then p f _ _ (bind_grows p None b.name b.kind f) (binds_grow p [] binds (bind_told p None b f).frame)
 binds_grow p (x ∷ params) (b ∷ binds) f = grows_then p f _ _ (bind_grows p (Some x) b.name b.kind f) (binds_grow p params binds (bind_told p (Some x) b f).frame)
 
-bind_nests : (p : Program) (param : Option tree.Param.Param) (name : Span) (kind : Option tree.Type.Type) (f : Frame) → Nests f → Nests (declared p.text (bound_as p param name kind) f)
+bind_nests : (p : Program) (param : Option contract_nodes.Param.Param) (name : Span) (kind : Option type_nodes.Type.Type) (f : Frame) → Nests f → Nests (declared p.text (bound_as p param name kind) f)
 bind_nests p param name (Some t) f n = declared_nests p.text name (type_kind p t) (type_held p t) Local f n
 bind_nests p param name None f n = declared_nests p.text name (brought_kind p param) (kind_held p (brought_kind p param) None) Local f n
 
-binds_nest : (p : Program) (params : List tree.Param.Param) (binds : List made.Bind.Bind) (f : Frame) → Nests f → Nests (binds_told p params binds f).frame
+binds_nest : (p : Program) (params : List contract_nodes.Param.Param) (binds : List made.Bind.Bind) (f : Frame) → Nests f → Nests (binds_told p params binds f).frame
 binds_nest p params [] f n = n
 binds_nest p [] (b ∷ binds) f n = binds_nest p [] binds (bind_told p None b f).frame (bind_nests p None b.name b.kind f n)
 binds_nest p (x ∷ params) (b ∷ binds) f n = binds_nest p params binds (bind_told p (Some x) b f).frame (bind_nests p (Some x) b.name b.kind f n)

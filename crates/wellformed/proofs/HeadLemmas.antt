@@ -3,33 +3,33 @@ use Rattle.std.proofs.Common.{◌≡◌, ℕ, List, [], ◌∷◌, length, if◌
 use Rattle.std.specs.Option.{option_map_or}
 use Rattle.std.specs.Prelude.{Option, None, Some, is_some, option_and_then, slice_get, IsSomeAnd}
 use Rattle.source.specs.declared.token.Span.{Span}
-use Rattle.syntax.specs.Trees.{ClassTree, ContractTree, MessageTree}
-use Rattle.syntax.specs.declared.statement as made
-use Rattle.syntax.specs.declared.statement.Awaited.TheVariants as waits
-use Rattle.syntax.specs.declared.tree as tree
-use Rattle.syntax.specs.declared.tree.Side.{Side}
+use Rattle.tree.specs.Trees.{ClassTree, ContractTree, MessageTree}
+use Rattle.tree.specs.declared.statement as made
+use Rattle.tree.specs.declared.statement.Awaited.TheVariants as waits
+use Rattle.tree.specs.declared.types as type_nodes
+use Rattle.program.specs.declared.kind.Side.{Side}
 use Rattle.names.specs.Bodies.{params_of_case}
 use Rattle.names.specs.Cases as cases
 use Rattle.names.specs.Cases.{Head, bound_params, closed_findings, endpoint_head_findings, head_findings, kind_head_findings, lack_findings, message_case_findings, twice_findings}
 use Rattle.names.specs.Expressions.{held, meant, variable_findings}
 use Rattle.names.specs.Kinds.{is_block, type_unknown, unless}
 use Rattle.names.specs.Program.{Program, as_contract, item_at}
-use Rattle.names.specs.Resolution.{ContractSeen}
+use Rattle.program.specs.Parts.{ContractSeen}
 use Rattle.names.specs.Values.{message_written, number_of_arguments, receives}
 use Rattle.names.specs.Variables as names
 use Rattle.names.specs.Words.{word_at}
 use Rattle.names.specs.declared.kinds as declared
 use Rattle.names.specs.declared.kinds.Kind.TheVariants as kind
-use Rattle.resolved.specs.Methods.{VariableSeen}
-use Rattle.resolved.specs.declared.statement.Awaited.TheVariants.{Message, Closed}
-use Rattle.resolved.specs.declared.method.VarId.{VarId}
+use Rattle.program.specs.Methods.{VariableSeen}
+use Rattle.program.specs.declared.statement.Awaited.TheVariants.{Message, Closed}
+use Rattle.program.specs.declared.number.VarId.{VarId}
 use Rattle.resolving.specs.Brought.{brought, params_held}
 use Rattle.resolving.specs.Kinds.{contract_at}
 use Rattle.resolving.specs.Locals.{Frame, mention_of}
 use Rattle.resolving.specs.Messages.{contract_of, message_named}
 use Rattle.resolving.specs.Told.{awaited_as, awaited_message, awaited_params, case_endpoint}
-use Rattle.wellformed.specs.Lists.{Each}
-use Rattle.wellformed.specs.WellFormed.{HoldAll, IsAwaited, IsBrought, IsEnd, Setting}
+use Rattle.program.specs.Lists.{Each}
+use Rattle.program.specs.WellFormed.{HoldAll, IsAwaited, IsBrought, IsEnd, Setting}
 use Rattle.wellformed.proofs.FindingLemmas.{as_many}
 use Rattle.wellformed.proofs.MentionLemmas.{block_mentioned, held_known, meant_stands}
 use Rattle.wellformed.proofs.SendLemmas.{is_end}
@@ -48,7 +48,7 @@ pub record HeadFits (p : Program) (s : Setting) (f : Frame) (g : names.Frame) (h
   pub brings : (bound : List VarId) → HoldAll s (params_held p (awaited_params (awaited_message p f h.endpoint h.awaited))) bound → IsBrought s (awaited_as h.awaited (awaited_message p f h.endpoint h.awaited)) bound
 
 -- the endpoint of a case is one of a contract that is there
-end_fits : (p : Program) (t : ClassTree) (class : ℕ) (result : Option tree.Type.Type) (s : Setting) (f : Frame) (g : names.Frame) (name : Span) (n : ℕ) (side : Side) (P : ContractSeen → Type 0)
+end_fits : (p : Program) (t : ClassTree) (class : ℕ) (result : Option type_nodes.Type.Type) (s : Setting) (f : Frame) (g : names.Frame) (name : Span) (n : ℕ) (side : Side) (P : ContractSeen → Type 0)
     → Around p t class result s → AreStanding p s.variables f g → variable_findings (scope_of p g) name ≡ [] → held (meant (scope_of p g) name) ≡ kind.Endpoint n side
     → ((r : ContractSeen) → contract_at p n ≡ Some r → P r) → IsEnd s P (case_endpoint p f name)
 end_fits p t class result s f g name n side P around standing none is each =
@@ -80,7 +80,7 @@ close_brings s [] holds = refl
 close_brings s (v ∷ bound) holds = absurd holds
 
 -- a case on a message of that contract
-message_fits : (p : Program) (t : ClassTree) (class : ℕ) (result : Option tree.Type.Type) (s : Setting) (f : Frame) (g : names.Frame) (name : Span) (word : Span) (binds : List made.Bind.Bind) (n : ℕ) (side : Side)
+message_fits : (p : Program) (t : ClassTree) (class : ℕ) (result : Option type_nodes.Type.Type) (s : Setting) (f : Frame) (g : names.Frame) (name : Span) (word : Span) (binds : List made.Bind.Bind) (n : ℕ) (side : Side)
     (c : ContractTree) (o : Option MessageTree)
     → Around p t class result s → AreStanding p s.variables f g → variable_findings (scope_of p g) name ≡ [] → held (meant (scope_of p g) name) ≡ kind.Endpoint n side
     → item_at as_contract p n ≡ Some (n, c) → message_written p.text c (word_at p.text word) ≡ o → message_case_findings (scope_of p g) o side word binds ≡ []
@@ -106,7 +106,7 @@ message_fits p t class result s f g name word binds n side c (Some m) around sta
     }
 
 -- a head by the kind of its endpoint
-head_by : (p : Program) (t : ClassTree) (class : ℕ) (result : Option tree.Type.Type) (s : Setting) (f : Frame) (g : names.Frame) (all before : List Head) (name : Span) (awaited : made.Awaited.Awaited)
+head_by : (p : Program) (t : ClassTree) (class : ℕ) (result : Option type_nodes.Type.Type) (s : Setting) (f : Frame) (g : names.Frame) (all before : List Head) (name : Span) (awaited : made.Awaited.Awaited)
     (binds : List made.Bind.Bind) (k : declared.Kind.Kind)
     → Around p t class result s → AreStanding p s.variables f g → variable_findings (scope_of p g) name ≡ [] → held (meant (scope_of p g) name) ≡ k → IsKnown p k
     → kind_head_findings (scope_of p g) all before k (record { endpoint = name; awaited = awaited; binds = binds }) ≡ [] → HeadFits p s f g (record { endpoint = name; awaited = awaited; binds = binds })
@@ -139,7 +139,7 @@ head_by p t class result s f g all before name (waits.Message word) binds (kind.
 head_by p t class result s f g all before name awaited binds kind.Missing around standing none is known found = absurd known
 head_by p t class result s f g all before name awaited binds kind.Unknown around standing none is known found = absurd known
 
-pub head_fits : (p : Program) (t : ClassTree) (class : ℕ) (result : Option tree.Type.Type) (s : Setting) (f : Frame) (g : names.Frame) (all before : List Head) (h : Head)
+pub head_fits : (p : Program) (t : ClassTree) (class : ℕ) (result : Option type_nodes.Type.Type) (s : Setting) (f : Frame) (g : names.Frame) (all before : List Head) (h : Head)
     → Around p t class result s → AreStanding p s.variables f g → head_findings (scope_of p g) all before h ≡ [] → HeadFits p s f g h
 head_fits p t class result s f g all before h around standing none =
     let both = both_none (variable_findings (scope_of p g) h.endpoint) (kind_head_findings (scope_of p g) all before (held (meant (scope_of p g) h.endpoint)) h) none in

@@ -4,25 +4,27 @@ use Rattle.std.proofs.lemmas.Bool.{and_from, and_parts}
 use Rattle.std.proofs.lemmas.Option.{same_Some}
 use Rattle.std.specs.Prelude.{Option, None, Some, IsSomeAnd, ◌==◌, ◌||◌, not, if◌then◌else◌, option_and_then, option_map, slice_get}
 use Rattle.source.specs.declared.token.Span.{Span}
-use Rattle.syntax.specs.Trees.{ContractTree, ItemTree, StructTree, contracts_of}
-use Rattle.syntax.specs.declared.tree as tree
-use Rattle.syntax.specs.declared.tree.Heap.TheVariants as heap
-use Rattle.syntax.specs.declared.tree.Scalar.{Scalar}
-use Rattle.syntax.specs.declared.tree.Scalar.TheVariants as scalar
-use Rattle.syntax.specs.declared.tree.Side.{Side}
-use Rattle.syntax.specs.declared.tree.Side.TheVariants as side
-use Rattle.syntax.specs.declared.tree.Type.TheVariants as type
-use Rattle.names.specs.Kinds.{agree, alike, counts, is_silent, is_block, is_heap, is_unknown, same_scalar, same_side, type_kind, type_unknown}
+use Rattle.tree.specs.Trees.{ContractTree, ItemTree, StructTree, contracts_of}
+use Rattle.tree.specs.declared.types as type_nodes
+use Rattle.tree.specs.declared.types.Heap.TheVariants as heap
+use Rattle.program.specs.declared.kind.Scalar.{Scalar}
+use Rattle.program.specs.declared.kind.Scalar.TheVariants as scalar
+use Rattle.program.specs.declared.kind.Side.{Side}
+use Rattle.program.specs.declared.kind.Side.TheVariants as side
+use Rattle.tree.specs.declared.types.Type.TheVariants as type
+use Rattle.names.specs.Kinds.{agree, alike, counts, is_silent, is_block, is_heap, is_unknown, type_kind, type_unknown}
+use Rattle.program.specs.Kinds.{same_scalar, same_side}
 use Rattle.names.specs.Program.{Program, as_contract, as_struct, contract_named, item_at, struct_named}
-use Rattle.names.specs.Resolution.{ContractSeen, resolved_contracts}
+use Rattle.program.specs.Parts.{ContractSeen}
+use Rattle.names.specs.Resolution.{resolved_contracts}
 use Rattle.names.specs.declared.kinds as declared
 use Rattle.names.specs.declared.kinds.Kind.TheVariants as kind
-use Rattle.names.specs.declared.resolved.StateId.{StateId}
-use Rattle.resolved.specs.declared.kind.Kind.{Kind}
-use Rattle.resolved.specs.declared.kind.Kind.TheVariants as holds
+use Rattle.program.specs.declared.number.StateId.{StateId}
+use Rattle.program.specs.declared.kind.Kind.{Kind}
+use Rattle.program.specs.declared.kind.Kind.TheVariants as holds
 use Rattle.resolving.specs.Counts.{contracts_before, structs_before}
 use Rattle.resolving.specs.Kinds.{contract_at, contract_number, kind_held, state_of}
-use Rattle.wellformed.specs.WellFormed.{IsKind, IsStateOf, same_type, contract_held}
+use Rattle.program.specs.WellFormed.{IsKind, IsStateOf, same_type, contract_held}
 use Rattle.wellformed.proofs.ContractLemmas.{contract_is_at, state_there}
 use Rattle.wellformed.proofs.Standing.{IsKnown, IsHeld, IsHeldAs}
 use Rattle.wellformed.proofs.TypeLemmas.{item_number, pointer_known, endpoint_known, pointer_block, endpoint_block}
@@ -37,13 +39,13 @@ known_certain p kind.Missing known = absurd known
 known_certain p kind.Unknown known = absurd known
 known_certain p k known = refl
 
-pub type_known : (p : Program) (t : tree.Type.Type) → type_unknown p t ≡ [] → IsKnown p (type_kind p t)
+pub type_known : (p : Program) (t : type_nodes.Type.Type) → type_unknown p t ≡ [] → IsKnown p (type_kind p t)
 type_known p (type.Scalar s) none = tt
 type_known p (type.Heap (heap.Pointer name bang)) none = pointer_known p name (struct_named p name) refl none
 type_known p (type.Heap (heap.Array element bang)) none = tt
 type_known p (type.Heap (heap.Endpoint contract end state bang in_heap)) none = endpoint_known p contract end state (contract_named p contract) refl none
 
-pub heap_block : (p : Program) (t : tree.Type.Type) → type_unknown p t ≡ [] → is_heap t ≡ is_block (type_kind p t)
+pub heap_block : (p : Program) (t : type_nodes.Type.Type) → type_unknown p t ≡ [] → is_heap t ≡ is_block (type_kind p t)
 heap_block p (type.Scalar s) none = refl
 heap_block p (type.Heap (heap.Pointer name bang)) none = pointer_block p (struct_named p name) (type_known p (type.Heap (heap.Pointer name bang)) none)
 heap_block p (type.Heap (heap.Array element bang)) none = refl

@@ -1,6 +1,6 @@
 -- What holds of each element of a list.
 use Rattle.std.proofs.Common.{◌≡◌, List, [], ◌∷◌, ◌++◌, refl}
-use Rattle.wellformed.specs.Lists.{Each}
+use Rattle.program.specs.Lists.{Each}
 
 pub each_append : {X : Type 0} → (P : X → Type 0) → (xs ys : List X) → Each P xs → Each P ys → Each P (xs ++ ys)
 each_append P [] ys first second = second

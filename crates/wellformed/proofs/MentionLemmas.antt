@@ -11,10 +11,10 @@ use Rattle.names.specs.Program.{Program}
 use Rattle.names.specs.Variables as names
 use Rattle.names.specs.Variables.{variable_named}
 use Rattle.names.specs.declared.kinds as declared
-use Rattle.resolved.specs.Methods.{VariableSeen}
-use Rattle.resolved.specs.declared.statement.Mention.{Mention}
+use Rattle.program.specs.Methods.{VariableSeen}
+use Rattle.program.specs.declared.statement.Mention.{Mention}
 use Rattle.resolving.specs.Locals.{Local, Frame, local_named, number_named, mention, mention_of}
-use Rattle.wellformed.specs.Lists.{Each}
+use Rattle.program.specs.Lists.{Each}
 use Rattle.wellformed.proofs.KindLemmas.{scalar_holds}
 use Rattle.wellformed.proofs.ScopeLemmas.{same_named}
 use Rattle.wellformed.proofs.Standing.{IsKnown, IsHeld, IsNumbered, AreStanding, Stands, named, scope_of}

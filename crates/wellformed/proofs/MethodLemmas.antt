@@ -2,29 +2,30 @@
 use Rattle.std.proofs.Common.{◌≡◌, ℕ, ◌<◌, false, List, [], ◌∷◌, ◌++◌, length, sym, refl, subst, append-nil}
 use Rattle.std.specs.Prelude.{Option, None, Some, option_map, slice_get, IfSome}
 use Rattle.source.specs.declared.token.Span.{Span}
-use Rattle.syntax.specs.StatementTrees as trees
-use Rattle.syntax.specs.StatementTrees.{BlockTree}
-use Rattle.syntax.specs.Trees.{ClassTree, MethodTree, contracts_of}
-use Rattle.syntax.specs.declared.class.Parameter.{Parameter}
-use Rattle.syntax.specs.declared.tree as tree
+use Rattle.tree.specs.StatementTrees as trees
+use Rattle.tree.specs.StatementTrees.{BlockTree}
+use Rattle.tree.specs.Trees.{ClassTree, MethodTree, contracts_of}
+use Rattle.tree.specs.declared.class.Parameter.{Parameter}
+use Rattle.tree.specs.declared.types as tree
 use Rattle.names.specs.Bodies.{Surroundings, block_turn}
 use Rattle.names.specs.Findings.{program_findings}
 use Rattle.names.specs.Kinds.{is_heap, type_kind, type_unknown}
 use Rattle.names.specs.Methods.{parameter_turn, parameters_turn, result_unknown}
 use Rattle.names.specs.Program.{Program, as_class, item_at}
-use Rattle.names.specs.Resolution.{ContractSeen, resolved_contracts}
+use Rattle.program.specs.Parts.{ContractSeen}
+use Rattle.names.specs.Resolution.{resolved_contracts}
 use Rattle.names.specs.Variables as names
 use Rattle.names.specs.declared.kinds as declared_kinds
-use Rattle.resolved.specs.Methods.{VariableSeen}
-use Rattle.resolved.specs.declared.kind.Kind.{Kind}
-use Rattle.resolved.specs.declared.method.Role.{Role}
+use Rattle.program.specs.Methods.{VariableSeen}
+use Rattle.program.specs.declared.kind.Kind.{Kind}
+use Rattle.program.specs.declared.method.Role.{Role}
 use Rattle.resolving.specs.Brought.{messages_told}
 use Rattle.resolving.specs.Kinds.{kind_held, result_held, state_in, type_held}
 use Rattle.resolving.specs.Locals.{Frame, declared, declared_as, number_of}
 use Rattle.resolving.specs.Methods.{body_told, method_told, methods_told, no_variables, parameter_declaration, parameters_frame, role_of}
 use Rattle.resolving.specs.Told.{outside}
-use Rattle.wellformed.specs.Lists.{Each}
-use Rattle.wellformed.specs.WellFormed.{AreStatements, AreWellFormed, IsKind, IsScope, IsWellFormed, Setting, setting}
+use Rattle.program.specs.Lists.{Each}
+use Rattle.program.specs.WellFormed.{AreStatements, AreWellFormed, IsKind, IsScope, IsWellFormed, Setting, setting}
 use Rattle.wellformed.proofs.BroughtLemmas.{brought_kinds}
 use Rattle.wellformed.proofs.GrowthLemmas.{Nests, declared_nests, declared_within, statements_grow, statements_nest, within_before}
 use Rattle.wellformed.proofs.KindLemmas.{held_as, held_kind, type_known}

@@ -5,15 +5,15 @@ use Rattle.std.proofs.lemmas.Option.{slice_get-map, some_pair_parts}
 use Rattle.std.specs.List.{enumerate_from, flat_map}
 use Rattle.std.specs.Prelude.{Option, None, Some, option_map, option_and_then, slice_get}
 use Rattle.source.specs.declared.token.Span.{Span}
-use Rattle.syntax.specs.Trees.{ItemTree, DefinitionTree, Contract, Struct, Class, ClassTree, ContractTree, MethodTree}
+use Rattle.tree.specs.Trees.{ItemTree, DefinitionTree, Contract, Struct, Class, ClassTree, ContractTree, MethodTree}
 use Rattle.names.specs.Declarations.{first_among}
 use Rattle.names.specs.Methods.{methods_in}
 use Rattle.names.specs.Program.{Program, Numbered, as_class, as_contract, class_named, item_at, item_names}
 use Rattle.names.specs.Values.{method_named}
-use Rattle.resolved.specs.Methods.{MethodSeen}
+use Rattle.program.specs.Methods.{MethodSeen}
 use Rattle.resolving.specs.Callees.{Callee, all_methods, method_at, method_of, methods_before, numbered}
 use Rattle.resolving.specs.Methods.{item_told, methods_told, method_told}
-use Rattle.wellformed.specs.Lists.{Each}
+use Rattle.program.specs.Lists.{Each}
 use Rattle.wellformed.proofs.ListLemmas.{each_append}
 use Rattle.wellformed.proofs.PlaceLemmas.{each_mapped, each_placed, slice_behind, slice_front}
 use Rattle.wellformed.proofs.Standing.{Answers, IsMethod}

@@ -5,25 +5,25 @@ use Rattle.std.proofs.lemmas.List.Elements.{filter-append}
 use Rattle.std.specs.List.{filter, flat_map}
 use Rattle.std.specs.Option.{option_map_or}
 use Rattle.std.specs.Prelude.{Option, None, Some}
-use Rattle.syntax.specs.StatementTrees as trees
-use Rattle.syntax.specs.StatementTrees.{BlockTree}
-use Rattle.syntax.specs.Trees.{MethodTree}
-use Rattle.syntax.specs.declared.class.Parameter.{Parameter}
-use Rattle.syntax.specs.declared.tree as tree
-use Rattle.syntax.specs.declared.tree.Type.TheVariants as type
+use Rattle.tree.specs.StatementTrees as trees
+use Rattle.tree.specs.StatementTrees.{BlockTree}
+use Rattle.tree.specs.Trees.{MethodTree}
+use Rattle.tree.specs.declared.class.Parameter.{Parameter}
+use Rattle.tree.specs.declared.types as tree
+use Rattle.tree.specs.declared.types.Type.TheVariants as type
 use Rattle.names.specs.Kinds.{is_heap, type_unknown}
 use Rattle.names.specs.Program.{Program}
 use Rattle.names.specs.Values.{any_lent, is_lent}
-use Rattle.resolved.specs.Methods.{VariableSeen}
-use Rattle.resolved.specs.declared.kind.Kind.{Kind}
-use Rattle.resolved.specs.declared.method.Role.{Role}
-use Rattle.resolved.specs.declared.method.Role.TheVariants as role
+use Rattle.program.specs.Methods.{VariableSeen}
+use Rattle.program.specs.declared.kind.Kind.{Kind}
+use Rattle.program.specs.declared.method.Role.{Role}
+use Rattle.program.specs.declared.method.Role.TheVariants as role
 use Rattle.resolving.specs.Kinds.{type_held}
 use Rattle.resolving.specs.Locals.{Frame, declared, declared_as}
 use Rattle.resolving.specs.Methods.{body_told, method_told, no_variables, parameter_declaration, parameters_frame, role_of}
 use Rattle.resolving.specs.Told.{outside}
-use Rattle.wellformed.specs.Lists.{Each}
-use Rattle.wellformed.specs.WellFormed.{is_claimed, is_parameter, parameters}
+use Rattle.program.specs.Lists.{Each}
+use Rattle.program.specs.WellFormed.{is_claimed, is_parameter, parameters}
 use Rattle.wellformed.proofs.GrowthLemmas.{statements_grow}
 use Rattle.wellformed.proofs.ListLemmas.{each_append}
 use Rattle.wellformed.proofs.PlaceLemmas.{mapped_each}

@@ -2,7 +2,7 @@
 use Rattle.std.proofs.Common.{◌≡◌, ℕ, zero, suc, ◌+◌, List, [], ◌∷◌, ◌++◌, length, map, sym, refl, ap, ◌∙◌, arith}
 use Rattle.std.specs.List.{flat_map}
 use Rattle.std.specs.Prelude.{Some, slice_get}
-use Rattle.wellformed.specs.Lists.{Each}
+use Rattle.program.specs.Lists.{Each}
 use Rattle.wellformed.proofs.ListLemmas.{both_none}
 
 -- in front of another list

@@ -2,13 +2,13 @@
 use Rattle.std.proofs.Common.{◌≡◌, ℕ, Bool, true, false, List, [], ◌++◌, length, sym, refl, ap, ◌∙◌, subst}
 use Rattle.std.specs.Prelude.{Option, None, Some, option_map, slice_get}
 use Rattle.source.specs.declared.token.Span.{Span}
-use Rattle.syntax.specs.Expressions as trees
-use Rattle.syntax.specs.Expressions.{ExpressionTree, TargetTree}
-use Rattle.syntax.specs.StatementTrees as stated
-use Rattle.syntax.specs.StatementTrees.{AssignTree, DeclareTree, StatementTree}
-use Rattle.syntax.specs.Trees.{ClassTree}
-use Rattle.syntax.specs.Values.{ValueTree}
-use Rattle.syntax.specs.declared.tree as tree
+use Rattle.tree.specs.Expressions as trees
+use Rattle.tree.specs.Expressions.{TargetTree}
+use Rattle.tree.specs.StatementTrees as stated
+use Rattle.tree.specs.StatementTrees.{DeclareTree}
+use Rattle.tree.specs.Trees.{ClassTree}
+use Rattle.tree.specs.Values.{ValueTree}
+use Rattle.tree.specs.declared.types as tree
 use Rattle.names.specs.Bodies.{given_findings}
 use Rattle.names.specs.Expressions.{asked_number, expression_findings, held, meant, place_of, element_findings, element_kind, field_findings, kind_of, number_findings, variable_findings}
 use Rattle.names.specs.Kinds.{is_block, type_kind, type_unknown}
@@ -19,17 +19,17 @@ use Rattle.names.specs.Variables as names
 use Rattle.names.specs.Words.{word_at}
 use Rattle.names.specs.declared.kinds as declared
 use Rattle.names.specs.declared.kinds.Kind.TheVariants as kind
-use Rattle.resolved.specs.Methods.{VariableSeen}
-use Rattle.resolved.specs.declared.kind.Kind.{Kind}
-use Rattle.resolved.specs.declared.method.Role.{Role}
-use Rattle.resolved.specs.declared.method.Role.TheVariants as role
-use Rattle.resolved.specs.declared.statement.Mention.{Mention}
+use Rattle.program.specs.Methods.{VariableSeen}
+use Rattle.program.specs.declared.kind.Kind.{Kind}
+use Rattle.program.specs.declared.method.Role.{Role}
+use Rattle.program.specs.declared.method.Role.TheVariants as role
+use Rattle.program.specs.declared.statement.Mention.{Mention}
 use Rattle.resolving.specs.Kinds.{kind_held, state_in, type_held}
 use Rattle.resolving.specs.Locals.{Frame, declared_as, mention, mention_of, next_number, number_of}
 use Rattle.resolving.specs.Plain.{assigned, deleted, first_value, frame_behind, written}
 use Rattle.resolving.specs.Reads.{listed, reads}
-use Rattle.wellformed.specs.Lists.{Each}
-use Rattle.wellformed.specs.WellFormed.{IsAction, IsMention, IsStatement, Setting}
+use Rattle.program.specs.Lists.{Each}
+use Rattle.program.specs.WellFormed.{IsAction, IsMention, IsStatement, Setting}
 use Rattle.wellformed.proofs.ExpressionLemmas.{element_scalar, expression_scalar, field_scalar, reads_within}
 use Rattle.wellformed.proofs.MentionLemmas.{block_mentioned, held_known, mention_within, scalar_not_mentioned}
 use Rattle.wellformed.proofs.KindLemmas.{held_as, known_certain, type_known}

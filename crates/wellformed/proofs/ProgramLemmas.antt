@@ -2,8 +2,8 @@
 use Rattle.std.proofs.Common.{◌≡◌, ℕ, List, [], ◌∷◌, ◌++◌, map, sym, refl, ap, ◌∙◌}
 use Rattle.std.specs.List.{flat_map}
 use Rattle.std.specs.Prelude.{Option, None, Some, option_and_then, slice_get}
-use Rattle.syntax.specs.Trees.{DefinitionTree, Class, ClassTree, Contract, ContractTree, MessageTree, MethodTree}
-use Rattle.syntax.specs.declared.class.Parameter.{Parameter}
+use Rattle.tree.specs.Trees.{DefinitionTree, Class, ClassTree, Contract, ContractTree, MessageTree, MethodTree}
+use Rattle.tree.specs.declared.class.Parameter.{Parameter}
 use Rattle.names.specs.ContractFindings.{contract_findings, message_findings, state_findings}
 use Rattle.names.specs.Declarations.{messages_of, names_of_messages, names_of_states, states_of}
 use Rattle.names.specs.Findings.{counted_findings, definition_findings, program_findings}
@@ -15,7 +15,7 @@ use Rattle.names.specs.Program.{Program, as_class, as_contract, item_at}
 use Rattle.names.specs.Values.{message_written}
 use Rattle.names.specs.Variables.{Frame, declared_variable}
 use Rattle.names.specs.Words.{words_at}
-use Rattle.wellformed.specs.Lists.{Each}
+use Rattle.program.specs.Lists.{Each}
 use Rattle.wellformed.proofs.ListLemmas.{both_none}
 use Rattle.wellformed.proofs.MethodNumberLemmas.{Declares, class_item, contract_item}
 pub use Rattle.wellformed.proofs.MethodNumberLemmas.{every_method, member_answers, method_answers}

@@ -3,29 +3,27 @@ use Rattle.std.proofs.Common.{◌≡◌, ℕ, ◌<◌, ◌&&◌, Bool, true, fal
 use Rattle.std.specs.Option.{option_map_or}
 use Rattle.std.specs.Prelude.{Option, None, Some, is_some, option_map, IfSome, IsSomeAnd}
 use Rattle.source.specs.declared.token.Span.{Span}
-use Rattle.syntax.specs.Expressions.{ExpressionTree}
-use Rattle.syntax.specs.StatementTrees as stated
-use Rattle.syntax.specs.StatementTrees.{AssignTree, DeclareTree, StatementTree}
-use Rattle.syntax.specs.Trees.{ClassTree}
-use Rattle.syntax.specs.Values.{CallTree}
-use Rattle.syntax.specs.declared.tree as tree
-use Rattle.names.specs.Bodies.{return_findings}
+use Rattle.tree.specs.Expressions.{ExpressionTree}
+use Rattle.tree.specs.StatementTrees as stated
+use Rattle.tree.specs.Trees.{ClassTree}
+use Rattle.tree.specs.Values.{CallTree}
+use Rattle.tree.specs.declared.types as tree
+use Rattle.names.specs.Bodies.{return_findings, statement_turn}
 use Rattle.names.specs.Expressions.{whole_findings}
 use Rattle.names.specs.Kinds.{is_block, type_kind, unless}
 use Rattle.names.specs.Methods.{result_unknown}
 use Rattle.names.specs.Program.{Program}
 use Rattle.names.specs.Shapes.{shape}
-use Rattle.names.specs.Bodies.{statement_turn}
 use Rattle.names.specs.Values.{any_lent, can_start}
 use Rattle.names.specs.Variables as names
-use Rattle.resolved.specs.Statements as seen
-use Rattle.resolved.specs.declared.statement.Action.TheVariants as does
+use Rattle.program.specs.Statements as seen
+use Rattle.program.specs.declared.statement.Action.TheVariants as does
 use Rattle.resolving.specs.Kinds.{result_held, state_in, type_held}
 use Rattle.resolving.specs.Locals.{Frame, number_of}
 use Rattle.resolving.specs.Methods.{method_told}
 use Rattle.resolving.specs.Plain.{call_of, called, lone, returned, started, stated_call, told}
-use Rattle.wellformed.specs.Scopes.{LeadsOut}
-use Rattle.wellformed.specs.WellFormed.{IsScope, IsStartOf, IsStatement, IsTaken, Setting}
+use Rattle.program.specs.Scopes.{LeadsOut}
+use Rattle.program.specs.WellFormed.{IsScope, IsStartOf, IsStatement, IsTaken, Setting}
 use Rattle.wellformed.proofs.ArgumentLemmas.{IsAsked, asked_block, asked_known, asked_scalar}
 use Rattle.wellformed.proofs.CallLemmas.{CallsMethod, call_means, call_of_fits, method_there}
 use Rattle.wellformed.proofs.ExpressionLemmas.{reads_within}

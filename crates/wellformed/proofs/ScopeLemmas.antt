@@ -10,14 +10,14 @@ use Rattle.names.specs.Program.{Program}
 use Rattle.names.specs.Variables as names
 use Rattle.names.specs.Variables.{variable_named, declared_variable}
 use Rattle.names.specs.declared.kinds.Kind.{Kind}
-use Rattle.resolved.specs.Methods.{VariableSeen}
-use Rattle.resolved.specs.declared.kind as held
-use Rattle.resolved.specs.declared.method.Role.{Role}
-use Rattle.resolved.specs.declared.method.VarId.{VarId}
+use Rattle.program.specs.Methods.{VariableSeen}
+use Rattle.program.specs.declared.kind as held
+use Rattle.program.specs.declared.method.Role.{Role}
+use Rattle.program.specs.declared.number.VarId.{VarId}
 use Rattle.resolving.specs.Locals.{Local, Frame, local_named, number_of, closed, forget, forgotten, same_last}
-use Rattle.wellformed.specs.Lists.{Each}
-use Rattle.wellformed.specs.Scopes.{LeadsOut, AreNested, outer_of, outward}
-use Rattle.wellformed.specs.WellFormed.{Setting, IsForget}
+use Rattle.program.specs.Lists.{Each}
+use Rattle.program.specs.Scopes.{LeadsOut, AreNested, outer_of, outward}
+use Rattle.program.specs.WellFormed.{Setting, IsForget}
 use Rattle.wellformed.proofs.GrowthLemmas.{still_below}
 use Rattle.wellformed.proofs.ListLemmas.{each_append}
 use Rattle.wellformed.proofs.Standing.{IsKnown, IsHeldAs, IsHeld, Stands, AreStanding, Grows, Within, declares, named, last_of}

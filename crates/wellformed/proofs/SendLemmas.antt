@@ -2,34 +2,35 @@
 use Rattle.std.proofs.Common.{◌≡◌, ℕ, ◌&&◌, Bool, true, false, List, [], ◌∷◌, ◌++◌, length, map, take, drop, codes, if◌then◌else◌, sym, refl, ap, ◌∙◌, subst}
 use Rattle.std.proofs.lemmas.List.{length-map}
 use Rattle.std.specs.Prelude.{Option, None, Some, is_some, option_map, option_and_then, slice_get, IsSomeAnd}
+use Rattle.std.proofs.lemmas.Bool.{and_parts}
 use Rattle.source.specs.declared.token.Span.{Span}
-use Rattle.syntax.specs.Expressions.{ExpressionTree}
-use Rattle.syntax.specs.Trees.{ClassTree, ContractTree, MessageTree, contracts_of}
-use Rattle.syntax.specs.Values.{CallTree}
-use Rattle.syntax.specs.declared.tree as tree
-use Rattle.syntax.specs.declared.tree.Side.{Side}
+use Rattle.tree.specs.Expressions.{ExpressionTree}
+use Rattle.tree.specs.Trees.{ClassTree, ContractTree, MessageTree, contracts_of}
+use Rattle.tree.specs.Values.{CallTree}
+use Rattle.tree.specs.declared.types as type_nodes
+use Rattle.program.specs.declared.kind.Side.{Side}
 use Rattle.names.specs.Expressions.{held, meant, variable_findings}
 use Rattle.names.specs.Findings.{program_findings}
 use Rattle.names.specs.Found.{unknown}
 use Rattle.names.specs.Kinds.{is_block, type_unknown, unless}
 use Rattle.names.specs.Program.{Program, as_contract, item_at}
-use Rattle.names.specs.Resolution.{ContractSeen, resolved_contracts}
+use Rattle.program.specs.Parts.{ContractSeen}
+use Rattle.names.specs.Resolution.{resolved_contracts}
 use Rattle.names.specs.Shapes.{shape}
 use Rattle.names.specs.Values.{argument_findings, is_alone, message_findings, number_of_arguments, message_kinds, send_findings, message_written, sent_message, sends}
 use Rattle.names.specs.Variables as names
-use Rattle.names.specs.Variables.{variable_named}
 use Rattle.names.specs.Words.{same_word, word_at}
 use Rattle.names.specs.declared.kinds as declared
 use Rattle.names.specs.declared.kinds.Kind.TheVariants as kind
-use Rattle.resolved.specs.Methods.{VariableSeen}
-use Rattle.resolved.specs.Statements.{SendSeen}
-use Rattle.resolved.specs.declared.statement.Mention.{Mention}
+use Rattle.program.specs.Methods.{VariableSeen}
+use Rattle.program.specs.Statements.{SendSeen}
+use Rattle.program.specs.declared.statement.Mention.{Mention}
 use Rattle.resolving.specs.Kinds.{contract_at}
 use Rattle.resolving.specs.Locals.{Local, Frame, local_named, mention_of}
 use Rattle.resolving.specs.Messages.{contract_of, end_contract, message_sent}
 use Rattle.resolving.specs.Plain.{meant_by, payloads, send_of, send_told, sent, sent_by}
-use Rattle.wellformed.specs.Lists.{Each}
-use Rattle.wellformed.specs.WellFormed.{HoldAll, Setting, IsEnd, IsMessageOf, IsSend, contract_held}
+use Rattle.program.specs.Lists.{Each}
+use Rattle.program.specs.WellFormed.{HoldAll, Setting, IsEnd, IsMessageOf, IsSend, contract_held}
 use Rattle.wellformed.proofs.ArgumentLemmas.{payloads_given, reads_mentioned}
 use Rattle.wellformed.proofs.ContractLemmas.{AnswersMessage, contract_is_at, message_given}
 use Rattle.wellformed.proofs.FindingLemmas.{as_many, unless_none}
@@ -62,10 +63,6 @@ record Sending (p : Program) (g : names.Frame) (n : ℕ) (word : Span) (es : Lis
   pub many : length message.params ≡ length es
   pub given : argument_findings (scope_of p g) (message_kinds p message) (map shape es) ≡ []
 
-left_true : (a b : Bool) → (a && b) ≡ true → a ≡ true
-left_true true b h = refl
-left_true false b h = cc
-
 sent_written : (text word : List ℕ) (t : ContractTree) (m : MessageTree) (b : Bool) → (if b then message_written text t (drop 4 word) else None) ≡ Some m → message_written text t (drop 4 word) ≡ Some m
 sent_written text word t m true sent = sent
 sent_written text word t m false sent = cc
@@ -81,7 +78,7 @@ sending p g n side t role word es clean there (Some m) found none =
     let first = both_none (unless way word.place) (many ++ given) none in
     let rest = both_none many given first.1 in
     let written = sent_written p.text (word_at p.text word) t m (same_word (take 4 (word_at p.text word)) (codes "Send")) found in (
-      left_true (is_alone role) (sends side m.direction) (unless_none way word.place first.0),
+      (and_parts (is_alone role) (sends side m.direction) (unless_none way word.place first.0)).0,
       record {
         message = m;
         answer = message_given p n t word m there found;
@@ -95,7 +92,7 @@ sending p g n side t role word es clean there (Some m) found none =
 end_of : (p : Program) (locals : List Local) (name : Span) (l : Local) (n : ℕ) (side : Side) → local_named p.text locals name ≡ Some l → l.kind ≡ kind.Endpoint n side → end_contract p locals name ≡ Some n
 end_of p locals name l n side local is = ap (option_and_then (λ v. contract_of v.kind)) local ∙ ap contract_of is
 
-end_sends : (p : Program) (t : ClassTree) (class : ℕ) (result : Option tree.Type.Type) (s : Setting) (f : Frame) (g : names.Frame) (role : _) (c : CallTree) (word : Span) → Around p t class result s
+end_sends : (p : Program) (t : ClassTree) (class : ℕ) (result : Option type_nodes.Type.Type) (s : Setting) (f : Frame) (g : names.Frame) (role : _) (c : CallTree) (word : Span) → Around p t class result s
     → AreStanding p s.variables f g → c.member ≡ Some word → (l : Local) → local_named p.text f.locals c.name ≡ Some l → (n : ℕ) (side : Side) → l.kind ≡ kind.Endpoint n side → IsKnown p (kind.Endpoint n side)
     → meant (scope_of p g) c.name ≡ Some (named l) → send_findings (scope_of p g) (kind.Endpoint n side) role c.name word (map shape c.arguments) ≡ [] → (is_alone role ≡ true) × SendsMessage p class s f c
 end_sends p t class result s f g role c word around standing member l local n side kind_is known meant_is none =
@@ -121,7 +118,7 @@ end_sends p t class result s f g role c word around standing member l local n si
     )
 
 -- a call by the name of a variable and one of a message
-pub local_call : (p : Program) (t : ClassTree) (class : ℕ) (result : Option tree.Type.Type) (s : Setting) (f : Frame) (g : names.Frame) (role : _) (c : CallTree) (word : Span) → Around p t class result s
+pub local_call : (p : Program) (t : ClassTree) (class : ℕ) (result : Option type_nodes.Type.Type) (s : Setting) (f : Frame) (g : names.Frame) (role : _) (c : CallTree) (word : Span) → Around p t class result s
     → AreStanding p s.variables f g → c.member ≡ Some word → (l : Local) → local_named p.text f.locals c.name ≡ Some l → meant (scope_of p g) c.name ≡ Some (named l) → IsKnown p l.kind → (k : declared.Kind.Kind) → l.kind ≡ k
     → send_findings (scope_of p g) k role c.name word (map shape c.arguments) ≡ [] → (is_alone role ≡ true) × SendsMessage p class s f c
 local_call p t class result s f g role c word around standing member l local meant_is known (kind.Endpoint n side) is none =

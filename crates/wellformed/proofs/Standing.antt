@@ -3,9 +3,9 @@ use Rattle.std.proofs.Common.{◌≡◌, ℕ, ◌<◌, false, List, [], ◌∷�
 use Rattle.std.specs.Option.{option_map_or}
 use Rattle.std.specs.Prelude.{Option, None, Some, option_map, slice_get, IfSome, IsSomeAnd}
 use Rattle.source.specs.declared.token.Span.{Span}
-use Rattle.syntax.specs.Trees.{ClassTree, MethodTree, contracts_of}
-use Rattle.syntax.specs.declared.class.Parameter.{Parameter}
-use Rattle.syntax.specs.declared.tree as tree
+use Rattle.tree.specs.Trees.{ClassTree, MethodTree, contracts_of}
+use Rattle.tree.specs.declared.class.Parameter.{Parameter}
+use Rattle.tree.specs.declared.types as tree
 use Rattle.names.specs.Expressions.{InScope}
 use Rattle.names.specs.Findings.{program_findings}
 use Rattle.names.specs.Kinds.{is_block}
@@ -15,11 +15,11 @@ use Rattle.names.specs.Resolution.{resolved_contracts}
 use Rattle.names.specs.Variables as names
 use Rattle.names.specs.declared.kinds as declared
 use Rattle.names.specs.declared.kinds.Kind.TheVariants as kind
-use Rattle.resolved.specs.Methods.{VariableSeen}
-use Rattle.resolved.specs.declared.kind.Kind.{Kind}
-use Rattle.resolved.specs.declared.method.Role.{Role}
-use Rattle.resolved.specs.declared.method.Role.TheVariants as role
-use Rattle.resolved.specs.declared.method.VarId.{VarId}
+use Rattle.program.specs.Methods.{VariableSeen}
+use Rattle.program.specs.declared.kind.Kind.{Kind}
+use Rattle.program.specs.declared.method.Role.{Role}
+use Rattle.program.specs.declared.method.Role.TheVariants as role
+use Rattle.program.specs.declared.number.VarId.{VarId}
 use Rattle.resolving.specs.Brought.{messages_told}
 use Rattle.resolving.specs.Kinds.{kind_held, result_held, type_held}
 use Rattle.resolving.specs.Locals as locals
@@ -27,9 +27,9 @@ use Rattle.resolving.specs.Locals.{Local, Frame, number_of}
 use Rattle.resolving.specs.Callees.{Callee}
 use Rattle.resolving.specs.Methods.{methods_told, method_told, role_of}
 use Rattle.resolving.specs.Told.{Staying}
-use Rattle.wellformed.specs.Lists.{Each}
-use Rattle.wellformed.specs.Scopes.{LeadsOut, AreNested}
-use Rattle.wellformed.specs.WellFormed.{Setting}
+use Rattle.program.specs.Lists.{Each}
+use Rattle.program.specs.Scopes.{LeadsOut, AreNested}
+use Rattle.program.specs.WellFormed.{Setting}
 
 -- a kind whose names are declared
 abbrev pub IsKnown : Program → declared.Kind.Kind → Type 0

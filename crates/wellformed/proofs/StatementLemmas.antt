@@ -1,12 +1,11 @@
 -- Statements with which nothing is wrong are well formed, and leave the variables in scope standing.
 use Rattle.std.proofs.Common.{◌≡◌, ℕ, List, [], ◌∷◌, ◌++◌, sym, subst}
 use Rattle.source.specs.declared.place.Place.{Place}
-use Rattle.syntax.specs.StatementTrees as trees
-use Rattle.syntax.specs.StatementTrees.{StatementTree, StatementTrees, BlockTree, TestTree, OtherTrees, CaseTree, CaseTrees}
+use Rattle.tree.specs.StatementTrees as trees
+use Rattle.tree.specs.StatementTrees.{StatementTree, StatementTrees, BlockTree, TestTree, OtherTrees, CaseTree, CaseTrees, DeclareTree}
 use Rattle.names.specs.Bodies as bodies
 use Rattle.names.specs.Kinds.{is_heap, type_kind, type_unknown}
 use Rattle.names.specs.Shapes.{shape}
-use Rattle.syntax.specs.StatementTrees.{DeclareTree}
 use Rattle.names.specs.Bodies.{Surroundings, block_turn, case_turn, cases_turn, others_turn, statement_turn, statements_turn, test_turn, head_of, heads_of}
 use Rattle.names.specs.Cases.{Head, binds_turn, head_findings}
 use Rattle.names.specs.Expressions.{truth_findings}
@@ -18,10 +17,10 @@ use Rattle.resolving.specs.Kinds.{state_in, type_held}
 use Rattle.resolving.specs.Locals.{Frame, declared, next_number}
 use Rattle.resolving.specs.Plain.{declaration_of, first_value}
 use Rattle.resolving.specs.Told.{Staying, awaited_message, awaited_params, behind_case, block_told, case_told, cases_told, in_loop, in_switch, others_told, statement_told, statements_told, test_told}
-use Rattle.resolved.specs.Methods.{VariableSeen}
-use Rattle.resolved.specs.declared.method.Role.TheVariants as role
-use Rattle.wellformed.specs.Scopes.{LeadsOut}
-use Rattle.wellformed.specs.WellFormed.{AreCases, AreOthers, AreStatements, IsBlock, IsCase, IsStatement, IsTest, Setting}
+use Rattle.program.specs.Methods.{VariableSeen}
+use Rattle.program.specs.declared.method.Role.TheVariants as role
+use Rattle.program.specs.Scopes.{LeadsOut}
+use Rattle.program.specs.WellFormed.{AreCases, AreOthers, AreStatements, IsBlock, IsCase, IsStatement, IsTest, Setting}
 use Rattle.wellformed.proofs.BindLemmas.{binds_stand, bound_fits}
 use Rattle.wellformed.proofs.BroughtLemmas.{binds_hold}
 use Rattle.wellformed.proofs.CaseLemmas.{all_close, heads_clean}

@@ -3,8 +3,8 @@ use Rattle.std.proofs.Common.{◌≡◌, ℕ, Bool, true, false, [], ◌∷◌, 
 use Rattle.std.proofs.lemmas.Option.{same_Some}
 use Rattle.std.specs.Prelude.{Option, None, Some, IsSomeAnd, if◌then◌else◌, option_and_then, option_map, slice_get}
 use Rattle.source.specs.declared.token.Span.{Span}
-use Rattle.syntax.specs.Trees.{ContractTree, DefinitionTree, ItemTree}
-use Rattle.syntax.specs.declared.tree.Side.{Side}
+use Rattle.tree.specs.Trees.{ContractTree, DefinitionTree, ItemTree}
+use Rattle.program.specs.declared.kind.Side.{Side}
 use Rattle.names.specs.Declarations.{first_among, is_declared, names_of_states, states_of}
 use Rattle.names.specs.Found.{unknown}
 use Rattle.names.specs.Kinds.{endpoint_kind, endpoint_unknown, is_block, pointer_kind, pointer_unknown}

@@ -3,26 +3,27 @@ use Rattle.std.proofs.Common.{◌≡◌, ℕ, Bool, true, false, not, List, [], 
 use Rattle.std.proofs.lemmas.Option.{slice_get_within}
 use Rattle.std.specs.Option.{option_map_or}
 use Rattle.std.specs.Prelude.{Option, None, Some, option_map, slice_get, IsSomeAnd}
-use Rattle.syntax.specs.Trees.{ClassTree, MethodTree}
-use Rattle.syntax.specs.Values as values
-use Rattle.syntax.specs.Values.{CallTree, MadeTree, NewTree, ValueTree}
-use Rattle.syntax.specs.declared.tree as tree
+use Rattle.std.proofs.lemmas.Bool.{not-true}
+use Rattle.tree.specs.Trees.{ClassTree, MethodTree}
+use Rattle.tree.specs.Values as values
+use Rattle.tree.specs.Values.{CallTree, MadeTree, ValueTree}
+use Rattle.tree.specs.declared.types as tree
 use Rattle.names.specs.Kinds.{agree, is_block, type_kind}
 use Rattle.names.specs.Methods.{result_unknown}
 use Rattle.names.specs.Program.{Program}
 use Rattle.names.specs.Values.{value_findings}
 use Rattle.names.specs.Variables as names
 use Rattle.names.specs.declared.kinds as declared
-use Rattle.resolved.specs.Methods.{VariableSeen}
-use Rattle.resolved.specs.Statements.{Call}
-use Rattle.resolved.specs.declared.statement.Action.TheVariants as does
-use Rattle.resolved.specs.declared.statement.Mention.{Mention}
+use Rattle.program.specs.Methods.{VariableSeen}
+use Rattle.program.specs.Statements.{Call}
+use Rattle.program.specs.declared.statement.Action.TheVariants as does
+use Rattle.program.specs.declared.statement.Mention.{Mention}
 use Rattle.resolving.specs.Kinds.{result_held, state_in}
 use Rattle.resolving.specs.Locals.{Frame}
 use Rattle.resolving.specs.Plain.{call_of, called, lone, made_reads, moved, part_taken, scalar_taken, taken, told, used}
 use Rattle.resolving.specs.Reads.{listed, reads}
-use Rattle.wellformed.specs.Lists.{Each}
-use Rattle.wellformed.specs.WellFormed.{Holds, IsAction, IsMention, IsStatement, IsTaken, Setting}
+use Rattle.program.specs.Lists.{Each}
+use Rattle.program.specs.WellFormed.{Holds, IsAction, IsMention, IsStatement, IsTaken, Setting}
 use Rattle.wellformed.proofs.ArgumentLemmas.{asked_block, asked_known, holds_there}
 use Rattle.wellformed.proofs.CallLemmas.{CallsMethod, call_fits, call_means}
 use Rattle.wellformed.proofs.ExpressionLemmas.{reads_within}
@@ -76,13 +77,9 @@ scalar_result p k (Some t) known asked scalar fits =
     let like = agree_alike p (type_kind p t) k (type_known p t known) asked fits in
     scalar_holds p (type_kind p t) (state_in t) (alike_block (type_kind p t) k like ∙ scalar)
 
-not_block : (b : Bool) → not b ≡ true → b ≡ false
-not_block true h = cc
-not_block false h = refl
-
 alone_result : (p : Program) (result : Option tree.Type.Type) → gives_none p result ≡ true → result_held p result ≡ None
 alone_result p None fits = refl
-alone_result p (Some t) fits = scalar_holds p (type_kind p t) (state_in t) (not_block (is_block (type_kind p t)) fits)
+alone_result p (Some t) fits = scalar_holds p (type_kind p t) (state_in t) (not-true (is_block (type_kind p t)) fits)
 
 -- a call of a method, told
 pub told_call : (p : Program) (class : ℕ) (s : Setting) (f : Frame) (g : names.Frame) (c : CallTree) (target : Option Mention) (behind : List Mention) (Is : MethodTree → Type 0) → (x : CallsMethod p class f g Is c)

@@ -3,4 +3,4 @@
 
 mod methods;
 
-pub use methods::Methods;
+pub use methods::well_formed_methods;

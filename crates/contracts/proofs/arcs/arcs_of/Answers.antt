@@ -6,8 +6,8 @@ use Rattle.contracts.proofs.PartLemmas.{at_place}
 use Rattle.contracts.proofs.SignLemmas.{sign_same, sign_other}
 use Rattle.contracts.proofs.arcs.arcs_of.Goals as goal
 use Rattle.contracts.proofs.arcs.arcs_of.Goals.{then-eq+in_ok-push, else-eq}
-use Rattle.names.specs.declared.resolved.Edge.{Edge}
-use Rattle.syntax.specs.declared.tree.Sign.TheVariants.{Send}
+use Rattle.program.specs.declared.contract.Edge.{Edge}
+use Rattle.program.specs.declared.contract.Sign.TheVariants.{Send}
 
 pub loop-edge-init : goal.loop-edge-init
 loop-edge-init c = subst (AreArcs c.args.states.now.numbers.items [] c.args.sign) (sym c.new-arcs.ensures.items) (arcs_none c.args.states.now.numbers.items c.args.sign)

@@ -5,7 +5,7 @@ use Rattle.contracts.specs.Arcs.{AllWithin, EndsListed, IsDrawn}
 use Rattle.contracts.specs.Bounds.{IsBound}
 use Rattle.contracts.specs.Marking.{IsMarked}
 use Rattle.contracts.specs.Reached.{AreReached, IsLongest}
-use Rattle.syntax.specs.declared.tree.Sign.TheVariants.{Send, Receive}
+use Rattle.program.specs.declared.contract.Sign.TheVariants.{Send, Receive}
 use Rattle.contracts.specs.Graphs.{rows, OnRing}
 use Rattle.contracts.proofs.BoundLemmas.{bound_is}
 use Rattle.contracts.proofs.RoundLemmas.{no_rings}

@@ -3,8 +3,8 @@ use Rattle.std.specs.Prelude.{codes, slice_get, Contains}
 use Rattle.std.specs.Str.Lossy.{utf8_lossy}
 use Rattle.std.proofs.lemmas.Option.{slice_get-get_or}
 use Rattle.source.specs.declared.finding.Code.TheVariants.{C01}
-use Rattle.syntax.specs.declared.tree.Sign.TheVariants.{Send}
-use Rattle.names.specs.declared.resolved.Edge.{Edge}
+use Rattle.program.specs.declared.contract.Sign.TheVariants.{Send}
+use Rattle.program.specs.declared.contract.Edge.{Edge}
 use Rattle.contracts.specs.Conditions.{IsAgainst, finding_parts}
 use Rattle.contracts.specs.Found.{FoundBelow}
 use Rattle.contracts.specs.Parts.{message_parts}

@@ -5,7 +5,7 @@ use Rattle.std.proofs.lemmas.Bool.{and_parts, and_cases}
 use Rattle.std.proofs.lemmas.List.{length-map}
 use Rattle.std.proofs.lemmas.Option.{slice_get_read, slice_get-map}
 use Rattle.source.specs.declared.finding.Code.TheVariants.{C03}
-use Rattle.syntax.specs.declared.tree.Sign.TheVariants.{Send, Receive}
+use Rattle.program.specs.declared.contract.Sign.TheVariants.{Send, Receive}
 use Rattle.contracts.specs.Conditions.{IsBoth, finding_parts}
 use Rattle.contracts.specs.Found.{FoundBelow}
 use Rattle.contracts.specs.Graphs.{rows}

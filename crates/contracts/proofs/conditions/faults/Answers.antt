@@ -1,6 +1,6 @@
 use Rattle.std.proofs.Common.{◌≡◌, ◌∙◌, ◌++◌, length, map, ap, sym, subst}
 use Rattle.std.proofs.lemmas.List.{length-map, map-append}
-use Rattle.syntax.specs.declared.tree.Sign.TheVariants.{Send, Receive}
+use Rattle.program.specs.declared.contract.Sign.TheVariants.{Send, Receive}
 use Rattle.contracts.specs.Arcs.{AllWithin, AreRows, IsDrawn, EndsListed}
 use Rattle.contracts.specs.Conditions.{AreExactly, IsFault, IsBoth, IsRound, finding_parts}
 use Rattle.contracts.specs.Found.{FoundBelow}

@@ -1,7 +1,7 @@
 use Rattle.std.proofs.Common.{◌∙◌, ◌<◌, ap, sym, subst, length, get_or, arith}
 use Rattle.std.specs.Prelude.{Contains}
 use Rattle.std.proofs.lemmas.List.{length-map, get_or-map}
-use Rattle.names.specs.declared.resolved.MessageId.{MessageId}
+use Rattle.program.specs.declared.number.MessageId.{MessageId}
 use Rattle.contracts.proofs.PartLemmas.{message_number_in}
 use Rattle.contracts.proofs.conditions.message_of.Goals as goal
 use Rattle.contracts.proofs.conditions.message_of.Goals.{After-position}

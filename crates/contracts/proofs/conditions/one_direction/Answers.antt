@@ -5,7 +5,7 @@ use Rattle.std.proofs.lemmas.Bool.{or_cases, or_parts, true≢false}
 use Rattle.std.proofs.lemmas.List.{length-map}
 use Rattle.std.proofs.lemmas.Option.{slice_get_read, slice_get-map}
 use Rattle.source.specs.declared.finding.Code.TheVariants.{C04}
-use Rattle.syntax.specs.declared.tree.Sign.TheVariants.{Send, Receive}
+use Rattle.program.specs.declared.contract.Sign.TheVariants.{Send, Receive}
 use Rattle.contracts.specs.Conditions.{IsRound, finding_parts}
 use Rattle.contracts.specs.Found.{FoundBelow}
 use Rattle.contracts.specs.Graphs.{rows}

@@ -6,7 +6,8 @@ use Rattle.source.specs.declared.finding.Code.TheVariants.{C02}
 use Rattle.contracts.specs.Conditions.{IsTwice, finding_parts}
 use Rattle.contracts.specs.Found.{FoundBelow}
 use Rattle.contracts.specs.Parts.{message_parts}
-use Rattle.contracts.specs.Positions.{first_position, key_of, pair_cmp}
+use Rattle.lemmas.specs.Places.{first_position}
+use Rattle.contracts.specs.Positions.{key_of, pair_cmp}
 use Rattle.contracts.proofs.ConditionLemmas.{twice_more, twice_same, earlier_key, no_earlier_key, parts_are, pushed, option_ne, option_same}
 use Rattle.contracts.proofs.FoundLemmas.{found_none}
 use Rattle.contracts.proofs.PartLemmas.{contains_map}

@@ -1,9 +1,9 @@
-use Rattle.std.proofs.Common.{[], ◌∷◌, ◌++◌, length, Some, cond, get_or, take, sym, ap, ◌∙◌, arith}
+use Rattle.std.proofs.Common.{length, Some, cond, get_or, take, sym, ap, ◌∙◌, arith}
 use Rattle.std.specs.Prelude.{is_some, nat_eq, position}
 use Rattle.std.specs.Cmp.{nat_eq_equiv}
 use Rattle.std.proofs.lemmas.List.{take_more, length-take-le}
 use Rattle.indexmap.specs.IndexMap.{get as entry}
-use Rattle.contracts.proofs.PositionLemmas.{position_kept, position_added}
+use Rattle.lemmas.proofs.FirstPlaces.{position_kept, position_added}
 use Rattle.contracts.proofs.positions.number_positions.Goals as goal
 use Rattle.contracts.proofs.positions.number_positions.Goals.{then-not-contains_key+in_ok-insert, else-not-contains_key}
 

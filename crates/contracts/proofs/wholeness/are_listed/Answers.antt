@@ -4,8 +4,8 @@ use Rattle.std.proofs.lemmas.Bool.{and_parts}
 use Rattle.std.proofs.lemmas.List.{take_all}
 use Rattle.std.proofs.lemmas.List.Elements.{All-more}
 use Rattle.contracts.specs.Positions.{EndsHave}
-use Rattle.syntax.specs.declared.tree.Sign.TheVariants.{Send}
-use Rattle.names.specs.declared.resolved.Edge.{Edge}
+use Rattle.program.specs.declared.contract.Sign.TheVariants.{Send}
+use Rattle.program.specs.declared.contract.Edge.{Edge}
 use Rattle.contracts.proofs.wholeness.are_listed.Goals as goal
 
 pub loop-edge-preserved : goal.loop-edge-preserved

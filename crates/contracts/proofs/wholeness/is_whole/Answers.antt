@@ -4,9 +4,9 @@ use Rattle.std.specs.BTreeMap.{get}
 use Rattle.std.specs.Ordering.{nat_cmp}
 use Rattle.std.proofs.lemmas.Bool.{and_parts}
 use Rattle.std.proofs.lemmas.List.Elements.{All-contains}
-use Rattle.names.specs.declared.resolved.Edge.{Edge}
-use Rattle.names.specs.declared.resolved.MessageId.{MessageId}
-use Rattle.names.specs.declared.resolved.StateId.{StateId}
+use Rattle.program.specs.declared.contract.Edge.{Edge}
+use Rattle.program.specs.declared.number.MessageId.{MessageId}
+use Rattle.program.specs.declared.number.StateId.{StateId}
 use Rattle.contracts.specs.Parts.{state_ids, message_ids, parts_of}
 use Rattle.contracts.specs.Positions.{ArePositions, EndsHave}
 use Rattle.contracts.proofs.PartLemmas.{state_numbers_are, message_numbers_are}

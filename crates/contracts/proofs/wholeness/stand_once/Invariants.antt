@@ -1,6 +1,6 @@
 use Rattle.std.proofs.Common.{◌≡◌, ◌<◌, ℕ, get_or, Some}
 use Rattle.std.specs.Ordering.{nat_cmp}
-use Rattle.contracts.specs.Positions.{first_position}
+use Rattle.lemmas.specs.Places.{first_position}
 use Rattle.contracts.proofs.wholeness.stand_once.Given as goal
 
 abbrev pub invariant-loop-i : goal.invariant-loop-i

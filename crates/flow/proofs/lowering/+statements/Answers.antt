@@ -1,7 +1,7 @@
 use Rattle.std.proofs.Common.{rules, ◌≡◌, length, map, refl, sym, ap, ◌∙◌, subst}
 use Rattle.std.proofs.lemmas.Result.{IfOk-weaker}
 use Rattle.std.specs.Prelude.{slice_set}
-use Rattle.resolved.specs.Statements.{Switch, statement_seen, statement_row, case_seen, case_row}
+use Rattle.program.specs.Statements.{Switch, statement_seen, statement_row, case_seen, case_row}
 use Rattle.flow.specs.declared.graph.Instr.TheVariants as instr
 use Rattle.flow.specs.Growths.{Grew}
 use Rattle.flow.specs.Lowering.{cases, statement, statements}

@@ -1,5 +1,5 @@
 use Rattle.std.proofs.Common.{rules}
-use Rattle.resolved.specs.Methods.{method_seen}
+use Rattle.program.specs.Methods.{method_seen}
 use Rattle.flow.proofs.ClosedLemmas.{closed_as}
 use Rattle.flow.proofs.lowering.lower.Goals as goal
 

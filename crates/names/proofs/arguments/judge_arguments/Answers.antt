@@ -1,4 +1,4 @@
-use Rattle.syntax.specs.ExpressionTrees.{expression_tree}
+use Rattle.tree.specs.ExpressionTrees.{expression_tree}
 use Rattle.names.proofs.PendingLemmas.{argument_less}
 use Rattle.names.proofs.arguments.judge_arguments.Goals as goal
 

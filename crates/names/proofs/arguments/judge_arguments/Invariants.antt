@@ -1,5 +1,5 @@
 use Rattle.std.proofs.Common.{map, drop}
-use Rattle.syntax.specs.ExpressionTrees.{expression_tree}
+use Rattle.tree.specs.ExpressionTrees.{expression_tree}
 use Rattle.names.specs.Frames.{IsFrame}
 use Rattle.names.specs.Program.{Program}
 use Rattle.names.specs.Scopes.{IsScope}

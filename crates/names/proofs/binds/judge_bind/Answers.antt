@@ -1,6 +1,6 @@
 use Rattle.std.proofs.Common.{Bor, ◌++◌, sym, subst}
 use Rattle.std.specs.Prelude.{OnOk, option_map}
-use Rattle.syntax.specs.declared.tree.Param.{Param}
+use Rattle.tree.specs.declared.contract.Param.{Param}
 use Rattle.names.specs.Cases.{typed_turn, brought_kind, brings_heap}
 use Rattle.names.specs.Found.{Adds}
 use Rattle.names.specs.Frames.{Turned}

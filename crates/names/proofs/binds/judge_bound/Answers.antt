@@ -1,7 +1,7 @@
 use Rattle.std.proofs.Common.{Bor, None, get_or, drop, ◌+◌, refl}
 use Rattle.std.specs.Prelude.{option_map}
-use Rattle.syntax.specs.declared.statement.Bind.{Bind}
-use Rattle.syntax.specs.declared.tree.Param.{Param}
+use Rattle.tree.specs.declared.statement.Bind.{Bind}
+use Rattle.tree.specs.declared.contract.Param.{Param}
 use Rattle.names.specs.Cases.{bind_turn, binds_turn}
 use Rattle.names.proofs.BindLemmas.{bound_less}
 use Rattle.names.proofs.TurnLemmas.{goes_on}

@@ -1,7 +1,7 @@
 use Rattle.std.proofs.Common.{◌++◌, ◌&&◌, map, subst, arith}
 use Rattle.std.specs.Prelude.{OnOk}
-use Rattle.syntax.specs.ExpressionTrees.{expression_tree}
-use Rattle.syntax.specs.Trees.{message_tree}
+use Rattle.tree.specs.ExpressionTrees.{expression_tree}
+use Rattle.tree.specs.Trees.{message_tree}
 use Rattle.names.specs.Expressions.{InScope}
 use Rattle.names.specs.Found.{Adds}
 use Rattle.names.specs.Kinds.{type_kind, unless}

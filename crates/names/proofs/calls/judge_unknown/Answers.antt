@@ -1,5 +1,5 @@
 use Rattle.std.proofs.Common.{◌∷◌, [], map, subst}
-use Rattle.syntax.specs.ExpressionTrees.{expression_tree}
+use Rattle.tree.specs.ExpressionTrees.{expression_tree}
 use Rattle.names.specs.Found.{Adds, unknown}
 use Rattle.names.specs.Shapes.{shape}
 use Rattle.names.specs.Values.{argument_findings}

@@ -1,6 +1,6 @@
 use Rattle.std.proofs.Common.{◌≡◌, ◌++◌, ◌∷◌, [], Some, None, ap, sym, ◌∙◌, subst}
 use Rattle.std.specs.Prelude.{OnOk, if◌then◌else◌, is_some, option_map}
-use Rattle.syntax.specs.Trees.{message_tree}
+use Rattle.tree.specs.Trees.{message_tree}
 use Rattle.names.specs.Cases.{awaited_message, message_case_findings, twice_findings}
 use Rattle.names.specs.Expressions.{InScope}
 use Rattle.names.specs.Found.{Adds, unknown}

@@ -1,6 +1,6 @@
 use Rattle.std.proofs.Common.{sym, ap, ◌∙◌}
 use Rattle.std.specs.Prelude.{option_and_then}
-use Rattle.syntax.specs.Trees.{ContractTree}
+use Rattle.tree.specs.Trees.{ContractTree}
 use Rattle.names.specs.Program.{Numbered, as_contract, item_at}
 use Rattle.names.specs.Values.{message_written}
 use Rattle.names.specs.Words.{word_at}

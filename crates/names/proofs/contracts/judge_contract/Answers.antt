@@ -2,7 +2,7 @@ use Rattle.std.proofs.Common.{◌∙◌, ap, map, sym, subst}
 use Rattle.std.specs.Prelude.{OnOk}
 use Rattle.std.specs.List.{flat_map}
 use Rattle.std.proofs.lemmas.Result.{on_ok_weaker}
-use Rattle.syntax.specs.Trees.{message_tree}
+use Rattle.tree.specs.Trees.{message_tree}
 use Rattle.names.specs.Declarations.{messages_of, states_of, names_of_messages, names_of_states}
 use Rattle.names.specs.ContractFindings.{message_findings, state_findings}
 use Rattle.names.specs.Found.{Adds}

@@ -1,6 +1,6 @@
 use Rattle.std.proofs.Common.{◌≡◌, ◌++◌, take}
 use Rattle.std.specs.List.{flat_map}
-use Rattle.syntax.specs.Trees.{state_tree}
+use Rattle.tree.specs.Trees.{state_tree}
 use Rattle.names.specs.Declarations.{counted_in_state}
 use Rattle.names.proofs.counted.add_states.Given as goal
 

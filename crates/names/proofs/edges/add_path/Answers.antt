@@ -1,9 +1,10 @@
 use Rattle.std.proofs.Common.{◌++◌, ap, sym, ◌∙◌, arith}
 use Rattle.std.specs.List.{flat_map}
+use Rattle.lemmas.proofs.Lists.{nil_left, nil_right}
 use Rattle.names.specs.Listed.{asked_name}
 use Rattle.names.specs.Meant.{meanings, message_names, text_of}
 use Rattle.names.proofs.BehindLemmas.{nothing_in}
-use Rattle.names.proofs.MeantLemmas.{nil_left, nil_right, path_is, path_step}
+use Rattle.names.proofs.MeantLemmas.{path_is, path_step}
 use Rattle.names.proofs.edges.add_path.Goals as goal
 
 pub loop-next-init : goal.loop-next-init

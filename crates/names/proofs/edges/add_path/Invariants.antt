@@ -1,5 +1,5 @@
 use Rattle.std.proofs.Common.{◌≡◌, ◌+◌, ◌++◌, [], drop}
-use Rattle.syntax.specs.Trees.{path_tree}
+use Rattle.tree.specs.Trees.{path_tree}
 use Rattle.names.specs.Listed.{asked_name}
 use Rattle.names.specs.Meant.{meanings, message_names, text_of, path_left}
 use Rattle.names.specs.Resolution.{path_edges}

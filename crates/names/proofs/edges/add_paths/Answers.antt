@@ -1,12 +1,13 @@
 use Rattle.std.proofs.Common.{◌++◌, ◌∙◌, ap, sym, arith, append_assoc, length, map, take, ◌+◌}
 use Rattle.std.specs.List.{flat_map}
 use Rattle.std.proofs.lemmas.List.{length-append, length-map}
-use Rattle.syntax.specs.Trees.{path_tree}
+use Rattle.lemmas.proofs.Lists.{flat_more}
+use Rattle.tree.specs.Trees.{path_tree}
 use Rattle.names.specs.Declarations.{unnamed_of}
 use Rattle.names.specs.ContractFindings.{path_findings}
 use Rattle.names.specs.Meant.{meanings, message_names, state_names, text_of}
 use Rattle.names.specs.Resolution.{path_edges, paths_edges}
-use Rattle.names.proofs.BehindLemmas.{behind_more, flat_more, flat_room, nothing_at}
+use Rattle.names.proofs.BehindLemmas.{behind_more, flat_room, nothing_at}
 use Rattle.names.proofs.edges.add_paths.Goals as goal
 
 pub add_path-requires-clause-clean : goal.add_path-requires-clause-clean

@@ -1,7 +1,7 @@
 use Rattle.std.proofs.Common.{Bor, ◌+◌, ◌<◌, ◌++◌, ◌∙◌, ap, sym, subst, arith, get_or, length, map, take}
 use Rattle.std.specs.List.{flat_map}
-use Rattle.syntax.specs.Trees.{path_tree, state_tree}
-use Rattle.syntax.specs.declared.tree as tree
+use Rattle.tree.specs.Trees.{path_tree, state_tree}
+use Rattle.tree.specs.declared.contract as tree
 use Rattle.names.specs.Declarations.{counted_in_state, counted_states, paths_of, unnamed_of}
 use Rattle.names.specs.ContractFindings.{path_findings, state_findings}
 use Rattle.names.specs.Meant.{meanings, message_names, state_names, text_of}

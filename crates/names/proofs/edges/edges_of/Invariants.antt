@@ -1,5 +1,5 @@
 use Rattle.std.proofs.Common.{◌≡◌, map, take}
-use Rattle.syntax.specs.Trees.{state_tree}
+use Rattle.tree.specs.Trees.{state_tree}
 use Rattle.names.specs.Meant.{meanings}
 use Rattle.names.specs.Resolution.{edges_from}
 use Rattle.names.proofs.edges.edges_of.Given as goal

@@ -1,12 +1,12 @@
-use Rattle.syntax.specs.Operators.{Or, And, Equal, Compare, Add, Multiply}
-use Rattle.syntax.specs.ExpressionTrees.{unmarked, expression_tree, conjunction_tree, equality_tree, equality_step_tree, relation_tree, relation_step_tree, sum_tree, sum_step_tree, term_tree, unary_tree, atom_tree}
-use Rattle.syntax.specs.declared.expression.Conjunction as conjunctions
-use Rattle.syntax.specs.declared.expression.Equality as equalitys
-use Rattle.syntax.specs.declared.expression.Expression as expressions
-use Rattle.syntax.specs.declared.expression.Relation as relations
-use Rattle.syntax.specs.declared.expression.Sum as sums
-use Rattle.syntax.specs.declared.expression.Term as terms
-use Rattle.syntax.specs.declared.expression.Unary as unarys
+use Rattle.tree.specs.Operators.{Or, And, Equal, Compare, Add, Multiply}
+use Rattle.tree.specs.ExpressionTrees.{unmarked, expression_tree, conjunction_tree, equality_tree, equality_step_tree, relation_tree, relation_step_tree, sum_tree, sum_step_tree, term_tree, unary_tree, atom_tree}
+use Rattle.tree.specs.declared.expression.Conjunction as conjunctions
+use Rattle.tree.specs.declared.expression.Equality as equalitys
+use Rattle.tree.specs.declared.expression.Expression as expressions
+use Rattle.tree.specs.declared.expression.Relation as relations
+use Rattle.tree.specs.declared.expression.Sum as sums
+use Rattle.tree.specs.declared.expression.Term as terms
+use Rattle.tree.specs.declared.expression.Unary as unarys
 use Rattle.names.specs.Shapes.{shape}
 use Rattle.names.proofs.ExpressionNames.{judges_more, judges_all, judges_step, judges_signed}
 use Rattle.names.proofs.ExpressionTwins.{expression_seen, conjunction_seen, equality_seen, equality_step_seen, relation_seen, relation_step_seen, sum_seen, sum_step_seen, term_seen, unary_seen}

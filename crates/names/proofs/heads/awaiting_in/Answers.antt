@@ -1,7 +1,7 @@
 use Rattle.std.proofs.Common.{List, map, ap, sym, ◌∙◌, ◌∷◌}
 use Rattle.std.proofs.lemmas.List.{take_all}
-use Rattle.syntax.specs.StatementTrees.{switch_tree, case_tree}
-use Rattle.syntax.specs.declared.statement as made
+use Rattle.tree.specs.StatementTrees.{switch_tree, case_tree}
+use Rattle.tree.specs.declared.statement as made
 use Rattle.names.specs.declared.heads.Awaiting.{Awaiting}
 use Rattle.names.specs.Bodies.{head_of}
 use Rattle.names.specs.Heads.{awaiting_of}

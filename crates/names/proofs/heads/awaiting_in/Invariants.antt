@@ -1,5 +1,5 @@
 use Rattle.std.proofs.Common.{◌≡◌, ◌∷◌, map, take}
-use Rattle.syntax.specs.StatementTrees.{switch_tree, case_tree}
+use Rattle.tree.specs.StatementTrees.{switch_tree, case_tree}
 use Rattle.names.specs.Bodies.{head_of}
 use Rattle.names.specs.Heads.{awaiting_of}
 use Rattle.names.proofs.heads.awaiting_in.Given as goal

@@ -1,8 +1,8 @@
 use Rattle.std.proofs.Common.{◌++◌, ◌∙◌, ap, map, sym}
 use Rattle.std.proofs.lemmas.List.{take_all}
 use Rattle.std.proofs.lemmas.Simd.{map-map}
-use Rattle.syntax.specs.Trees.{method_tree}
-use Rattle.syntax.specs.declared.class as made
+use Rattle.tree.specs.Trees.{method_tree}
+use Rattle.tree.specs.declared.class as made
 use Rattle.names.proofs.items.add_names.Goals as goal
 
 pub returns : goal.returns

@@ -1,8 +1,8 @@
 use Rattle.std.proofs.Common.{◌∙◌, ap, map}
 use Rattle.std.specs.List.{flat_map}
 use Rattle.std.proofs.lemmas.List.{take_all}
-use Rattle.syntax.specs.Trees.{MethodTree, definition_tree}
-use Rattle.syntax.specs.declared.tree as tree
+use Rattle.tree.specs.Trees.{MethodTree, definition_tree}
+use Rattle.tree.specs.declared.item as tree
 use Rattle.names.specs.Methods.{methods_in}
 use Rattle.names.proofs.ItemLemmas.{names_within}
 use Rattle.names.proofs.items.all_method_names.Goals as goal

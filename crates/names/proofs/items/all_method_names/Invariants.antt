@@ -1,6 +1,6 @@
 use Rattle.std.proofs.Common.{◌≡◌, map, take}
 use Rattle.std.specs.List.{flat_map}
-use Rattle.syntax.specs.Trees.{definition_tree}
+use Rattle.tree.specs.Trees.{definition_tree}
 use Rattle.names.specs.Methods.{methods_in}
 use Rattle.names.proofs.items.all_method_names.Given as goal
 

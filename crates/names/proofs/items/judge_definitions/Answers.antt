@@ -1,7 +1,7 @@
 use Rattle.std.proofs.Common.{length, ◌≤◌, ap, sym, subst, arith}
 use Rattle.std.specs.List.{flat_map}
 use Rattle.std.proofs.lemmas.List.{take_all}
-use Rattle.syntax.specs.Trees.{ItemTree}
+use Rattle.tree.specs.Trees.{ItemTree}
 use Rattle.names.specs.Findings.{definition_findings}
 use Rattle.names.specs.Found.{Adds}
 use Rattle.names.specs.Scopes.{AllMembers}

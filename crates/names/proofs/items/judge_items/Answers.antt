@@ -3,7 +3,7 @@ use Rattle.std.specs.Prelude.{OnOk}
 use Rattle.std.specs.List.{flat_map}
 use Rattle.std.proofs.lemmas.Result.{on_ok_weaker}
 use Rattle.std.proofs.lemmas.Simd.{map-map}
-use Rattle.syntax.specs.Trees.{ItemTree, MethodTree, item_tree}
+use Rattle.tree.specs.Trees.{ItemTree, MethodTree, item_tree}
 use Rattle.names.specs.Found.{Adds}
 use Rattle.names.specs.Listed.{twice_among, past_limit}
 use Rattle.names.specs.Methods.{methods_in}

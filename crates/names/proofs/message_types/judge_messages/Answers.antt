@@ -2,8 +2,8 @@ use Rattle.std.proofs.Common.{Bor, ◌∙◌, ap, sym, subst}
 use Rattle.std.specs.List.{flat_map}
 use Rattle.std.proofs.lemmas.List.{take_all}
 use Rattle.std.proofs.lemmas.List.Folds.{flat_map-map}
-use Rattle.syntax.specs.Trees.{message_tree}
-use Rattle.syntax.specs.declared.tree as tree
+use Rattle.tree.specs.Trees.{message_tree}
+use Rattle.tree.specs.declared.contract as tree
 use Rattle.names.specs.ContractFindings.{message_findings}
 use Rattle.names.specs.Found.{Adds}
 use Rattle.names.proofs.AddLemmas.{adds_more}

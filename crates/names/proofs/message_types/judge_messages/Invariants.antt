@@ -1,6 +1,6 @@
 use Rattle.std.proofs.Common.{take}
 use Rattle.std.specs.List.{flat_map}
-use Rattle.syntax.specs.Trees.{message_tree}
+use Rattle.tree.specs.Trees.{message_tree}
 use Rattle.names.specs.ContractFindings.{message_findings}
 use Rattle.names.specs.Found.{Adds}
 use Rattle.names.specs.Program.{Program}

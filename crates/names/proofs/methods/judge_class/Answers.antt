@@ -1,7 +1,7 @@
 use Rattle.std.proofs.Common.{◌∙◌, ap, map, sym, subst}
 use Rattle.std.proofs.lemmas.Result.{on_ok_weaker}
 use Rattle.std.proofs.lemmas.Simd.{map-map}
-use Rattle.syntax.specs.Trees.{MethodTree, method_tree}
+use Rattle.tree.specs.Trees.{MethodTree, method_tree}
 use Rattle.names.specs.Found.{Adds}
 use Rattle.names.specs.Listed.{twice_among}
 use Rattle.names.specs.Tables.{IsTable}

@@ -2,8 +2,8 @@ use Rattle.std.proofs.Common.{◌∙◌, ap, sym, subst}
 use Rattle.std.specs.List.{flat_map}
 use Rattle.std.proofs.lemmas.List.{take_all}
 use Rattle.std.proofs.lemmas.List.Folds.{flat_map-map}
-use Rattle.syntax.specs.Trees.{MethodTree, method_tree}
-use Rattle.syntax.specs.declared.class as made
+use Rattle.tree.specs.Trees.{MethodTree, method_tree}
+use Rattle.tree.specs.declared.class as made
 use Rattle.names.specs.Found.{Adds}
 use Rattle.names.specs.Methods.{method_turn}
 use Rattle.names.proofs.methods.judge_methods.Goals as goal

@@ -1,6 +1,6 @@
 use Rattle.std.proofs.Common.{take}
 use Rattle.std.specs.List.{flat_map}
-use Rattle.syntax.specs.Trees.{ClassTree, method_tree}
+use Rattle.tree.specs.Trees.{ClassTree, method_tree}
 use Rattle.names.specs.Found.{Adds}
 use Rattle.names.specs.Methods.{method_turn}
 use Rattle.names.specs.Program.{Program}

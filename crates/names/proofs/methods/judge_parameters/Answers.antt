@@ -1,7 +1,7 @@
 use Rattle.std.proofs.Common.{false, get_or, subst, sym}
-use Rattle.syntax.specs.declared.class as made
-use Rattle.syntax.specs.declared.tree.Scalar.TheVariants.{Int}
-use Rattle.syntax.specs.declared.tree.Type.TheVariants.{Scalar}
+use Rattle.tree.specs.declared.class as made
+use Rattle.program.specs.declared.kind.Scalar.TheVariants.{Int}
+use Rattle.tree.specs.declared.types.Type.TheVariants.{Scalar}
 use Rattle.names.specs.Frames.{Turned}
 use Rattle.names.specs.Methods.{parameter_turn}
 use Rattle.names.proofs.ParameterLemmas.{turned_follow, parameters_more}

@@ -1,7 +1,7 @@
 use Rattle.std.proofs.Common.{ℕ, ◌+◌, List, ap, ◌∙◌}
 use Rattle.std.specs.Str.Lossy.{utf8_lossy}
-use Rattle.syntax.specs.Trees.{message_tree}
-use Rattle.names.specs.Parts.{MessageParts, message_parts}
+use Rattle.tree.specs.Trees.{message_tree}
+use Rattle.program.specs.Parts.{MessageParts, message_parts}
 use Rattle.names.specs.Resolution.{numbered_message}
 use Rattle.names.proofs.BehindLemmas.{number_more}
 use Rattle.names.proofs.numbering.number_messages.Goals as goal

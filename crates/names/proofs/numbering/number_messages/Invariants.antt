@@ -1,6 +1,6 @@
 use Rattle.std.proofs.Common.{◌≡◌, map, take}
-use Rattle.syntax.specs.Trees.{message_tree}
-use Rattle.names.specs.Parts.{message_parts}
+use Rattle.tree.specs.Trees.{message_tree}
+use Rattle.program.specs.Parts.{message_parts}
 use Rattle.names.specs.Resolution.{messages_from}
 use Rattle.names.proofs.numbering.number_messages.Given as goal
 

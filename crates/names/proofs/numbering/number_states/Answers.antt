@@ -1,6 +1,6 @@
 use Rattle.std.proofs.lemmas.List.{get_or_default}
 use Rattle.names.specs.Numbered.{counted_as}
-use Rattle.names.specs.Parts.{state_parts}
+use Rattle.program.specs.Parts.{state_parts}
 use Rattle.names.specs.Resolution.{numbered_state}
 use Rattle.names.proofs.BehindLemmas.{number_more}
 use Rattle.names.proofs.numbering.number_states.Goals as goal

@@ -1,6 +1,6 @@
 use Rattle.std.proofs.Common.{◌≡◌, map, take}
 use Rattle.names.specs.Numbered.{counted_as}
-use Rattle.names.specs.Parts.{state_parts}
+use Rattle.program.specs.Parts.{state_parts}
 use Rattle.names.specs.Resolution.{numbered_states}
 use Rattle.names.proofs.numbering.number_states.Given as goal
 

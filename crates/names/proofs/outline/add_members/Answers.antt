@@ -2,7 +2,7 @@ use Rattle.std.proofs.Common.{◌++◌, map, sym, ap, ◌∙◌}
 use Rattle.std.specs.List.{flat_map}
 use Rattle.std.proofs.lemmas.List.{take_all}
 use Rattle.std.proofs.lemmas.List.Folds.{flat_map-map}
-use Rattle.syntax.specs.Trees.{message_tree, state_tree, member_tree}
+use Rattle.tree.specs.Trees.{message_tree, state_tree, member_tree}
 use Rattle.names.specs.Declarations.{message_among, state_among}
 use Rattle.names.proofs.outline.add_members.Goals as goal
 

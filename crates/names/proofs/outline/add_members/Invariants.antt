@@ -1,6 +1,6 @@
 use Rattle.std.proofs.Common.{◌≡◌, ◌++◌, map, take}
 use Rattle.std.specs.List.{flat_map}
-use Rattle.syntax.specs.Trees.{message_tree, state_tree, member_tree}
+use Rattle.tree.specs.Trees.{message_tree, state_tree, member_tree}
 use Rattle.names.specs.Declarations.{message_among, state_among}
 use Rattle.names.proofs.outline.add_members.Given as goal
 

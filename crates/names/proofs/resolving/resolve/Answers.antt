@@ -1,7 +1,7 @@
 use Rattle.std.proofs.Common.{◌≢◌, [], ◌∙◌, ap, map, sym, subst, arith}
 use Rattle.std.specs.Prelude.{All}
 use Rattle.std.proofs.lemmas.Grind.{common_steps}
-use Rattle.syntax.specs.Trees.{contracts_of, item_tree, program_tree}
+use Rattle.tree.specs.Trees.{contracts_of, item_tree, program_tree}
 use Rattle.names.specs.Program.{program_of}
 use Rattle.names.specs.Ready.{IsReady, all_resolved, declared_in, declared_messages, declared_states}
 use Rattle.names.specs.Scopes.{IsScope}

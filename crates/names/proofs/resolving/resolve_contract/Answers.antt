@@ -1,8 +1,8 @@
 use Rattle.std.proofs.Common.{Bor, length, map, ap, refl, ◌∙◌, arith}
 use Rattle.std.specs.List.{flat_map}
 use Rattle.std.specs.Str.Lossy.{utf8_lossy}
-use Rattle.syntax.specs.Trees.{message_tree, state_tree}
-use Rattle.syntax.specs.declared.tree as tree
+use Rattle.tree.specs.Trees.{message_tree, state_tree}
+use Rattle.tree.specs.declared.contract as tree
 use Rattle.names.specs.Numbered.{counted_as, names_in}
 use Rattle.names.specs.Outlines.{outlined_messages, outlined_states}
 use Rattle.names.specs.Resolution.{messages_from, numbered_states}

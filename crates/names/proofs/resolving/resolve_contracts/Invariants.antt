@@ -1,6 +1,6 @@
 use Rattle.std.proofs.Common.{◌≡◌, map, take}
 use Rattle.names.specs.Ready.{all_resolved, declared_in, declared_messages, declared_states}
-use Rattle.names.specs.Resolution.{contract_seen}
+use Rattle.program.specs.Parts.{contract_seen}
 use Rattle.names.proofs.resolving.resolve_contracts.Given as goal
 
 abbrev pub invariant-loop-item : goal.invariant-loop-item

@@ -1,6 +1,6 @@
 use Rattle.std.proofs.Common.{map, subst}
 use Rattle.std.proofs.lemmas.List.{take_all}
-use Rattle.syntax.specs.Trees.{item_tree}
+use Rattle.tree.specs.Trees.{item_tree}
 use Rattle.names.specs.Scopes.{AllMembers}
 use Rattle.names.proofs.ScopeLemmas.{members_more}
 use Rattle.names.proofs.scope.members_of_items.Goals as goal

@@ -1,5 +1,5 @@
 use Rattle.std.proofs.Common.{map, take}
-use Rattle.syntax.specs.Trees.{item_tree}
+use Rattle.tree.specs.Trees.{item_tree}
 use Rattle.names.specs.Scopes.{AllMembers}
 use Rattle.names.proofs.scope.members_of_items.Given as goal
 

@@ -1,5 +1,5 @@
 use Rattle.std.proofs.Common.{◌≡◌, map, take}
-use Rattle.syntax.specs.Trees.{definition_tree}
+use Rattle.tree.specs.Trees.{definition_tree}
 use Rattle.names.specs.Program.{defined_name}
 use Rattle.names.proofs.scope.names_of_items.Given as goal
 

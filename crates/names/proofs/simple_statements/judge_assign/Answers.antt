@@ -1,6 +1,6 @@
 use Rattle.std.proofs.Common.{subst}
 use Rattle.std.specs.Prelude.{OnOk}
-use Rattle.syntax.specs.StatementTrees.{assign_tree}
+use Rattle.tree.specs.StatementTrees.{assign_tree}
 use Rattle.names.specs.Bodies.{scope_in, inside_of}
 use Rattle.names.specs.Found.{Adds}
 use Rattle.names.specs.Values.{target_findings, target_kind, value_findings}

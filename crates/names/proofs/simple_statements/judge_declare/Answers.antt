@@ -1,7 +1,7 @@
 use Rattle.std.proofs.Common.{◌++◌, sym, subst}
 use Rattle.std.specs.Prelude.{OnOk}
 use Rattle.std.specs.Option.{option_map}
-use Rattle.syntax.specs.Values.{value_tree}
+use Rattle.tree.specs.Values.{value_tree}
 use Rattle.names.specs.Bodies.{inside_of, given_findings}
 use Rattle.names.specs.Found.{Adds}
 use Rattle.names.specs.Frames.{IsFrame, Turned}

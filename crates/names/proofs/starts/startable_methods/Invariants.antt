@@ -1,5 +1,5 @@
 use Rattle.std.proofs.Common.{◌≡◌, map, take}
-use Rattle.syntax.specs.Trees.{method_tree}
+use Rattle.tree.specs.Trees.{method_tree}
 use Rattle.names.specs.Values.{can_start}
 use Rattle.names.proofs.starts.startable_methods.Given as goal
 

@@ -1,6 +1,6 @@
 use Rattle.std.proofs.Common.{◌≡◌, ◌++◌, map, take}
 use Rattle.std.specs.List.{flat_map}
-use Rattle.syntax.specs.Trees.{path_tree}
+use Rattle.tree.specs.Trees.{path_tree}
 use Rattle.names.specs.Declarations.{unnamed_of}
 use Rattle.names.specs.Numbered.{unnamed_names}
 use Rattle.names.proofs.state_names.add_paths.Given as goal

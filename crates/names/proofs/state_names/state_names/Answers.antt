@@ -1,11 +1,12 @@
 use Rattle.std.proofs.Common.{◌≡◌, Bor, [], ◌∷◌, ◌++◌, length, map, take, ap, sym, ◌∙◌, arith, append_assoc}
 use Rattle.std.specs.List.{flat_map}
-use Rattle.syntax.specs.Trees.{path_tree, state_tree}
-use Rattle.syntax.specs.declared.tree as tree
+use Rattle.lemmas.proofs.Lists.{flat_more}
+use Rattle.tree.specs.Trees.{path_tree, state_tree}
+use Rattle.tree.specs.declared.contract as tree
 use Rattle.names.specs.Declarations.{counted_states, unnamed_of}
 use Rattle.names.specs.Numbered.{names_in, places_named, unnamed_names}
 use Rattle.names.specs.declared.state_names.StateName.TheVariants.{Named}
-use Rattle.names.proofs.BehindLemmas.{behind_more, flat_more}
+use Rattle.names.proofs.BehindLemmas.{behind_more}
 use Rattle.names.proofs.MeantLemmas.{names_counted}
 use Rattle.names.proofs.state_names.state_names.Goals as goal
 

@@ -1,6 +1,6 @@
 use Rattle.std.proofs.Common.{◌≡◌, map, take}
 use Rattle.std.specs.List.{flat_map}
-use Rattle.syntax.specs.Trees.{state_tree}
+use Rattle.tree.specs.Trees.{state_tree}
 use Rattle.names.specs.Numbered.{names_in, places_named}
 use Rattle.names.proofs.state_names.state_names.Given as goal
 

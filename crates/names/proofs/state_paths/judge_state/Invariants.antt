@@ -2,7 +2,7 @@ use Rattle.std.proofs.Common.{take}
 use Rattle.std.specs.Prelude.{List}
 use Rattle.std.specs.List.{flat_map}
 use Rattle.source.specs.declared.token.Span.{Span}
-use Rattle.syntax.specs.Trees.{path_tree}
+use Rattle.tree.specs.Trees.{path_tree}
 use Rattle.names.specs.ContractFindings.{path_findings}
 use Rattle.names.specs.Found.{Adds}
 use Rattle.names.specs.Tables.{IsTable}

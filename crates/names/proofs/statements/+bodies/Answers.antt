@@ -2,10 +2,10 @@ use Rattle.std.proofs.Common.{◌≡◌, ◌++◌, ◌∷◌, [], ◌+◌, Some,
 use Rattle.std.specs.Prelude.{OnOk}
 use Rattle.std.specs.Option.{option_map}
 use Rattle.std.proofs.lemmas.List.{length-map}
-use Rattle.syntax.specs.ExpressionTrees.{expression_tree}
-use Rattle.syntax.specs.StatementTrees.{statement_tree, statement_row, block_tree, if_tree, case_tree, assign_tree, case_row, switch_tree, CaseTree, SwitchTree}
-use Rattle.syntax.specs.Values.{call_tree}
-use Rattle.syntax.specs.declared.statement as made
+use Rattle.tree.specs.ExpressionTrees.{expression_tree}
+use Rattle.tree.specs.StatementTrees.{statement_tree, statement_row, block_tree, if_tree, case_tree, assign_tree, case_row, switch_tree, CaseTree, SwitchTree}
+use Rattle.tree.specs.Values.{call_tree}
+use Rattle.tree.specs.declared.statement as made
 use Rattle.names.specs.Bodies.{inside_of, scope_in, statement_turn, statements_turn, block_turn, test_turn, others_turn, case_turn, cases_turn, head_of, outside, delete_findings, channel_findings, return_findings}
 use Rattle.names.specs.Cases.{binds_turn, awaited_message, bound_params}
 use Rattle.names.specs.Expressions.{meant, held, truth_findings}

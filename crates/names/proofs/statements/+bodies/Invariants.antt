@@ -1,7 +1,7 @@
 use Rattle.std.proofs.Common.{◌∷◌, [], ◌+◌, map, drop, take}
 use Rattle.std.specs.Option.{option_map}
-use Rattle.syntax.specs.StatementTrees.{statement_tree, statement_row, block_tree, test_tree, if_tree, switch_tree, case_row, other_row}
-use Rattle.syntax.specs.declared.statement as made
+use Rattle.tree.specs.StatementTrees.{statement_tree, statement_row, block_tree, test_tree, if_tree, switch_tree, case_row, other_row}
+use Rattle.tree.specs.declared.statement as made
 use Rattle.names.specs.Bodies as bodies
 use Rattle.names.specs.Bodies.{statements_turn, test_turn, others_turn, case_turn, cases_turn, head_of}
 use Rattle.names.specs.Frames.{IsFrame, AreSurroundings}

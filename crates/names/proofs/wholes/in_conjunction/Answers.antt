@@ -1,7 +1,7 @@
 use Rattle.std.proofs.Common.{sym, ◌∙◌}
-use Rattle.syntax.specs.Operators.{And}
-use Rattle.syntax.specs.ExpressionTrees.{unmarked, conjunction_tree, equality_tree}
-use Rattle.syntax.specs.declared.expression.Conjunction as conjunctions
+use Rattle.tree.specs.Operators.{And}
+use Rattle.tree.specs.ExpressionTrees.{unmarked, conjunction_tree, equality_tree}
+use Rattle.tree.specs.declared.expression.Conjunction as conjunctions
 use Rattle.names.proofs.ExpressionTwins.{conjunction_seen}
 use Rattle.names.proofs.WholeNames.{chain_is_more, chain_is_first}
 use Rattle.names.proofs.wholes.in_conjunction.Goals as goal

@@ -1,7 +1,7 @@
 use Rattle.std.proofs.Common.{sym, ◌∙◌}
-use Rattle.syntax.specs.Operators.{Equal}
-use Rattle.syntax.specs.ExpressionTrees.{equality_step_tree, equality_tree, relation_tree}
-use Rattle.syntax.specs.declared.expression.Equality as equalitys
+use Rattle.tree.specs.Operators.{Equal}
+use Rattle.tree.specs.ExpressionTrees.{equality_step_tree, equality_tree, relation_tree}
+use Rattle.tree.specs.declared.expression.Equality as equalitys
 use Rattle.names.proofs.ExpressionTwins.{equality_seen}
 use Rattle.names.proofs.WholeNames.{chain_is_more, chain_is_first}
 use Rattle.names.proofs.wholes.in_equality.Goals as goal

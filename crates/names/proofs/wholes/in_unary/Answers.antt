@@ -1,6 +1,6 @@
 use Rattle.std.proofs.Common.{sym, ◌∙◌}
-use Rattle.syntax.specs.ExpressionTrees.{unary_tree, atom_tree}
-use Rattle.syntax.specs.declared.expression.Unary as unarys
+use Rattle.tree.specs.ExpressionTrees.{unary_tree, atom_tree}
+use Rattle.tree.specs.declared.expression.Unary as unarys
 use Rattle.names.proofs.ExpressionTwins.{unary_seen}
 use Rattle.names.proofs.WholeNames.{signed_is_more, signed_is_atom}
 use Rattle.names.proofs.wholes.in_unary.Goals as goal

@@ -1,7 +1,7 @@
 use Rattle.std.proofs.Common.{sym, ◌∙◌}
-use Rattle.syntax.specs.Operators.{Or}
-use Rattle.syntax.specs.ExpressionTrees.{unmarked, expression_tree, conjunction_tree}
-use Rattle.syntax.specs.declared.expression.Expression as expressions
+use Rattle.tree.specs.Operators.{Or}
+use Rattle.tree.specs.ExpressionTrees.{unmarked, expression_tree, conjunction_tree}
+use Rattle.tree.specs.declared.expression.Expression as expressions
 use Rattle.names.proofs.ExpressionTwins.{expression_seen}
 use Rattle.names.proofs.WholeNames.{chain_is_more, chain_is_first}
 use Rattle.names.proofs.wholes.mention_alone.Goals as goal

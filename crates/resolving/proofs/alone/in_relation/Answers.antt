@@ -1,7 +1,7 @@
 use Rattle.std.proofs.Common.{sym, ◌∙◌}
-use Rattle.syntax.specs.Operators.{Compare}
-use Rattle.syntax.specs.ExpressionTrees.{relation_step_tree, relation_tree, sum_tree}
-use Rattle.syntax.specs.declared.expression.Relation as relations
+use Rattle.tree.specs.Operators.{Compare}
+use Rattle.tree.specs.ExpressionTrees.{relation_step_tree, relation_tree, sum_tree}
+use Rattle.tree.specs.declared.expression.Relation as relations
 use Rattle.resolving.proofs.ExpressionTwins.{relation_seen}
 use Rattle.resolving.proofs.AloneLemmas.{chain_is_more, chain_is_first}
 use Rattle.resolving.proofs.alone.in_relation.Goals as goal

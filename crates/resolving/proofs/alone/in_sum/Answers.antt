@@ -1,7 +1,7 @@
 use Rattle.std.proofs.Common.{sym, ◌∙◌}
-use Rattle.syntax.specs.Operators.{Add}
-use Rattle.syntax.specs.ExpressionTrees.{sum_step_tree, sum_tree, term_tree}
-use Rattle.syntax.specs.declared.expression.Sum as sums
+use Rattle.tree.specs.Operators.{Add}
+use Rattle.tree.specs.ExpressionTrees.{sum_step_tree, sum_tree, term_tree}
+use Rattle.tree.specs.declared.expression.Sum as sums
 use Rattle.resolving.proofs.ExpressionTwins.{sum_seen}
 use Rattle.resolving.proofs.AloneLemmas.{chain_is_more, chain_is_first}
 use Rattle.resolving.proofs.alone.in_sum.Goals as goal

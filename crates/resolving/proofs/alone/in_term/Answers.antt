@@ -1,7 +1,7 @@
 use Rattle.std.proofs.Common.{sym, ◌∙◌}
-use Rattle.syntax.specs.Operators.{Multiply}
-use Rattle.syntax.specs.ExpressionTrees.{unmarked, term_tree, unary_tree}
-use Rattle.syntax.specs.declared.expression.Term as terms
+use Rattle.tree.specs.Operators.{Multiply}
+use Rattle.tree.specs.ExpressionTrees.{unmarked, term_tree, unary_tree}
+use Rattle.tree.specs.declared.expression.Term as terms
 use Rattle.resolving.proofs.ExpressionTwins.{term_seen}
 use Rattle.resolving.proofs.AloneLemmas.{chain_is_more, chain_is_first}
 use Rattle.resolving.proofs.alone.in_term.Goals as goal

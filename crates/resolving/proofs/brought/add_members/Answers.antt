@@ -1,10 +1,11 @@
 use Rattle.std.proofs.Common.{◌++◌, ◌∙◌, ap, append-nil, map, sym}
 use Rattle.std.specs.Global.{Vec}
-use Rattle.syntax.specs.Trees.{member_tree}
-use Rattle.syntax.specs.declared.tree.Member.{Member}
+use Rattle.tree.specs.Trees.{member_tree}
+use Rattle.tree.specs.declared.contract.Member.{Member}
 use Rattle.names.specs.Declarations.{message_among}
-use Rattle.resolved.specs.declared.kind.Kind.{Kind}
-use Rattle.resolving.specs.Brought.{brought, params_held, rows}
+use Rattle.program.specs.declared.kind.Kind.{Kind}
+use Rattle.resolving.specs.Brought.{brought, params_held}
+use Rattle.program.specs.Programs.{rows}
 use Rattle.resolving.proofs.BroughtLemmas.{members_all, members_more, rows_more}
 use Rattle.resolving.proofs.brought.add_members.Goals as goal
 use Rattle.resolving.proofs.brought.add_members.Goals.{in-Message+in_ok-params_held+in_ok-push, in_default}

@@ -1,7 +1,7 @@
 use Rattle.std.proofs.Common.{◌≡◌, ◌++◌, ℕ}
 use Rattle.names.specs.Program.{Program}
 use Rattle.resolving.specs.Around.{IsAround}
-use Rattle.resolving.specs.Brought.{rows}
+use Rattle.program.specs.Programs.{rows}
 use Rattle.resolving.proofs.BroughtLemmas.{first_members}
 use Rattle.resolving.proofs.brought.add_members.Given as goal
 

@@ -2,10 +2,11 @@ use Rattle.std.proofs.Common.{◌++◌, ◌∙◌, ap, map, sym}
 use Rattle.std.proofs.lemmas.List.{take_all}
 use Rattle.std.proofs.lemmas.Simd.{map-map}
 use Rattle.std.specs.Global.{Vec}
-use Rattle.syntax.specs.Trees.{message_tree}
-use Rattle.syntax.specs.declared.tree as tree
-use Rattle.resolved.specs.declared.kind.Kind.{Kind}
-use Rattle.resolving.specs.Brought.{brought, params_held, rows}
+use Rattle.tree.specs.Trees.{message_tree}
+use Rattle.tree.specs.declared.contract as tree
+use Rattle.program.specs.declared.kind.Kind.{Kind}
+use Rattle.resolving.specs.Brought.{brought, params_held}
+use Rattle.program.specs.Programs.{rows}
 use Rattle.resolving.proofs.ItemLemmas.{seen_more}
 use Rattle.resolving.proofs.brought.add_messages.Goals as goal
 

@@ -1,8 +1,9 @@
 use Rattle.std.proofs.Common.{◌≡◌, ◌++◌, ℕ, map, take}
-use Rattle.syntax.specs.Trees.{message_tree}
+use Rattle.tree.specs.Trees.{message_tree}
 use Rattle.names.specs.Program.{Program}
 use Rattle.resolving.specs.Around.{IsAround}
-use Rattle.resolving.specs.Brought.{brought, rows}
+use Rattle.resolving.specs.Brought.{brought}
+use Rattle.program.specs.Programs.{rows}
 use Rattle.resolving.proofs.brought.add_messages.Given as goal
 
 abbrev pub invariant-loop-message : goal.invariant-loop-message

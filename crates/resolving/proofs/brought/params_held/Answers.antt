@@ -1,10 +1,10 @@
 use Rattle.std.proofs.Common.{◌∙◌, ap}
 use Rattle.std.specs.Global.{Vec}
 use Rattle.std.proofs.lemmas.List.{take_all}
-use Rattle.syntax.specs.declared.tree.Param.{Param}
-use Rattle.syntax.specs.declared.tree.Scalar.TheVariants.{Int}
-use Rattle.syntax.specs.declared.tree.Type.TheVariants.{Scalar}
-use Rattle.resolved.specs.declared.kind.Kind.{Kind}
+use Rattle.tree.specs.declared.contract.Param.{Param}
+use Rattle.program.specs.declared.kind.Scalar.TheVariants.{Int}
+use Rattle.tree.specs.declared.types.Type.TheVariants.{Scalar}
+use Rattle.program.specs.declared.kind.Kind.{Kind}
 use Rattle.resolving.specs.Brought.{params_held}
 use Rattle.resolving.proofs.BroughtLemmas.{held_none, held_some}
 use Rattle.resolving.proofs.brought.params_held.Goals as goal

@@ -1,5 +1,5 @@
 use Rattle.std.proofs.Common.{ℕ, List}
-use Rattle.syntax.specs.Trees.{ItemTree}
+use Rattle.tree.specs.Trees.{ItemTree}
 use Rattle.resolving.specs.Around.{program_in}
 use Rattle.resolving.specs.Steps.{AddsReads}
 use Rattle.resolving.proofs.CalleeLemmas.{read_to}

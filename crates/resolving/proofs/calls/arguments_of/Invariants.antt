@@ -1,6 +1,6 @@
 use Rattle.std.proofs.Common.{◌≡◌, ℕ, List, map}
-use Rattle.syntax.specs.ExpressionTrees.{expression_tree}
-use Rattle.syntax.specs.Trees.{ItemTree}
+use Rattle.tree.specs.ExpressionTrees.{expression_tree}
+use Rattle.tree.specs.Trees.{ItemTree}
 use Rattle.resolving.specs.Around.{program_in}
 use Rattle.resolving.specs.Frames.{IsFrame}
 use Rattle.resolving.specs.Locals.{Frame}

@@ -1,7 +1,7 @@
 use Rattle.std.proofs.Common.{List, ◌++◌, map, ap, ◌∙◌}
-use Rattle.syntax.specs.ExpressionTrees.{expression_tree}
-use Rattle.syntax.specs.declared.class.Parameter.{Parameter}
-use Rattle.syntax.specs.declared.expression.Expression.{Expression}
+use Rattle.tree.specs.ExpressionTrees.{expression_tree}
+use Rattle.tree.specs.declared.class.Parameter.{Parameter}
+use Rattle.tree.specs.declared.expression.Expression.{Expression}
 use Rattle.source.specs.declared.token.Span.{Span}
 use Rattle.resolving.specs.Around.{program_in}
 use Rattle.resolving.specs.Callees.{called_name}

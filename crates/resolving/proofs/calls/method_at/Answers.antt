@@ -1,7 +1,7 @@
 use Rattle.std.proofs.Common.{arith, ap, length, map, refl, ◌∙◌}
 use Rattle.std.proofs.lemmas.List.{length-map}
 use Rattle.std.proofs.lemmas.Option.{slice_get_read}
-use Rattle.syntax.specs.Trees.{item_tree}
+use Rattle.tree.specs.Trees.{item_tree}
 use Rattle.resolving.specs.Around.{program_in}
 use Rattle.resolving.specs.declared.counts.Before.{Before}
 use Rattle.resolving.proofs.CalleeLemmas.{callee_is}

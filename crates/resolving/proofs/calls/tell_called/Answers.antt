@@ -1,5 +1,5 @@
 use Rattle.std.proofs.Common.{sym, ap, ◌∙◌, Some, option_map}
-use Rattle.syntax.specs.Values.{call_tree}
+use Rattle.tree.specs.Values.{call_tree}
 use Rattle.resolving.specs.Around.{callee_seen, program_in}
 use Rattle.resolving.specs.Plain as told
 use Rattle.resolving.proofs.calls.tell_called.Goals as goal

@@ -1,16 +1,16 @@
 use Rattle.std.proofs.Common.{sym, subst, ap, ◌∙◌, [], None, option_map, Option}
 use Rattle.std.specs.Option.{option_map_or}
-use Rattle.syntax.specs.Values.{call_tree}
-use Rattle.resolved.specs.Statements as seen
-use Rattle.resolved.specs.Statements.{call_seen}
-use Rattle.resolved.specs.declared.call.Call.{Call}
-use Rattle.resolved.specs.declared.statement.Action.TheVariants.{Nothing}
+use Rattle.tree.specs.Values.{call_tree}
+use Rattle.program.specs.Statements as seen
+use Rattle.program.specs.Statements.{call_seen}
+use Rattle.program.specs.declared.call.Call.{Call}
+use Rattle.program.specs.declared.statement.Action.TheVariants.{Nothing}
 use Rattle.resolving.specs.Around.{program_in}
 use Rattle.resolving.specs.Steps.{TellsCall}
 use Rattle.resolving.specs.Plain.{told, call_told}
 use Rattle.resolving.proofs.FormTwins.{started_is}
 use Rattle.resolving.proofs.PlainLemmas.{call_said}
-use Rattle.resolved.specs.declared.statement.Statement.TheVariants as made
+use Rattle.program.specs.declared.statement.Statement.TheVariants as made
 use Rattle.resolving.proofs.calls.tell_start.Goals as goal
 
 pub returns-in-Some : goal.returns-in-Some

@@ -1,10 +1,10 @@
 use Rattle.std.proofs.Common.{Bor, None, Option, sym, ap, ◌∙◌}
 use Rattle.std.specs.Prelude.{option_map}
 use Rattle.source.specs.declared.token.Span.{Span}
-use Rattle.syntax.specs.declared.tree.Param.{Param}
+use Rattle.tree.specs.declared.contract.Param.{Param}
 use Rattle.names.specs.declared.kinds as names
-use Rattle.resolved.specs.declared.kind.Kind.{Kind}
-use Rattle.resolved.specs.declared.method.Role.TheVariants.{Local}
+use Rattle.program.specs.declared.kind.Kind.{Kind}
+use Rattle.program.specs.declared.method.Role.TheVariants.{Local}
 use Rattle.resolving.specs.Binds.{bound_as}
 use Rattle.resolving.specs.Kinds.{kind_held}
 use Rattle.resolving.specs.declared.locals.Declaration.{Declaration}

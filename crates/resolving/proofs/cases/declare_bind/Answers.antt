@@ -1,6 +1,6 @@
 use Rattle.std.proofs.Common.{Bor}
 use Rattle.std.specs.Prelude.{option_map}
-use Rattle.syntax.specs.declared.tree.Param.{Param}
+use Rattle.tree.specs.declared.contract.Param.{Param}
 use Rattle.resolving.specs.Around.{program_in}
 use Rattle.resolving.proofs.BindLemmas.{declared_bound}
 use Rattle.resolving.proofs.cases.declare_bind.Goals as goal

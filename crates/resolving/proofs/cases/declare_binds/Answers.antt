@@ -1,7 +1,7 @@
 use Rattle.std.proofs.Common.{Bor, None, get_or, refl}
 use Rattle.std.specs.Prelude.{option_map}
-use Rattle.syntax.specs.declared.statement.Bind.{Bind}
-use Rattle.syntax.specs.declared.tree.Param.{Param}
+use Rattle.tree.specs.declared.statement.Bind.{Bind}
+use Rattle.tree.specs.declared.contract.Param.{Param}
 use Rattle.resolving.specs.Around.{program_in}
 use Rattle.resolving.specs.Binds.{binds_told}
 use Rattle.resolving.proofs.BindLemmas.{none_bound, more_bound, all_bound}

@@ -1,6 +1,6 @@
 use Rattle.std.proofs.Common.{arith, length, sym, ap, ◌∙◌, ◌++◌, ◌∷◌, []}
 use Rattle.std.proofs.lemmas.List.{length-map}
-use Rattle.syntax.specs.Trees.{item_tree, method_tree}
+use Rattle.tree.specs.Trees.{item_tree, method_tree}
 use Rattle.resolving.specs.declared.counts.Before.{Before}
 use Rattle.resolving.proofs.CountLemmas.{behind_item, count_more, counted, counted_more}
 use Rattle.resolving.proofs.counts.count_items.Goals as goal

@@ -1,5 +1,5 @@
 use Rattle.std.proofs.Common.{◌≡◌, map}
-use Rattle.syntax.specs.Trees.{item_tree}
+use Rattle.tree.specs.Trees.{item_tree}
 use Rattle.resolving.specs.Counts.{before}
 use Rattle.resolving.proofs.CountLemmas.{counted}
 use Rattle.resolving.proofs.counts.count_items.Given as goal

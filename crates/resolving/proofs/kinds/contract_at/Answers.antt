@@ -1,6 +1,6 @@
 use Rattle.std.proofs.Common.{ap, sym, ◌∙◌}
 use Rattle.std.specs.Prelude.{option_map}
-use Rattle.names.specs.Resolution.{contract_seen}
+use Rattle.program.specs.Parts.{contract_seen}
 use Rattle.resolving.proofs.KindLemmas.{contract_found, contract_past}
 use Rattle.resolving.proofs.kinds.contract_at.Goals as goal
 

@@ -1,9 +1,9 @@
 use Rattle.std.proofs.Common.{◌++◌, ◌∙◌, ap, map, sym}
 use Rattle.std.proofs.lemmas.List.{take_all}
 use Rattle.std.proofs.lemmas.Simd.{map-map}
-use Rattle.syntax.specs.Trees.{method_tree}
-use Rattle.syntax.specs.declared.class as made
-use Rattle.resolved.specs.Methods.{method_seen}
+use Rattle.tree.specs.Trees.{method_tree}
+use Rattle.tree.specs.declared.class as made
+use Rattle.program.specs.Methods.{method_seen}
 use Rattle.resolving.specs.Around.{program_in}
 use Rattle.resolving.specs.Methods.{method_told}
 use Rattle.resolving.proofs.ItemLemmas.{seen_more}

@@ -1,6 +1,6 @@
 use Rattle.std.proofs.Common.{◌≡◌, ◌++◌, ℕ, List, map, take}
-use Rattle.syntax.specs.Trees.{ItemTree, method_tree}
-use Rattle.resolved.specs.Methods.{method_seen}
+use Rattle.tree.specs.Trees.{ItemTree, method_tree}
+use Rattle.program.specs.Methods.{method_seen}
 use Rattle.resolving.specs.Around.{IsAround, program_in}
 use Rattle.resolving.specs.Methods.{method_told}
 use Rattle.resolving.proofs.methods.add_methods.Given as goal

@@ -1,7 +1,7 @@
 use Rattle.std.proofs.Common.{false, subst, sym, take}
-use Rattle.syntax.specs.declared.class as made
-use Rattle.syntax.specs.declared.tree.Scalar.TheVariants.{Int}
-use Rattle.syntax.specs.declared.tree.Type.TheVariants.{Scalar}
+use Rattle.tree.specs.declared.class as made
+use Rattle.program.specs.declared.kind.Scalar.TheVariants.{Int}
+use Rattle.tree.specs.declared.types.Type.TheVariants.{Scalar}
 use Rattle.resolving.specs.Around.{program_in}
 use Rattle.resolving.specs.Frames.{IsFrame}
 use Rattle.resolving.specs.Locals.{declared}

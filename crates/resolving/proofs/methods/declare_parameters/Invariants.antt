@@ -1,5 +1,5 @@
 use Rattle.std.proofs.Common.{ℕ, List, take}
-use Rattle.syntax.specs.Trees.{ItemTree}
+use Rattle.tree.specs.Trees.{ItemTree}
 use Rattle.resolving.specs.Around.{IsAround, program_in}
 use Rattle.resolving.specs.Frames.{IsFrame}
 use Rattle.resolving.specs.Locals.{Frame}

@@ -1,6 +1,6 @@
 use Rattle.std.proofs.Common.{◌++◌, ◌∙◌, ap, map, refl, sym}
 use Rattle.std.specs.List.{flat_map}
-use Rattle.syntax.specs.Trees.{contract_of, definition_tree, item_tree, method_tree}
+use Rattle.tree.specs.Trees.{contract_of, definition_tree, item_tree, method_tree}
 use Rattle.names.specs.Declarations.{messages_of}
 use Rattle.resolving.specs.Around.{program_in}
 use Rattle.resolving.specs.Brought.{brought}

@@ -1,8 +1,8 @@
 use Rattle.std.proofs.Common.{◌≡◌, map}
-use Rattle.syntax.specs.Trees.{item_tree}
-use Rattle.resolved.specs.Methods.{method_seen}
+use Rattle.tree.specs.Trees.{item_tree}
+use Rattle.program.specs.Methods.{method_seen}
 use Rattle.resolving.specs.Around.{program_in}
-use Rattle.resolving.specs.Brought.{rows}
+use Rattle.program.specs.Programs.{rows}
 use Rattle.resolving.proofs.BroughtLemmas.{first_brought}
 use Rattle.resolving.proofs.ItemLemmas.{first_told}
 use Rattle.resolving.proofs.methods.resolve_items.Given as goal

@@ -1,7 +1,7 @@
 use Rattle.std.proofs.Common.{map, refl, subst}
-use Rattle.syntax.specs.StatementTrees.{statement_tree, statement_row}
-use Rattle.resolved.specs.Statements as seen
-use Rattle.resolved.specs.Statements.{statement_seen}
+use Rattle.tree.specs.StatementTrees.{statement_tree, statement_row}
+use Rattle.program.specs.Statements as seen
+use Rattle.program.specs.Statements.{statement_seen}
 use Rattle.resolving.specs.Around.{program_in}
 use Rattle.resolving.specs.Frames.{IsFrame}
 use Rattle.resolving.specs.Methods.{no_variables, parameters_frame}

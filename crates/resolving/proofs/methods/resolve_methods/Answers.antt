@@ -1,10 +1,10 @@
 use Rattle.std.proofs.Common.{◌≤◌, List, arith, ap, length, map, subst, sym, ◌∙◌}
 use Rattle.std.proofs.lemmas.List.{length-map}
-use Rattle.syntax.specs.Trees.{item_tree}
-use Rattle.syntax.specs.declared.tree.Item.{Item}
+use Rattle.tree.specs.Trees.{item_tree}
+use Rattle.tree.specs.declared.item.Item.{Item}
 use Rattle.names.specs.Program.{program_of}
 use Rattle.names.specs.declared.limits.TheConstants.{MOST_METHODS}
-use Rattle.resolved.specs.Methods.{method_seen}
+use Rattle.program.specs.Methods.{method_seen}
 use Rattle.resolving.specs.Callees.{all_methods}
 use Rattle.resolving.specs.Around.{program_in}
 use Rattle.resolving.specs.Methods.{methods_told}

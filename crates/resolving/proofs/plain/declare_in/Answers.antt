@@ -1,6 +1,6 @@
 use Rattle.std.proofs.Common.{sym, subst, ap, ◌∙◌}
 use Rattle.std.specs.Prelude.{OnOk}
-use Rattle.syntax.specs.StatementTrees.{StatementTree, statement_tree}
+use Rattle.tree.specs.StatementTrees.{StatementTree, statement_tree}
 use Rattle.resolving.specs.Around.{program_in}
 use Rattle.resolving.specs.Frames.{IsFrame}
 use Rattle.resolving.specs.Locals.{declared}

@@ -1,6 +1,6 @@
 use Rattle.std.proofs.Common.{sym, ap, ◌∙◌, ◌++◌, []}
-use Rattle.syntax.specs.ExpressionTrees.{expression_tree, target_tree}
-use Rattle.syntax.specs.Values.{value_tree}
+use Rattle.tree.specs.ExpressionTrees.{expression_tree, target_tree}
+use Rattle.tree.specs.Values.{value_tree}
 use Rattle.resolving.specs.Around.{program_in}
 use Rattle.resolving.specs.Reads.{reads}
 use Rattle.resolving.specs.Plain.{assigned, part_taken, written}

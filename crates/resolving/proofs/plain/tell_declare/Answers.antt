@@ -1,6 +1,6 @@
 use Rattle.std.proofs.Common.{Option, sym, ap, ◌∙◌, option_map}
-use Rattle.syntax.specs.Values.{value_tree}
-use Rattle.syntax.specs.declared.value.Value.{Value}
+use Rattle.tree.specs.Values.{value_tree}
+use Rattle.tree.specs.declared.value.Value.{Value}
 use Rattle.resolving.specs.Around.{program_in}
 use Rattle.resolving.specs.Kinds.{type_held}
 use Rattle.resolving.specs.Locals.{next_number}

@@ -1,7 +1,7 @@
 use Rattle.std.proofs.Common.{[], sym, ap, ◌∙◌, option_map}
-use Rattle.syntax.specs.ExpressionTrees.{expression_tree, target_tree}
-use Rattle.syntax.specs.StatementTrees.{statement_tree}
-use Rattle.syntax.specs.Values.{call_tree, value_tree}
+use Rattle.tree.specs.ExpressionTrees.{expression_tree, target_tree}
+use Rattle.tree.specs.StatementTrees.{statement_tree}
+use Rattle.tree.specs.Values.{call_tree, value_tree}
 use Rattle.resolving.specs.Around.{program_in}
 use Rattle.resolving.specs.Kinds.{type_held}
 use Rattle.resolving.specs.Locals.{next_number}

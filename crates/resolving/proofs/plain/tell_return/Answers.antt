@@ -1,6 +1,6 @@
 use Rattle.std.proofs.Common.{subst, sym}
 use Rattle.std.specs.Prelude.{IfOk, option_map}
-use Rattle.syntax.specs.ExpressionTrees.{expression_tree}
+use Rattle.tree.specs.ExpressionTrees.{expression_tree}
 use Rattle.resolving.specs.Around.{program_in}
 use Rattle.resolving.specs.Steps.{Tells}
 use Rattle.resolving.specs.Plain.{returned}

@@ -1,16 +1,16 @@
 use Rattle.std.proofs.Common.{refl, ap}
-use Rattle.syntax.specs.Operators.{Or, And, Equal, Compare, Add, Multiply}
-use Rattle.syntax.specs.Expressions.{StepOf}
-use Rattle.syntax.specs.ExpressionTrees.{unmarked, expression_tree, conjunction_tree, equality_tree, equality_step_tree, relation_tree, relation_step_tree, sum_tree, sum_step_tree, term_tree, unary_tree}
-use Rattle.syntax.specs.declared.expression.Conjunction as conjunctions
-use Rattle.syntax.specs.declared.expression.Equality as equalitys
-use Rattle.syntax.specs.declared.expression.EqualityStep as equality_steps
-use Rattle.syntax.specs.declared.expression.Expression as expressions
-use Rattle.syntax.specs.declared.expression.Relation as relations
-use Rattle.syntax.specs.declared.expression.RelationStep as relation_steps
-use Rattle.syntax.specs.declared.expression.Sum as sums
-use Rattle.syntax.specs.declared.expression.SumStep as sum_steps
-use Rattle.syntax.specs.declared.expression.Term as terms
+use Rattle.tree.specs.Operators.{Or, And, Equal, Compare, Add, Multiply}
+use Rattle.tree.specs.Expressions.{StepOf}
+use Rattle.tree.specs.ExpressionTrees.{unmarked, expression_tree, conjunction_tree, equality_tree, equality_step_tree, relation_tree, relation_step_tree, sum_tree, sum_step_tree, term_tree, unary_tree}
+use Rattle.tree.specs.declared.expression.Conjunction as conjunctions
+use Rattle.tree.specs.declared.expression.Equality as equalitys
+use Rattle.tree.specs.declared.expression.EqualityStep as equality_steps
+use Rattle.tree.specs.declared.expression.Expression as expressions
+use Rattle.tree.specs.declared.expression.Relation as relations
+use Rattle.tree.specs.declared.expression.RelationStep as relation_steps
+use Rattle.tree.specs.declared.expression.Sum as sums
+use Rattle.tree.specs.declared.expression.SumStep as sum_steps
+use Rattle.tree.specs.declared.expression.Term as terms
 use Rattle.resolving.proofs.ExpressionTwins.{expression_seen, conjunction_seen, equality_seen, equality_step_seen, relation_seen, relation_step_seen, sum_seen, sum_step_seen, term_seen}
 use Rattle.resolving.proofs.ReadLemmas.{reads_first, reads_more, reads_all}
 use Rattle.resolving.proofs.reads.+expressions.Goals as goal

@@ -1,11 +1,11 @@
-use Rattle.syntax.specs.Operators.{Or, And, Equal, Compare, Add, Multiply}
-use Rattle.syntax.specs.ExpressionTrees.{unmarked, conjunction_tree, equality_tree, equality_step_tree, relation_tree, relation_step_tree, sum_tree, sum_step_tree, term_tree, unary_tree}
-use Rattle.syntax.specs.declared.expression.Conjunction as conjunctions
-use Rattle.syntax.specs.declared.expression.Equality as equalitys
-use Rattle.syntax.specs.declared.expression.Expression as expressions
-use Rattle.syntax.specs.declared.expression.Relation as relations
-use Rattle.syntax.specs.declared.expression.Sum as sums
-use Rattle.syntax.specs.declared.expression.Term as terms
+use Rattle.tree.specs.Operators.{Or, And, Equal, Compare, Add, Multiply}
+use Rattle.tree.specs.ExpressionTrees.{unmarked, conjunction_tree, equality_tree, equality_step_tree, relation_tree, relation_step_tree, sum_tree, sum_step_tree, term_tree, unary_tree}
+use Rattle.tree.specs.declared.expression.Conjunction as conjunctions
+use Rattle.tree.specs.declared.expression.Equality as equalitys
+use Rattle.tree.specs.declared.expression.Expression as expressions
+use Rattle.tree.specs.declared.expression.Relation as relations
+use Rattle.tree.specs.declared.expression.Sum as sums
+use Rattle.tree.specs.declared.expression.Term as terms
 use Rattle.resolving.specs.Steps.{AddsReads}
 use Rattle.resolving.proofs.ReadLemmas.{chain_reads}
 use Rattle.resolving.proofs.reads.+expressions.Given as goal

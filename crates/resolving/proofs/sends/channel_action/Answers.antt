@@ -1,7 +1,7 @@
 use Rattle.std.proofs.Common.{Option, ap}
 use Rattle.std.specs.Option.{option_map_or}
-use Rattle.resolved.specs.declared.statement.Action.{Action}
-use Rattle.resolved.specs.declared.statement.Action.TheVariants.{Nothing}
+use Rattle.program.specs.declared.statement.Action.{Action}
+use Rattle.program.specs.declared.statement.Action.TheVariants.{Nothing}
 use Rattle.resolving.proofs.sends.channel_action.Goals as goal
 
 pub returns-in-Some : goal.returns-in-Some

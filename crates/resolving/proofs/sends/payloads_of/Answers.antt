@@ -1,7 +1,7 @@
 use Rattle.std.proofs.Common.{List, ◌++◌, map, take, sym, ap, ◌∙◌}
 use Rattle.std.proofs.lemmas.List.{take_all}
-use Rattle.syntax.specs.ExpressionTrees.{expression_tree}
-use Rattle.syntax.specs.declared.expression.Expression.{Expression}
+use Rattle.tree.specs.ExpressionTrees.{expression_tree}
+use Rattle.tree.specs.declared.expression.Expression.{Expression}
 use Rattle.resolving.specs.Around.{program_in}
 use Rattle.resolving.specs.Reads.{listed}
 use Rattle.resolving.specs.Plain.{payloads}

@@ -1,6 +1,6 @@
 use Rattle.std.proofs.Common.{List, ◌++◌, map, ap, ◌∙◌}
-use Rattle.syntax.specs.ExpressionTrees.{expression_tree}
-use Rattle.syntax.specs.declared.expression.Expression.{Expression}
+use Rattle.tree.specs.ExpressionTrees.{expression_tree}
+use Rattle.tree.specs.declared.expression.Expression.{Expression}
 use Rattle.resolving.specs.Around.{program_in}
 use Rattle.resolving.specs.Plain.{argument_reads, payloads}
 use Rattle.resolving.proofs.SendLemmas.{same_send}

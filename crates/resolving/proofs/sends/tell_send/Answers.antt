@@ -1,6 +1,6 @@
 use Rattle.std.proofs.Common.{Some, sym, ap, ◌∙◌}
 use Rattle.std.specs.Prelude.{option_and_then, option_map}
-use Rattle.syntax.specs.Values.{call_tree}
+use Rattle.tree.specs.Values.{call_tree}
 use Rattle.resolving.specs.Around.{meant_seen, program_in}
 use Rattle.resolving.specs.Plain.{send_of, sent, sent_by}
 use Rattle.resolving.proofs.sends.tell_send.Goals as goal

@@ -1,10 +1,10 @@
 use Rattle.std.proofs.Common.{Option, None, [], sym, ap, ◌∙◌}
 use Rattle.std.specs.Option.{option_map_or}
 use Rattle.std.specs.Prelude.{option_map}
-use Rattle.syntax.specs.Values.{call_tree}
-use Rattle.resolved.specs.Statements as seen
-use Rattle.resolved.specs.Statements.{SendSeen, send_seen}
-use Rattle.resolved.specs.declared.call.Send.{Send}
+use Rattle.tree.specs.Values.{call_tree}
+use Rattle.program.specs.Statements as seen
+use Rattle.program.specs.Statements.{SendSeen, send_seen}
+use Rattle.program.specs.declared.call.Send.{Send}
 use Rattle.resolving.specs.Around.{program_in}
 use Rattle.resolving.specs.Plain.{called, stated_call}
 use Rattle.resolving.proofs.PlainLemmas.{told_as}

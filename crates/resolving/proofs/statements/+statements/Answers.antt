@@ -1,15 +1,15 @@
 use Rattle.std.proofs.Common.{◌≡◌, refl, ap, ◌∙◌, ◌+◌, ◌<◌, ◌≤◌, ◌++◌, ⊎_elim, List, length, drop, get_or, map, take, sym, subst, arith}
 use Rattle.std.specs.Prelude.{IfOk}
 use Rattle.std.specs.Option.{option_map}
-use Rattle.syntax.specs.ExpressionTrees.{expression_tree}
-use Rattle.syntax.specs.StatementTrees as trees
-use Rattle.syntax.specs.StatementTrees.{BlockTree, CaseTrees, IfTree, SwitchTree, statement_tree, statement_row, block_tree, case_tree, case_row, switch_tree, test_tree}
-use Rattle.syntax.specs.declared.statement as stated
-use Rattle.resolved.specs.Statements as seen
-use Rattle.resolved.specs.Statements.{StatementSeen, BlockSeen, CasesSeen, IfSeen, statement_seen, block_seen, case_seen, if_seen, test_seen}
-use Rattle.resolved.specs.declared.statement as made
-use Rattle.resolved.specs.declared.statement.Statement.{Statement}
-use Rattle.resolved.specs.declared.statement.Test.{Test}
+use Rattle.tree.specs.ExpressionTrees.{expression_tree}
+use Rattle.tree.specs.StatementTrees as trees
+use Rattle.tree.specs.StatementTrees.{BlockTree, CaseTrees, IfTree, SwitchTree, statement_tree, statement_row, block_tree, case_tree, case_row, switch_tree, test_tree}
+use Rattle.tree.specs.declared.statement as stated
+use Rattle.program.specs.Statements as seen
+use Rattle.program.specs.Statements.{StatementSeen, BlockSeen, CasesSeen, IfSeen, statement_seen, block_seen, case_seen, if_seen, test_seen}
+use Rattle.program.specs.declared.statement as made
+use Rattle.program.specs.declared.statement.Statement.{Statement}
+use Rattle.program.specs.declared.statement.Test.{Test}
 use Rattle.resolving.specs.Around.{program_in}
 use Rattle.resolving.specs.Binds.{binds_told}
 use Rattle.resolving.specs.Frames.{staying_seen}

@@ -1,8 +1,8 @@
 use Rattle.std.proofs.Common.{ℕ, ◌<◌, List, drop, map, take}
-use Rattle.syntax.specs.StatementTrees.{MoreCases, statement_tree, test_tree, case_tree, case_row}
-use Rattle.syntax.specs.declared.statement as stated
-use Rattle.syntax.specs.Trees.{ItemTree}
-use Rattle.resolved.specs.Statements.{statement_seen, test_seen, case_seen}
+use Rattle.tree.specs.StatementTrees.{MoreCases, statement_tree, test_tree, case_tree, case_row}
+use Rattle.tree.specs.declared.statement as stated
+use Rattle.tree.specs.Trees.{ItemTree}
+use Rattle.program.specs.Statements.{statement_seen, test_seen, case_seen}
 use Rattle.resolving.specs.Around.{IsAround, program_in}
 use Rattle.resolving.specs.Frames.{IsFrame, staying_seen}
 use Rattle.resolving.specs.Locals.{Frame}

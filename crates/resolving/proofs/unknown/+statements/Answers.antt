@@ -1,8 +1,8 @@
 use Rattle.std.proofs.Common.{sym, ap, ◌∙◌}
 use Rattle.std.specs.Prelude.{Option}
 use Rattle.source.specs.declared.place.Place.{Place}
-use Rattle.syntax.specs.StatementTrees.{statement_tree}
-use Rattle.syntax.specs.declared.statement as stated
+use Rattle.tree.specs.StatementTrees.{statement_tree}
+use Rattle.tree.specs.declared.statement as stated
 use Rattle.resolving.specs.Unknown.{or_else, unknown_statement}
 use Rattle.resolving.proofs.PassedLemmas.{in_statements, in_test, in_later, behind, finds, passed_all}
 use Rattle.resolving.proofs.unknown.+statements.Goals as goal

@@ -1,5 +1,5 @@
 use Rattle.std.proofs.Common.{◌≡◌, drop}
-use Rattle.syntax.specs.StatementTrees.{statement_tree, block_tree}
+use Rattle.tree.specs.StatementTrees.{statement_tree, block_tree}
 use Rattle.resolving.specs.Passed.{first_place}
 use Rattle.resolving.specs.Unknown.{unknown_statement, unknown_block}
 use Rattle.resolving.proofs.unknown.+statements.Given as goal

@@ -1,8 +1,8 @@
 use Rattle.std.proofs.Common.{sym, ap, ◌∙◌}
 use Rattle.std.specs.Prelude.{Option}
 use Rattle.source.specs.declared.place.Place.{Place}
-use Rattle.syntax.specs.Trees.{definition_tree}
-use Rattle.syntax.specs.declared.tree as tree
+use Rattle.tree.specs.Trees.{definition_tree}
+use Rattle.tree.specs.declared.item as tree
 use Rattle.names.specs.Methods.{methods_in}
 use Rattle.resolving.specs.Unknown.{unknown_methods}
 use Rattle.resolving.proofs.PassedLemmas.{in_items, finds, passed_all}

@@ -1,5 +1,5 @@
 use Rattle.std.proofs.Common.{◌≡◌, drop}
-use Rattle.syntax.specs.Trees.{definition_tree}
+use Rattle.tree.specs.Trees.{definition_tree}
 use Rattle.names.specs.Methods.{methods_in}
 use Rattle.resolving.specs.Passed.{first_place}
 use Rattle.resolving.specs.Unknown.{unknown_methods}

@@ -1,8 +1,8 @@
 use Rattle.std.proofs.Common.{sym, ◌∙◌}
 use Rattle.std.specs.Prelude.{Option}
 use Rattle.source.specs.declared.place.Place.{Place}
-use Rattle.syntax.specs.Trees.{method_tree}
-use Rattle.syntax.specs.declared.class as made
+use Rattle.tree.specs.Trees.{method_tree}
+use Rattle.tree.specs.declared.class as made
 use Rattle.resolving.specs.Unknown.{unknown_method}
 use Rattle.resolving.proofs.PassedLemmas.{in_methods, finds, passed_all}
 use Rattle.resolving.proofs.unknown.unknown_methods.Goals as goal

@@ -1,5 +1,5 @@
 use Rattle.std.proofs.Common.{◌≡◌, drop}
-use Rattle.syntax.specs.Trees.{method_tree}
+use Rattle.tree.specs.Trees.{method_tree}
 use Rattle.resolving.specs.Passed.{first_place}
 use Rattle.resolving.specs.Unknown.{unknown_method}
 use Rattle.resolving.proofs.unknown.unknown_methods.Given as goal

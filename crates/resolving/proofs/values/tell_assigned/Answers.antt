@@ -1,9 +1,9 @@
 use Rattle.std.proofs.Common.{Option, sym, ap}
-use Rattle.syntax.specs.Values.{value_tree}
+use Rattle.tree.specs.Values.{value_tree}
 use Rattle.resolving.specs.Around.{program_in}
 use Rattle.resolving.specs.Plain.{taken, scalar_taken, assigned}
 use Rattle.resolving.proofs.PlainLemmas.{told_as}
-use Rattle.resolved.specs.declared.statement.Mention.{Mention}
+use Rattle.program.specs.declared.statement.Mention.{Mention}
 use Rattle.resolving.proofs.values.tell_assigned.Goals as goal
 
 pub returns-in-Some : goal.returns-in-Some

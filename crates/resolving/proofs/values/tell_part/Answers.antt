@@ -1,7 +1,7 @@
 use Rattle.std.proofs.Common.{sym, ap, ◌∙◌, ◌++◌}
-use Rattle.syntax.specs.Values as values
-use Rattle.syntax.specs.Values.{call_tree, value_tree, made_tree}
-use Rattle.syntax.specs.declared.value.Value.{Value}
+use Rattle.tree.specs.Values as values
+use Rattle.tree.specs.Values.{call_tree, value_tree, made_tree}
+use Rattle.tree.specs.declared.value.Value.{Value}
 use Rattle.resolving.specs.Around.{program_in}
 use Rattle.resolving.specs.Plain.{told, made_reads, part_taken}
 use Rattle.resolving.proofs.PlainLemmas.{told_as}

@@ -1,6 +1,6 @@
 use Rattle.std.proofs.Common.{ap, None}
-use Rattle.syntax.specs.Values as values
-use Rattle.syntax.specs.Values.{call_tree}
+use Rattle.tree.specs.Values as values
+use Rattle.tree.specs.Values.{call_tree}
 use Rattle.resolving.specs.Around.{program_in}
 use Rattle.resolving.specs.Plain.{called, part_taken}
 use Rattle.resolving.proofs.PlainLemmas.{told_as}

@@ -1,7 +1,7 @@
 use Rattle.std.proofs.Common.{sym, ap, ◌∙◌, ◌++◌, None}
-use Rattle.syntax.specs.Values.{call_tree, value_tree, made_tree}
-use Rattle.syntax.specs.declared.value.Value.{Value}
-use Rattle.resolved.specs.declared.statement.Action.TheVariants.{Nothing}
+use Rattle.tree.specs.Values.{call_tree, value_tree, made_tree}
+use Rattle.tree.specs.declared.value.Value.{Value}
+use Rattle.program.specs.declared.statement.Action.TheVariants.{Nothing}
 use Rattle.resolving.specs.Around.{program_in}
 use Rattle.resolving.specs.Plain.{told, called, made_reads, scalar_taken}
 use Rattle.resolving.proofs.PlainLemmas.{told_as}

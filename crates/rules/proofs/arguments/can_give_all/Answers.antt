@@ -1,6 +1,6 @@
 use Rattle.std.proofs.Common.{refl, flat_map}
 use Rattle.std.proofs.lemmas.List.{at_drop_all, at_drop_more}
-use Rattle.resolved.specs.Methods.{method_seen}
+use Rattle.program.specs.Methods.{method_seen}
 use Rattle.rules.specs.Rows.{leaves_of}
 use Rattle.rules.specs.RuleTable.{argument_checks}
 use Rattle.rules.proofs.ArgumentLemmas.{left_all, left_found, left_less, left_none}

@@ -1,5 +1,5 @@
 use Rattle.std.proofs.Common.{drop, flat_map}
-use Rattle.resolved.specs.Methods.{method_seen}
+use Rattle.program.specs.Methods.{method_seen}
 use Rattle.rules.specs.Rows.{leaves_of}
 use Rattle.rules.specs.RuleTable.{all_arguments, argument_checks}
 use Rattle.rules.proofs.ArgumentLemmas.{Left}

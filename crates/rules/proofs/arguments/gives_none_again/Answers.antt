@@ -1,5 +1,5 @@
 use Rattle.std.proofs.Common.{Some, refl, sym, ap, ◌∙◌}
-use Rattle.resolved.specs.Methods.{method_seen}
+use Rattle.program.specs.Methods.{method_seen}
 use Rattle.rules.proofs.ArgumentLemmas.{again_stands}
 use Rattle.rules.proofs.arguments.gives_none_again.Goals as goal
 

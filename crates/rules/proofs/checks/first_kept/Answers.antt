@@ -1,7 +1,7 @@
 use Rattle.std.proofs.Common.{◌≡◌, ◌∙◌, sym, length, ◌≤◌, ◌<◌, ◌+◌, subst}
 use Rattle.std.specs.Option.{option_map}
 use Rattle.std.proofs.lemmas.List.{length-map}
-use Rattle.resolved.specs.Methods.{method_seen, variable_seen}
+use Rattle.program.specs.Methods.{method_seen, variable_seen}
 use Rattle.rules.specs.Rows.{leaves_of}
 use Rattle.rules.proofs.ScopeLemmas.{Looked, looked_first, looked_all, looked_none, looked_more}
 use Rattle.rules.proofs.checks.first_kept.Goals as goal

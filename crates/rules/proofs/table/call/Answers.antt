@@ -1,6 +1,6 @@
 use Rattle.std.proofs.Common.{Some, None, [], ◌∷◌, ap, ◌∙◌, subst}
 use Rattle.std.proofs.lemmas.Result.{IfOk-weaker}
-use Rattle.resolved.specs.Methods.{method_seen}
+use Rattle.program.specs.Methods.{method_seen}
 use Rattle.rules.specs.Checks.{StandsFor}
 use Rattle.rules.specs.Rows.{leaves_of}
 use Rattle.rules.specs.RuleTable.{Goes, all_arguments, claimed, given_block, target_checks}

@@ -1,6 +1,6 @@
 use Rattle.std.proofs.Common.{Some, None, [], ◌∷◌, ap, ◌∙◌}
 use Rattle.std.proofs.lemmas.Result.{IfOk-weaker}
-use Rattle.resolved.specs.Methods.{method_seen}
+use Rattle.program.specs.Methods.{method_seen}
 use Rattle.rules.specs.Rows.{leaves_of}
 use Rattle.rules.specs.RuleTable.{Goes, all_arguments, claimed}
 use Rattle.rules.proofs.CallLemmas.{alone}

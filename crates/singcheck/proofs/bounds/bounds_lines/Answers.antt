@@ -1,7 +1,7 @@
 use Rattle.std.proofs.Common.{◌≡◌, ◌≤◌, ◌++◌, ◌∷◌, [], ◌∙◌, length, map, take, ap, subst, sym, arith, rules}
 use Rattle.std.proofs.lemmas.List.{length-append, length-map}
 use Rattle.std.proofs.lemmas.Slice.Zip.{zip_turn, zip_end}
-use Rattle.names.specs.Resolution.{ContractSeen, contract_seen}
+use Rattle.program.specs.Parts.{ContractSeen, contract_seen}
 use Rattle.contracts.specs.Sounds.{sound_parts}
 use Rattle.singcheck.specs.Lines.{ok_line}
 use Rattle.singcheck.proofs.BoundsLemmas.{AddsLines, paired, lines_turn, bounds_are}

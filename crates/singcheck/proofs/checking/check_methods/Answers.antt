@@ -2,9 +2,9 @@ use Rattle.std.proofs.Common.{◌≡◌, ◌++◌, ◌∙◌, map, length, ap, a
 use Rattle.std.proofs.lemmas.Bool.{eqb-true, eqb-false}
 use Rattle.std.proofs.lemmas.List.{length-map}
 use Rattle.source.specs.Findings.{finding_parts}
-use Rattle.syntax.specs.Trees.{program_tree}
-use Rattle.names.specs.Resolution.{contract_seen}
-use Rattle.resolved.specs.Methods.{method_seen}
+use Rattle.tree.specs.Trees.{program_tree}
+use Rattle.program.specs.Parts.{contract_seen}
+use Rattle.program.specs.Methods.{method_seen}
 use Rattle.rules.specs.Programs.{methods_of}
 use Rattle.singcheck.specs.Lines.{clear_line}
 use Rattle.singcheck.proofs.CheckLemmas.{reported_is, has_methods, misowned, clear_is}

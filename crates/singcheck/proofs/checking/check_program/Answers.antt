@@ -1,7 +1,7 @@
 use Rattle.std.proofs.Common.{map, subst, arith}
 use Rattle.source.specs.Findings.{finding_parts}
-use Rattle.syntax.specs.Trees.{program_tree}
-use Rattle.names.specs.Resolution.{contract_seen}
+use Rattle.tree.specs.Trees.{program_tree}
+use Rattle.program.specs.Parts.{contract_seen}
 use Rattle.singcheck.specs.Checks.{Before}
 use Rattle.singcheck.specs.Stages.{IsStaged, IsSoundTree}
 use Rattle.singcheck.proofs.CheckLemmas.{reported_is}

@@ -1,17 +1,26 @@
-use Rattle.std.proofs.Common.{Err, refl, ap}
-use Rattle.std.proofs.lemmas.Result.{on_ok_weaker}
+use Rattle.std.proofs.Common.{◌∙◌, map, ap, subst, refl}
+use Rattle.std.proofs.lemmas.List.{map-append}
+use Rattle.source.specs.Findings.{finding_parts}
+use Rattle.contracts.specs.Parts.{parts_of}
+use Rattle.contracts.specs.Sounds.{IsJudged}
 use Rattle.singcheck.proofs.JudgeLemmas.{parts_at, keeps_is, adds_is}
 use Rattle.singcheck.proofs.WholeLemmas.{whole_at}
 use Rattle.singcheck.proofs.stages.judge.Goals as goal
 
-pub new-requires : goal.new-requires
-new-requires c = record { whole = whole_at c.args.resolved.now.contracts.items c.args.id.0 _ c.requires.whole c.in_ok-edges.ensures }
+pub judge-requires : goal.judge-requires
+judge-requires c = record { whole = whole_at c.args.resolved.now.contracts.items c.args.id.0 _ c.requires.whole c.in_ok-edges.ensures }
 
-pub add_faults-requires : goal.add_faults-requires
-add_faults-requires c = whole_at c.args.resolved.now.contracts.items c.args.id.0 _ c.requires.whole c.in_ok-edges-in-Err-Found.ensures
+pub returns-in_ok-push-in-Sound : goal.returns-in_ok-push-in-Sound
+returns-in_ok-push-in-Sound c = λ seen at.
+    let judged = subst (IsJudged (parts_of c.in_ok-edges.field-0)) c.in-Sound.is c.in_ok-sound.ensures in
+    keeps_is seen _ _ _ c.in-Sound.sound (parts_at c.args.resolved.now.contracts.items c.args.id.0 _ seen c.in_ok-edges.ensures at) judged.1 judged.0 c.in_ok-push-in-Sound.ensures.items refl
 
-pub returns-in_ok-push-in-Ok : goal.returns-in_ok-push-in-Ok
-returns-in_ok-push-in-Ok c = λ seen at. keeps_is seen _ _ _ c.in-Ok.sound (parts_at c.args.resolved.now.contracts.items c.args.id.0 _ seen c.in_ok-edges.ensures at) c.in-Ok.ensures.sound c.in-Ok.ensures.parts c.in_ok-push-in-Ok.ensures.items refl
-
-pub returns-in_ok-edges-in-Err-Found : goal.returns-in_ok-edges-in-Err-Found
-returns-in_ok-edges-in-Err-Found c = on_ok_weaker c.add_faults.result (λ adds seen at. adds_is seen _ _ _ _ (parts_at c.args.resolved.now.contracts.items c.args.id.0 _ seen c.in_ok-edges.ensures at) (parts_at c.args.resolved.now.contracts.items c.args.id.0 _ seen c.in_ok-edges-in-Err-Found.ensures at) (c.in-Err-Found.ensures.found (ap Err c.in-Err-Found.field-0-is)) adds) c.add_faults.ensures
+pub returns-in_ok-append-in-Broken : goal.returns-in_ok-append-in-Broken
+returns-in_ok-append-in-Broken c = λ seen at.
+    let judged = subst (IsJudged (parts_of c.in_ok-edges.field-0)) c.in-Broken.is c.in_ok-sound.ensures in
+    let same = parts_at c.args.resolved.now.contracts.items c.args.id.0 _ seen c.in_ok-edges.ensures at in
+    adds_is seen _ _ _ _ same same judged.0 (record {
+      more = map finding_parts c.in-Broken.found.items;
+      exactly = judged.1;
+      added = ap (map finding_parts) c.in_ok-append-in-Broken.ensures.items ∙ map-append finding_parts c.args.judging.now.findings.items c.in-Broken.found.items;
+    })

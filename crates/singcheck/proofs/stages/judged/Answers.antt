@@ -1,7 +1,7 @@
 use Rattle.std.proofs.Common.{◌≡◌, ◌∙◌, map, sym, subst, [], refl, arith}
 use Rattle.std.proofs.lemmas.Bool.{eqb-true, eqb-false}
 use Rattle.std.proofs.lemmas.List.{length-map, take_all}
-use Rattle.names.specs.Resolution.{contract_seen}
+use Rattle.program.specs.Parts.{contract_seen}
 use Rattle.singcheck.specs.Stages.{AreJudged}
 use Rattle.singcheck.proofs.JudgeLemmas.{judged_turn, no_items, found_all, clean_all}
 use Rattle.singcheck.proofs.stages.judged.Goals as goal

@@ -1,5 +1,5 @@
 use Rattle.std.proofs.Common.{map, take}
-use Rattle.names.specs.Resolution.{contract_seen}
+use Rattle.program.specs.Parts.{contract_seen}
 use Rattle.singcheck.specs.Stages.{AreJudged}
 use Rattle.singcheck.proofs.stages.judged.Given as goal
 

@@ -4,9 +4,9 @@ use Rattle.std.specs.Global.{Global}
 use Rattle.std.proofs.lemmas.Result.{IfOk-weaker}
 use Rattle.source.specs.Findings.{finding_parts}
 use Rattle.source.specs.declared.finding.Finding.{Finding}
-use Rattle.syntax.specs.Trees.{program_tree}
+use Rattle.tree.specs.Trees.{program_tree}
 use Rattle.names.specs.Program.{program_of}
-use Rattle.names.specs.Resolution.{contract_seen}
+use Rattle.program.specs.Parts.{contract_seen}
 use Rattle.singcheck.specs.Answers.{AreFindings, IsProgram, IsResolved}
 use Rattle.singcheck.proofs.FewLemmas.{few_contracts}
 use Rattle.singcheck.proofs.StageLemmas.{explained, misnamed, sound_tree}

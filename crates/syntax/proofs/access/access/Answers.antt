@@ -1,9 +1,9 @@
 use Rattle.std.proofs.Common.{◌≡◌, false, refl, sym, ap, ◌∙◌}
-use Rattle.syntax.specs.Symbols.{is_placed}
-use Rattle.syntax.specs.Grammar.{access_word}
+use Rattle.tree.specs.Symbols.{is_placed}
+use Rattle.tree.specs.Grammar.{access_word}
 use Rattle.syntax.specs.Firsts.{access_of}
-use Rattle.syntax.specs.declared.tree.Access.{Access}
-use Rattle.syntax.specs.declared.tree.Access.TheVariants as access
+use Rattle.tree.specs.declared.item.Access.{Access}
+use Rattle.tree.specs.declared.item.Access.TheVariants as access
 use Rattle.syntax.proofs.Pieces.{stops_never}
 use Rattle.syntax.proofs.Words.{words_taken}
 use Rattle.syntax.proofs.AccessRules.{accesses}

@@ -4,7 +4,7 @@ use Rattle.syntax.specs.Reading.{never}
 use Rattle.syntax.proofs.Exits.{exits}
 use Rattle.syntax.proofs.Choices.{form_fails}
 use Rattle.syntax.proofs.KindLemmas.{kind_leads, not_leads}
-use Rattle.syntax.specs.StatementGrammar.{awaited}
+use Rattle.tree.specs.StatementGrammar.{awaited}
 use Rattle.syntax.proofs.CaseRules.{message_form, closed_form}
 use Rattle.syntax.proofs.cases.awaited.Goals as goal
 

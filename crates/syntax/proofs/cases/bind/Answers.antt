@@ -6,7 +6,7 @@ use Rattle.syntax.proofs.Pieces.{fails_here, fails_after, fails_first, fails_sec
 use Rattle.syntax.proofs.Choices.{form_fails}
 use Rattle.syntax.proofs.KindLemmas.{kind_leads, not_leads}
 use Rattle.syntax.proofs.CursorLemmas.{named_piece}
-use Rattle.syntax.specs.StatementGrammar.{bind}
+use Rattle.tree.specs.StatementGrammar.{bind}
 use Rattle.syntax.specs.StatementParts.{bind_on, bind_at}
 use Rattle.syntax.proofs.TypeRules.{scalar_type_piece}
 use Rattle.syntax.proofs.CaseRules.{maybe_typed_piece, scalar_follows, named_bind_form, scalar_bind_form}

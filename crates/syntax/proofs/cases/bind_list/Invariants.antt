@@ -1,5 +1,5 @@
 use Rattle.std.proofs.Common.{length}
-use Rattle.syntax.specs.StatementGrammar.{bind}
+use Rattle.tree.specs.StatementGrammar.{bind}
 use Rattle.syntax.specs.StatementParts.{bind_at}
 use Rattle.syntax.proofs.ListedOpen.{ListRead}
 use Rattle.syntax.proofs.cases.bind_list.Given as goal

@@ -1,8 +1,8 @@
-use Rattle.syntax.specs.Spelling.{listed, parens}
+use Rattle.tree.specs.Spelling.{listed, parens}
 use Rattle.syntax.specs.Reading.{never}
 use Rattle.syntax.proofs.Exits.{exits}
 use Rattle.syntax.proofs.Enclosed.{parens_open_fails, parens_fails, parens_close_fails}
-use Rattle.syntax.specs.StatementGrammar.{bind}
+use Rattle.tree.specs.StatementGrammar.{bind}
 use Rattle.syntax.proofs.CaseRules.{binds_inside, bind_list_piece}
 use Rattle.syntax.proofs.cases.binds.Goals as goal
 

@@ -1,6 +1,6 @@
-use Rattle.syntax.specs.Spelling.{comma}
+use Rattle.tree.specs.Spelling.{comma}
 use Rattle.syntax.proofs.Exits.{exits}
-use Rattle.syntax.specs.StatementGrammar.{bind}
+use Rattle.tree.specs.StatementGrammar.{bind}
 use Rattle.syntax.specs.StatementParts.{bind_on, bind_at}
 use Rattle.syntax.proofs.ListedOpen.{open_comma_fails, open_item_fails}
 use Rattle.syntax.proofs.CaseRules.{bind_item}

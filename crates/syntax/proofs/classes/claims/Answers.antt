@@ -4,7 +4,7 @@ use Rattle.syntax.specs.Reading.{never}
 use Rattle.syntax.proofs.Exits.{exits}
 use Rattle.syntax.proofs.Pieces.{fails_here, fails_after, via_fails, next}
 use Rattle.syntax.proofs.CursorLemmas.{fixed_piece}
-use Rattle.syntax.specs.Programs.{claims_words}
+use Rattle.tree.specs.Programs.{claims_words}
 use Rattle.syntax.proofs.ClassRules.{claims_to, claims_from}
 use Rattle.syntax.proofs.classes.claims.Goals as goal
 

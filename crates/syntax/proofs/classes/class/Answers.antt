@@ -4,8 +4,8 @@ use Rattle.syntax.specs.Reading.{never}
 use Rattle.syntax.proofs.Exits.{exits}
 use Rattle.syntax.proofs.Pieces.{fails_here, fails_after, via_fails, next}
 use Rattle.syntax.proofs.CursorLemmas.{fixed_piece, named_piece}
-use Rattle.syntax.specs.Trees.{class_tree}
-use Rattle.syntax.specs.Programs.{class}
+use Rattle.tree.specs.Trees.{class_tree}
+use Rattle.tree.specs.Programs.{class}
 use Rattle.syntax.proofs.ClassRules.{methods_piece, class_to, class_from}
 use Rattle.syntax.proofs.classes.class.Goals as goal
 

@@ -1,8 +1,8 @@
-use Rattle.syntax.specs.Spelling.{comma}
+use Rattle.tree.specs.Spelling.{comma}
 use Rattle.syntax.specs.Reading.{never}
 use Rattle.syntax.proofs.Exits.{exits}
 use Rattle.syntax.proofs.Listed.{comma_first_fails, comma_item_fails}
-use Rattle.syntax.specs.Programs.{parameter}
+use Rattle.tree.specs.Programs.{parameter}
 use Rattle.syntax.proofs.ClassRules.{parameter_item}
 use Rattle.syntax.proofs.classes.comma_parameter.Goals as goal
 

@@ -1,11 +1,11 @@
 use Rattle.source.specs.declared.kind.Kind.TheVariants as kind
-use Rattle.syntax.specs.Symbols.{is_kind}
-use Rattle.syntax.specs.Spelling.{when}
+use Rattle.tree.specs.Symbols.{is_kind}
+use Rattle.tree.specs.Spelling.{when}
 use Rattle.syntax.specs.Reading.{when_at}
 use Rattle.syntax.proofs.Exits.{exits}
 use Rattle.syntax.proofs.Beginnings.{splits_self}
 use Rattle.syntax.proofs.KindLemmas.{kind_leads}
-use Rattle.syntax.specs.Programs.{claims_words}
+use Rattle.tree.specs.Programs.{claims_words}
 use Rattle.syntax.proofs.Options.{when_fails}
 use Rattle.syntax.proofs.ClassRules.{claims_piece, claims_starts}
 use Rattle.syntax.proofs.classes.maybe_claims.Goals as goal

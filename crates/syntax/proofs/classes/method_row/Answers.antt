@@ -1,13 +1,13 @@
 use Rattle.std.proofs.Common.{map, refl, sym, ap, ◌∙◌}
 use Rattle.std.specs.List.{flat_map}
-use Rattle.syntax.specs.Symbols.{by_kind}
+use Rattle.tree.specs.Symbols.{by_kind}
 use Rattle.syntax.proofs.Exits.{exits}
 use Rattle.syntax.proofs.Beginnings.{splits_self}
 use Rattle.syntax.proofs.Repeats.{many_fails, ended_leaves}
 use Rattle.syntax.proofs.KindLemmas.{test_leads}
 use Rattle.syntax.specs.Firsts.{opens_method}
-use Rattle.syntax.specs.Trees.{method_tree}
-use Rattle.syntax.specs.Programs.{method}
+use Rattle.tree.specs.Trees.{method_tree}
+use Rattle.tree.specs.Programs.{method}
 use Rattle.syntax.proofs.ClassRules.{method_piece, method_starts}
 use Rattle.syntax.proofs.classes.method_row.Goals as goal
 

@@ -1,7 +1,7 @@
 use Rattle.std.proofs.Common.{◌≡◌, ◌++◌, length, map}
 use Rattle.std.specs.List.{flat_map}
-use Rattle.syntax.specs.Trees.{method_tree}
-use Rattle.syntax.specs.Programs.{method}
+use Rattle.tree.specs.Trees.{method_tree}
+use Rattle.tree.specs.Programs.{method}
 use Rattle.syntax.proofs.classes.method_row.Given as goal
 
 abbrev pub invariant-each : goal.invariant-each

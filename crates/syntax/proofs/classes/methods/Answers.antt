@@ -1,11 +1,11 @@
 use Rattle.std.proofs.Common.{map}
 use Rattle.std.specs.List.{flat_map}
-use Rattle.syntax.specs.Spelling.{braced}
+use Rattle.tree.specs.Spelling.{braced}
 use Rattle.syntax.specs.Reading.{never}
 use Rattle.syntax.proofs.Exits.{exits}
 use Rattle.syntax.proofs.Enclosed.{braced_open_fails, braced_fails, braced_close_fails}
-use Rattle.syntax.specs.Trees.{method_tree}
-use Rattle.syntax.specs.Programs.{method}
+use Rattle.tree.specs.Trees.{method_tree}
+use Rattle.tree.specs.Programs.{method}
 use Rattle.syntax.proofs.ClassRules.{methods_inside, method_row_piece}
 use Rattle.syntax.proofs.classes.methods.Goals as goal
 

@@ -1,15 +1,14 @@
-use Rattle.std.proofs.Common.{◌++◌, refl, sym, ap, ◌∙◌}
+use Rattle.std.proofs.Common.{◌++◌, refl, sym, ap, ◌∙◌, append_assoc}
 use Rattle.std.specs.List.{flat_map}
 use Rattle.source.specs.declared.kind.Kind.TheVariants as kind
-use Rattle.syntax.specs.Symbols.{by_kind}
-use Rattle.syntax.specs.Spelling.{comma, listed}
+use Rattle.tree.specs.Symbols.{by_kind}
+use Rattle.tree.specs.Spelling.{comma, listed}
 use Rattle.syntax.specs.Reading.{listed_on, listed_at}
 use Rattle.syntax.proofs.Exits.{exits}
 use Rattle.syntax.proofs.Listed.{listed_first_fails, listed_more_fails}
 use Rattle.syntax.proofs.KindLemmas.{kind_leads, test_leads}
-use Rattle.std.proofs.Common.{append_assoc}
 use Rattle.syntax.specs.Firsts.{opens_parameter}
-use Rattle.syntax.specs.Programs.{parameter}
+use Rattle.tree.specs.Programs.{parameter}
 use Rattle.syntax.proofs.ClassRules.{parameter_item}
 use Rattle.syntax.proofs.classes.parameter_list.Goals as goal
 

@@ -1,7 +1,7 @@
 use Rattle.std.proofs.Common.{◌≡◌, ◌∷◌, ◌++◌, List, length}
-use Rattle.syntax.specs.Spelling.{listed}
-use Rattle.syntax.specs.Programs.{parameter}
-use Rattle.syntax.specs.declared.class.Parameter.{Parameter}
+use Rattle.tree.specs.Spelling.{listed}
+use Rattle.tree.specs.Programs.{parameter}
+use Rattle.tree.specs.declared.class.Parameter.{Parameter}
 use Rattle.syntax.proofs.classes.parameter_list.Given as goal
 
 abbrev pub invariant-more : goal.invariant-more

@@ -1,8 +1,8 @@
-use Rattle.syntax.specs.Spelling.{listed, parens}
+use Rattle.tree.specs.Spelling.{listed, parens}
 use Rattle.syntax.specs.Reading.{never}
 use Rattle.syntax.proofs.Exits.{exits}
 use Rattle.syntax.proofs.Enclosed.{parens_open_fails, parens_fails, parens_close_fails}
-use Rattle.syntax.specs.Programs.{parameter}
+use Rattle.tree.specs.Programs.{parameter}
 use Rattle.syntax.proofs.ClassRules.{parameters_inside, parameter_list_piece}
 use Rattle.syntax.proofs.classes.parameters.Goals as goal
 

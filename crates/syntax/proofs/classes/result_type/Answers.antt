@@ -6,7 +6,7 @@ use Rattle.syntax.proofs.Pieces.{wide_fails}
 use Rattle.syntax.proofs.Choices.{form_fails}
 use Rattle.syntax.proofs.KindLemmas.{kind_leads, not_leads}
 use Rattle.syntax.specs.Types.{type_on}
-use Rattle.syntax.specs.Programs.{result_type}
+use Rattle.tree.specs.Programs.{result_type}
 use Rattle.syntax.specs.ClassParts.{result_at}
 use Rattle.syntax.proofs.ClassRules.{void_form, type_form}
 use Rattle.syntax.proofs.classes.result_type.Goals as goal

@@ -1,8 +1,8 @@
 use Rattle.std.proofs.Common.{map, refl}
 use Rattle.source.specs.declared.kind.Kind.TheVariants as kind
 use Rattle.syntax.specs.Reading.{never}
-use Rattle.syntax.specs.Trees.{message_tree, state_tree, member_tree, contract_tree}
-use Rattle.syntax.specs.Grammar.{contract}
+use Rattle.tree.specs.Trees.{message_tree, state_tree, member_tree, contract_tree}
+use Rattle.tree.specs.Grammar.{contract}
 use Rattle.syntax.proofs.Exits.{exits}
 use Rattle.syntax.proofs.Pieces.{next, fails_here, fails_after, fails_first, fails_second, via_fails}
 use Rattle.syntax.proofs.CursorLemmas.{fixed_piece, placed_piece, named_piece}

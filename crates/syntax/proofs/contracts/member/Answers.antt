@@ -1,6 +1,6 @@
 use Rattle.std.proofs.Common.{sym, ap, ◌∙◌, refl}
-use Rattle.syntax.specs.Trees.{member_tree}
-use Rattle.syntax.specs.Grammar.{member}
+use Rattle.tree.specs.Trees.{member_tree}
+use Rattle.tree.specs.Grammar.{member}
 use Rattle.syntax.specs.Firsts.{opens_message}
 use Rattle.syntax.specs.States.{state_on, member_at}
 use Rattle.syntax.proofs.Exits.{exits}

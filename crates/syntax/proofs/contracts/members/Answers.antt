@@ -1,10 +1,9 @@
-use Rattle.std.proofs.Common.{map, sym, ap, ◌∙◌, refl}
-use Rattle.std.proofs.Common.{arith}
+use Rattle.std.proofs.Common.{map, sym, ap, ◌∙◌, refl, arith}
 use Rattle.std.proofs.lemmas.Grind.{common_steps}
 use Rattle.std.specs.List.{flat_map}
-use Rattle.syntax.specs.Symbols.{by_kind}
-use Rattle.syntax.specs.Trees.{member_tree}
-use Rattle.syntax.specs.Grammar.{member}
+use Rattle.tree.specs.Symbols.{by_kind}
+use Rattle.tree.specs.Trees.{member_tree}
+use Rattle.tree.specs.Grammar.{member}
 use Rattle.syntax.specs.Firsts.{opens_member}
 use Rattle.syntax.specs.Reading.{many_at}
 use Rattle.syntax.specs.States.{member_at, members_on}

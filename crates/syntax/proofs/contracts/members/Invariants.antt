@@ -1,9 +1,9 @@
 use Rattle.std.proofs.Common.{◌≡◌, ◌++◌, length, map}
 use Rattle.std.specs.List.{flat_map}
-use Rattle.syntax.specs.Grammar.{member}
+use Rattle.tree.specs.Grammar.{member}
 use Rattle.syntax.specs.Reading.{Stops, last_at}
 use Rattle.syntax.specs.States.{member_at}
-use Rattle.syntax.specs.Trees.{member_tree}
+use Rattle.tree.specs.Trees.{member_tree}
 use Rattle.syntax.proofs.contracts.members.Given as goal
 
 abbrev pub invariant-each : goal.invariant-each

@@ -1,8 +1,8 @@
 use Rattle.std.proofs.Common.{map, sym, ap, ◌∙◌, refl}
 use Rattle.std.specs.List.{flat_map}
-use Rattle.syntax.specs.Symbols.{by_kind}
-use Rattle.syntax.specs.Trees.{message_tree}
-use Rattle.syntax.specs.Grammar.{message}
+use Rattle.tree.specs.Symbols.{by_kind}
+use Rattle.tree.specs.Trees.{message_tree}
+use Rattle.tree.specs.Grammar.{message}
 use Rattle.syntax.specs.Firsts.{opens_message}
 use Rattle.syntax.proofs.Exits.{exits}
 use Rattle.syntax.proofs.Beginnings.{splits_self}

@@ -1,7 +1,7 @@
 use Rattle.std.proofs.Common.{◌≡◌, ◌++◌, length, map}
 use Rattle.std.specs.List.{flat_map}
-use Rattle.syntax.specs.Grammar.{message}
-use Rattle.syntax.specs.Trees.{message_tree}
+use Rattle.tree.specs.Grammar.{message}
+use Rattle.tree.specs.Trees.{message_tree}
 use Rattle.syntax.proofs.contracts.messages.Given as goal
 
 abbrev pub invariant-each : goal.invariant-each

@@ -3,11 +3,13 @@ use Rattle.std.specs.List.{flat_map}
 use Rattle.std.proofs.lemmas.Bool.{iff_false}
 use Rattle.std.proofs.lemmas.Grind.{common_steps}
 use Rattle.source.specs.declared.kind.Kind.TheVariants as kind
-use Rattle.syntax.specs.Spelling.{parens}
+use Rattle.tree.specs.Spelling.{parens}
 use Rattle.syntax.specs.Reading.{never, Reads, Fails}
-use Rattle.syntax.specs.Operators.{Or, And, Equal, Compare, Add, Multiply, Single, Joined, joins}
-use Rattle.syntax.specs.Expressions.{Number, True, False, level, level_on, level_at, expression, step, step_at, steps_end, atom, atom_at, target, target_at, target_on}
-use Rattle.syntax.specs.ExpressionTrees.{expression_tree, conjunction_tree, equality_tree, equality_step_tree, relation_tree, relation_step_tree, sum_tree, sum_step_tree, term_tree, unary_tree, atom_tree, target_tree, unmarked}
+use Rattle.tree.specs.Operators.{Or, And, Equal, Compare, Add, Multiply, Single, Joined}
+use Rattle.syntax.specs.OperatorReads.{joins}
+use Rattle.tree.specs.Expressions.{Number, True, False, level, expression, step, atom, target}
+use Rattle.syntax.specs.ExpressionReads.{level_on, level_at, step_at, steps_end, atom_at, target_at, target_on}
+use Rattle.tree.specs.ExpressionTrees.{expression_tree, conjunction_tree, equality_tree, equality_step_tree, relation_tree, relation_step_tree, sum_tree, sum_step_tree, term_tree, unary_tree, atom_tree, target_tree, unmarked}
 use Rattle.syntax.proofs.Exits.{exits}
 use Rattle.syntax.proofs.KindLemmas.{kind_leads, test_leads}
 use Rattle.syntax.proofs.Enclosed.{parens_open_fails, parens_fails, parens_close_fails, brackets_open_fails, brackets_fails, brackets_close_fails}

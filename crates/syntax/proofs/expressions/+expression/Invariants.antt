@@ -1,9 +1,10 @@
 use Rattle.std.proofs.Common.{◌≡◌, ◌++◌, ◌*◌, ◌+◌, ◌≤◌, length, map}
 use Rattle.std.specs.List.{flat_map}
 use Rattle.syntax.specs.Reading.{Stops, last_at}
-use Rattle.syntax.specs.Operators.{Or, And, Equal, Compare, Add, Multiply}
-use Rattle.syntax.specs.Expressions.{step, step_at}
-use Rattle.syntax.specs.ExpressionTrees.{unmarked, conjunction_tree, equality_tree, equality_step_tree, relation_step_tree, sum_step_tree, unary_tree}
+use Rattle.tree.specs.Operators.{Or, And, Equal, Compare, Add, Multiply}
+use Rattle.tree.specs.Expressions.{step}
+use Rattle.syntax.specs.ExpressionReads.{step_at}
+use Rattle.tree.specs.ExpressionTrees.{unmarked, conjunction_tree, equality_tree, equality_step_tree, relation_step_tree, sum_step_tree, unary_tree}
 use Rattle.syntax.proofs.expressions.+expression.Given as goal
 
 abbrev pub decreases-and_equality : goal.decreases-and_equality

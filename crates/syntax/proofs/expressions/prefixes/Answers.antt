@@ -1,7 +1,8 @@
 use Rattle.std.proofs.Common.{sym, ap, ◌∙◌, refl}
 use Rattle.std.specs.List.{flat_map}
-use Rattle.syntax.specs.Symbols.{by_kind}
-use Rattle.syntax.specs.Operators.{prefix, opens_prefix}
+use Rattle.tree.specs.Symbols.{by_kind}
+use Rattle.tree.specs.Operators.{prefix}
+use Rattle.syntax.specs.OperatorReads.{opens_prefix}
 use Rattle.syntax.proofs.Exits.{exits}
 use Rattle.syntax.proofs.Beginnings.{splits_self}
 use Rattle.syntax.proofs.Repeats.{many_fails, ended_leaves}

@@ -1,6 +1,6 @@
 use Rattle.std.proofs.Common.{◌≡◌, ◌++◌, length}
 use Rattle.std.specs.List.{flat_map}
-use Rattle.syntax.specs.Operators.{prefix}
+use Rattle.tree.specs.Operators.{prefix}
 use Rattle.syntax.proofs.expressions.prefixes.Given as goal
 
 abbrev pub invariant-each : goal.invariant-each

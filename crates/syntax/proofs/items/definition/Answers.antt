@@ -4,8 +4,8 @@ use Rattle.syntax.specs.Reading.{never}
 use Rattle.syntax.proofs.Exits.{exits}
 use Rattle.syntax.proofs.Choices.{form_fails}
 use Rattle.syntax.proofs.KindLemmas.{kind_leads, neither_leads}
-use Rattle.syntax.specs.Programs.{definition}
-use Rattle.syntax.specs.Trees.{definition_tree}
+use Rattle.tree.specs.Programs.{definition}
+use Rattle.tree.specs.Trees.{definition_tree}
 use Rattle.syntax.proofs.ItemRules.{contract_form, class_form, struct_form}
 use Rattle.syntax.proofs.items.definition.Goals as goal
 

@@ -1,7 +1,7 @@
 use Rattle.std.proofs.Common.{refl}
 use Rattle.syntax.specs.Reading.{never}
-use Rattle.syntax.specs.Trees.{item_tree}
-use Rattle.syntax.specs.Programs.{item}
+use Rattle.tree.specs.Trees.{item_tree}
+use Rattle.tree.specs.Programs.{item}
 use Rattle.syntax.proofs.Exits.{exits}
 use Rattle.syntax.proofs.Pieces.{fails_second, via_fails}
 use Rattle.syntax.proofs.AccessRules.{access_piece}

@@ -1,7 +1,7 @@
 use Rattle.std.proofs.Common.{map, sym, ap, ◌∙◌, refl}
-use Rattle.syntax.specs.Symbols.{by_kind}
-use Rattle.syntax.specs.Trees.{item_tree}
-use Rattle.syntax.specs.Programs.{program}
+use Rattle.tree.specs.Symbols.{by_kind}
+use Rattle.tree.specs.Trees.{item_tree}
+use Rattle.tree.specs.Programs.{program}
 use Rattle.syntax.specs.Firsts.{opens_item}
 use Rattle.syntax.proofs.Exits.{exits}
 use Rattle.syntax.proofs.Beginnings.{splits_self}

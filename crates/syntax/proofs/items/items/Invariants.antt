@@ -1,6 +1,6 @@
 use Rattle.std.proofs.Common.{◌≡◌, ◌++◌, length, map}
-use Rattle.syntax.specs.Programs.{program}
-use Rattle.syntax.specs.Trees.{item_tree}
+use Rattle.tree.specs.Programs.{program}
+use Rattle.tree.specs.Trees.{item_tree}
 use Rattle.syntax.proofs.items.items.Given as goal
 
 abbrev pub invariant-each : goal.invariant-each

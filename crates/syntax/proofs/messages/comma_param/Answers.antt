@@ -1,6 +1,6 @@
 use Rattle.syntax.specs.Reading.{never}
-use Rattle.syntax.specs.Spelling.{comma}
-use Rattle.syntax.specs.Grammar.{param}
+use Rattle.tree.specs.Spelling.{comma}
+use Rattle.tree.specs.Grammar.{param}
 use Rattle.syntax.proofs.Exits.{exits}
 use Rattle.syntax.proofs.Listed.{comma_first_fails, comma_item_fails}
 use Rattle.syntax.proofs.TypeForms.{param_item}

@@ -1,8 +1,8 @@
 use Rattle.std.proofs.Common.{◌≡◌, false, refl, sym, ap, ◌∙◌}
-use Rattle.syntax.specs.Symbols.{is_placed}
-use Rattle.syntax.specs.Grammar.{direction_word}
-use Rattle.syntax.specs.declared.tree.Direction.{Direction}
-use Rattle.syntax.specs.declared.tree.Direction.TheVariants as direction
+use Rattle.tree.specs.Symbols.{is_placed}
+use Rattle.tree.specs.Grammar.{direction_word}
+use Rattle.program.specs.declared.contract.Direction.{Direction}
+use Rattle.program.specs.declared.contract.Direction.TheVariants as direction
 use Rattle.syntax.proofs.Pieces.{stops_never}
 use Rattle.syntax.specs.Firsts.{direction_of}
 use Rattle.syntax.proofs.Words.{words_fails, words_taken}

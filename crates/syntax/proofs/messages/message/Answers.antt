@@ -1,8 +1,8 @@
 use Rattle.std.proofs.Common.{refl}
 use Rattle.source.specs.declared.kind.Kind.TheVariants as kind
 use Rattle.syntax.specs.Reading.{never}
-use Rattle.syntax.specs.Grammar.{message}
-use Rattle.syntax.specs.Trees.{message_tree}
+use Rattle.tree.specs.Grammar.{message}
+use Rattle.tree.specs.Trees.{message_tree}
 use Rattle.syntax.proofs.Exits.{exits}
 use Rattle.syntax.proofs.Pieces.{next, fails_here, fails_after, via_fails}
 use Rattle.syntax.proofs.CursorLemmas.{fixed_piece, named_piece}

@@ -1,6 +1,6 @@
 use Rattle.std.proofs.Common.{refl}
 use Rattle.syntax.specs.Reading.{never}
-use Rattle.syntax.specs.Grammar.{param}
+use Rattle.tree.specs.Grammar.{param}
 use Rattle.syntax.proofs.Exits.{exits}
 use Rattle.syntax.proofs.Pieces.{fails_first, fails_second, via_fails}
 use Rattle.syntax.proofs.CursorLemmas.{named_piece}

@@ -1,10 +1,10 @@
 use Rattle.std.proofs.Common.{◌++◌, sym, ap, ◌∙◌, refl, append_assoc}
 use Rattle.std.specs.List.{flat_map}
 use Rattle.source.specs.declared.kind.Kind.TheVariants as kind
-use Rattle.syntax.specs.Symbols.{by_kind}
-use Rattle.syntax.specs.Spelling.{comma, listed}
+use Rattle.tree.specs.Symbols.{by_kind}
+use Rattle.tree.specs.Spelling.{comma, listed}
 use Rattle.syntax.specs.Reading.{listed_on, listed_at}
-use Rattle.syntax.specs.Grammar.{param}
+use Rattle.tree.specs.Grammar.{param}
 use Rattle.syntax.specs.Firsts.{opens_type}
 use Rattle.syntax.proofs.Exits.{exits}
 use Rattle.syntax.proofs.KindLemmas.{kind_leads, test_leads}

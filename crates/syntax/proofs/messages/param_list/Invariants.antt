@@ -1,7 +1,7 @@
 use Rattle.std.proofs.Common.{◌≡◌, ◌∷◌, ◌++◌, List, length}
-use Rattle.syntax.specs.Spelling.{listed}
-use Rattle.syntax.specs.Grammar.{param}
-use Rattle.syntax.specs.declared.tree.Param.{Param}
+use Rattle.tree.specs.Spelling.{listed}
+use Rattle.tree.specs.Grammar.{param}
+use Rattle.tree.specs.declared.contract.Param.{Param}
 use Rattle.syntax.proofs.messages.param_list.Given as goal
 
 abbrev pub invariant-more : goal.invariant-more

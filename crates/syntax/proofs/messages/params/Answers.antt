@@ -1,6 +1,6 @@
 use Rattle.syntax.specs.Reading.{never}
-use Rattle.syntax.specs.Spelling.{listed, parens}
-use Rattle.syntax.specs.Grammar.{param}
+use Rattle.tree.specs.Spelling.{listed, parens}
+use Rattle.tree.specs.Grammar.{param}
 use Rattle.syntax.proofs.Exits.{exits}
 use Rattle.syntax.proofs.Enclosed.{parens_open_fails, parens_fails, parens_close_fails}
 use Rattle.syntax.proofs.MessageRules.{params_inside, param_list_piece}

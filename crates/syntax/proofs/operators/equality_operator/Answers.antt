@@ -1,8 +1,9 @@
 use Rattle.std.proofs.Common.{◌≡◌, false, refl, sym, ap, ◌∙◌}
-use Rattle.syntax.specs.Symbols.{is_placed}
-use Rattle.syntax.specs.Operators.{equality_word, equality_of}
-use Rattle.syntax.specs.declared.expression.EqualityOperator.{EqualityOperator}
-use Rattle.syntax.specs.declared.expression.EqualityOperator.TheVariants as equality
+use Rattle.tree.specs.Symbols.{is_placed}
+use Rattle.tree.specs.Operators.{equality_word}
+use Rattle.syntax.specs.OperatorReads.{equality_of}
+use Rattle.tree.specs.declared.expression.EqualityOperator.{EqualityOperator}
+use Rattle.tree.specs.declared.expression.EqualityOperator.TheVariants as equality
 use Rattle.syntax.proofs.Pieces.{stops_never}
 use Rattle.syntax.proofs.Words.{words_fails, words_taken}
 use Rattle.syntax.proofs.OperatorRules.{equalities}

@@ -1,8 +1,9 @@
 use Rattle.std.proofs.Common.{◌≡◌, true, refl, sym, ap, ◌∙◌}
-use Rattle.syntax.specs.Symbols.{is_placed}
-use Rattle.syntax.specs.Operators.{prefix_word, prefix_of}
-use Rattle.syntax.specs.declared.expression.PrefixOperator.{PrefixOperator}
-use Rattle.syntax.specs.declared.expression.PrefixOperator.TheVariants as prefixes
+use Rattle.tree.specs.Symbols.{is_placed}
+use Rattle.tree.specs.Operators.{prefix_word}
+use Rattle.syntax.specs.OperatorReads.{prefix_of}
+use Rattle.tree.specs.declared.expression.PrefixOperator.{PrefixOperator}
+use Rattle.tree.specs.declared.expression.PrefixOperator.TheVariants as prefixes
 use Rattle.syntax.proofs.Pieces.{via_fails, stops_never}
 use Rattle.syntax.proofs.Words.{marks_fails, marks_taken}
 use Rattle.syntax.proofs.OperatorRules.{prefix_marks, prefix_to, prefix_from}

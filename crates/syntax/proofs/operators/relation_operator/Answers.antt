@@ -1,8 +1,9 @@
 use Rattle.std.proofs.Common.{◌≡◌, false, refl, sym, ap, ◌∙◌}
-use Rattle.syntax.specs.Symbols.{is_placed}
-use Rattle.syntax.specs.Operators.{relation_word, relation_of}
-use Rattle.syntax.specs.declared.expression.RelationOperator.{RelationOperator}
-use Rattle.syntax.specs.declared.expression.RelationOperator.TheVariants as relation
+use Rattle.tree.specs.Symbols.{is_placed}
+use Rattle.tree.specs.Operators.{relation_word}
+use Rattle.syntax.specs.OperatorReads.{relation_of}
+use Rattle.tree.specs.declared.expression.RelationOperator.{RelationOperator}
+use Rattle.tree.specs.declared.expression.RelationOperator.TheVariants as relation
 use Rattle.syntax.proofs.Pieces.{stops_never}
 use Rattle.syntax.proofs.Words.{words_fails, words_taken}
 use Rattle.syntax.proofs.OperatorRules.{relations}

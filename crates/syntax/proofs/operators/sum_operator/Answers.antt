@@ -1,7 +1,7 @@
 use Rattle.source.specs.declared.kind.Kind.TheVariants as kind
 use Rattle.std.proofs.lemmas.Bool.{iff_false}
 use Rattle.syntax.specs.Reading.{never}
-use Rattle.syntax.specs.Operators.{sum_operator}
+use Rattle.tree.specs.Operators.{sum_operator}
 use Rattle.syntax.proofs.Exits.{exits}
 use Rattle.syntax.proofs.Choices.{form_fails}
 use Rattle.syntax.proofs.KindLemmas.{kind_leads, not_leads}

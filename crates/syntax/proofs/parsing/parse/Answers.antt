@@ -1,9 +1,10 @@
 use Rattle.std.proofs.Common.{◌≡◌, ℕ, map, sym, refl, subst, Err}
 use Rattle.std.specs.Result.{IsErrOf}
 use Rattle.syntax.specs.Reading.{AtFault}
-use Rattle.syntax.specs.Parsing.{Spells, IsFirstWrong}
-use Rattle.syntax.specs.Programs.{program}
-use Rattle.syntax.specs.Trees.{item_tree}
+use Rattle.tree.specs.Spelled.{Spells}
+use Rattle.syntax.specs.Parsing.{IsFirstWrong}
+use Rattle.tree.specs.Programs.{program}
+use Rattle.tree.specs.Trees.{item_tree}
 use Rattle.syntax.specs.declared.cursor.Stuck.{Stuck}
 use Rattle.syntax.specs.declared.cursor.Stuck.TheVariants.{Unexpected}
 use Rattle.syntax.specs.declared.fault.SyntaxFault.TheVariants.{At}

@@ -3,8 +3,8 @@ use Rattle.source.specs.declared.kind.Kind.TheVariants as kind
 use Rattle.syntax.proofs.Exits.{exits}
 use Rattle.syntax.proofs.Choices.{form_fails}
 use Rattle.syntax.proofs.KindLemmas.{kind_leads, not_leads}
-use Rattle.syntax.specs.StatementTrees.{statement_tree}
-use Rattle.syntax.specs.StatementGrammar.{statement}
+use Rattle.tree.specs.StatementTrees.{statement_tree}
+use Rattle.tree.specs.StatementGrammar.{statement}
 use Rattle.syntax.specs.StatementFirsts.{statement_on, statement_at}
 use Rattle.syntax.proofs.NameRests.{passed_form, written_form}
 use Rattle.syntax.proofs.NamedForms.{member_lift}

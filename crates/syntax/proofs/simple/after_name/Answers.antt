@@ -3,8 +3,8 @@ use Rattle.syntax.proofs.Exits.{exits}
 use Rattle.syntax.proofs.Pieces.{fails_here, fails_after}
 use Rattle.syntax.proofs.Choices.{form_fails}
 use Rattle.syntax.proofs.KindLemmas.{kind_leads}
-use Rattle.syntax.specs.StatementTrees.{statement_tree}
-use Rattle.syntax.specs.StatementGrammar.{statement}
+use Rattle.tree.specs.StatementTrees.{statement_tree}
+use Rattle.tree.specs.StatementGrammar.{statement}
 use Rattle.syntax.specs.StatementFirsts.{statement_on, statement_at}
 use Rattle.syntax.proofs.TypeRules.{pointer_piece}
 use Rattle.syntax.proofs.SimpleRules.{declared_piece}

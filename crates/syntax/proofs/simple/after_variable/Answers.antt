@@ -4,9 +4,9 @@ use Rattle.syntax.proofs.Exits.{exits}
 use Rattle.syntax.proofs.Pieces.{fails_here, fails_after}
 use Rattle.syntax.proofs.Choices.{form_fails}
 use Rattle.syntax.proofs.KindLemmas.{kind_leads, neither_leads}
-use Rattle.syntax.specs.ExpressionTrees.{expression_tree}
-use Rattle.syntax.specs.StatementTrees.{statement_tree}
-use Rattle.syntax.specs.StatementGrammar.{statement}
+use Rattle.tree.specs.ExpressionTrees.{expression_tree}
+use Rattle.tree.specs.StatementTrees.{statement_tree}
+use Rattle.tree.specs.StatementGrammar.{statement}
 use Rattle.syntax.specs.StatementFirsts.{statement_on, statement_at}
 use Rattle.syntax.proofs.SimpleRules.{assigned_piece}
 use Rattle.syntax.proofs.NameRests.{called_form, indexed_form, assigned_form, plain_form}

@@ -2,8 +2,8 @@ use Rattle.std.proofs.Common.{Some, refl, ap, ◌∙◌}
 use Rattle.syntax.proofs.Exits.{exits}
 use Rattle.syntax.proofs.Pieces.{fails_here, fails_first, fails_second, wide_fails}
 use Rattle.syntax.proofs.Choices.{form_fails}
-use Rattle.syntax.specs.StatementTrees.{statement_tree}
-use Rattle.syntax.specs.StatementGrammar.{statement}
+use Rattle.tree.specs.StatementTrees.{statement_tree}
+use Rattle.tree.specs.StatementGrammar.{statement}
 use Rattle.syntax.specs.StatementFirsts.{statement_on, statement_at}
 use Rattle.syntax.specs.declared.leads.Lead.TheVariants as lead
 use Rattle.syntax.specs.declared.leads.Simple.TheVariants as simple

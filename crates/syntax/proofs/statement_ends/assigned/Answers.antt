@@ -4,7 +4,7 @@ use Rattle.syntax.specs.Reading.{never}
 use Rattle.syntax.proofs.Exits.{exits}
 use Rattle.syntax.proofs.Pieces.{fails_here, fails_after, fails_first, fails_second, via_fails}
 use Rattle.syntax.proofs.CursorLemmas.{fixed_piece}
-use Rattle.syntax.specs.Values.{value_tree}
+use Rattle.tree.specs.Values.{value_tree}
 use Rattle.syntax.specs.StatementParts.{assigned}
 use Rattle.syntax.proofs.SimpleRules.{value_follows, value_end, assigned_to, assigned_from}
 use Rattle.syntax.proofs.ValueFails.{value_piece}

@@ -3,7 +3,7 @@ use Rattle.syntax.specs.Reading.{never}
 use Rattle.syntax.proofs.Exits.{exits}
 use Rattle.syntax.proofs.Pieces.{fails_here, fails_after, fails_first, fails_second, via_fails}
 use Rattle.syntax.proofs.CursorLemmas.{named_piece}
-use Rattle.syntax.specs.Values.{call_tree, call}
+use Rattle.tree.specs.Values.{call_tree, call}
 use Rattle.syntax.proofs.SimpleRules.{maybe_dot_name_piece, member_follows, member_end, call_to, call_from}
 use Rattle.syntax.proofs.ValueRules.{arguments_piece}
 use Rattle.syntax.proofs.statement_ends.call.Goals as goal

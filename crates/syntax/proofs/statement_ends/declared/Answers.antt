@@ -5,7 +5,7 @@ use Rattle.syntax.proofs.Exits.{exits}
 use Rattle.syntax.proofs.Pieces.{fails_here, fails_after, fails_first, fails_second, via_fails}
 use Rattle.syntax.proofs.CursorLemmas.{fixed_piece, named_piece}
 use Rattle.std.specs.Option.{option_map}
-use Rattle.syntax.specs.Values.{value_tree}
+use Rattle.tree.specs.Values.{value_tree}
 use Rattle.syntax.specs.StatementParts.{declared}
 use Rattle.syntax.proofs.SimpleRules.{maybe_init_piece, maybe_init_follows, maybe_init_end, declared_to, declared_from}
 use Rattle.syntax.proofs.statement_ends.declared.Goals as goal

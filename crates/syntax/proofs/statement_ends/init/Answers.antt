@@ -3,8 +3,9 @@ use Rattle.source.specs.declared.kind.Kind.TheVariants as kind
 use Rattle.syntax.proofs.Exits.{exits}
 use Rattle.syntax.proofs.Pieces.{fails_here, fails_after, via_fails}
 use Rattle.syntax.proofs.CursorLemmas.{fixed_piece}
-use Rattle.syntax.specs.Values.{value_tree, value_on, value_at}
-use Rattle.syntax.specs.StatementGrammar.{init}
+use Rattle.tree.specs.Values.{value_tree}
+use Rattle.syntax.specs.ValueReads.{value_on, value_at}
+use Rattle.tree.specs.StatementGrammar.{init}
 use Rattle.syntax.proofs.SimpleRules.{init_to, init_from}
 use Rattle.syntax.proofs.ValueFails.{value_piece}
 use Rattle.syntax.proofs.statement_ends.init.Goals as goal

@@ -1,12 +1,12 @@
 use Rattle.source.specs.declared.kind.Kind.TheVariants as kind
-use Rattle.syntax.specs.Symbols.{is_kind}
-use Rattle.syntax.specs.Spelling.{optional}
+use Rattle.tree.specs.Symbols.{is_kind}
+use Rattle.tree.specs.Spelling.{optional}
 use Rattle.syntax.specs.Reading.{never, optional_at}
 use Rattle.syntax.proofs.Exits.{exits}
 use Rattle.syntax.proofs.Beginnings.{splits_self}
 use Rattle.syntax.proofs.Options.{opt_fails}
 use Rattle.syntax.proofs.KindLemmas.{kind_leads}
-use Rattle.syntax.specs.Expressions.{dot_name}
+use Rattle.tree.specs.Expressions.{dot_name}
 use Rattle.syntax.proofs.SimpleRules.{dot_name_piece, dot_name_starts}
 use Rattle.syntax.proofs.statement_ends.maybe_dot_name.Goals as goal
 

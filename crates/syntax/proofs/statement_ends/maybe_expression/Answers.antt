@@ -1,12 +1,13 @@
 use Rattle.std.proofs.Common.{refl, sym, ap, ◌∙◌}
-use Rattle.syntax.specs.Symbols.{by_kind}
-use Rattle.syntax.specs.Spelling.{optional}
+use Rattle.tree.specs.Symbols.{by_kind}
+use Rattle.tree.specs.Spelling.{optional}
 use Rattle.syntax.specs.Reading.{optional_at}
 use Rattle.syntax.proofs.Exits.{exits}
 use Rattle.syntax.proofs.KindLemmas.{test_leads}
 use Rattle.std.specs.Option.{option_map}
-use Rattle.syntax.specs.Expressions.{expression, opens_expression, expression_at}
-use Rattle.syntax.specs.ExpressionTrees.{expression_tree}
+use Rattle.tree.specs.Expressions.{expression}
+use Rattle.syntax.specs.ExpressionReads.{opens_expression, expression_at}
+use Rattle.tree.specs.ExpressionTrees.{expression_tree}
 use Rattle.syntax.specs.StatementParts.{result_on}
 use Rattle.syntax.proofs.Options.{open_opt_fails}
 use Rattle.syntax.proofs.SimpleRules.{result_opens}

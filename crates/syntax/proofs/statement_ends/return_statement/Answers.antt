@@ -5,7 +5,7 @@ use Rattle.syntax.proofs.Exits.{exits}
 use Rattle.syntax.proofs.Pieces.{fails_here, fails_after, fails_first, fails_second, via_fails}
 use Rattle.syntax.proofs.CursorLemmas.{fixed_piece, placed_piece}
 use Rattle.std.specs.Option.{option_map}
-use Rattle.syntax.specs.ExpressionTrees.{expression_tree}
+use Rattle.tree.specs.ExpressionTrees.{expression_tree}
 use Rattle.syntax.specs.StatementParts.{return_parts}
 use Rattle.syntax.proofs.SimpleRules.{maybe_expression_piece, result_follows, result_end, return_to, return_from}
 use Rattle.syntax.proofs.statement_ends.return_statement.Goals as goal

@@ -4,7 +4,7 @@ use Rattle.syntax.specs.Reading.{never}
 use Rattle.syntax.proofs.Exits.{exits}
 use Rattle.syntax.proofs.Pieces.{fails_here, fails_after, via_fails, next}
 use Rattle.syntax.proofs.CursorLemmas.{fixed_piece, placed_piece}
-use Rattle.syntax.specs.Values.{call_tree}
+use Rattle.tree.specs.Values.{call_tree}
 use Rattle.syntax.specs.StatementParts.{start}
 use Rattle.syntax.proofs.SimpleRules.{start_to, start_from}
 use Rattle.syntax.proofs.ValueForms.{call_piece}

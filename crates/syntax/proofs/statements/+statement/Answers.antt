@@ -2,7 +2,7 @@ use Rattle.std.proofs.Common.{◌∷◌, Some, None, map, refl, sym, ap, ◌∙�
 use Rattle.std.specs.List.{flat_map}
 use Rattle.std.proofs.lemmas.Bool.{iff_false}
 use Rattle.source.specs.declared.kind.Kind.TheVariants as kind
-use Rattle.syntax.specs.Reading.{never}
+use Rattle.syntax.specs.Reading.{never, Stops}
 use Rattle.syntax.proofs.Exits.{exits}
 use Rattle.syntax.proofs.Pieces.{fails_here, fails_after, fails_first, fails_second, via_fails, wide_fails, next, stops_never}
 use Rattle.syntax.proofs.Repeats.{many_fails}
@@ -10,9 +10,9 @@ use Rattle.syntax.proofs.Choices.{form_fails, form_reads}
 use Rattle.syntax.proofs.Enclosed.{braced_open_fails, braced_fails, braced_close_fails}
 use Rattle.syntax.proofs.KindLemmas.{kind_leads, not_leads, test_leads}
 use Rattle.syntax.proofs.CursorLemmas.{fixed_piece, placed_piece}
-use Rattle.syntax.specs.ExpressionTrees.{expression_tree}
-use Rattle.syntax.specs.StatementTrees.{statement_tree, block_tree, case_tree, if_tree, switch_tree, test_tree}
-use Rattle.syntax.specs.StatementGrammar.{statement, block, test, case}
+use Rattle.tree.specs.ExpressionTrees.{expression_tree}
+use Rattle.tree.specs.StatementTrees.{statement_tree, block_tree, case_tree, if_tree, switch_tree, test_tree}
+use Rattle.tree.specs.StatementGrammar.{statement, block, test, case}
 use Rattle.syntax.specs.StatementParts.{if_parts, if_at, switch_parts, case_front_tree}
 use Rattle.syntax.specs.StatementFirsts.{lead_of, opens_statement, statement_on, statement_at, statements_on, statements_at, case_at, cases_on, cases_at}
 use Rattle.syntax.specs.declared.leads.Lead.TheVariants as lead
@@ -20,8 +20,7 @@ use Rattle.syntax.proofs.CaseRules.{case_front_piece}
 use Rattle.syntax.proofs.StatementLeads.{lead_leads, statement_starts}
 use Rattle.syntax.proofs.StatementForms.{block_form, if_form, while_form, switch_form}
 use Rattle.std.specs.Prelude.{is_some}
-use Rattle.syntax.specs.Symbols.{Fixed}
-use Rattle.syntax.specs.Reading.{Stops}
+use Rattle.tree.specs.Symbols.{Fixed}
 use Rattle.syntax.proofs.Beginnings.{begun_shorter}
 use Rattle.syntax.proofs.StatementFolds.{made_switch, rolled_block, rolled_case, rolled_if, rolled_else, rolled_switch, rolled_test}
 use Rattle.syntax.proofs.StatementCycle.{block_fails, block_inside, case_fails, case_starts, case_splits, case_leaves, statement_splits, statement_leaves, if_to, if_from, last_form, further_form, switch_to, switch_from, case_follows, cases_follow, test_fails}

@@ -2,8 +2,8 @@ use Rattle.std.proofs.Common.{◌≡◌, ◌++◌, ◌*◌, ◌+◌, ◌≤◌, 
 use Rattle.std.specs.List.{flat_map}
 use Rattle.source.specs.declared.kind.Kind.TheVariants as kind
 use Rattle.syntax.specs.Reading.{Stops, last_at}
-use Rattle.syntax.specs.StatementTrees.{statement_tree, case_tree, test_tree}
-use Rattle.syntax.specs.StatementGrammar.{statement, case, test}
+use Rattle.tree.specs.StatementTrees.{statement_tree, case_tree, test_tree}
+use Rattle.tree.specs.StatementGrammar.{statement, case, test}
 use Rattle.syntax.specs.StatementFirsts.{statement_at, case_at}
 use Rattle.syntax.proofs.StatementCycle.{else_if}
 use Rattle.syntax.proofs.statements.+statement.Given as goal

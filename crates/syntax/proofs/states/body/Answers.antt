@@ -1,8 +1,8 @@
 use Rattle.std.proofs.Common.{refl}
 use Rattle.std.proofs.lemmas.Bool.{iff_false}
 use Rattle.source.specs.declared.kind.Kind.TheVariants as kind
-use Rattle.syntax.specs.Trees.{body_tree}
-use Rattle.syntax.specs.Grammar.{body}
+use Rattle.tree.specs.Trees.{body_tree}
+use Rattle.tree.specs.Grammar.{body}
 use Rattle.syntax.specs.States.{body_at, state_on}
 use Rattle.syntax.proofs.Exits.{exits}
 use Rattle.syntax.proofs.Pieces.{wide_fails}

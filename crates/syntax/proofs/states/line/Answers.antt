@@ -1,8 +1,8 @@
 use Rattle.std.proofs.Common.{refl}
 use Rattle.source.specs.declared.kind.Kind.TheVariants as kind
 use Rattle.syntax.specs.Reading.{never}
-use Rattle.syntax.specs.Trees.{path_tree}
-use Rattle.syntax.specs.Grammar.{line}
+use Rattle.tree.specs.Trees.{path_tree}
+use Rattle.tree.specs.Grammar.{line}
 use Rattle.syntax.proofs.Exits.{exits}
 use Rattle.syntax.proofs.Pieces.{fails_first, fails_second, via_fails}
 use Rattle.syntax.proofs.CursorLemmas.{fixed_piece}

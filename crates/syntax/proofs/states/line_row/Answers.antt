@@ -1,9 +1,9 @@
 use Rattle.std.proofs.Common.{map, refl}
 use Rattle.std.specs.List.{flat_map}
 use Rattle.source.specs.declared.kind.Kind.TheVariants as kind
-use Rattle.syntax.specs.Symbols.{is_kind}
-use Rattle.syntax.specs.Trees.{path_tree}
-use Rattle.syntax.specs.Grammar.{line}
+use Rattle.tree.specs.Symbols.{is_kind}
+use Rattle.tree.specs.Trees.{path_tree}
+use Rattle.tree.specs.Grammar.{line}
 use Rattle.syntax.proofs.Exits.{exits}
 use Rattle.syntax.proofs.Beginnings.{splits_self}
 use Rattle.syntax.proofs.Repeats.{many_fails, ended_leaves}

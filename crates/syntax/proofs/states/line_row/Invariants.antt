@@ -1,7 +1,7 @@
 use Rattle.std.proofs.Common.{◌≡◌, ◌++◌, length, map}
 use Rattle.std.specs.List.{flat_map}
-use Rattle.syntax.specs.Grammar.{line}
-use Rattle.syntax.specs.Trees.{path_tree}
+use Rattle.tree.specs.Grammar.{line}
+use Rattle.tree.specs.Trees.{path_tree}
 use Rattle.syntax.proofs.states.line_row.Given as goal
 
 abbrev pub invariant-each : goal.invariant-each

@@ -1,6 +1,6 @@
 use Rattle.std.proofs.Common.{map}
 use Rattle.syntax.specs.Reading.{never}
-use Rattle.syntax.specs.Trees.{path_tree}
+use Rattle.tree.specs.Trees.{path_tree}
 use Rattle.syntax.specs.States.{lines}
 use Rattle.syntax.proofs.Exits.{exits}
 use Rattle.syntax.proofs.Enclosed.{braced_open_fails, braced_fails, braced_close_fails}

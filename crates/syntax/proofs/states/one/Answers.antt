@@ -1,6 +1,6 @@
 use Rattle.std.proofs.Common.{map, refl}
 use Rattle.source.specs.declared.kind.Kind.TheVariants as kind
-use Rattle.syntax.specs.Trees.{path_tree}
+use Rattle.tree.specs.Trees.{path_tree}
 use Rattle.syntax.specs.States.{one, one_at, state_on}
 use Rattle.syntax.proofs.Exits.{exits}
 use Rattle.syntax.proofs.Pieces.{next, fails_here, fails_after, via_fails}

@@ -1,7 +1,7 @@
 use Rattle.std.proofs.Common.{◌≡◌, ◌++◌, sym, ap, ◌∙◌, refl}
-use Rattle.syntax.specs.Symbols.{by_kind}
-use Rattle.syntax.specs.Trees.{PathTree, path_tree}
-use Rattle.syntax.specs.Grammar.{path}
+use Rattle.tree.specs.Symbols.{by_kind}
+use Rattle.tree.specs.Trees.{PathTree, path_tree}
+use Rattle.tree.specs.Grammar.{path}
 use Rattle.syntax.specs.Firsts.{opens_sign}
 use Rattle.syntax.proofs.Exits.{exits}
 use Rattle.syntax.proofs.KindLemmas.{test_leads}

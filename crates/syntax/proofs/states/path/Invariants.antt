@@ -1,5 +1,5 @@
 use Rattle.std.proofs.Common.{◌≡◌, ◌++◌, length}
-use Rattle.syntax.specs.Grammar.{path}
+use Rattle.tree.specs.Grammar.{path}
 use Rattle.syntax.proofs.states.path.Given as goal
 
 abbrev pub invariant-each : goal.invariant-each

@@ -1,8 +1,8 @@
 use Rattle.std.proofs.Common.{◌≡◌, true, refl, sym, ap, ◌∙◌}
-use Rattle.syntax.specs.Symbols.{is_placed}
-use Rattle.syntax.specs.Grammar.{sign_word}
-use Rattle.syntax.specs.declared.tree.Sign.{Sign}
-use Rattle.syntax.specs.declared.tree.Sign.TheVariants as sign
+use Rattle.tree.specs.Symbols.{is_placed}
+use Rattle.tree.specs.Grammar.{sign_word}
+use Rattle.program.specs.declared.contract.Sign.{Sign}
+use Rattle.program.specs.declared.contract.Sign.TheVariants as sign
 use Rattle.syntax.proofs.Pieces.{stops_never}
 use Rattle.syntax.specs.Firsts.{sign_of}
 use Rattle.syntax.proofs.Words.{marks_fails, marks_taken}

@@ -1,7 +1,7 @@
 use Rattle.std.proofs.Common.{refl}
 use Rattle.source.specs.declared.kind.Kind.TheVariants as kind
-use Rattle.syntax.specs.Trees.{state_tree}
-use Rattle.syntax.specs.Grammar.{state}
+use Rattle.tree.specs.Trees.{state_tree}
+use Rattle.tree.specs.Grammar.{state}
 use Rattle.syntax.specs.States.{state_on, state_at}
 use Rattle.syntax.proofs.Exits.{exits}
 use Rattle.syntax.proofs.Pieces.{next, fails_here, fails_after, via_fails}

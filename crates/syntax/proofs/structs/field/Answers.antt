@@ -5,7 +5,7 @@ use Rattle.syntax.proofs.Exits.{exits}
 use Rattle.syntax.proofs.Pieces.{fails_here, fails_after, fails_second, via_fails, next}
 use Rattle.syntax.proofs.Words.{words_piece}
 use Rattle.syntax.proofs.CursorLemmas.{fixed_piece, named_piece}
-use Rattle.syntax.specs.Programs.{field}
+use Rattle.tree.specs.Programs.{field}
 use Rattle.syntax.proofs.TypeRules.{scalars}
 use Rattle.syntax.proofs.AccessRules.{access_piece}
 use Rattle.syntax.proofs.StructRules.{field_to, field_from, field_follows}

@@ -1,11 +1,11 @@
 use Rattle.std.proofs.Common.{refl, sym, ap, ◌∙◌}
 use Rattle.std.specs.List.{flat_map}
-use Rattle.syntax.specs.Symbols.{by_kind}
+use Rattle.tree.specs.Symbols.{by_kind}
 use Rattle.syntax.proofs.Exits.{exits}
 use Rattle.syntax.proofs.Beginnings.{splits_self}
 use Rattle.syntax.proofs.Repeats.{many_fails, ended_leaves}
 use Rattle.syntax.proofs.KindLemmas.{test_leads}
-use Rattle.syntax.specs.Programs.{field}
+use Rattle.tree.specs.Programs.{field}
 use Rattle.syntax.specs.Firsts.{opens_field}
 use Rattle.syntax.proofs.StructRules.{field_piece, field_starts}
 use Rattle.syntax.proofs.structs.field_row.Goals as goal

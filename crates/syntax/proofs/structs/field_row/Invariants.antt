@@ -1,6 +1,6 @@
 use Rattle.std.proofs.Common.{◌≡◌, ◌++◌, length}
 use Rattle.std.specs.List.{flat_map}
-use Rattle.syntax.specs.Programs.{field}
+use Rattle.tree.specs.Programs.{field}
 use Rattle.syntax.proofs.structs.field_row.Given as goal
 
 abbrev pub invariant-each : goal.invariant-each

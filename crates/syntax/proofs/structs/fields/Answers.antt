@@ -1,9 +1,9 @@
 use Rattle.std.specs.List.{flat_map}
-use Rattle.syntax.specs.Spelling.{braced}
+use Rattle.tree.specs.Spelling.{braced}
 use Rattle.syntax.specs.Reading.{never}
 use Rattle.syntax.proofs.Exits.{exits}
 use Rattle.syntax.proofs.Enclosed.{braced_open_fails, braced_fails, braced_close_fails}
-use Rattle.syntax.specs.Programs.{field}
+use Rattle.tree.specs.Programs.{field}
 use Rattle.syntax.proofs.StructRules.{fields_inside, field_row_piece}
 use Rattle.syntax.proofs.structs.fields.Goals as goal
 

@@ -4,8 +4,8 @@ use Rattle.syntax.specs.Reading.{never}
 use Rattle.syntax.proofs.Exits.{exits}
 use Rattle.syntax.proofs.Pieces.{fails_here, fails_after, via_fails, next}
 use Rattle.syntax.proofs.CursorLemmas.{fixed_piece, named_piece}
-use Rattle.syntax.specs.Programs.{struct}
-use Rattle.syntax.specs.Trees.{struct_tree}
+use Rattle.tree.specs.Programs.{struct}
+use Rattle.tree.specs.Trees.{struct_tree}
 use Rattle.syntax.proofs.StructRules.{fields_piece, struct_to, struct_from}
 use Rattle.syntax.proofs.structs.structure.Goals as goal
 

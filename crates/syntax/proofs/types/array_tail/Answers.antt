@@ -3,8 +3,7 @@ use Rattle.source.specs.declared.kind.Kind.TheVariants as kind
 use Rattle.syntax.specs.Reading.{never}
 use Rattle.syntax.specs.Types.{array_tail}
 use Rattle.syntax.proofs.Exits.{exits}
-use Rattle.syntax.proofs.Pieces.{fails_here, fails_after, via_fails}
-use Rattle.syntax.proofs.Pieces.{next}
+use Rattle.syntax.proofs.Pieces.{fails_here, fails_after, via_fails, next}
 use Rattle.syntax.proofs.CursorLemmas.{fixed_piece}
 use Rattle.syntax.proofs.TypeRules.{array_to, array_from, bang_in_heap_piece}
 use Rattle.syntax.proofs.types.array_tail.Goals as goal

@@ -1,6 +1,6 @@
 use Rattle.source.specs.declared.kind.Kind.TheVariants as kind
-use Rattle.syntax.specs.Symbols.{is_kind}
-use Rattle.syntax.specs.Spelling.{optional}
+use Rattle.tree.specs.Symbols.{is_kind}
+use Rattle.tree.specs.Spelling.{optional}
 use Rattle.syntax.specs.Reading.{never, optional_at}
 use Rattle.syntax.specs.Types.{array_tail}
 use Rattle.syntax.proofs.Exits.{exits}

@@ -1,8 +1,8 @@
 use Rattle.source.specs.declared.kind.Kind.TheVariants as kind
-use Rattle.syntax.specs.Symbols.{is_kind}
-use Rattle.syntax.specs.Spelling.{optional}
+use Rattle.tree.specs.Symbols.{is_kind}
+use Rattle.tree.specs.Spelling.{optional}
 use Rattle.syntax.specs.Reading.{never, optional_at}
-use Rattle.syntax.specs.Grammar.{colon_name}
+use Rattle.tree.specs.Grammar.{colon_name}
 use Rattle.syntax.proofs.Exits.{exits}
 use Rattle.syntax.proofs.Beginnings.{splits_self}
 use Rattle.syntax.proofs.Options.{opt_fails}

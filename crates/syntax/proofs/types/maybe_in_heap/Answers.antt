@@ -1,8 +1,8 @@
 use Rattle.source.specs.declared.kind.Kind.TheVariants as kind
-use Rattle.syntax.specs.Symbols.{is_kind}
-use Rattle.syntax.specs.Spelling.{when}
+use Rattle.tree.specs.Symbols.{is_kind}
+use Rattle.tree.specs.Spelling.{when}
 use Rattle.syntax.specs.Reading.{when_at}
-use Rattle.syntax.specs.Grammar.{in_heap_words}
+use Rattle.tree.specs.Grammar.{in_heap_words}
 use Rattle.syntax.specs.Types.{endpoint_on}
 use Rattle.syntax.proofs.Exits.{exits}
 use Rattle.syntax.proofs.Options.{when_fails}

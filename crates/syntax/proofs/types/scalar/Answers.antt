@@ -1,8 +1,8 @@
 use Rattle.std.proofs.Common.{◌≡◌, false, refl, sym, ap, ◌∙◌}
-use Rattle.syntax.specs.Symbols.{is_placed}
-use Rattle.syntax.specs.Grammar.{scalar_word}
-use Rattle.syntax.specs.declared.tree.Scalar.{Scalar}
-use Rattle.syntax.specs.declared.tree.Scalar.TheVariants as scalar
+use Rattle.tree.specs.Symbols.{is_placed}
+use Rattle.tree.specs.Grammar.{scalar_word}
+use Rattle.program.specs.declared.kind.Scalar.{Scalar}
+use Rattle.program.specs.declared.kind.Scalar.TheVariants as scalar
 use Rattle.syntax.proofs.Pieces.{stops_never}
 use Rattle.syntax.specs.Firsts.{scalar_of}
 use Rattle.syntax.proofs.Words.{words_fails, words_taken}

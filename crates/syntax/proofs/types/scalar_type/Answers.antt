@@ -1,6 +1,6 @@
 use Rattle.std.proofs.Common.{refl}
 use Rattle.source.specs.declared.kind.Kind.TheVariants as kind
-use Rattle.syntax.specs.Symbols.{is_kind}
+use Rattle.tree.specs.Symbols.{is_kind}
 use Rattle.syntax.specs.Types.{scalar_type, scalar_at}
 use Rattle.syntax.proofs.Exits.{exits}
 use Rattle.syntax.proofs.Pieces.{fails_here, fails_after, via_fails}

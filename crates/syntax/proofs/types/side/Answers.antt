@@ -1,8 +1,8 @@
 use Rattle.std.proofs.Common.{◌≡◌, false, refl, sym, ap, ◌∙◌}
-use Rattle.syntax.specs.Symbols.{is_placed}
-use Rattle.syntax.specs.Grammar.{side_word}
-use Rattle.syntax.specs.declared.tree.Side.{Side}
-use Rattle.syntax.specs.declared.tree.Side.TheVariants as side
+use Rattle.tree.specs.Symbols.{is_placed}
+use Rattle.tree.specs.Grammar.{side_word}
+use Rattle.program.specs.declared.kind.Side.{Side}
+use Rattle.program.specs.declared.kind.Side.TheVariants as side
 use Rattle.syntax.proofs.Pieces.{stops_never}
 use Rattle.syntax.specs.Firsts.{side_of}
 use Rattle.syntax.proofs.Words.{words_fails, words_taken}

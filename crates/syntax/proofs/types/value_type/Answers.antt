@@ -2,7 +2,7 @@ use Rattle.source.specs.declared.kind.Kind.TheVariants as kind
 use Rattle.std.proofs.lemmas.Bool.{iff_false}
 use Rattle.std.proofs.Common.{sym, subst}
 use Rattle.syntax.specs.Reading.{Stops}
-use Rattle.syntax.specs.Grammar.{value_type}
+use Rattle.tree.specs.Grammar.{value_type}
 use Rattle.syntax.specs.Types.{type_on, type_at}
 use Rattle.syntax.proofs.Exits.{exits}
 use Rattle.syntax.proofs.Pieces.{wide_fails}

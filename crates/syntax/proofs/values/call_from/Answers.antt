@@ -1,6 +1,6 @@
 use Rattle.source.specs.declared.kind.Kind.TheVariants as kind
 use Rattle.syntax.specs.Reading.{never}
-use Rattle.syntax.specs.Values.{call_tree, call}
+use Rattle.tree.specs.Values.{call_tree, call}
 use Rattle.syntax.proofs.Exits.{exits}
 use Rattle.syntax.proofs.KindLemmas.{kind_leads}
 use Rattle.syntax.proofs.ValueForms.{arguments_fail}

@@ -1,10 +1,11 @@
 use Rattle.std.proofs.Common.{◌∷◌, [], ◌++◌, map, sym, ap, ◌∙◌, refl}
 use Rattle.std.proofs.lemmas.List.{map-append}
 use Rattle.source.specs.declared.kind.Kind.TheVariants as kind
-use Rattle.syntax.specs.Spelling.{listed}
-use Rattle.syntax.specs.Expressions.{expression, opens_expression}
-use Rattle.syntax.specs.ExpressionTrees.{expression_tree}
-use Rattle.syntax.specs.Values.{expressions_on, expressions_at}
+use Rattle.tree.specs.Spelling.{listed}
+use Rattle.tree.specs.Expressions.{expression}
+use Rattle.syntax.specs.ExpressionReads.{opens_expression}
+use Rattle.tree.specs.ExpressionTrees.{expression_tree}
+use Rattle.syntax.specs.ValueReads.{expressions_on, expressions_at}
 use Rattle.syntax.proofs.Exits.{exits}
 use Rattle.syntax.proofs.KindLemmas.{kind_leads, test_leads}
 use Rattle.syntax.proofs.ListedOpen.{open_first_fails, open_more_fails, list_begun, list_more}

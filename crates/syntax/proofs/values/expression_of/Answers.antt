@@ -1,7 +1,8 @@
 use Rattle.std.proofs.Common.{◌++◌, subst}
 use Rattle.syntax.specs.Reading.{Reads}
-use Rattle.syntax.specs.Expressions.{level, expression, expression_on, expression_at}
-use Rattle.syntax.specs.ExpressionTrees.{expression_tree, target_tree}
+use Rattle.tree.specs.Expressions.{level, expression}
+use Rattle.syntax.specs.ExpressionReads.{expression_on, expression_at}
+use Rattle.tree.specs.ExpressionTrees.{expression_tree, target_tree}
 use Rattle.syntax.proofs.ValueEnds.{target_unary, target_unary_stops}
 use Rattle.syntax.proofs.values.expression_of.Goals as goal
 

@@ -1,7 +1,7 @@
 use Rattle.std.proofs.lemmas.Bool.{iff_false}
 use Rattle.source.specs.declared.kind.Kind.TheVariants as kind
 use Rattle.syntax.specs.Reading.{never}
-use Rattle.syntax.specs.Values.{made_tree, made_spelling}
+use Rattle.tree.specs.Values.{made_tree, made_spelling}
 use Rattle.syntax.proofs.Exits.{exits}
 use Rattle.syntax.proofs.Choices.{form_fails}
 use Rattle.syntax.proofs.KindLemmas.{kind_leads, not_leads}

@@ -1,7 +1,7 @@
 use Rattle.std.proofs.Common.{refl}
 use Rattle.syntax.specs.Reading.{never}
-use Rattle.syntax.specs.ExpressionTrees.{expression_tree}
-use Rattle.syntax.specs.Values.{made_array}
+use Rattle.tree.specs.ExpressionTrees.{expression_tree}
+use Rattle.tree.specs.Values.{made_array}
 use Rattle.syntax.proofs.Exits.{exits}
 use Rattle.syntax.proofs.Pieces.{fails_here, fails_after, via_fails}
 use Rattle.syntax.proofs.Words.{words_piece}

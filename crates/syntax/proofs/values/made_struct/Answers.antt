@@ -1,7 +1,7 @@
 use Rattle.std.proofs.Common.{refl}
 use Rattle.source.specs.declared.kind.Kind.TheVariants as kind
 use Rattle.syntax.specs.Reading.{never}
-use Rattle.syntax.specs.Values.{made_struct}
+use Rattle.tree.specs.Values.{made_struct}
 use Rattle.syntax.proofs.Exits.{exits}
 use Rattle.syntax.proofs.Pieces.{next, fails_here, fails_after, via_fails}
 use Rattle.syntax.proofs.CursorLemmas.{fixed_piece, placed_piece, named_piece}

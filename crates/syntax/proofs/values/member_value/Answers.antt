@@ -1,12 +1,14 @@
 use Rattle.std.proofs.Common.{◌≡◌, ◌++◌, Some, sym, ap, ◌∙◌, subst}
 use Rattle.std.proofs.lemmas.Bool.{iff_false}
 use Rattle.source.specs.declared.kind.Kind.TheVariants as kind
-use Rattle.syntax.specs.Spelling.{name}
+use Rattle.tree.specs.Spelling.{name}
 use Rattle.syntax.specs.Reading.{Fails}
-use Rattle.syntax.specs.Expressions.{target, expression, expression_on, dot_name}
-use Rattle.syntax.specs.ExpressionTrees.{expression_tree}
+use Rattle.tree.specs.Expressions.{target, expression, dot_name}
+use Rattle.syntax.specs.ExpressionReads.{expression_on}
+use Rattle.tree.specs.ExpressionTrees.{expression_tree}
 use Rattle.syntax.proofs.TreeLemmas.{field_made}
-use Rattle.syntax.specs.Values.{value_tree, value_spelling, value_on, value_at}
+use Rattle.tree.specs.Values.{value_tree, value_spelling}
+use Rattle.syntax.specs.ValueReads.{value_on, value_at}
 use Rattle.syntax.proofs.Exits.{exits}
 use Rattle.syntax.proofs.KindLemmas.{kind_leads, not_leads}
 use Rattle.syntax.proofs.ValueFails.{call_fails, member_fails}

@@ -2,8 +2,9 @@ use Rattle.std.proofs.Common.{sym, subst}
 use Rattle.std.proofs.lemmas.Bool.{iff_false}
 use Rattle.source.specs.declared.kind.Kind.TheVariants as kind
 use Rattle.syntax.specs.Reading.{Reads}
-use Rattle.syntax.specs.ExpressionTrees.{expression_tree}
-use Rattle.syntax.specs.Values.{value_tree, value_spelling, value_on, value_at}
+use Rattle.tree.specs.ExpressionTrees.{expression_tree}
+use Rattle.tree.specs.Values.{value_tree, value_spelling}
+use Rattle.syntax.specs.ValueReads.{value_on, value_at}
 use Rattle.syntax.proofs.Exits.{exits}
 use Rattle.syntax.proofs.KindLemmas.{kind_leads, neither_leads}
 use Rattle.syntax.proofs.ValueFails.{new_fails, plain_fails}

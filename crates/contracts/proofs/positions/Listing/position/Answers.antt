@@ -3,7 +3,7 @@ use Rattle.std.specs.Prelude.{IsSome, nat_eq}
 use Rattle.std.specs.Cmp.{unsigned_tied}
 use Rattle.std.specs.Ordering.{is_eq, nat_cmp}
 use Rattle.contracts.proofs.PartLemmas.{get_again}
-use Rattle.contracts.proofs.PositionLemmas.{number_there, same_position}
+use Rattle.lemmas.proofs.FirstPlaces.{number_there, same_position}
 use Rattle.contracts.proofs.positions.Listing.position.Goals as goal
 use Rattle.contracts.proofs.positions.Listing.position.Goals.{After-copied, After-unwrap}
 

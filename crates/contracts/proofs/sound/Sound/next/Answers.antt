@@ -1,7 +1,8 @@
 use Rattle.std.proofs.Common.{◌≡◌, ◌∙◌, map, sym, subst, refl, arith}
-use Rattle.syntax.specs.declared.tree.Sign.TheVariants.{Send}
-use Rattle.names.specs.declared.resolved.Edge.{Edge}
-use Rattle.contracts.specs.Positions.{first_position, pair_cmp, key_of}
+use Rattle.program.specs.declared.contract.Sign.TheVariants.{Send}
+use Rattle.program.specs.declared.contract.Edge.{Edge}
+use Rattle.lemmas.specs.Places.{first_position}
+use Rattle.contracts.specs.Positions.{pair_cmp, key_of}
 use Rattle.contracts.specs.Walks.{IsNext}
 use Rattle.contracts.proofs.NextLemmas.{next_none, next_some}
 use Rattle.contracts.proofs.sound.Sound.next.Goals as goal

@@ -1,5 +1,5 @@
 use Rattle.std.proofs.Common.{List, map, ap, ◌∙◌, subst}
-use Rattle.syntax.specs.StatementTrees.{switch_tree}
+use Rattle.tree.specs.StatementTrees.{switch_tree}
 use Rattle.names.specs.declared.heads.Awaiting.{Awaiting}
 use Rattle.names.specs.Heads.{Written, awaited_word, key_words, switch_heads}
 use Rattle.names.specs.Tables.{IsTable}

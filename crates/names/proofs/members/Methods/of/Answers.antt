@@ -1,7 +1,7 @@
 use Rattle.std.proofs.Common.{◌∙◌, sym, subst, ap, map}
 use Rattle.std.proofs.lemmas.Simd.{map-map}
-use Rattle.syntax.specs.Trees.{method_tree}
-use Rattle.syntax.specs.declared.class as made
+use Rattle.tree.specs.Trees.{method_tree}
+use Rattle.tree.specs.declared.class as made
 use Rattle.names.specs.Tables.{IsTable}
 use Rattle.names.specs.Values.{can_start}
 use Rattle.names.specs.Words.{words_at}

@@ -1,5 +1,5 @@
 use Rattle.std.proofs.Common.{◌≡◌, map, take}
-use Rattle.syntax.specs.Trees.{message_tree}
+use Rattle.tree.specs.Trees.{message_tree}
 use Rattle.names.proofs.outline.Outline.of.Given as goal
 
 abbrev pub invariant-loop-message : goal.invariant-loop-message

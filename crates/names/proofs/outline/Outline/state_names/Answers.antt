@@ -1,7 +1,7 @@
 use Rattle.std.proofs.Common.{map, ap, ◌∙◌, sym}
 use Rattle.std.proofs.lemmas.List.{take_all}
 use Rattle.std.proofs.lemmas.Simd.{map-map}
-use Rattle.syntax.specs.Trees.{state_tree}
+use Rattle.tree.specs.Trees.{state_tree}
 use Rattle.names.proofs.outline.Outline.state_names.Goals as goal
 
 pub returns : goal.returns

@@ -1,5 +1,5 @@
 use Rattle.std.proofs.Common.{◌≡◌, map, take}
-use Rattle.syntax.specs.Trees.{state_tree}
+use Rattle.tree.specs.Trees.{state_tree}
 use Rattle.names.proofs.outline.Outline.state_names.Given as goal
 
 abbrev pub invariant-loop-state : goal.invariant-loop-state

@@ -1,6 +1,6 @@
 use Rattle.std.proofs.Common.{ap, ◌∙◌, sym}
 use Rattle.std.specs.Prelude.{option_and_then, option_map}
-use Rattle.syntax.specs.Trees.{ClassTree}
+use Rattle.tree.specs.Trees.{ClassTree}
 use Rattle.names.specs.Program.{Numbered, item_at, as_class}
 use Rattle.names.proofs.ClassLemmas.{class_missing, class_here}
 use Rattle.names.proofs.scope.Scope.class_place.Goals as goal

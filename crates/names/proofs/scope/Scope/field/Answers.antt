@@ -1,6 +1,6 @@
 use Rattle.std.proofs.Common.{ap, ◌∙◌, sym, subst}
 use Rattle.std.specs.Prelude.{option_and_then}
-use Rattle.syntax.specs.Trees.{StructTree}
+use Rattle.tree.specs.Trees.{StructTree}
 use Rattle.names.specs.Expressions.{field_named}
 use Rattle.names.specs.Program.{Numbered}
 use Rattle.names.specs.Scopes.{AreFields}

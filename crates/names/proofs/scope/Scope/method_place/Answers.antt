@@ -1,6 +1,6 @@
 use Rattle.std.proofs.Common.{ap, ◌∙◌, map, sym, subst}
 use Rattle.std.specs.Prelude.{option_and_then}
-use Rattle.syntax.specs.Trees.{ClassTree}
+use Rattle.tree.specs.Trees.{ClassTree}
 use Rattle.names.specs.Declarations.{first_among}
 use Rattle.names.specs.Program.{Numbered}
 use Rattle.names.specs.Scopes.{AreMethods}

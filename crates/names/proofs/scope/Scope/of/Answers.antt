@@ -1,6 +1,6 @@
 use Rattle.std.proofs.Common.{◌∙◌, sym, subst, refl, map}
 use Rattle.std.proofs.lemmas.Simd.{map-map}
-use Rattle.syntax.specs.Trees.{item_tree}
+use Rattle.tree.specs.Trees.{item_tree}
 use Rattle.names.specs.Program.{Program, defined_name}
 use Rattle.names.specs.Tables.{IsTable}
 use Rattle.names.specs.Words.{words_at}

@@ -1,6 +1,6 @@
 use Rattle.std.proofs.Common.{ap, ◌∙◌, sym}
 use Rattle.std.specs.Prelude.{option_and_then}
-use Rattle.syntax.specs.Trees.{ContractTree}
+use Rattle.tree.specs.Trees.{ContractTree}
 use Rattle.names.specs.Declarations.{names_of_states, states_of}
 use Rattle.names.specs.Firsts.{first_of}
 use Rattle.names.specs.Places.{place_among}

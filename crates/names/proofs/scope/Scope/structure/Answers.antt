@@ -1,6 +1,6 @@
 use Rattle.std.proofs.Common.{ap, ◌∙◌, sym}
 use Rattle.std.specs.Prelude.{option_and_then, option_map}
-use Rattle.syntax.specs.Trees.{StructTree}
+use Rattle.tree.specs.Trees.{StructTree}
 use Rattle.names.specs.Program.{Numbered, item_at, as_struct}
 use Rattle.names.proofs.ScopeLemmas.{struct_missing, struct_here}
 use Rattle.names.proofs.scope.Scope.structure.Goals as goal

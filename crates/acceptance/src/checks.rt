@@ -1,0 +1,241 @@
+//! Whole checks on worked texts, and on devices and memory that fail.
+
+use crate::devices::{Card, Page, Text};
+use singcheck::laws::one_check;
+use singcheck::{
+    Counted, Gate, Input, MOST_SLOTS, MOST_WORKERS, Open, RunFault, Status, check, run_check,
+};
+use std::alloc::Global;
+use std::cell::Cell;
+use std::test::Fail;
+
+const NEVER: u64 = 0;
+
+const FREED_TWICE: &str =
+    "rep struct D { int n; } class K { static void F() { D* in ExHeap p = new[ExHeap] D(); delete p; delete p; } }";
+
+const FREED_TWICE_ANSWER: &str = "1:104 A01 p not owned\nfindings: 1\n";
+
+const HANDED_ON: &str =
+    "rep struct D { int n; } class K { static void F([Claims] D* in ExHeap p) { D* in ExHeap q = p; q.n = 1; delete q; } static void G() { } }";
+
+const HANDED_ON_ANSWER: &str = "ok: 0 contracts, 2 methods\n";
+
+/// Freed on one way of an `if`.
+const FREED_ON_ONE_WAY: &str =
+    "rep struct D { int n; }\nclass K {\nstatic void F(bool b) {\nD* in ExHeap p = new[ExHeap] D();\nif (b) { delete p; }\n}\n}";
+
+/// Freed on both.
+const FREED_ON_BOTH_WAYS: &str =
+    "rep struct D { int n; }\nclass K {\nstatic void F(bool b) {\nD* in ExHeap p = new[ExHeap] D();\nif (b) { delete p; } else { delete p; }\n}\n}";
+
+/// Kept where a loop is left.
+const KEPT_AT_A_BREAK: &str =
+    "rep struct D { int n; }\nclass K {\nstatic void F(bool b) {\nwhile (b) {\nD* in ExHeap p = new[ExHeap] D();\nif (b) { break; }\ndelete p;\n}\n}\n}";
+
+/// Freed each time a loop turns.
+const FREED_IN_A_LOOP: &str =
+    "rep struct D { int n; }\nclass K {\nstatic void F(bool b) {\nD* in ExHeap p = new[ExHeap] D();\nwhile (b) { delete p; }\n}\n}";
+
+/// A claimed block is given twice in one call.
+const CLAIMED_TWICE: &str =
+    "rep struct D { int n; }\nclass K {\nstatic void F([Claims] D* in ExHeap a, [Claims] D* in ExHeap b) { delete a; delete b; }\nstatic void G([Claims] D* in ExHeap x) {\nF(x, x);\n}\n}";
+
+/// A method ends without giving what it owes, and its caller frees what it got.
+const NOTHING_GIVEN: &str =
+    "rep struct D { int n; }\nclass K {\nstatic D* in ExHeap H() { }\nstatic void F() {\nD* in ExHeap p = H();\ndelete p;\n}\n}";
+
+/// A gate that counts the methods before which it was entered, as long as they come in order from 0.
+#[derive(Drop)]
+struct InOrder {
+    entered: Cell<u32>,
+}
+
+impl Gate for InOrder {
+    fn enter(&self, task: u32) {
+        if task == self.entered.get() {
+            self.entered.set(self.entered.get().wrapping_add(1));
+        }
+    }
+}
+
+/// What a check of this text answers, and what it writes.
+fn answer_to(alloc: Global, text: &str, workers: usize) -> Result<(Status, Vec<u8>), Fail> {
+    let mut reader = Counted::new(text.as_bytes());
+    let mut writer = Counted::new(Vec::new(alloc));
+    let status = run_check(alloc, &mut reader, &mut writer, workers, 65_536, &Open)?;
+    Ok((status, writer.device))
+}
+
+#[test]
+fn checks_as_worked_out(rt: HostRuntime) -> Result<(), Fail> {
+    let rows = [
+        ("", Status::Empty, "ok: 0 contracts, 0 methods\n"),
+        (HANDED_ON, Status::Empty, HANDED_ON_ANSWER),
+        (FREED_TWICE, Status::Found, FREED_TWICE_ANSWER),
+        (
+            "class K { static void F() { k = 1; } }",
+            Status::Found,
+            "1:29 N02 k unknown\nfindings: 1\n",
+        ),
+        (
+            "contract A { in message X(); state S: X! -> T; state T: ; }",
+            Status::Found,
+            "1:39 C01 X against its direction\nfindings: 1\n",
+        ),
+        (
+            "class K {",
+            Status::Found,
+            "1:10 S05 unexpected end\nfindings: 1\n",
+        ),
+    ];
+    for (text, wanted, answer) in rows.iter() {
+        for workers in [1, 2, 64] {
+            let (status, bytes) = answer_to(rt.alloc(), text, workers)?;
+            assert!(rt; status == *wanted, "{text}");
+            assert!(rt; bytes.as_slice() == answer.as_bytes(), "{text}");
+        }
+    }
+    Ok(())
+}
+
+/// Whether the check of each of these texts has its status and writes its answer, whatever workers are asked for.
+fn all_answered(alloc: Global, rows: &[(&str, Status, &str)]) -> Result<bool, Fail> {
+    for (text, wanted, answer) in rows {
+        for workers in [1, 2, 64] {
+            let (status, bytes) = answer_to(alloc, text, workers)?;
+            if status != *wanted || bytes.as_slice() != answer.as_bytes() {
+                return Ok(false);
+            }
+        }
+    }
+    Ok(true)
+}
+
+#[test]
+fn follows_every_way(rt: HostRuntime) -> Result<(), Fail> {
+    let kept = "6:1 A08 p still owned\nfindings: 1\n";
+    let left = "6:10 A08 p still owned\nfindings: 1\n";
+    let turned = "5:20 A01 p not owned\n6:1 A08 p still owned\nfindings: 2\n";
+    let rows = [
+        (FREED_ON_ONE_WAY, Status::Found, kept),
+        (
+            FREED_ON_BOTH_WAYS,
+            Status::Empty,
+            "ok: 0 contracts, 1 methods\n",
+        ),
+        (KEPT_AT_A_BREAK, Status::Found, left),
+        (FREED_IN_A_LOOP, Status::Found, turned),
+    ];
+    assert!(rt; all_answered(rt.alloc(), &rows)?);
+    Ok(())
+}
+
+#[test]
+fn looks_at_the_heads_of_methods(rt: HostRuntime) -> Result<(), Fail> {
+    let twice = "5:6 A11 x twice\nfindings: 1\n";
+    let nothing = "3:27 A13 no result\nfindings: 1\n";
+    let rows = [
+        (CLAIMED_TWICE, Status::Found, twice),
+        (NOTHING_GIVEN, Status::Found, nothing),
+    ];
+    assert!(rt; all_answered(rt.alloc(), &rows)?);
+    Ok(())
+}
+
+#[test]
+fn enters_the_gate_before_each_method_in_order(rt: HostRuntime) -> Result<(), Fail> {
+    let gate = InOrder {
+        entered: Cell::new(0),
+    };
+    let report = check(
+        rt.alloc(),
+        HANDED_ON.as_bytes(),
+        MOST_WORKERS,
+        MOST_SLOTS,
+        &gate,
+    )?;
+    assert!(rt; report.status == Status::Empty);
+    assert!(rt; report.bytes.as_slice() == HANDED_ON_ANSWER.as_bytes());
+    assert!(rt; gate.entered.get() == 2);
+    let none = check(
+        rt.alloc(),
+        b"class K { static void F() { k = 1; } }".as_slice(),
+        1,
+        1,
+        &gate,
+    )?;
+    assert!(rt; none.status == Status::Found);
+    assert!(rt; gate.entered.get() == 2);
+    Ok(())
+}
+
+/// This is run with each growth of memory refused in turn: the writer takes none.
+#[test]
+fn checks_or_wants_memory(rt: HostRuntime) {
+    let rows = [
+        (HANDED_ON, Status::Empty, HANDED_ON_ANSWER),
+        (FREED_TWICE, Status::Found, FREED_TWICE_ANSWER),
+    ];
+    for (text, status, answer) in rows.iter() {
+        let mut reader = Counted::new(text.as_bytes());
+        let mut writer = Card::new();
+        match run_check(rt.alloc(), &mut reader, &mut writer, 1, 1, &Open) {
+            Ok(answered) => {
+                assert!(rt; answered == *status, "{text}");
+                assert!(rt; writer.taken() == answer.as_bytes(), "{text}");
+            }
+            Err(fault) => {
+                assert!(rt; fault == RunFault::Memory, "{text}");
+                assert!(rt; writer.taken().is_empty(), "{text}");
+            }
+        }
+    }
+}
+
+#[test]
+fn reads_nothing_where_the_numbers_do_not_fit(rt: HostRuntime) -> Result<(), Fail> {
+    let rows = [
+        (0, 1, RunFault::Workers),
+        (65, 0, RunFault::Workers),
+        (1, 0, RunFault::Slots),
+        (64, 16_777_217, RunFault::Slots),
+    ];
+    for (workers, slots, wanted) in rows.iter() {
+        let mut reader = Text::new(rt.alloc(), HANDED_ON, 10, 1)?;
+        let mut writer = Page::new(rt.alloc(), 100, NEVER);
+        match run_check(
+            rt.alloc(),
+            &mut reader,
+            &mut writer,
+            *workers,
+            *slots,
+            &Open,
+        ) {
+            Err(fault) => assert!(rt; fault == *wanted),
+            Ok(_) => assert!(rt; false),
+        }
+        assert!(rt; writer.bytes.is_empty());
+    }
+    Ok(())
+}
+
+#[test]
+fn names_the_device_that_fails(rt: HostRuntime) -> Result<(), Fail> {
+    let mut closed = Text::new(rt.alloc(), FREED_TWICE, 10, 3)?;
+    let mut empty = Page::new(rt.alloc(), 100, NEVER);
+    match run_check(rt.alloc(), &mut closed, &mut empty, 1, 1, &Open) {
+        Err(fault) => assert!(rt; fault == RunFault::Read(Input::Text)),
+        Ok(_) => assert!(rt; false),
+    }
+    assert!(rt; empty.bytes.is_empty());
+    let mut open = Text::new(rt.alloc(), FREED_TWICE, 10, NEVER)?;
+    let mut full = Page::new(rt.alloc(), 7, 2);
+    match run_check(rt.alloc(), &mut open, &mut full, 1, 1, &Open) {
+        Err(fault) => assert!(rt; fault == RunFault::Write),
+        Ok(_) => assert!(rt; false),
+    }
+    assert!(rt; FREED_TWICE_ANSWER.as_bytes().starts_with(&full.bytes));
+    one_check();
+    Ok(())
+}

@@ -1,0 +1,92 @@
+//! Command lines, and how a run that gave up ends.
+
+use crate::devices::Page;
+use singcheck::{Ask, Input, RunFault, ask, ending};
+use source::Place;
+use std::test::Fail;
+
+const NEVER: u64 = 0;
+
+#[test]
+fn ends_with_a_line_and_a_status(rt: HostRuntime) -> Result<(), Fail> {
+    let mut read = Page::new(rt.alloc(), 3, NEVER);
+    assert!(rt; ending(&RunFault::Read(Input::Text), "a.sg", &mut read) == 3);
+    assert!(rt; read.bytes.as_slice() == b"singcheck: cannot read a.sg\n".as_slice());
+    let mut write = Page::new(rt.alloc(), 100, NEVER);
+    assert!(rt; ending(&RunFault::Write, "a.sg", &mut write) == 3);
+    assert!(rt; write.bytes.as_slice() == b"singcheck: cannot write\n".as_slice());
+    let mut memory = Page::new(rt.alloc(), 100, NEVER);
+    assert!(rt; ending(&RunFault::Memory, "a.sg", &mut memory) == 4);
+    assert!(rt; memory.bytes.as_slice() == b"singcheck: out of memory\n".as_slice());
+    let mut workers = Page::new(rt.alloc(), 100, NEVER);
+    assert!(rt; ending(&RunFault::Workers, "a.sg", &mut workers) == 2);
+    assert!(rt; workers.bytes.as_slice() == b"singcheck: workers not 1 to 64\n".as_slice());
+    let mut slots = Page::new(rt.alloc(), 100, NEVER);
+    assert!(rt; ending(&RunFault::Slots, "a.sg", &mut slots) == 2);
+    assert!(rt; slots.bytes.as_slice() == b"singcheck: slots not 1 to 16777216\n".as_slice());
+    let mut not_yet = Page::new(rt.alloc(), 100, NEVER);
+    let place = Place { line: 12, col: 345 };
+    assert!(rt; ending(&RunFault::NotYet(place), "a.sg", &mut not_yet) == 2);
+    assert!(rt; not_yet.bytes.as_slice() == b"singcheck: not yet at 12:345\n".as_slice());
+    let mut closed = Page::new(rt.alloc(), 100, 1);
+    assert!(rt; ending(&RunFault::Memory, "a.sg", &mut closed) == 4);
+    Ok(())
+}
+
+#[test]
+fn asks_for_the_bounds_of_a_file(rt: HostRuntime) -> Result<(), Fail> {
+    let words = ["singcheck", "bounds", "a.sg"];
+    let asked = ask(rt.alloc(), words.as_slice())?;
+    assert!(rt; asked == Ask::Bounds { file: "a.sg" });
+    let unknown = ["singcheck", "bound", "a.sg"];
+    assert!(rt; ask(rt.alloc(), unknown.as_slice()).is_err());
+    let missing = ["singcheck", "bounds"];
+    assert!(rt; ask(rt.alloc(), missing.as_slice()).is_err());
+    Ok(())
+}
+
+#[test]
+fn asks_for_a_check_of_a_file(rt: HostRuntime) -> Result<(), Fail> {
+    let both = ["singcheck", "check", "--slots", "7", "a.sg", "--workers=64"];
+    let asked = ask(rt.alloc(), both.as_slice())?;
+    let numbers = Ask::Check {
+        file: "a.sg",
+        workers: 64,
+        slots: 7,
+    };
+    assert!(rt; asked == numbers);
+    let plain = ["singcheck", "check", "a.sg"];
+    let asked = ask(rt.alloc(), plain.as_slice())?;
+    let usual = Ask::Check {
+        file: "a.sg",
+        workers: 4,
+        slots: 65_536,
+    };
+    assert!(rt; asked == usual);
+    Ok(())
+}
+
+#[test]
+fn refuses_numbers_that_are_none(rt: HostRuntime) -> Result<(), Fail> {
+    let letter = ["singcheck", "check", "a.sg", "--slots", "x"];
+    assert!(rt; ask(rt.alloc(), letter.as_slice()).is_err());
+    let long = [
+        "singcheck",
+        "check",
+        "a.sg",
+        "--workers",
+        "18446744073709551616",
+    ];
+    assert!(rt; ask(rt.alloc(), long.as_slice()).is_err());
+    let twice = [
+        "singcheck",
+        "check",
+        "a.sg",
+        "--workers",
+        "1",
+        "--workers",
+        "1",
+    ];
+    assert!(rt; ask(rt.alloc(), twice.as_slice()).is_err());
+    Ok(())
+}

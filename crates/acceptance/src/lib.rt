@@ -1,0 +1,23 @@
+//! Tests of what no clause says, against the library that a user calls and the crates below it.
+#![tactic(auto)]
+
+#[cfg(test)]
+mod answers;
+#[cfg(test)]
+mod checks;
+#[cfg(test)]
+mod commands;
+#[cfg(test)]
+mod conditions;
+#[cfg(test)]
+mod devices;
+#[cfg(test)]
+mod lexing;
+#[cfg(test)]
+mod numbers;
+#[cfg(test)]
+mod parsing;
+#[cfg(test)]
+mod resolution;
+#[cfg(test)]
+mod steps;

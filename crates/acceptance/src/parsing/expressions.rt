@@ -1,0 +1,198 @@
+//! Values and expressions: each form once, and where the first wrong token stands.
+
+use super::answers;
+use source::{Kind, Place, Span, Token, Tokens};
+use std::alloc::{AllocError, Global};
+use std::test::Fail;
+use syntax::parse;
+use tree::{Definition, Expression, Statement, SumOperator, Tree, Value};
+
+/// What stands before a value here, in so many words.
+const FRONT: &str = "class K { static void F ( ) { v = ";
+
+const BEFORE: usize = 11;
+
+/// The words of expressions. A word of one letter is a name.
+const WORDS: [(&str, Kind); 31] = [
+    ("class", Kind::Class),
+    ("static", Kind::Static),
+    ("void", Kind::Void),
+    ("{", Kind::OpenBrace),
+    ("}", Kind::CloseBrace),
+    ("=", Kind::Equal),
+    ("1", Kind::Number),
+    ("true", Kind::True),
+    ("false", Kind::False),
+    ("new", Kind::New),
+    ("ExHeap", Kind::ExHeap),
+    ("int", Kind::Int),
+    ("(", Kind::OpenParen),
+    (")", Kind::CloseParen),
+    ("[", Kind::OpenBracket),
+    ("]", Kind::CloseBracket),
+    (",", Kind::Comma),
+    (".", Kind::Dot),
+    ("||", Kind::OrOr),
+    ("&&", Kind::AndAnd),
+    ("==", Kind::EqualEqual),
+    ("!=", Kind::NotEqual),
+    ("<", Kind::Less),
+    ("<=", Kind::LessEqual),
+    (">", Kind::Greater),
+    (">=", Kind::GreaterEqual),
+    ("+", Kind::Plus),
+    ("-", Kind::Minus),
+    ("*", Kind::Star),
+    ("!", Kind::Bang),
+    (";", Kind::Semicolon),
+];
+
+/// The tokens that these words are.
+fn tokens_of(alloc: Global, text: &str) -> Result<Tokens, AllocError> {
+    let place = Place { line: 1, col: 1 };
+    let mut list = Vec::new(alloc);
+    for word in text.split_whitespace() {
+        let mut kind = Kind::Name;
+        for (name, other) in WORDS.iter() {
+            if *name == word {
+                kind = *other;
+            }
+        }
+        let span = Span {
+            start: 0,
+            end: 0,
+            place,
+        };
+        list.push(Token { kind, span })?;
+    }
+    Ok(Tokens {
+        text: Vec::new(alloc),
+        list,
+        end: place,
+    })
+}
+
+/// Whether this value stands well in a method, or the token of this number in it is the first wrong one.
+fn value_answers(alloc: Global, value: &str, wanted: Option<usize>) -> Result<bool, AllocError> {
+    let text = format!(in alloc; "{FRONT}{value}")?;
+    let tokens = tokens_of(alloc, text.as_str())?;
+    let wanted = match wanted {
+        Some(number) => Some(number.saturating_add(BEFORE)),
+        None => None,
+    };
+    Ok(answers(alloc, &tokens, wanted))
+}
+
+#[test]
+fn values_that_are_read(rt: HostRuntime) -> Result<(), Fail> {
+    for value in [
+        "a",
+        "1",
+        "a . b",
+        "a [ 1 ]",
+        "- ! - true",
+        "a + b * c - d == e != f && g || h",
+        "a < b <= c > d >= e",
+        "( a || b ) && ( false )",
+        "a [ b [ 1 ] + 1 ] * ( c - 1 )",
+        "f ( )",
+        "f ( a )",
+        "f . g ( a , b [ 1 ] , - 1 )",
+        "new [ ExHeap ] s ( )",
+        "new [ ExHeap ] int [ a + 1 ]",
+    ] {
+        let text = format!(in rt.alloc(); "{value} ; }} }}")?;
+        assert!(rt; value_answers(rt.alloc(), text.as_str(), None)?, "{value}");
+    }
+    Ok(())
+}
+
+#[test]
+fn one_field_and_a_call_only_as_a_whole(rt: HostRuntime) -> Result<(), Fail> {
+    for (value, number) in [
+        ("a . b . c", 3),
+        ("a . b [ 1 ]", 3),
+        ("a + f ( 1 )", 3),
+        ("- f ( 1 )", 2),
+        ("f ( 1 ) + 1", 4),
+        ("a [ 1 ] ( )", 4),
+        ("( f ) ( )", 3),
+    ] {
+        assert!(rt; value_answers(rt.alloc(), value, Some(number))?, "{value}");
+    }
+    Ok(())
+}
+
+#[test]
+fn first_wrong_tokens_of_values(rt: HostRuntime) -> Result<(), Fail> {
+    for (text, number) in [
+        ("", 0),
+        ("; a", 0),
+        ("a +", 2),
+        ("a + * b", 2),
+        ("a && || b", 2),
+        ("! ;", 1),
+        ("a . 1", 2),
+        ("a . ;", 2),
+        ("a [ ]", 2),
+        ("a [ 1", 3),
+        ("a [ 1 )", 3),
+        ("( a", 2),
+        ("( )", 1),
+        ("( f ( 1 ) )", 2),
+        ("a [ f ( 1 ) ]", 3),
+        ("f ( , )", 2),
+        ("f ( a , )", 4),
+        ("f ( a b )", 3),
+        ("f . g ( a", 5),
+        ("f ( g ( 1 ) )", 3),
+        ("new ExHeap", 1),
+        ("new [ ExHeap ] s ( a )", 6),
+        ("new [ ExHeap ] int ( )", 5),
+        ("new [ ExHeap ] int [ ]", 6),
+        ("new [ ExHeap ] 1", 4),
+    ] {
+        assert!(rt; value_answers(rt.alloc(), text, Some(number))?, "{text}");
+    }
+    Ok(())
+}
+
+/// The expression that the first statement of the first method assigns.
+fn assigned(tree: &Tree) -> Result<&Expression, Fail> {
+    let Some(item) = tree.items.first() else {
+        return Err(Fail::from("no item"));
+    };
+    let Definition::Class(class) = &item.definition else {
+        return Err(Fail::from("no class"));
+    };
+    let Some(method) = class.methods.first() else {
+        return Err(Fail::from("no method"));
+    };
+    let Some(Statement::Assign(assign)) = method.body.statements.first() else {
+        return Err(Fail::from("no assignment"));
+    };
+    let Value::Expression(expression) = &assign.value else {
+        return Err(Fail::from("no expression"));
+    };
+    Ok(expression)
+}
+
+#[test]
+fn operators_by_level(rt: HostRuntime) -> Result<(), Fail> {
+    let text = format!(in rt.alloc(); "{FRONT}a + b * c - d < e && f ; }} }}")?;
+    let tokens = tokens_of(rt.alloc(), text.as_str())?;
+    let tree = parse(rt.alloc(), &tokens)?;
+    let read = assigned(&tree)?;
+    assert_eq!(rt; read.others.len(), 0);
+    assert_eq!(rt; read.first.others.len(), 1);
+    let relation = &read.first.first.first;
+    assert_eq!(rt; relation.others.len(), 1);
+    let sum = &relation.first;
+    assert_eq!(rt; sum.first.others.len(), 0);
+    assert_eq!(rt; sum.others.len(), 2);
+    assert!(rt; sum.others[0].operator == SumOperator::Plus);
+    assert_eq!(rt; sum.others[0].term.others.len(), 1);
+    assert!(rt; sum.others[1].operator != SumOperator::Plus);
+    assert_eq!(rt; sum.others[1].term.others.len(), 0);
+    Ok(())
+}

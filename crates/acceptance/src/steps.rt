@@ -1,0 +1,208 @@
+//! The graph and the steps of a method.
+
+ghost use Rattle.std.specs.Prelude.{◌≡◌, IfOk, length};
+ghost use Rattle.rules.specs.Programs.{methods_of};
+
+use analyse::{give_up_all, tasks};
+use flow::{Instr, lower};
+use names::{MOST_CONTRACTS, resolve};
+use program::{
+    Action, Kind, Mention, Method, MethodId, Methods, Role, Simple, Statement, StructId, VarId,
+    Variable,
+};
+use rules::{Leaf, MOST_LEAVES, MOST_STATES, Outcome, Program, Row, entry, step};
+use source::{Memory, Place, lex};
+use std::alloc::Global;
+use std::test::Fail;
+use syntax::parse;
+use wellformed::well_formed_methods;
+
+/// A method that claims `p`, moves it to `q`, frees `q` and reads `q`.
+const FREED_AND_READ: &str = "class K { static void F([Claims] int[] in ExHeap p) {
+int[] in ExHeap q; int n;
+q = p; delete q; n = q[0];
+} }";
+
+fn mention(variable: usize, col: u32) -> Mention {
+    Mention {
+        variable: VarId(variable),
+        place: Place { line: 1, col },
+    }
+}
+
+fn variable(
+    alloc: Global,
+    name: &str,
+    role: Role,
+    outer: Option<VarId>,
+) -> Result<Variable, Memory> {
+    Ok(Variable {
+        name: Vec::from_slice(alloc, name.as_bytes())?,
+        kind: Kind::Struct(StructId(0)),
+        role,
+        outer,
+    })
+}
+
+/// The same, put together by hand.
+fn freed_and_read(alloc: Global) -> Result<Method, Memory> {
+    let mut variables = Vec::new(alloc);
+    variables.push(variable(alloc, "p", Role::Claimed, None)?)?;
+    variables.push(variable(alloc, "q", Role::Local, Some(VarId(0)))?)?;
+    let mut reads = Vec::new(alloc);
+    reads.push(mention(1, 30))?;
+    let mut statements = Vec::new(alloc);
+    let moved = Action::Move {
+        target: mention(1, 10),
+        source: mention(0, 12),
+    };
+    statements.push(plain(alloc, moved))?;
+    statements.push(plain(alloc, Action::Delete(mention(1, 20))))?;
+    let action = Action::Nothing;
+    statements.push(Statement::Simple(Simple { reads, action }))?;
+    Ok(Method {
+        name: Place { line: 1, col: 1 },
+        gives: false,
+        result: None,
+        variables,
+        statements,
+        scope: Some(VarId(1)),
+        close: Place { line: 1, col: 40 },
+    })
+}
+
+fn plain(alloc: Global, action: Action) -> Statement {
+    let reads = Vec::new(alloc);
+    Statement::Simple(Simple { reads, action })
+}
+
+/// The program of that method.
+fn only(alloc: Global) -> Result<Program, Fail>
+    ensures { IfOk result (λ p. length (methods_of p) ≡ 1) }
+{
+    let tokens = lex(alloc, FREED_AND_READ.as_bytes())?;
+    let tree = parse(alloc, &tokens)?;
+    let contracts = resolve(alloc, &tree, &tokens)?;
+    if contracts.contracts.len() > MOST_CONTRACTS {
+        return Err(Fail::from("too many contracts"));
+    }
+    let program = Program::new(
+        alloc,
+        well_formed_methods(alloc, &tree, &tokens, contracts)?,
+    )?;
+    if program.methods().len() != 1 {
+        return Err(Fail::from("not one method"));
+    }
+    Ok(program)
+}
+
+/// Whether it reads what this variable has, and goes on there.
+fn is_use(instruction: Option<&Instr>, variable: usize, point: usize) -> bool {
+    match instruction {
+        Some(Instr::Use { at, next }) => at.variable == VarId(variable) && *next == point,
+        _ => false,
+    }
+}
+
+/// Whether it frees what this variable has, and goes on there.
+fn is_delete(instruction: Option<&Instr>, variable: usize, point: usize) -> bool {
+    match instruction {
+        Some(Instr::Delete { at, next }) => at.variable == VarId(variable) && *next == point,
+        _ => false,
+    }
+}
+
+/// Whether it takes what this variable has, and goes on there.
+fn is_move(instruction: Option<&Instr>, variable: usize, point: usize) -> bool {
+    match instruction {
+        Some(Instr::Move { source, next, .. }) => {
+            source.variable == VarId(variable) && *next == point
+        }
+        _ => false,
+    }
+}
+
+/// Whether it ends the method there, with this variable the last in scope.
+fn is_return(instruction: Option<&Instr>, col: u32, last: usize) -> bool {
+    match instruction {
+        Some(
+            Instr::Return {
+                place,
+                value,
+                scope,
+            },
+        ) => place.col == col && value.is_none() && *scope == Some(VarId(last)),
+        _ => false,
+    }
+}
+
+#[test]
+fn lays_a_method_from_its_end(rt: HostRuntime) -> Result<(), Fail> {
+    let graph = lower(rt.alloc(), &freed_and_read(rt.alloc())?)?;
+    assert!(rt; graph.first == 3);
+    let laid = &graph.instructions;
+    assert!(rt; laid.len() == 4);
+    assert!(rt; is_return(laid.get(0), 40, 1));
+    assert!(rt; is_use(laid.get(1), 1, 0));
+    assert!(rt; is_delete(laid.get(2), 1, 1));
+    assert!(rt; is_move(laid.get(3), 0, 2));
+    Ok(())
+}
+
+#[test]
+fn steps_by_the_rule_table(rt: HostRuntime) -> Result<(), Fail> {
+    let program = only(rt.alloc())?;
+    assert!(rt; program.methods().len() == 1);
+    assert!(rt; program.graph(MethodId(0)).first == 3);
+    let (point, row) = entry(rt.alloc(), &program, MethodId(0))?;
+    assert!(rt; point == 3);
+    assert!(rt; row.leaves() == [Leaf::Block, Leaf::Nothing].as_slice());
+    match step(rt.alloc(), &program, MethodId(0), point, &row)? {
+        Outcome::Next(pairs) => match pairs.get(0) {
+            Some((point, row)) => {
+                assert!(rt; *point == 2);
+                assert!(rt; row.leaves() == [Leaf::Nothing, Leaf::Block].as_slice());
+            }
+            None => assert!(rt; false),
+        },
+        Outcome::Found(_) | Outcome::Unruled => assert!(rt; false),
+    }
+    Ok(())
+}
+
+#[test]
+fn has_a_task_for_each_method(rt: HostRuntime) -> Result<(), Fail> {
+    let program = only(rt.alloc())?;
+    let mut left = tasks(rt.alloc(), &program)?.into_iter();
+    match left.next() {
+        Some(task) => {
+            assert!(rt; task.method() == MethodId(0));
+            task.give_up();
+        }
+        None => assert!(rt; false),
+    }
+    assert!(rt; left.len() == 0);
+    give_up_all(left);
+    Ok(())
+}
+
+#[test]
+fn rows_are_within_the_limits(rt: HostRuntime) -> Result<(), Fail> {
+    let mut leaves = Vec::new(rt.alloc());
+    for _ in 0..MOST_LEAVES {
+        leaves.push(Leaf::CutOff)?;
+    }
+    assert!(rt; Row::of(leaves).is_some());
+    let mut more = Vec::new(rt.alloc());
+    for _ in 0..MOST_LEAVES + 1 {
+        more.push(Leaf::Nothing)?;
+    }
+    assert!(rt; Row::of(more).is_none());
+    let mut last = Vec::new(rt.alloc());
+    last.push(Leaf::State(MOST_STATES - 1))?;
+    assert!(rt; Row::of(last).is_some());
+    let mut past = Vec::new(rt.alloc());
+    past.push(Leaf::State(MOST_STATES))?;
+    assert!(rt; Row::of(past).is_none());
+    Ok(())
+}

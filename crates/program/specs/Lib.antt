@@ -1,0 +1,8 @@
+pub mod Kinds
+pub mod Parts
+pub mod Statements
+pub mod Methods
+pub mod Lists
+pub mod Scopes
+pub mod WellFormed
+pub mod Programs

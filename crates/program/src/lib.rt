@@ -1,0 +1,20 @@
+//! What a program is once its names are numbers, and when its methods are well formed.
+#![tactic(auto)]
+
+mod call;
+mod contract;
+mod kind;
+mod method;
+mod methods;
+mod number;
+mod statement;
+
+pub use call::{Argument, Call, Send};
+pub use contract::{Contract, Direction, Edge, Message, Resolved, Sign, State};
+pub use kind::{Kind, Scalar, Side};
+pub use method::{Method, Role, Variable};
+pub use methods::Methods;
+pub use number::{ContractId, MessageId, MethodId, StateId, StructId, VarId};
+pub use statement::{
+    Action, Awaited, Block, Case, Channel, Forget, If, Mention, Simple, Statement, Test, Ways,
+};

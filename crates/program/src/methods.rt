@@ -1,0 +1,83 @@
+//! The methods of a program, and what is known of them.
+
+ghost use Rattle.std.specs.Prelude.{◌≡◌, map};
+ghost use Rattle.program.specs.Parts.{contract_seen};
+ghost use Rattle.program.specs.Methods.{method_seen};
+ghost use Rattle.program.specs.Programs.{contracts_seen, messages_seen, methods_seen, rows};
+ghost use Rattle.program.specs.WellFormed.{AreWellFormed};
+
+use crate::contract::Resolved;
+use crate::kind::Kind;
+use crate::method::Method;
+use std::marker::Model;
+
+/// The methods of a program in order of the text, with its contracts and what its messages bring, all names in them resolved, and
+/// well formed: each number stands for something; a call and a send give for each parameter of the exchange heap a variable of its
+/// type, and a call has a target exactly where the callee gives a block; a started method gives nothing and claims its
+/// parameters; a switch has a case for the close of each of its endpoints; what a case binds takes what its message brings, and
+/// has numbers of its own, which go out of scope behind it.
+#[derive(Drop)]
+pub struct Methods {
+    contracts: Resolved,
+    messages: Vec<Vec<Kind>>,
+    list: Vec<Method>,
+}
+
+impl Model for Methods {
+    ghost use Rattle.std.specs.Coded.{codes};
+    ghost use Rattle.std.specs.Prelude.{List, map};
+    ghost use Rattle.program.specs.Parts.{contract_seen};
+    ghost use Rattle.program.specs.Methods.{method_seen};
+    ghost use Rattle.program.specs.Programs.{rows};
+    ghost use Rattle.program.specs.WellFormed.{AreWellFormed};
+    ghost use Rattle.program.specs.contracts.statement.Statement as statement;
+    ghost use Rattle.program.specs.declared.contract.Contract.{Contract};
+    ghost use Rattle.program.specs.declared.kind.Kind.{Kind};
+    ghost use Rattle.program.specs.declared.method.Method.{Method};
+
+    ghost Value = { List Contract × List (List Kind) × List Method };
+
+    ghost coded = { Prim.hlevel (codes, statement.the_row.coded) };
+
+    ghost view = { λ m. (m.contracts.contracts.items, rows m.messages.items, m.list.items) };
+
+    ghost invariant = { λ m. AreWellFormed (map contract_seen m.contracts.contracts.items) (rows m.messages.items) (map method_seen m.list.items) };
+}
+
+impl Methods {
+    /// The methods of a program with these contracts, whose messages bring this for their parameters of the exchange heap.
+    pub fn new(contracts: Resolved, messages: Vec<Vec<Kind>>, list: Vec<Method>) -> Methods
+        requires well_formed { AreWellFormed (map contract_seen contracts.contracts.items) (rows messages.items) (map method_seen list.items) }
+        ensures contracts { contracts_seen result ≡ map contract_seen contracts.contracts.items }
+        ensures messages { messages_seen result ≡ rows messages.items }
+        ensures methods { methods_seen result ≡ map method_seen list.items }
+    {
+        Methods {
+            contracts,
+            messages,
+            list,
+        }
+    }
+
+    /// The contracts, in order of the text.
+    pub fn contracts(&self) -> &Resolved
+        ensures { map contract_seen result.now.contracts.items ≡ contracts_seen self.now }
+    {
+        &self.contracts
+    }
+
+    /// What each message brings for its parameters of the exchange heap, in order; a message has its place here as its number.
+    pub fn messages(&self) -> &[Vec<Kind>]
+        ensures { rows result.now ≡ messages_seen self.now }
+    {
+        &self.messages
+    }
+
+    /// The methods, in order of the text.
+    pub fn list(&self) -> &[Method]
+        ensures list { map method_seen result.now ≡ methods_seen self.now }
+        ensures well_formed { AreWellFormed (contracts_seen self.now) (messages_seen self.now) (methods_seen self.now) }
+    {
+        &self.list
+    }
+}

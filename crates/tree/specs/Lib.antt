@@ -1,0 +1,13 @@
+pub mod Symbols
+pub mod Spelling
+pub mod Spelled
+pub mod ContractTrees
+pub mod Trees
+pub mod Grammar
+pub mod Programs
+pub mod Operators
+pub mod Expressions
+pub mod ExpressionTrees
+pub mod Values
+pub mod StatementTrees
+pub mod StatementGrammar

@@ -1,0 +1,126 @@
+//! Syntax trees of statements.
+
+use crate::expression::{Expression, Target};
+use crate::types::Type;
+use crate::value::{Call, Value};
+use source::Span;
+
+/// block = "{" { statement } "}" .
+#[cycle(statement)]
+#[derive(Drop)]
+pub struct Block {
+    pub statements: Vec<Statement>,
+    pub close: Span,
+}
+
+/// A word, as `break` or `return`, is kept by where it lies.
+#[cycle(statement)]
+#[derive(Drop)]
+pub enum Statement {
+    Block(Block),
+    Declare(Declare),
+    Assign(Assign),
+    /// call ";" .
+    Call(Call),
+    /// "start" call ";" .
+    Start {
+        word: Span,
+        call: Call,
+    },
+    /// "delete" ID ";" .
+    Delete(Span),
+    NewChannel(NewChannel),
+    If(If),
+    /// "while" "(" expression ")" block .
+    While(Test),
+    /// "break" ";" .
+    Break(Span),
+    /// "continue" ";" .
+    Continue(Span),
+    /// "return" [ expression ] ";" .
+    Return {
+        word: Span,
+        value: Option<Expression>,
+    },
+    Switch(Switch),
+}
+
+/// declare = type ID [ "=" value ] ";" .
+#[derive(Drop)]
+pub struct Declare {
+    pub kind: Type,
+    pub name: Span,
+    pub value: Option<Value>,
+}
+
+/// assign = target "=" value ";" .
+#[derive(Drop)]
+pub struct Assign {
+    pub target: Target,
+    pub value: Value,
+}
+
+/// new_channel = ID "." "NewChannel" "(" "out" ID "," "out" ID ")" ";" .
+#[derive(Clone, Copy)]
+pub struct NewChannel {
+    pub contract: Span,
+    pub word: Span,
+    pub open: Span,
+    pub first: Span,
+    pub second: Span,
+}
+
+/// "if" "(" expression ")" block { "else" "if" "(" expression ")" block } [ "else" block ] .
+#[cycle(statement)]
+#[derive(Drop)]
+pub struct If {
+    pub first: Test,
+    pub others: Vec<Test>,
+    pub otherwise: Option<Block>,
+}
+
+/// A condition of an `if` or a `while`, with the word before it and the block behind it.
+#[cycle(statement)]
+#[derive(Drop)]
+pub struct Test {
+    pub word: Span,
+    pub open: Span,
+    pub test: Expression,
+    pub body: Block,
+}
+
+/// switch = "switch" "receive" "{" case { case } "}" .
+#[cycle(statement)]
+#[derive(Drop)]
+pub struct Switch {
+    pub word: Span,
+    pub first: Case,
+    pub others: Vec<Case>,
+    pub close: Span,
+}
+
+/// case = "case" ID "." ( ID | "ChannelClosed" ) "(" [ bind { "," bind } ] ")" ":" { statement } .
+#[cycle(statement)]
+#[derive(Drop)]
+pub struct Case {
+    pub word: Span,
+    pub endpoint: Span,
+    pub message: Awaited,
+    pub open: Span,
+    pub binds: Vec<Bind>,
+    pub statements: Vec<Statement>,
+}
+
+/// What a case waits for.
+#[derive(Clone, Copy)]
+pub enum Awaited {
+    Message(Span),
+    Closed(Span),
+}
+
+/// bind = [ type ] ID .
+#[derive(Clone, Copy)]
+pub struct Bind {
+    pub kind: Option<Type>,
+    pub name: Span,
+}

@@ -1,0 +1,36 @@
+//! Trees of values and calls.
+
+use crate::expression::Expression;
+use program::Scalar;
+use source::Span;
+
+/// value = expression | call | new .
+#[derive(Drop)]
+pub enum Value {
+    Expression(Expression),
+    Call(Call),
+    New(New),
+}
+
+/// call = ID [ "." ID ] "(" [ expression { "," expression } ] ")" .
+#[derive(Drop)]
+pub struct Call {
+    pub name: Span,
+    pub member: Option<Span>,
+    pub open: Span,
+    pub arguments: Vec<Expression>,
+}
+
+/// new = "new" "[" "ExHeap" "]" made .
+#[derive(Drop)]
+pub struct New {
+    pub word: Span,
+    pub made: Made,
+}
+
+/// made = ID "(" ")" | scalar "[" expression "]" .
+#[derive(Drop)]
+pub enum Made {
+    Struct { name: Span, open: Span },
+    Array { element: Scalar, length: Expression },
+}

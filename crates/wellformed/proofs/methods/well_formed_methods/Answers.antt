@@ -1,0 +1,20 @@
+use Rattle.std.proofs.Common.{map, sym, subst}
+use Rattle.tree.specs.Trees.{contracts_of}
+use Rattle.names.specs.Program.{program_of}
+use Rattle.names.specs.Resolution.{resolved_contracts}
+use Rattle.program.specs.Methods.{method_seen}
+use Rattle.resolving.specs.Brought.{messages_told}
+use Rattle.program.specs.Programs.{rows}
+use Rattle.program.specs.WellFormed.{AreWellFormed}
+use Rattle.wellformed.proofs.MethodLemmas.{well_formed}
+use Rattle.wellformed.proofs.methods.well_formed_methods.Goals as goal
+
+pub new-requires : goal.new-requires
+new-requires c =
+    let p = program_of c.args.tokens.now.text.items c.args.tree.now in
+    let told = resolved_contracts p.text (contracts_of p.items) in
+    let fits = subst (λ ms. AreWellFormed told (messages_told p) ms) (sym c.in_ok-messages.ensures.resolved) (well_formed p c.requires.clean) in
+    let brings = subst (λ ms. AreWellFormed told ms (map method_seen c.in_ok-messages.field-0.methods.items)) (sym c.in_ok-messages.ensures.messages) fits in
+    record {
+      well_formed = subst (λ cs. AreWellFormed cs (rows c.in_ok-messages.field-0.messages.items) (map method_seen c.in_ok-messages.field-0.methods.items)) (sym c.requires.contracts) brings;
+    }
