@@ -7,10 +7,10 @@ use analyse::{give_up_all, tasks};
 use flow::{Instr, lower};
 use names::{MOST_CONTRACTS, resolve};
 use program::{
-    Action, Kind, Mention, Method, MethodId, Methods, Role, Simple, Statement, StructId, VarId,
-    Variable,
+    Action, Kind, MOST_STATES, MOST_VARIABLES, Mention, Method, MethodId, Methods, Role, Simple,
+    Statement, StructId, VarId, Variable,
 };
-use rules::{Leaf, MOST_LEAVES, MOST_STATES, Outcome, Program, Row, entry, step};
+use rules::{Leaf, Outcome, Program, Row, entry, step};
 use source::{Memory, Place, lex};
 use std::alloc::Global;
 use std::test::Fail;
@@ -189,20 +189,20 @@ fn has_a_task_for_each_method(rt: HostRuntime) -> Result<(), Fail> {
 #[test]
 fn rows_are_within_the_limits(rt: HostRuntime) -> Result<(), Fail> {
     let mut leaves = Vec::new(rt.alloc());
-    for _ in 0..MOST_LEAVES {
+    for _ in 0..MOST_VARIABLES {
         leaves.push(Leaf::CutOff)?;
     }
     assert!(rt; Row::of(leaves).is_some());
     let mut more = Vec::new(rt.alloc());
-    for _ in 0..MOST_LEAVES + 1 {
+    for _ in 0..MOST_VARIABLES + 1 {
         more.push(Leaf::Nothing)?;
     }
     assert!(rt; Row::of(more).is_none());
     let mut last = Vec::new(rt.alloc());
-    last.push(Leaf::State(MOST_STATES - 1))?;
+    last.push(Leaf::State(MOST_STATES as u32 - 1))?;
     assert!(rt; Row::of(last).is_some());
     let mut past = Vec::new(rt.alloc());
-    past.push(Leaf::State(MOST_STATES))?;
+    past.push(Leaf::State(MOST_STATES as u32))?;
     assert!(rt; Row::of(past).is_none());
     Ok(())
 }

@@ -3,7 +3,7 @@
 ghost use Rattle.std.specs.Prelude.{◌≡◌, ◌<◌, IfOk, IfErr, length, map};
 ghost use Rattle.source.specs.Findings.{finding_parts};
 ghost use Rattle.rules.specs.Programs.{methods_of};
-ghost use Rattle.analyse.specs.Tasks.{number_of, verdict_number, findings_of};
+ghost use Rattle.analyse.specs.Tasks.{findings_of, number_of, program_of, verdict_number};
 ghost use Rattle.analyse.specs.Verdicts.{IsMethodVerdict};
 
 use crate::searching::verdict_of;
@@ -12,6 +12,7 @@ use crate::verdict::Verdict;
 use rules::Program;
 use source::Memory;
 use std::alloc::Global;
+use std::snapshot::Snapshot;
 
 /// The most pairs of a point and a row that may be reached in a method.
 pub const MOST_PAIRS: usize = 20_000;
@@ -22,6 +23,7 @@ pub const MOST_PAIRS: usize = 20_000;
 /// `Memory` is answered where a growth was refused, and gives the task back.
 pub fn analyse(alloc: Global, task: Task, program: &Program) -> Result<Verdict, (Task, Memory)>
     requires there { number_of task < length (methods_of program.now) }
+    ensures program { IfOk result (λ v. program_of v ≡ program.now) }
     ensures method { IfOk result (λ v. verdict_number v ≡ number_of task) }
     ensures found { IfOk result (λ v. IsMethodVerdict (methods_of program.now) (number_of task) (map finding_parts (findings_of v))) }
     ensures kept { IfErr result (λ e. e.0 ≡ task) }
@@ -29,7 +31,11 @@ pub fn analyse(alloc: Global, task: Task, program: &Program) -> Result<Verdict, 
     match verdict_of(alloc, program, task.method) {
         Ok(findings) => {
             let Task { method } = task;
-            Ok(Verdict { method, findings })
+            Ok(Verdict {
+                method,
+                program: Snapshot::of(program),
+                findings,
+            })
         }
         Err(memory) => Err((task, memory)),
     }

@@ -2,6 +2,7 @@
 #![tactic(auto)]
 
 mod analysing;
+pub mod laws;
 mod searching;
 mod task;
 mod verdict;

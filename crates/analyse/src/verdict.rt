@@ -1,19 +1,28 @@
 //! What is found in a method.
 
-ghost use Rattle.std.specs.Prelude.{◌≡◌};
-ghost use Rattle.analyse.specs.Tasks.{findings_of, verdict_number};
+ghost use Rattle.std.specs.Prelude.{◌≡◌, map};
+ghost use Rattle.source.specs.Findings.{finding_parts};
+ghost use Rattle.rules.specs.Programs.{methods_of};
+ghost use Rattle.analyse.specs.Verdicts.{IsMethodVerdict};
 
 use program::MethodId;
+use rules::Program;
 use source::Finding;
+use std::snapshot::Snapshot;
 
-/// What is found in a method.
+/// What is found in a method: all that a step finds at the pairs that can be reached from its entry, or that they are too many. The
+/// method is one of the program that is remembered.
 #[derive(Drop)]
 pub struct Verdict {
     pub(crate) method: MethodId,
+    pub(crate) program: Snapshot<Program>,
     pub(crate) findings: Vec<Finding>,
+    ghost judged: { ∥ IsMethodVerdict (methods_of program.value) method.0 (map finding_parts findings.items) ∥₁ },
 }
 
 impl Verdict {
+    ghost use Rattle.analyse.specs.Tasks.{findings_of, program_of, verdict_number};
+
     /// The method.
     pub fn method(&self) -> MethodId
         ensures { result.0 ≡ verdict_number self.now }
@@ -23,14 +32,16 @@ impl Verdict {
 
     /// What is found in it, in no order, and perhaps more than once.
     pub fn findings(&self) -> &[Finding]
-        ensures { result.now ≡ findings_of self.now }
+        ensures findings { result.now ≡ findings_of self.now }
+        ensures judged { ∥ IsMethodVerdict (methods_of (program_of self.now)) (verdict_number self.now) (map finding_parts result.now) ∥₁ }
     {
         &self.findings
     }
 
     /// What is found in it, in no order, and perhaps more than once.
     pub fn into_findings(self) -> Vec<Finding>
-        ensures { result.items ≡ findings_of self }
+        ensures findings { result.items ≡ findings_of self }
+        ensures judged { ∥ IsMethodVerdict (methods_of (program_of self)) (verdict_number self) (map finding_parts result.items) ∥₁ }
     {
         self.findings
     }

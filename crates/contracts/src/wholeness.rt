@@ -1,6 +1,6 @@
 //! Whether the lists of a contract have what its edges name.
 
-ghost use Rattle.std.specs.Prelude.{◌≡◌, ◌≢◌, IfOk, AllPairs, All, IsSome, true};
+ghost use Rattle.std.specs.Prelude.{◌≢◌, ◌↔◌, IfOk, IsTrue, AllPairs, All, IsSome};
 ghost use Rattle.std.specs.BTreeMap.{get};
 ghost use Rattle.std.specs.Ordering.{nat_cmp};
 ghost use Rattle.contracts.specs.Parts.{IsWhole, parts_of};
@@ -17,7 +17,7 @@ use std::collections::BTreeMap;
 /// Whether the first state, and the states and messages of the edges, stand in the lists, each number once there. This
 /// is what `faults` and `Sound::new` ask for.
 pub fn is_whole(alloc: Global, edges: &Edges) -> Result<bool, Memory>
-    ensures { IfOk result (λ whole. whole ≡ true → IsWhole (parts_of edges.now)) }
+    ensures { IfOk result (λ whole. IsTrue whole ↔ IsWhole (parts_of edges.now)) }
 {
     let states = state_numbers(alloc, &edges.states)?;
     let messages = message_numbers(alloc, &edges.messages)?;
@@ -30,7 +30,7 @@ pub fn is_whole(alloc: Global, edges: &Edges) -> Result<bool, Memory>
 
 /// Whether the map has the number.
 fn has(positions: &BTreeMap<u32, usize>, number: u32) -> bool
-    ensures { result ≡ true → IsSome (get nat_cmp positions.now number) }
+    ensures { IsTrue result ↔ IsSome (get nat_cmp positions.now number) }
 {
     positions.contains_key(&number)
 }
@@ -38,7 +38,7 @@ fn has(positions: &BTreeMap<u32, usize>, number: u32) -> bool
 /// Whether each number stands once.
 fn stand_once(numbers: &[u32], positions: &BTreeMap<u32, usize>) -> bool
     requires positions { ArePositions numbers.now positions.now }
-    ensures { result ≡ true → AllPairs (λ x y. x ≢ y) numbers.now }
+    ensures { IsTrue result ↔ AllPairs (λ x y. x ≢ y) numbers.now }
 {
     for i in 0..numbers.len() {
         if positions.get(&numbers[i]).copied() != Some(i) {
@@ -54,7 +54,7 @@ fn are_listed(
     states: &BTreeMap<u32, usize>,
     messages: &BTreeMap<u32, usize>,
 ) -> bool
-    ensures { result ≡ true → All (EndsHave states.now messages.now) edges.now }
+    ensures { IsTrue result ↔ All (EndsHave states.now messages.now) edges.now }
 {
     for edge in edges {
         let ends = has(states, edge.from.0) & has(states, edge.to.0);

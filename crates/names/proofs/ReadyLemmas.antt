@@ -26,7 +26,7 @@ use Rattle.names.specs.Resolution.{each_behind, message_count, resolved_contract
 use Rattle.names.specs.Scopes.{AreDeclared, IsDeclared, IsScope}
 use Rattle.names.specs.Tables.{IsTable}
 use Rattle.names.specs.Words.{words_at}
-use Rattle.names.specs.declared.limits.TheConstants.{MOST_CONTRACTS, MOST_STATES}
+use Rattle.program.specs.declared.limits.TheConstants.{MOST_CONTRACTS, MOST_STATES}
 use Rattle.names.specs.declared.members.Declared.{Declared}
 use Rattle.names.specs.declared.scope.Scope.{Scope}
 use Rattle.names.proofs.ContractLemmas.{all_declared}

@@ -1,6 +1,10 @@
 -- Variables that come into scope and go out of it.
 use Rattle.std.proofs.Common.{◌≡◌, ℕ, if◌then◌else◌, ◌+◌, ◌-◌, ◌<◌, List, [], ◌∷◌, ◌++◌, length, map, take, cond, Bool, true, false, sym, refl, ap, ◌∙◌, subst, arith, append_assoc, append-nil, ⊎_elim}
 use Rattle.std.specs.Prelude.{Result, Ok, Err, OnOk, Option, None, Some, is_some, option_map, option_and_then, slice_get}
+use Rattle.std.specs.Borrow.{Bor}
+use Rattle.std.specs.Cmp.Lexicographic.{slice_cmp}
+use Rattle.std.specs.Map.{lookup}
+use Rattle.std.specs.Ordering.{is_eq, nat_cmp}
 use Rattle.std.proofs.lemmas.Bool.{cases_Bool, cond-true, cond-false}
 use Rattle.std.proofs.lemmas.Cmp.{nat_list_eq_equiv}
 use Rattle.std.proofs.lemmas.List.{map-append, length-map, take-take}
@@ -51,6 +55,10 @@ pub table_added : (words : List (List ℕ)) (word : List ℕ) (old new : Table) 
 table_added words word old new place h none at updates = record {
   held = λ q. updates q ∙ ap (cond (same_word word q) (Some place)) (h.held q) ∙ ap (λ k. cond (same_word word q) (Some k) (first_of words q)) at ∙ sym (added words word q none);
 }
+
+-- a table with the same entries
+pub table_kept : (words : List (List ℕ)) (old new : Table) → IsTable words old → new.first.entries ≡ old.first.entries → IsTable words new
+table_kept words old new h same = record { held = λ q. ap (lookup (λ (w : Bor (List ℕ)). is_eq (slice_cmp nat_cmp q w.now))) same ∙ h.held q }
 
 pub table_removed : (words : List (List ℕ)) (word : List ℕ) (old new : Table) → IsTable (words ++ word ∷ []) old → first_of words word ≡ None
     → ((q : List ℕ) → entry_of new q ≡ cond (same_word word q) None (entry_of old q)) → IsTable words new

@@ -10,7 +10,7 @@ use Rattle.names.specs.Found.{FindingParts}
 use Rattle.names.specs.Kinds.{type_unknown}
 use Rattle.names.specs.Listed.{twice_among, past_limit, asked_name}
 use Rattle.names.specs.Program.{Program}
-use Rattle.names.specs.declared.limits.TheConstants.{MOST_PARAMETERS}
+use Rattle.program.specs.declared.limits.TheConstants.{MOST_PARAMETERS}
 
 abbrev pub param_names : List Param → List Span
 param_names params = map (λ p. p.name) params

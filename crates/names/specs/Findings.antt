@@ -9,7 +9,7 @@ use Rattle.names.specs.Found.{FindingParts}
 use Rattle.names.specs.Listed.{past_limit}
 use Rattle.names.specs.Methods.{class_findings, struct_findings, items_findings}
 use Rattle.names.specs.Program.{Program}
-use Rattle.names.specs.declared.limits.TheConstants.{MOST_CONTRACTS, MOST_STATES}
+use Rattle.program.specs.declared.limits.TheConstants.{MOST_CONTRACTS, MOST_STATES}
 
 -- what is wrong within an item
 abbrev pub definition_findings : Program → DefinitionTree → List FindingParts

@@ -10,7 +10,7 @@ use Rattle.names.specs.Variables as model
 use Rattle.names.specs.Variables.{Frame, Turn}
 use Rattle.names.specs.Words.{words_at}
 use Rattle.names.specs.declared.surroundings.Surroundings.{Surroundings}
-use Rattle.names.specs.declared.limits.TheConstants.{MOST_VARIABLES}
+use Rattle.program.specs.declared.limits.TheConstants.{MOST_VARIABLES}
 use Rattle.names.specs.declared.variables.Variable.{Variable}
 use Rattle.names.specs.declared.variables.Variables.{Variables}
 

@@ -11,7 +11,7 @@ use Rattle.names.specs.Program.{Program, item_names}
 use Rattle.tree.specs.Trees.{DefinitionTree, Class, StructTree, ClassTree, MethodTree}
 use Rattle.tree.specs.declared.class as made
 use Rattle.names.specs.Variables.{Frame, Turn, turn, before, follow, declared_variable}
-use Rattle.names.specs.declared.limits.TheConstants.{MOST_METHODS}
+use Rattle.program.specs.declared.limits.TheConstants.{MOST_METHODS}
 
 abbrev pub result_unknown : Program → Option tree.Type.Type → List FindingParts
 result_unknown p None = []

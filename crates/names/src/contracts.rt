@@ -11,11 +11,11 @@ ghost use Rattle.names.specs.Scopes.{IsScope, IsDeclared, declared_among};
 
 use crate::counted::all_counted;
 use crate::judging::{judge_limit, judge_twice};
-use crate::limits::{MOST_CONTRACTS, MOST_STATES};
 use crate::members::{Declared, Members};
 use crate::message_types::judge_messages;
 use crate::scope::Scope;
 use crate::state_paths::judge_states;
+use program::{MOST_CONTRACTS, MOST_STATES};
 use source::{Finding, Memory, Span};
 use std::alloc::{AllocError, Global};
 

@@ -11,10 +11,10 @@ ghost use Rattle.names.specs.Scopes.{IsScope, AreFields, AreMembers};
 
 use crate::contracts::{judge_contract, judge_counted};
 use crate::judging::{judge_limit, judge_twice};
-use crate::limits::MOST_METHODS;
 use crate::members::{Fields, Members, names_of_fields};
 use crate::methods::judge_class;
 use crate::scope::{Scope, names_of_items};
+use program::MOST_METHODS;
 use source::{Finding, Memory, Span, Tokens};
 use std::alloc::{AllocError, Global};
 use tree::{Definition, Item, Method};

@@ -15,7 +15,6 @@ mod heads;
 mod items;
 mod judging;
 mod kinds;
-mod limits;
 mod meaning;
 mod members;
 mod mentions;
@@ -45,8 +44,10 @@ mod wholes;
 
 pub use fault::NameFaults;
 pub use kinds::Kind;
-pub use limits::{MOST_CONTRACTS, MOST_METHODS, MOST_PARAMETERS, MOST_STATES, MOST_VARIABLES};
-pub use program::{ContractId, MessageId, MethodId, Resolved, StateId, VarId};
+pub use program::{
+    ContractId, MOST_CONTRACTS, MOST_METHODS, MOST_PARAMETERS, MOST_STATES, MOST_VARIABLES,
+    MessageId, MethodId, Resolved, StateId, VarId,
+};
 pub use resolving::resolve;
 pub use scope::Scope;
 pub use tables::Table;

@@ -10,10 +10,10 @@ ghost use Rattle.names.specs.Program.{Program};
 ghost use Rattle.names.specs.Scopes.{IsScope};
 
 use crate::judging::{judge_limit, judge_twice};
-use crate::limits::MOST_PARAMETERS;
 use crate::scope::Scope;
 use crate::tables::Table;
 use crate::types::judge_type;
+use program::MOST_PARAMETERS;
 use source::{Finding, Memory, Span};
 use std::alloc::Global;
 use tree::{Message, Param};

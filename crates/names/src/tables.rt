@@ -1,6 +1,6 @@
 //! Tables of first declarations.
 
-ghost use Rattle.std.specs.Prelude.{◌≡◌, ◌↔◌, ◌++◌, List, [], ◌∷◌, ℕ, length, map, IfOk, OnOk, IsTrue, Some, None};
+ghost use Rattle.std.specs.Prelude.{◌≡◌, ◌↔◌, ◌++◌, List, [], ◌∷◌, ℕ, length, map, IfOk, OnErr, OnOk, IsTrue, Some, None};
 ghost use Rattle.names.specs.Firsts.{first_of};
 ghost use Rattle.names.specs.Tables.{IsTable};
 ghost use Rattle.names.specs.Words.{words_at};
@@ -54,9 +54,10 @@ impl<'a> Table<'a> {
         }
     }
 
-    /// Adds a name that it lacks, behind the others.
+    /// Adds a name that it lacks, behind the others. Where memory is refused, the table is as before.
     pub fn add(&mut self, name: &'a [u8], place: usize) -> Result<(), AllocError>
-        ensures { (words : List (List ℕ)) → IsTable words self.old → first_of words name.now ≡ None → place ≡ length words → OnOk result (IsTable (words ++ name.now ∷ []) self.new) }
+        ensures added { (words : List (List ℕ)) → IsTable words self.old → first_of words name.now ≡ None → place ≡ length words → OnOk result (IsTable (words ++ name.now ∷ []) self.new) }
+        ensures kept { (words : List (List ℕ)) → IsTable words self.old → OnErr result (IsTable words self.new) }
     {
         self.first.insert(name, place)?;
         Ok(())

@@ -7,8 +7,8 @@ ghost use Rattle.names.specs.Variables.{Frame, variable_named, past_heap, entere
 
 use crate::judging::add_twice;
 use crate::kinds::Kind;
-use crate::limits::MOST_VARIABLES;
 use crate::tables::Table;
+use program::MOST_VARIABLES;
 use source::{Finding, Memory, Span, Tokens, texts};
 use std::alloc::Global;
 

@@ -1,5 +1,5 @@
 -- Methods whose numbers mean something: each is in range, and what a call, a start or a switch lacks is nothing.
-use Rattle.std.specs.Prelude.{◌≡◌, ◌≤◌, ◌<◌, ℕ, suc, ◌==◌, Bool, true, false, ◌&&◌, ◌||◌, not, List, [], ◌∷◌, length, map, Option, None, Some, slice_get, IfSome, IsSomeAnd}
+use Rattle.std.specs.Prelude.{◌≡◌, ◌≤◌, ◌<◌, ℕ, ◌==◌, Bool, true, false, ◌&&◌, not, List, [], ◌∷◌, length, map, Option, None, Some, slice_get, IfSome, IsSomeAnd}
 use Rattle.std.specs.List.{filter}
 use Rattle.program.specs.Kinds.{same_scalar, same_side}
 use Rattle.program.specs.Parts.{StateParts, MessageParts, ContractSeen}
@@ -18,10 +18,10 @@ use Rattle.program.specs.declared.statement.Action.TheVariants as does
 use Rattle.program.specs.declared.statement.Awaited.{Awaited}
 use Rattle.program.specs.declared.statement.Awaited.TheVariants.{Message, Closed}
 use Rattle.program.specs.declared.statement.Channel.{Channel}
-use Rattle.program.specs.declared.statement.Forget.{Forget}
 use Rattle.program.specs.declared.statement.Mention.{Mention}
-use Rattle.program.specs.Lists.{Each}
-use Rattle.program.specs.Scopes.{LeadsOut, IsForgotten, AreNested}
+use Rattle.program.specs.declared.limits.TheConstants.{MOST_VARIABLES}
+use Rattle.program.specs.Lists.{Each, is_among}
+use Rattle.program.specs.Scopes.{AreNested, GoesBack, Grows, InTurn, IsInScope}
 
 -- a variable that a method gets from its caller
 abbrev pub is_parameter : Role → Bool
@@ -74,19 +74,61 @@ abbrev pub contract_held : List ContractSeen → Kind → Option ContractSeen
 contract_held contracts (Endpoint contract side state) = slice_get contracts contract.0
 contract_held contracts _ = None
 
--- where a statement stands: the contracts of the program, what its messages bring, and its methods; the variables of its own
--- method, and what that gives
+-- an end of a channel
+abbrev pub is_end : Kind → Bool
+is_end (Endpoint contract side state) = true
+is_end _ = false
+
+-- Where a statement stands: the contracts of the program, what its messages bring, and its methods; the variables of its own
+-- method, and what that gives; the last variable in scope, and the last that stays at a `break` and at a `continue`.
 pub record Setting : Type 0 where
   pub contracts : List ContractSeen
   pub messages : List (List Kind)
   pub methods : List MethodSeen
   pub variables : List VariableSeen
   pub result : Option Kind
+  pub scope : Option VarId
+  pub at_break : Option VarId
+  pub at_continue : Option VarId
 
--- Names that a case binds have numbers of their own: each stands behind the one before it.
-abbrev pub AreRising : ℕ → List VarId → Type 0
-AreRising n [] = Unit {0}
-AreRising n (v ∷ bound) = (n ≤ v.0) × AreRising (suc v.0) bound
+-- where this one is the last in scope
+abbrev pub reached : Setting → Option VarId → Setting
+reached s scope = record {
+  contracts = s.contracts;
+  messages = s.messages;
+  methods = s.methods;
+  variables = s.variables;
+  result = s.result;
+  scope = scope;
+  at_break = s.at_break;
+  at_continue = s.at_continue;
+}
+
+-- in a switch that stands there
+abbrev pub in_switch : Setting → Setting
+in_switch s = record {
+  contracts = s.contracts;
+  messages = s.messages;
+  methods = s.methods;
+  variables = s.variables;
+  result = s.result;
+  scope = s.scope;
+  at_break = s.scope;
+  at_continue = s.at_continue;
+}
+
+-- in a loop that stands there
+abbrev pub in_loop : Setting → Setting
+in_loop s = record {
+  contracts = s.contracts;
+  messages = s.messages;
+  methods = s.methods;
+  variables = s.variables;
+  result = s.result;
+  scope = s.scope;
+  at_break = s.scope;
+  at_continue = s.scope;
+}
 
 -- the endpoints of cases, and those of the cases that wait for the close
 abbrev pub endpoints : CasesSeen → List ℕ
@@ -98,10 +140,6 @@ closes NoCase = []
 closes (MoreCases (Case endpoint (Message id) bound body) cases) = closes cases
 closes (MoreCases (Case endpoint Closed bound body) cases) = endpoint.variable.0 ∷ closes cases
 
-abbrev pub is_among : List ℕ → ℕ → Bool
-is_among [] n = false
-is_among (x ∷ xs) n = (x == n) || is_among xs n
-
 module _ (s : Setting) where
   -- the number of a variable
   abbrev pub IsVariable : VarId → Type 0
@@ -109,6 +147,9 @@ module _ (s : Setting) where
 
   abbrev pub IsMention : Mention → Type 0
   IsMention m = IsVariable m.variable
+
+  abbrev pub IsIn : VarId → Type 0
+  IsIn v = IsInScope s.variables s.scope v
 
   -- a variable of this type
   abbrev pub Holds : Kind → VarId → Type 0
@@ -139,11 +180,15 @@ module _ (s : Setting) where
   IsTaken (Some k) None = ⊥
   IsTaken (Some k) (Some m) = Holds k m.variable
 
+  -- it is in scope there
+  abbrev pub IsTarget : Option Kind → Option Mention → Type 0
+  IsTarget result target = IsTaken result target × IfSome target (λ m. IsIn m.variable)
+
   -- a call of this method
   pub record IsCallOf (c : CallSeen) (m : MethodSeen) : Type 0 where
     pub reads : Each IsMention c.reads
     pub arguments : AreGiven (parameters m) c.arguments
-    pub target : IsTaken m.result c.target
+    pub target : IsTarget m.result c.target
     pub behind : Each IsMention c.behind
 
   -- A method is started where it gives nothing and claims its parameters.
@@ -157,28 +202,24 @@ module _ (s : Setting) where
     pub endpoint : IsEnd (λ c. IsMessageOf c x.message) x.endpoint
     pub payloads : IsSomeAnd (slice_get s.messages x.message.0) (λ kinds. HoldAll kinds (map (λ m. m.variable) x.payloads))
 
-  -- what goes out of scope is in scope, and what stays lies behind it
-  pub record IsForget (f : Forget) : Type 0 where
-    pub last : IsVariable f.last
-    pub forgotten : IsForgotten s.variables f f.last
-
   abbrev pub IsChannel : Channel → Type 0
   IsChannel c = IsSomeAnd (slice_get s.variables c.first.variable.0) (λ v. IsSomeAnd (slice_get s.variables c.second.variable.0) (λ w. are_ends c.contract.0 v.kind w.kind ≡ true))
 
-  -- the last variable in scope
-  abbrev pub IsScope : Option VarId → Type 0
-  IsScope scope = IfSome scope IsVariable × LeadsOut s.variables scope None
+  -- a variable that takes a new struct or array
+  abbrev pub TakesNew : VarId → Type 0
+  TakesNew v = IsSomeAnd (slice_get s.variables v.0) (λ x. is_end x.kind ≡ false)
 
+  -- What is assigned is in scope. What a `break` and a `continue` leave goes out of scope, and a `return` knows what is in scope.
   abbrev pub IsAction : Action → Type 0
   IsAction does.Nothing = Unit {0}
   IsAction (does.Use m) = IsMention m
-  IsAction (does.New m) = IsMention m
-  IsAction (does.Move target source) = IsSomeAnd (slice_get s.variables target.variable.0) (λ v. Holds v.kind source.variable)
+  IsAction (does.New m) = IsIn m.variable × TakesNew m.variable
+  IsAction (does.Move target source) = IsIn target.variable × IsSomeAnd (slice_get s.variables target.variable.0) (λ v. Holds v.kind source.variable)
   IsAction (does.Delete m) = IsMention m
-  IsAction (does.NewChannel c) = IsChannel c
-  IsAction (does.Break f) = IfSome f IsForget
-  IsAction (does.Continue f) = IfSome f IsForget
-  IsAction (does.Return place value scope) = IsTaken s.result value × IsScope scope
+  IsAction (does.NewChannel c) = (IsIn c.first.variable × IsIn c.second.variable) × IsChannel c
+  IsAction (does.Break f) = GoesBack s.scope s.at_break f
+  IsAction (does.Continue f) = GoesBack s.scope s.at_continue f
+  IsAction (does.Return place value scope) = IsTaken s.result value × (scope ≡ s.scope)
 
   abbrev pub IsAwaited : Awaited → ContractSeen → Type 0
   IsAwaited (Message id) c = IsMessageOf c id
@@ -189,58 +230,72 @@ module _ (s : Setting) where
   IsBrought (Message id) bound = IsSomeAnd (slice_get s.messages id.0) (λ kinds. HoldAll kinds bound)
   IsBrought Closed bound = bound ≡ []
 
-  -- What a case binds goes out of scope behind it, with what stands in it.
-  abbrev pub AreBound : List VarId → Option Forget → Type 0
-  AreBound bound None = bound ≡ []
-  AreBound bound (Some f) = AreRising 0 bound × Each (IsForgotten s.variables f) bound
+abbrev mutual
+  -- a statement
+  pub IsStatement : Setting → StatementSeen → Type 0
+  IsStatement s (Simple reads action) = Each (IsMention s) reads × IsAction s action
+  IsStatement s (Call c) = IsSomeAnd (slice_get s.methods c.method.0) (IsCallOf s c)
+  IsStatement s (Start c) = IsSomeAnd (slice_get s.methods c.method.0) (IsStartOf s c)
+  IsStatement s (Send x) = IsSend s x
+  IsStatement s (Block b) = IsBlock s b
+  IsStatement s (If first others) = IsTest s first × AreOthers s others
+  IsStatement s (While test) = IsTest (in_loop s) test
+  -- each endpoint of a switch has a case for its close
+  IsStatement s (Switch place cases) = Each (λ e. is_among (closes cases) e ≡ true) (endpoints cases) × AreCases (in_switch s) cases
 
-  abbrev mutual
-    -- a statement
-    pub IsStatement : StatementSeen → Type 0
-    IsStatement (Simple reads action) = Each IsMention reads × IsAction action
-    IsStatement (Call c) = IsSomeAnd (slice_get s.methods c.method.0) (IsCallOf c)
-    IsStatement (Start c) = IsSomeAnd (slice_get s.methods c.method.0) (IsStartOf c)
-    IsStatement (Send x) = IsSend x
-    IsStatement (Block b) = IsBlock b
-    IsStatement (If first others) = IsTest first × AreOthers others
-    IsStatement (While test) = IsTest test
-    -- each endpoint of a switch has a case for its close
-    IsStatement (Switch place cases) = Each (λ e. is_among (closes cases) e ≡ true) (endpoints cases) × AreCases cases
+  -- Statements in a row, and the last variable in scope behind them. What is declared comes into scope between them.
+  pub AreStatements : Setting → StatementsSeen → (behind : Option VarId) → Type 0
+  AreStatements s NoStatement behind = Grows s.variables s.scope behind
+  AreStatements s (MoreStatements x xs) behind =
+      (here : Option VarId) × (Grows s.variables s.scope here × (IsStatement (reached s here) x × AreStatements (reached s here) xs behind))
 
-    pub AreStatements : StatementsSeen → Type 0
-    AreStatements NoStatement = Unit {0}
-    AreStatements (MoreStatements x xs) = IsStatement x × AreStatements xs
+  -- What a block declares goes out of scope behind it.
+  pub IsBlock : Setting → BlockSeen → Type 0
+  IsBlock s (Braces statements forget) = (behind : Option VarId) × (AreStatements s statements behind × GoesBack behind s.scope forget)
 
-    pub IsBlock : BlockSeen → Type 0
-    IsBlock (Braces statements forget) = AreStatements statements × IfSome forget IsForget
+  pub IsTest : Setting → TestSeen → Type 0
+  IsTest s (Test place reads ways body) = Each (IsMention s) reads × IsBlock s body
 
-    pub IsTest : TestSeen → Type 0
-    IsTest (Test place reads ways body) = Each IsMention reads × IsBlock body
+  pub AreOthers : Setting → OthersSeen → Type 0
+  AreOthers s NoOther = Unit {0}
+  AreOthers s (Else b) = IsBlock s b
+  AreOthers s (ElseIf t others) = IsTest s t × AreOthers s others
 
-    pub AreOthers : OthersSeen → Type 0
-    AreOthers NoOther = Unit {0}
-    AreOthers (Else b) = IsBlock b
-    AreOthers (ElseIf t others) = IsTest t × AreOthers others
+  -- A case. What it binds comes into scope before its statements, and goes out of it behind them.
+  pub IsCase : Setting → CaseSeen → Type 0
+  IsCase s (Case endpoint awaited bound (Braces statements forget)) =
+      (IsEnd s (IsAwaited s awaited) endpoint × IsBrought s awaited bound)
+      × ((inner : Option VarId) × (behind : Option VarId) × (InTurn s.variables s.scope bound inner × (AreStatements (reached s inner) statements behind × GoesBack behind s.scope forget)))
 
-    -- a case
-    pub IsCase : CaseSeen → Type 0
-    IsCase (Case endpoint awaited bound (Braces statements forget)) = (IsEnd (IsAwaited awaited) endpoint × IsBrought awaited bound) × (AreBound bound forget × IsBlock (Braces statements forget))
+  pub AreCases : Setting → CasesSeen → Type 0
+  AreCases s NoCase = Unit {0}
+  AreCases s (MoreCases c cases) = IsCase s c × AreCases s cases
 
-    pub AreCases : CasesSeen → Type 0
-    AreCases NoCase = Unit {0}
-    AreCases (MoreCases c cases) = IsCase c × AreCases cases
-
--- where the statements of a method stand
-abbrev pub setting : List ContractSeen → List (List Kind) → List MethodSeen → MethodSeen → Setting
-setting contracts messages methods m = record { contracts = contracts; messages = messages; methods = methods; variables = m.variables; result = m.result }
+-- where the statements of a method begin, if these parameters are in scope there; a `break` and a `continue` leave them in scope
+abbrev pub setting : List ContractSeen → List (List Kind) → List MethodSeen → MethodSeen → (begins : Option VarId) → Setting
+setting contracts messages methods m begins = record {
+  contracts = contracts;
+  messages = messages;
+  methods = methods;
+  variables = m.variables;
+  result = m.result;
+  scope = begins;
+  at_break = begins;
+  at_continue = begins;
+}
 
 -- a method among those of a program of these contracts, whose messages bring this
 pub record IsWellFormed (contracts : List ContractSeen) (messages : List (List Kind)) (methods : List MethodSeen) (m : MethodSeen) : Type 0 where
   pub result : IfSome m.result (IsKind contracts)
+  pub void : m.gives ≡ false → m.result ≡ None
   pub kinds : Each (λ v. IsKind contracts v.kind) m.variables
+  pub few : length m.variables ≤ MOST_VARIABLES
   pub nested : AreNested m.variables
-  pub statements : AreStatements (setting contracts messages methods m) m.statements
-  pub scope : IsScope (setting contracts messages methods m) m.scope
+  -- the last variable in scope where the method begins: all parameters are in scope there
+  pub begins : Option VarId
+  pub begins_with : IfSome begins (λ v. v.0 < length m.variables)
+  pub parameters : (n : VarId) (v : VariableSeen) → slice_get m.variables n.0 ≡ Some v → is_parameter v.role ≡ true → IsInScope m.variables begins n
+  pub statements : AreStatements (setting contracts messages methods m begins) m.statements m.scope
 
 -- a program: what its messages bring, and its methods
 pub record AreWellFormed (contracts : List ContractSeen) (messages : List (List Kind)) (methods : List MethodSeen) : Type 0 where

@@ -4,6 +4,8 @@
 mod call;
 mod contract;
 mod kind;
+pub mod laws;
+mod limits;
 mod method;
 mod methods;
 mod number;
@@ -12,6 +14,7 @@ mod statement;
 pub use call::{Argument, Call, Send};
 pub use contract::{Contract, Direction, Edge, Message, Resolved, Sign, State};
 pub use kind::{Kind, Scalar, Side};
+pub use limits::{MOST_CONTRACTS, MOST_METHODS, MOST_PARAMETERS, MOST_STATES, MOST_VARIABLES};
 pub use method::{Method, Role, Variable};
 pub use methods::Methods;
 pub use number::{ContractId, MessageId, MethodId, StateId, StructId, VarId};

@@ -1,21 +1,23 @@
 //! The methods of a program, and what is known of them.
 
-ghost use Rattle.std.specs.Prelude.{◌≡◌, map};
+ghost use Rattle.std.specs.Prelude.{◌≡◌, ◌<◌, Some, length, map, slice_get};
 ghost use Rattle.program.specs.Parts.{contract_seen};
 ghost use Rattle.program.specs.Methods.{method_seen};
 ghost use Rattle.program.specs.Programs.{contracts_seen, messages_seen, methods_seen, rows};
-ghost use Rattle.program.specs.WellFormed.{AreWellFormed};
+ghost use Rattle.program.specs.WellFormed.{AreWellFormed, IsWellFormed};
 
 use crate::contract::Resolved;
 use crate::kind::Kind;
 use crate::method::Method;
+use crate::number::MethodId;
 use std::marker::Model;
 
 /// The methods of a program in order of the text, with its contracts and what its messages bring, all names in them resolved, and
-/// well formed: each number stands for something; a call and a send give for each parameter of the exchange heap a variable of its
-/// type, and a call has a target exactly where the callee gives a block; a started method gives nothing and claims its
-/// parameters; a switch has a case for the close of each of its endpoints; what a case binds takes what its message brings, and
-/// has numbers of its own, which go out of scope behind it.
+/// well formed: each number stands for something, and a method has at most `MOST_VARIABLES` variables; a call and a send give for
+/// each parameter of the exchange heap a variable of its type, and a call has a target exactly where the callee gives a block; what
+/// is assigned is in scope; a started method gives nothing and claims its parameters; a switch has a case for the close of each of
+/// its endpoints; what a case binds takes what its message brings, and comes into scope there. What goes out of scope is just what
+/// came into it.
 #[derive(Drop)]
 pub struct Methods {
     contracts: Resolved,
@@ -78,6 +80,15 @@ impl Methods {
         ensures list { map method_seen result.now ≡ methods_seen self.now }
         ensures well_formed { AreWellFormed (contracts_seen self.now) (messages_seen self.now) (methods_seen self.now) }
     {
-        &self.list
+        self.list.as_slice()
+    }
+
+    /// The method of this number.
+    pub fn method(&self, id: MethodId) -> &Method
+        requires there { id.0 < length (methods_seen self.now) }
+        ensures method { slice_get (methods_seen self.now) id.0 ≡ Some (method_seen result.now) }
+        ensures well_formed { IsWellFormed (contracts_seen self.now) (messages_seen self.now) (methods_seen self.now) (method_seen result.now) }
+    {
+        &self.list[id.0 as usize]
     }
 }

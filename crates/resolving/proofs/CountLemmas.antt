@@ -8,7 +8,7 @@ use Rattle.tree.specs.Trees.{ItemTree, DefinitionTree, Contract, Struct, Class, 
 use Rattle.tree.specs.declared.class as made
 use Rattle.tree.specs.declared.item.Item.{Item}
 use Rattle.names.specs.Methods.{methods_in}
-use Rattle.names.specs.declared.limits.TheConstants.{MOST_METHODS}
+use Rattle.program.specs.declared.limits.TheConstants.{MOST_METHODS}
 use Rattle.resolving.specs.Callees.{all_methods, methods_before}
 use Rattle.resolving.specs.Counts.{before, contracts_before, counts, struct_among, structs_before}
 use Rattle.resolving.specs.declared.counts.Before.{Before}

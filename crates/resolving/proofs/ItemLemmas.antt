@@ -13,7 +13,7 @@ use Rattle.names.specs.Found.{limit_passed}
 use Rattle.names.specs.Listed.{past_limit, twice_among}
 use Rattle.names.specs.Methods.{items_findings, method_names, methods_in}
 use Rattle.names.specs.Program.{Program, item_names}
-use Rattle.names.specs.declared.limits.TheConstants.{MOST_METHODS}
+use Rattle.program.specs.declared.limits.TheConstants.{MOST_METHODS}
 use Rattle.program.specs.Methods.{MethodSeen}
 use Rattle.resolving.specs.Callees.{all_methods}
 use Rattle.resolving.specs.Methods.{item_told, method_told}

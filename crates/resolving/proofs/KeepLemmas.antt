@@ -12,7 +12,7 @@ use Rattle.program.specs.declared.kind.Kind.{Kind}
 use Rattle.resolving.specs.Binds.{bind_declaration, bind_told, binds_told}
 use Rattle.resolving.specs.Locals.{Local, Frame, local_named, entered, declared, declared_as}
 use Rattle.resolving.specs.Plain.{declaration_of}
-use Rattle.resolving.specs.Told.{Staying, in_loop, in_switch, behind_case, statement_told, statements_told, block_told, test_told, others_told, case_told, cases_told}
+use Rattle.resolving.specs.Told.{Staying, stays_here, in_switch, behind_case, statement_told, statements_told, block_told, test_told, others_told, case_told, cases_told}
 use Rattle.resolving.specs.declared.locals.Declaration.{Declaration}
 
 -- the second has what is in scope in the first, and more behind it
@@ -74,7 +74,7 @@ statement_extends p class stays (trees.Start word c) f = same_extends f _ refl
 statement_extends p class stays (trees.Delete name) f = same_extends f _ refl
 statement_extends p class stays (trees.NewChannel n) f = same_extends f _ refl
 statement_extends p class stays (trees.If first others) f = same_extends f _ (others_same p class stays others (test_told p class stays first f).frame ∙ test_same p class stays first f)
-statement_extends p class stays (trees.While test) f = same_extends f _ (test_same p class (in_loop f) test f)
+statement_extends p class stays (trees.While test) f = same_extends f _ (test_same p class (stays_here f) test f)
 statement_extends p class stays (trees.Break word) f = same_extends f _ refl
 statement_extends p class stays (trees.Continue word) f = same_extends f _ refl
 statement_extends p class stays (trees.Return word value) f = same_extends f _ refl

@@ -17,7 +17,7 @@ use Rattle.resolving.specs.Kinds.{result_held}
 use Rattle.resolving.specs.Locals.{Frame, number_of}
 use Rattle.resolving.specs.Methods.{no_variables, parameters_frame, method_told}
 use Rattle.resolving.specs.Steps.{IsTold}
-use Rattle.resolving.specs.Told.{outside, statements_told}
+use Rattle.resolving.specs.Told.{stays_here, statements_told}
 use Rattle.resolving.specs.declared.locals.Locals.{Locals}
 use Rattle.resolving.proofs.StatementTwins.{block_is}
 
@@ -29,12 +29,12 @@ with_body m b = record { access = m.access; result = m.result; name = m.name; op
 
 -- a method is what its parts come to
 pub method_is : (p : Program) (class : ℕ) (m : made.Method.Method) (r : Method) (l : Locals) → r.name ≡ m.name.place → r.gives ≡ is_some m.result → r.result ≡ result_held p m.result → r.close ≡ m.body.close.place
-    → IsTold p.text (statements_told p class outside (statement_row (map statement_tree m.body.statements.items)) (parameters_frame p m.params.items no_variables)) (seen.statement_row (map statement_seen r.statements.items)) l
+    → IsTold p.text (statements_told p class (stays_here (parameters_frame p m.params.items no_variables)) (statement_row (map statement_tree m.body.statements.items)) (parameters_frame p m.params.items no_variables)) (seen.statement_row (map statement_seen r.statements.items)) l
     → ((t : List ℕ) (f : Frame) → IsFrame t f l → map variable_seen r.variables.items ≡ f.variables) → ((t : List ℕ) (f : Frame) → IsFrame t f l → r.scope ≡ option_map number_of f.last)
     → method_seen r ≡ method_told p class (method_tree m)
 unfolding method_of with_body
 method_is p class m r l name gives result close body variables scope =
-    let b = statements_told p class outside (statement_row (map statement_tree m.body.statements.items)) (parameters_frame p m.params.items no_variables) in
+    let b = statements_told p class (stays_here (parameters_frame p m.params.items no_variables)) (statement_row (map statement_tree m.body.statements.items)) (parameters_frame p m.params.items no_variables) in
     let statements = seen.statement_row (map statement_seen r.statements.items) in
     let heap = map variable_seen r.variables.items in
     let held = result_held p m.result in

@@ -5,7 +5,7 @@ use Rattle.names.specs.Program.{Program}
 use Rattle.program.specs.Parts.{contract_seen}
 use Rattle.names.specs.Resolution.{resolved_contracts}
 use Rattle.names.specs.Scopes.{IsScope}
-use Rattle.names.specs.declared.limits.TheConstants.{MOST_METHODS}
+use Rattle.program.specs.declared.limits.TheConstants.{MOST_METHODS}
 use Rattle.resolving.specs.Callees as model
 use Rattle.resolving.specs.Callees.{all_methods}
 use Rattle.resolving.specs.Messages as messages

@@ -16,7 +16,7 @@ use Rattle.program.specs.declared.method.Role.TheVariants.{Lent, Claimed}
 use Rattle.resolving.specs.Callees.{all_methods}
 use Rattle.resolving.specs.Locals.{Frame, declared, number_of}
 use Rattle.resolving.specs.Kinds.{type_held, result_held}
-use Rattle.resolving.specs.Told.{Told, outside, statements_told}
+use Rattle.resolving.specs.Told.{Told, stays_here, statements_told}
 use Rattle.resolving.specs.declared.locals.Declaration.{Declaration}
 use Rattle.resolving.specs.Unknown.{unknown_methods}
 
@@ -34,9 +34,9 @@ parameters_frame p (x ∷ params) f = parameters_frame p params (declared p.text
 abbrev pub no_variables : Frame
 no_variables = record { locals = []; last = None; variables = [] }
 
--- A method body ends with its method: nothing is forgotten there.
+-- A method body ends with its method: nothing is forgotten there. Its parameters stay at a `break` and at a `continue`.
 abbrev pub body_told : Program → ℕ → BlockTree → Frame → Told StatementsSeen
-body_told p class (stated.Braces statements close) f = statements_told p class outside statements f
+body_told p class (stated.Braces statements close) f = statements_told p class (stays_here f) statements f
 
 abbrev pub closing : BlockTree → Place
 closing (stated.Braces statements close) = close.place

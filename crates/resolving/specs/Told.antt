@@ -26,16 +26,14 @@ use Rattle.resolving.specs.Reads.{reads, ways}
 use Rattle.resolving.specs.Plain.{frame_behind, plain_told, told}
 
 -- The last variable of the exchange heap in scope that stays at a `break`, and at a `continue`: what is declared behind it goes
--- out of scope. Outside of loops and switches there is none.
+-- out of scope.
 pub record Staying : Type 0 where
   pub at_break : Option ℕ
   pub at_continue : Option ℕ
 
-abbrev pub outside : Staying
-outside = record { at_break = None; at_continue = None }
-
-abbrev pub in_loop : Frame → Staying
-in_loop f = record { at_break = f.last; at_continue = f.last }
+-- in a loop that stands there, and in a method whose parameters these are
+abbrev pub stays_here : Frame → Staying
+stays_here f = record { at_break = f.last; at_continue = f.last }
 
 abbrev pub in_switch : Staying → Frame → Staying
 in_switch s f = record { at_break = f.last; at_continue = s.at_continue }
@@ -79,7 +77,7 @@ module _ (p : Program) (class : ℕ) where
     pub statement_told : Staying → StatementTree → Frame → Told StatementSeen
     statement_told stays (stated.Block b) f = made seen.Block (block_told stays b f)
     statement_told stays (stated.If first others) f = follow seen.If (test_told stays first f) (others_told stays others)
-    statement_told stays (stated.While test) f = made seen.While (test_told (in_loop f) test f)
+    statement_told stays (stated.While test) f = made seen.While (test_told (stays_here f) test f)
     statement_told stays (stated.Break word) f = record { what = told [] (Break (left word.place stays.at_break f)); frame = f }
     statement_told stays (stated.Continue word) f = record { what = told [] (Continue (left word.place stays.at_continue f)); frame = f }
     statement_told stays (stated.Switch word first cases close) f =

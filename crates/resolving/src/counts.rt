@@ -2,7 +2,7 @@
 
 ghost use Rattle.std.specs.Prelude.{◌≡◌, ◌≤◌, IfOk, length, map};
 ghost use Rattle.tree.specs.Trees.{contract_of, definition_tree, item_tree};
-ghost use Rattle.names.specs.declared.limits.TheConstants.{MOST_METHODS};
+ghost use Rattle.program.specs.declared.limits.TheConstants.{MOST_METHODS};
 ghost use Rattle.resolving.specs.Callees.{all_methods};
 ghost use Rattle.resolving.specs.Counts.{counts, struct_among};
 

@@ -8,7 +8,7 @@ ghost use Rattle.names.specs.Program as model;
 ghost use Rattle.names.specs.Program.{program_of};
 ghost use Rattle.program.specs.Parts.{contract_seen};
 ghost use Rattle.names.specs.Resolution.{resolved_contracts};
-ghost use Rattle.names.specs.declared.limits.TheConstants.{MOST_METHODS};
+ghost use Rattle.program.specs.declared.limits.TheConstants.{MOST_METHODS};
 ghost use Rattle.program.specs.Methods.{method_seen};
 ghost use Rattle.names.specs.Scopes.{IsScope};
 ghost use Rattle.resolving.specs.Around.{IsAround, program_in};
@@ -82,8 +82,9 @@ fn resolve_method(
 {
     let mut locals = Locals::new(alloc);
     declare_parameters(alloc, tokens, around, &mut locals, &method.params)?;
+    let stays = Staying::here(locals.last());
     let body = &method.body.statements;
-    let statements = tell_statements(alloc, tokens, around, &mut locals, Staying::outside(), body)?;
+    let statements = tell_statements(alloc, tokens, around, &mut locals, stays, body)?;
     let scope = locals.last();
     Ok(Method {
         name: method.name.place,

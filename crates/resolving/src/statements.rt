@@ -61,7 +61,7 @@ fn tell_statement<'a>(
             Ok(Statement::If(branches))
         }
         tree::Statement::While(test) => {
-            let inside = Staying::in_loop(locals.last());
+            let inside = Staying::here(locals.last());
             let test = tell_test(alloc, tokens, around, locals, inside, test)?;
             Ok(Statement::While(test))
         }

@@ -6,7 +6,7 @@ ghost use Rattle.program.specs.declared.statement.Action.TheVariants.{Break, Con
 ghost use Rattle.resolving.specs.Frames.{IsFrame, number_seen, staying_seen};
 ghost use Rattle.resolving.specs.Locals.{Frame, forget};
 ghost use Rattle.resolving.specs.Plain.{told};
-ghost use Rattle.resolving.specs.Told.{left, outside, in_loop, in_switch};
+ghost use Rattle.resolving.specs.Told.{left, stays_here, in_switch};
 
 use crate::locals::Locals;
 use crate::values::unread;
@@ -23,19 +23,9 @@ pub(crate) struct Staying {
 }
 
 impl Staying {
-    /// Outside of loops and switches.
-    pub(crate) fn outside() -> Staying
-        ensures { staying_seen result ≡ outside }
-    {
-        Staying {
-            at_break: None,
-            at_continue: None,
-        }
-    }
-
-    /// In a loop before which this variable is the last in scope.
-    pub(crate) fn in_loop(last: Option<VarId>) -> Staying
-        ensures { (f : Frame) → number_seen last ≡ f.last → staying_seen result ≡ in_loop f }
+    /// In a loop before which this variable is the last in scope, or in a method of which it is the last parameter.
+    pub(crate) fn here(last: Option<VarId>) -> Staying
+        ensures { (f : Frame) → number_seen last ≡ f.last → staying_seen result ≡ stays_here f }
     {
         Staying {
             at_break: last,

@@ -8,25 +8,26 @@ use Rattle.std.specs.Ordering.{nat_cmp}
 use Rattle.std.proofs.lemmas.Bool.Decides.{nat_tests}
 use Rattle.std.proofs.lemmas.List.{at_drop_all, at_drop_more}
 use Rattle.source.specs.declared.finding.Finding.{Finding}
+use Rattle.program.specs.Lists.{is_among}
 use Rattle.program.specs.Methods.{MethodSeen}
 use Rattle.program.specs.declared.call.Argument.{Argument}
 use Rattle.program.specs.declared.statement.Mention.{Mention}
 use Rattle.rules.specs.Checks.{StandsFor, check_seen, first_again}
-use Rattle.rules.specs.RuleTable.{Check, Pair, checked, claimed, given_before, has_nat, name_of, refused}
+use Rattle.rules.specs.RuleTable.{Check, Pair, checked, claimed, given_before, name_of, refused}
 use Rattle.rules.specs.Texts.{twice}
 use Rattle.rules.specs.declared.row.Leaf.{Leaf}
 
 -- so many arguments were looked at, the variables of these earlier ones are in the set, and none of them was given before
 pub record Looked (set : BTreeSet ℕ) (arguments : List Argument) (done : ℕ) : Type 0 where
   pub earlier : List ℕ
-  pub has : (q : ℕ) → contains nat_cmp set q ≡ has_nat earlier q
+  pub has : (q : ℕ) → contains nat_cmp set q ≡ is_among earlier q
   pub same : first_again [] arguments ≡ first_again earlier (drop done arguments)
 
 -- none was looked at
 pub looked_first : (set : BTreeSet ℕ) (arguments : List Argument) → IsEmpty set → Looked set arguments 0
 looked_first set arguments empty = record { earlier = []; has = λ q. ap (list_any (is_at (nat_cmp q))) empty; same = refl }
 
-again_at : (arguments : List Argument) (done : ℕ) (d : Argument) (earlier : List ℕ) (b : Bool) → done < length arguments → has_nat earlier (slice_index_or arguments done d).mention.variable.0 ≡ b
+again_at : (arguments : List Argument) (done : ℕ) (d : Argument) (earlier : List ℕ) (b : Bool) → done < length arguments → is_among earlier (slice_index_or arguments done d).mention.variable.0 ≡ b
     → first_again earlier (drop done arguments)
     ≡ (if b then Some (slice_index_or arguments done d).mention else first_again ((slice_index_or arguments done d).mention.variable.0 ∷ earlier) (drop (done + 1) arguments))
 again_at arguments done d earlier b lt is =
@@ -82,7 +83,7 @@ pub again_is : (m : MethodSeen) (earlier : List ℕ) (arguments : List Argument)
 again_is m earlier [] more after = refl
 again_is m earlier (a ∷ arguments) more after =
     let x = a.mention in
-    one m (has_nat earlier x.variable.0) x (given_before m (x.variable.0 ∷ earlier) arguments) more (first_again (x.variable.0 ∷ earlier) arguments) after (again_is m (x.variable.0 ∷ earlier) arguments more after)
+    one m (is_among earlier x.variable.0) x (given_before m (x.variable.0 ∷ earlier) arguments) more (first_again (x.variable.0 ∷ earlier) arguments) after (again_is m (x.variable.0 ∷ earlier) arguments more after)
 
 -- what was found stands for the checks that none was given before
 pub again_stands : (m : MethodSeen) (arguments : List Argument) (again : Option Mention) (found : Option Finding) → again ≡ first_again [] arguments → check_seen found ≡ told_again m again → StandsFor found (given_before m [] arguments)

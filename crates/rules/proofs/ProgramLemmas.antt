@@ -21,12 +21,15 @@ same_at f g (a ∷ xs) [] n x e h is = absurd (omega arith)
 same_at f g (a ∷ xs) (y ∷ ys) zero x e h is = let head : f a ≡ g y = cc in ap f is ∙ head
 same_at f g (a ∷ xs) (y ∷ ys) (suc n) x e h is = same_at f g xs ys n x (cc) (omega arith) is
 
+one_method : (a b : MethodSeen) → Path (Option MethodSeen) (Some a) (Some b) → a ≡ b
+one_method a b e = cc
+
 -- the pair with which a method begins
-pub entry_is : (o : Option MethodSeen) (m : Method) (g : Graph) (leaves : List Leaf) → IsSomeAnd o (λ s. s ≡ method_seen m) → IsSomeAnd o (λ s. graph_seen g ≡ graph_of s) → leaves ≡ map (λ v. entry_leaf v.role) m.variables.items → (g.first, leaves) ≡ method_entry o
-entry_is None m g leaves its graph is = absurd its
+pub entry_is : (o : Option MethodSeen) (m : Method) (g : Graph) (leaves : List Leaf) → o ≡ Some (method_seen m) → IsSomeAnd o (λ s. graph_seen g ≡ graph_of s) → leaves ≡ map (λ v. entry_leaf v.role) m.variables.items → (g.first, leaves) ≡ method_entry o
+entry_is None m g leaves its graph is = absurd graph
 entry_is (Some s) m g leaves its graph is =
     let first : g.first ≡ (graph_of s).first = ap (λ (h : GraphSeen). h.first) graph in
-    let row : leaves ≡ map (λ v. entry_leaf v.role) s.variables = is ∙ sym (map-map (λ v. entry_leaf v.role) variable_seen m.variables.items) ∙ ap (λ (t : MethodSeen). map (λ v. entry_leaf v.role) t.variables) (sym its) in
+    let row : leaves ≡ map (λ v. entry_leaf v.role) s.variables = is ∙ sym (map-map (λ v. entry_leaf v.role) variable_seen m.variables.items) ∙ ap (λ (t : MethodSeen). map (λ v. entry_leaf v.role) t.variables) (sym (one_method s (method_seen m) its)) in
     λ i. (first i, row i)
 
 -- what stands at a point of a method
@@ -34,9 +37,9 @@ at_point : (s : MethodSeen) (g : Graph) (point : ℕ) (i : Option Instr) → gra
 at_point s g point i graph is = ap (λ (h : GraphSeen). slice_get h.instructions point) (sym graph) ∙ slice_get-map instruction_seen g.instructions.items point ∙ ap (option_map instruction_seen) is
 
 -- the step at a point
-pub outcome_at : (o : Option MethodSeen) (m : Method) (g : Graph) (point : ℕ) (row : List Leaf) (i : Option Instr) → IsSomeAnd o (λ s. s ≡ method_seen m) → IsSomeAnd o (λ s. graph_seen g ≡ graph_of s) → slice_get g.instructions.items point ≡ i → method_outcome o (point, row) ≡ point_outcome (method_seen m) row (option_map instruction_seen i)
-outcome_at None m g point row i its graph is = absurd its
-outcome_at (Some s) m g point row i its graph is = λ j. point_outcome (its j) row (at_point s g point i graph is j)
+pub outcome_at : (o : Option MethodSeen) (m : Method) (g : Graph) (point : ℕ) (row : List Leaf) (i : Option Instr) → o ≡ Some (method_seen m) → IsSomeAnd o (λ s. graph_seen g ≡ graph_of s) → slice_get g.instructions.items point ≡ i → method_outcome o (point, row) ≡ point_outcome (method_seen m) row (option_map instruction_seen i)
+outcome_at None m g point row i its graph is = absurd graph
+outcome_at (Some s) m g point row i its graph is = λ j. point_outcome (one_method s (method_seen m) its j) row (at_point s g point i graph is j)
 
 -- no instruction is there
 pub outcome_past : (o : Option MethodSeen) (g : Graph) (point : ℕ) (row : List Leaf) → IsSomeAnd o (λ s. graph_seen g ≡ graph_of s) → slice_get g.instructions.items point ≡ None → method_outcome o (point, row) ≡ Goes []

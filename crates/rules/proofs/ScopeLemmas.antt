@@ -1,11 +1,12 @@
 -- Variables in scope, from the last one outwards.
 use Rattle.std.proofs.Common.{◌≡◌, ℕ, zero, suc, ◌+◌, ◌-◌, ◌<◌, ◌≤◌, Bool, true, false, List, [], ◌∷◌, ◌++◌, length, Option, None, Some, if◌then◌else◌, refl, sym, ap, ◌∙◌, arith}
 use Rattle.program.specs.Methods.{MethodSeen, VariableSeen}
+use Rattle.program.specs.Scopes.{outer_of}
 use Rattle.program.specs.declared.number.VarId.{VarId}
 use Rattle.program.specs.declared.statement.Mention.{Mention}
 use Rattle.rules.specs.Checks.{first_kept, if_kept, kept_or}
 use Rattle.rules.specs.RuleTable.{is_kept}
-use Rattle.rules.specs.Scopes.{between, is_this, outer_of}
+use Rattle.rules.specs.Scopes.{between, is_this}
 use Rattle.rules.specs.declared.row.Leaf.{Leaf}
 
 kept_none : (a : Option ℕ) → kept_or a None ≡ a
@@ -34,10 +35,10 @@ between_none variables (suc most) outer = refl
 
 between_this : (variables : List VariableSeen) (most : ℕ) (outer : Option VarId) (v : VarId) → is_this v outer ≡ true → between variables most outer (Some v) ≡ []
 between_this variables zero outer v is = refl
-between_this variables (suc most) outer v is = ap (λ (b : Bool). if b then [] else between variables most outer (outer_of variables v.0) ++ v.0 ∷ []) is
+between_this variables (suc most) outer v is = ap (λ (b : Bool). if b then [] else between variables most outer (outer_of variables v) ++ v.0 ∷ []) is
 
-between_more : (variables : List VariableSeen) (most : ℕ) (outer : Option VarId) (v : VarId) → is_this v outer ≡ false → between variables (suc most) outer (Some v) ≡ between variables most outer (outer_of variables v.0) ++ v.0 ∷ []
-between_more variables most outer v is = ap (λ (b : Bool). if b then [] else between variables most outer (outer_of variables v.0) ++ v.0 ∷ []) is
+between_more : (variables : List VariableSeen) (most : ℕ) (outer : Option VarId) (v : VarId) → is_this v outer ≡ false → between variables (suc most) outer (Some v) ≡ between variables most outer (outer_of variables v) ++ v.0 ∷ []
+between_more variables most outer v is = ap (λ (b : Bool). if b then [] else between variables most outer (outer_of variables v) ++ v.0 ∷ []) is
 
 -- the first of all those is the first of those still to be looked at, and else the one that was found
 abbrev pub Looked : MethodSeen → List Leaf → Option Mention → (outer last at : Option VarId) (done : ℕ) (found : Option ℕ) → Type 0
@@ -64,11 +65,11 @@ looked_this m row given outer last at v done found some is h =
     sym (h ∙ ap (λ a. kept_or (first_kept m row given (between m.variables (length m.variables - done) outer a)) found) some
     ∙ ap (λ xs. kept_or (first_kept m row given xs) found) (between_this m.variables (length m.variables - done) outer v is))
 
-pub looked_more : (m : MethodSeen) (row : List Leaf) (given : Option Mention) (outer last at : Option VarId) (v : VarId) (done : ℕ) (found more : Option ℕ) → done < length m.variables → at ≡ Some v → is_this v outer ≡ false → more ≡ kept_or (if_kept m row given v.0) found → Looked m row given outer last at done found → Looked m row given outer last (outer_of m.variables v.0) (done + 1) more
+pub looked_more : (m : MethodSeen) (row : List Leaf) (given : Option Mention) (outer last at : Option VarId) (v : VarId) (done : ℕ) (found more : Option ℕ) → done < length m.variables → at ≡ Some v → is_this v outer ≡ false → more ≡ kept_or (if_kept m row given v.0) found → Looked m row given outer last at done found → Looked m row given outer last (outer_of m.variables v) (done + 1) more
 looked_more m row given outer last at v done found more lt some is new h =
     let left = length m.variables - (done + 1) in
     let one : length m.variables - done ≡ suc left = omega (arith, lt) in
-    let rest = between m.variables left outer (outer_of m.variables v.0) in
+    let rest = between m.variables left outer (outer_of m.variables v) in
     h
     ∙ ap (λ a. kept_or (first_kept m row given (between m.variables (length m.variables - done) outer a)) found) some
     ∙ ap (λ n. kept_or (first_kept m row given (between m.variables n outer (Some v))) found) one

@@ -3,10 +3,11 @@ use Rattle.std.specs.Prelude.{◌≡◌, ℕ, List, [], ◌∷◌, ◌++◌, Opt
 use Rattle.std.specs.Option.{option_map}
 use Rattle.source.specs.Findings.{finding_parts}
 use Rattle.source.specs.declared.finding.Finding.{Finding}
+use Rattle.program.specs.Lists.{is_among}
 use Rattle.program.specs.Methods.{MethodSeen}
 use Rattle.program.specs.declared.call.Argument.{Argument}
 use Rattle.program.specs.declared.statement.Mention.{Mention}
-use Rattle.rules.specs.RuleTable.{Check, Pair, checked, has_nat, is_kept}
+use Rattle.rules.specs.RuleTable.{Check, Pair, checked, is_kept}
 use Rattle.rules.specs.declared.row.Leaf.{Leaf}
 
 abbrev pub check_seen : Option Finding → Check
@@ -29,7 +30,7 @@ kept_or (Some v) other = Some v
 -- the first argument that an earlier one gives too
 abbrev pub first_again : List ℕ → List Argument → Option Mention
 first_again earlier [] = None
-first_again earlier (a ∷ arguments) = if has_nat earlier a.mention.variable.0 then Some a.mention else first_again (a.mention.variable.0 ∷ earlier) arguments
+first_again earlier (a ∷ arguments) = if is_among earlier a.mention.variable.0 then Some a.mention else first_again (a.mention.variable.0 ∷ earlier) arguments
 
 -- What was found stands for these checks, whatever checks come behind them.
 pub record StandsFor (found : Option Finding) (checks : List Check) : Type 0 where

@@ -1,5 +1,6 @@
 pub mod Checks
 pub mod Programs
+pub mod Leaves
 pub mod Rows
 pub mod Scopes
 pub mod RuleTable

@@ -1,10 +1,11 @@
 -- The rule table: for each instruction its checks in order, and the row after it. The first check that fails is the finding
 -- of the step.
-use Rattle.std.specs.Prelude.{ℕ, ◌==◌, Bool, true, false, not, ◌&&◌, ◌||◌, List, [], ◌∷◌, ◌++◌, Option, Some, None, map, slice_get, set, if◌then◌else◌}
+use Rattle.std.specs.Prelude.{ℕ, ◌==◌, Bool, true, false, not, ◌&&◌, List, [], ◌∷◌, ◌++◌, Option, Some, None, map, slice_get, set, if◌then◌else◌}
 use Rattle.std.specs.List.{flat_map}
 use Rattle.std.specs.Option.{option_map_or}
 use Rattle.source.specs.Findings.{FindingParts}
 use Rattle.source.specs.declared.place.Place.{Place}
+use Rattle.program.specs.Lists.{is_among}
 use Rattle.program.specs.Methods.{MethodSeen}
 use Rattle.program.specs.declared.call.Argument.{Argument}
 use Rattle.program.specs.declared.method.Role.{Role}
@@ -67,10 +68,6 @@ abbrev pub is_named : Option Mention → ℕ → Bool
 is_named None variable = false
 is_named (Some v) variable = v.variable.0 == variable
 
-abbrev pub has_nat : List ℕ → ℕ → Bool
-has_nat [] n = false
-has_nat (x ∷ xs) n = (x == n) || has_nat xs n
-
 module _ (m : MethodSeen) where
   -- the name of a variable, and whether it is lent
   abbrev pub name_of : ℕ → List ℕ
@@ -105,7 +102,7 @@ module _ (m : MethodSeen) where
   abbrev pub given_before : List ℕ → List Argument → List Check
   given_before earlier [] = []
   given_before earlier (a ∷ arguments) =
-      refused (has_nat earlier a.mention.variable.0) (twice (name_of a.mention.variable.0) a.mention.place) ∷ given_before (a.mention.variable.0 ∷ earlier) arguments
+      refused (is_among earlier a.mention.variable.0) (twice (name_of a.mention.variable.0) a.mention.place) ∷ given_before (a.mention.variable.0 ∷ earlier) arguments
 
   abbrev pub argument_checks : List Leaf → Argument → List Check
   argument_checks row a = has_something row a.mention ∷ (if a.claimed then is_not_lent a.mention ∷ [] else [])

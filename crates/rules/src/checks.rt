@@ -3,13 +3,14 @@
 ghost use Rattle.std.specs.Prelude.{◌≡◌, List, [], ◌∷◌, IfOk, option_map};
 ghost use Rattle.source.specs.Findings.{finding_parts};
 ghost use Rattle.program.specs.Methods.{method_seen};
+ghost use Rattle.program.specs.Scopes.{outer_of};
 ghost use Rattle.rules.specs.Checks as checks;
 ghost use Rattle.rules.specs.Checks.{check_seen};
 ghost use Rattle.rules.specs.Rows.{leaves_of};
 ghost use Rattle.rules.specs.RuleTable as table;
 ghost use Rattle.rules.specs.RuleTable.{Pair, checked, given_back};
 ghost use Rattle.rules.specs.Texts as texts;
-ghost use Rattle.rules.specs.Scopes.{declared_between, is_this, outer_of};
+ghost use Rattle.rules.specs.Scopes.{declared_between, is_this};
 
 use crate::row::Row;
 use program::{Mention, Method, Role, VarId};
@@ -144,7 +145,7 @@ fn is_kept(method: &Method, row: &Row, given: Option<Mention>, variable: VarId) 
 
 /// The variable of the exchange heap before this one in scope.
 fn outer_of(method: &Method, variable: VarId) -> Option<VarId>
-    ensures { result ≡ outer_of (method_seen method.now).variables variable.0 }
+    ensures { result ≡ outer_of (method_seen method.now).variables variable }
 {
     method.variables.get(variable.0)?.outer
 }

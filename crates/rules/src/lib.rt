@@ -3,6 +3,7 @@
 
 mod arguments;
 mod checks;
+pub mod laws;
 mod lowered;
 mod outcome;
 mod row;
@@ -11,5 +12,5 @@ mod table;
 
 pub use lowered::Program;
 pub use outcome::Outcome;
-pub use row::{Leaf, MOST_LEAVES, MOST_STATES, Row};
+pub use row::{Leaf, Row};
 pub use stepping::{entry, step};

@@ -1,9 +1,10 @@
 //! A program as its methods, and the graph of each.
 
-ghost use Rattle.std.specs.Prelude.{◌≡◌, ◌<◌, IfOk, IsSomeAnd, length, map, slice_get};
+ghost use Rattle.std.specs.Prelude.{◌≡◌, ◌<◌, ◌≤◌, IfOk, IsSomeAnd, Some, length, map, slice_get};
 ghost use Rattle.flow.specs.Graphs.{graph_seen};
 ghost use Rattle.flow.specs.Lowering.{graph_of};
 ghost use Rattle.program.specs.Methods.{method_seen};
+ghost use Rattle.program.specs.declared.limits.TheConstants.{MOST_VARIABLES};
 ghost use Rattle.program.specs.Programs.{methods_seen};
 
 use flow::{Graph, lower};
@@ -42,9 +43,10 @@ impl Program {
     /// A method of it.
     pub(crate) fn method(&self, method: MethodId) -> &Method
         requires there { method.0 < length (methods_of self.now) }
-        ensures { IsSomeAnd (slice_get (methods_of self.now) method.0) (λ m. m ≡ method_seen result.now) }
+        ensures method { slice_get (methods_of self.now) method.0 ≡ Some (method_seen result.now) }
+        ensures few { length result.now.variables.items ≤ MOST_VARIABLES }
     {
-        &self.methods.list()[method.0 as usize]
+        self.methods.method(method)
     }
 
     /// The graph of a method.

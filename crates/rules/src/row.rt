@@ -1,17 +1,12 @@
 //! What the variables of a method have.
 
-ghost use Rattle.std.specs.Prelude.{◌≡◌, ◌↔◌, IfOk, IfSome, IsSome, IsTrue, set};
-ghost use Rattle.rules.specs.Rows.{AreLeaves, IsNumbered, is_owned, is_something, leaf_at, leaves_of};
+ghost use Rattle.std.specs.Prelude.{◌≡◌, ◌≤◌, ◌↔◌, All, IfOk, IfSome, IsSome, IsTrue, length, set};
+ghost use Rattle.program.specs.declared.limits.TheConstants.{MOST_VARIABLES};
+ghost use Rattle.rules.specs.Leaves.{AreLeaves, IsNumbered, all_numbered_once, is_something};
 
-use program::VarId;
+use program::{MOST_STATES, MOST_VARIABLES, VarId};
 use source::Memory;
 use std::alloc::Global;
-
-/// The most leaves of a row: as many variables of the exchange heap as a method may have.
-pub const MOST_LEAVES: usize = 1000;
-
-/// The number of states that a program may have; the number of each is less.
-pub const MOST_STATES: u32 = 500_000;
 
 /// What a variable of the exchange heap has.
 #[derive(Clone, Copy, Debug, PartialEq, Eq, Hash)]
@@ -42,26 +37,31 @@ impl Leaf {
         ensures { IsTrue result ↔ IsNumbered self }
     {
         match self {
-            Leaf::State(number) => number < MOST_STATES,
+            Leaf::State(number) => (number as usize) < MOST_STATES,
             Leaf::Nothing | Leaf::Block | Leaf::CutOff => true,
         }
     }
 }
 
-/// A leaf for each variable of a method, in order of declaration.
+/// A leaf for each variable of a method, in order of declaration. They are at most `MOST_VARIABLES`, and the number of a state is
+/// less than `MOST_STATES`.
 #[derive(Debug, PartialEq, Eq, Hash, Drop)]
 pub struct Row {
     pub(crate) leaves: Vec<Leaf>,
+    ghost few: { length leaves.items ≤ MOST_VARIABLES },
+    ghost numbered: { All IsNumbered leaves.items } by { all_numbered_once leaves.items },
 }
 
 impl Row {
-    /// The row of these leaves. There is none where they are more than `MOST_LEAVES`, or where the number of a state is
+    ghost use Rattle.rules.specs.Rows.{is_owned, leaf_at, leaves_of};
+
+    /// The row of these leaves. There is none where they are more than `MOST_VARIABLES`, or where the number of a state is
     /// `MOST_STATES` or more.
     pub fn of(leaves: Vec<Leaf>) -> Option<Row>
         ensures some { IsSome result ↔ AreLeaves leaves.items }
         ensures row { IfSome result (λ row. leaves_of row ≡ leaves.items) }
     {
-        let few = leaves.len() <= MOST_LEAVES;
+        let few = leaves.len() <= MOST_VARIABLES;
         if few && leaves.iter().all(|leaf| leaf.is_numbered()) {
             return Some(Row { leaves });
         }
@@ -70,14 +70,16 @@ impl Row {
 
     /// Its leaves.
     pub fn leaves(&self) -> &[Leaf]
-        ensures { result.now ≡ leaves_of self.now }
+        ensures leaves { result.now ≡ leaves_of self.now }
+        ensures within { AreLeaves result.now }
     {
         &self.leaves
     }
 
     /// What a variable has: nothing, where there is no such variable.
     pub(crate) fn leaf(&self, variable: VarId) -> Leaf
-        ensures { result ≡ leaf_at (leaves_of self.now) variable.0 }
+        ensures leaf { result ≡ leaf_at (leaves_of self.now) variable.0 }
+        ensures numbered { IsNumbered result }
     {
         match self.leaves.get(variable.0) {
             Some(leaf) => *leaf,
@@ -94,6 +96,7 @@ impl Row {
 
     /// Gives a variable this in place of what it has.
     pub(crate) fn set(&mut self, variable: VarId, leaf: Leaf)
+        requires numbered { IsNumbered leaf }
         ensures { leaves_of self.new ≡ set (leaves_of self.old) variable.0 leaf }
     {
         if variable.0 < self.leaves.len() {

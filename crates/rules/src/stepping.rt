@@ -1,6 +1,7 @@
 //! Steps: from a point and a row to what comes of them.
 
-ghost use Rattle.std.specs.Prelude.{◌≡◌, ◌<◌, IfOk, length, map};
+ghost use Rattle.std.specs.Prelude.{◌≡◌, ◌<◌, ◌≤◌, IfOk, length, map};
+ghost use Rattle.program.specs.declared.limits.TheConstants.{MOST_VARIABLES};
 ghost use Rattle.rules.specs.Programs.{methods_of};
 ghost use Rattle.rules.specs.Rows.{leaves_of};
 ghost use Rattle.rules.specs.Steps.{entry_leaf, entry_of, outcome, outcome_seen, pair_seen};
@@ -25,6 +26,7 @@ fn first_leaf(role: Role) -> Leaf
 
 /// The row with which a method of these variables begins.
 fn first_row(alloc: Global, variables: &[Variable]) -> Result<Row, Memory>
+    requires few { length variables.now ≤ MOST_VARIABLES }
     ensures { IfOk result (λ row. leaves_of row ≡ map (λ v. entry_leaf v.role) variables.now) }
 {
     let leaves = variables.iter().map(|v| first_leaf(v.role)).collect(alloc)?;

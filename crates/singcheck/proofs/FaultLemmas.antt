@@ -9,6 +9,7 @@ use Rattle.singcheck.specs.declared.fault.CheckFault.TheVariants as check
 use Rattle.singcheck.specs.declared.fault.RunFault.{RunFault}
 use Rattle.singcheck.specs.declared.fault.RunFault.TheVariants as run
 use Rattle.singcheck.specs.declared.reading.TheConstants.{MAX_READ}
+use Rattle.singcheck.proofs.LongLemmas.{not_yet_of_front}
 
 pub read_explains : (all : Option (List ℕ)) (workers slots : ℕ) (fault : RunFault) → workers_fit workers ≡ true → slots_fit slots ≡ true → IsReadFault fault → RunExplains all workers slots fault
 read_explains all workers slots (run.Read input) w s told = (w, s)
@@ -23,4 +24,4 @@ text_explains all text workers slots check.Workers w s is told = absurd told
 text_explains all text workers slots check.Slots w s is told = absurd told
 text_explains all text workers slots check.Memory w s is told = (w, s)
 text_explains None text workers slots (check.NotYet place) w s is told = (w, (s, tt))
-text_explains (Some xs) text workers slots (check.NotYet place) w s is told = (w, (s, subst (λ t. IsNotYet t place) is told))
+text_explains (Some xs) text workers slots (check.NotYet place) w s is told = (w, (s, not_yet_of_front xs place (subst (λ t. IsNotYet t place) is told)))

@@ -11,27 +11,14 @@ use Rattle.contracts.specs.Conditions.{AreExactly}
 use Rattle.program.specs.Methods.{MethodSeen}
 use Rattle.analyse.specs.Tasks.{numbers_below, number_of}
 use Rattle.analyse.specs.declared.task.Task.{Task}
-use Rattle.analyse.specs.Verdicts.{IsMethodVerdict, too_many_pairs, place_of_method}
-use Rattle.singcheck.specs.Checks.{IsFoundIn, IsWrong}
+use Rattle.analyse.specs.Verdicts.{IsFoundIn, IsMethodVerdict}
+use Rattle.singcheck.specs.Checks.{IsWrong}
 use Rattle.singcheck.specs.Verdicts.{AddsVerdict, AreAnalysed, IsWrongBelow}
 use Rattle.singcheck.proofs.JudgeLemmas.{none_of}
 
--- a list of one has that one alone
-only_one : (x f : FindingParts) → Contains (x ∷ []) f → f ≡ x
-only_one x f h = ⊎_elim (λ none. absurd (none_of f none)) (λ e. sym e) (Contains-push_cases [] x f h)
-
 -- a verdict is all that is found in its method
 pub verdict_exactly : (methods : List MethodSeen) (n : ℕ) (found : List FindingParts) → IsMethodVerdict methods n found → AreExactly (IsFoundIn methods n) found
-verdict_exactly methods n found (inl many) = record {
-  right = λ f h. inl (many.0, only_one (too_many_pairs (place_of_method methods n)) f (subst (λ l. Contains l f) many.1 h));
-  all = λ f w. ⊎_elim
-      (λ here. subst (λ l. Contains l f) (sym many.1) (subst (λ x. Contains (too_many_pairs (place_of_method methods n) ∷ []) x) (sym here.1) (Contains-push [] (too_many_pairs (place_of_method methods n)))))
-      (λ few. absurd (few.0 many.0)) w;
-}
-verdict_exactly methods n found (inr few) = record {
-  right = λ f h. inr (few.0, (few.1 f).0 h);
-  all = λ f w. ⊎_elim (λ many. absurd (few.0 many.0)) (λ here. (few.1 f).1 here.1) w;
-}
+verdict_exactly methods n found verdict = record { right = λ f h. (verdict.exactly f).0 h; all = λ f w. (verdict.exactly f).1 w }
 
 -- one more method
 pub wrong_more : (methods : List MethodSeen) (n : ℕ) (old new : List Finding) → AreExactly (IsWrongBelow methods n) (map finding_parts old) → AddsVerdict methods n old new → AreExactly (IsWrongBelow methods (n + 1)) (map finding_parts new)

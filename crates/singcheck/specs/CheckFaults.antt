@@ -1,11 +1,10 @@
 -- Why there is no report, and when.
-use Rattle.std.specs.Prelude.{◌≡◌, ℕ, Bool, true, false, ◌&&◌, leb, List, take, Option, IfSome}
+use Rattle.std.specs.Prelude.{◌≡◌, ℕ, Bool, true, false, ◌&&◌, leb, List, Option, IfSome}
 use Rattle.singcheck.specs.Checks.{IsNotYet}
 use Rattle.singcheck.specs.declared.fault.CheckFault.{CheckFault}
 use Rattle.singcheck.specs.declared.fault.CheckFault.TheVariants.{Workers, Slots, NotYet, Memory}
 use Rattle.singcheck.specs.declared.fault.RunFault.{RunFault}
 use Rattle.singcheck.specs.declared.fault.RunFault.TheVariants as run
-use Rattle.singcheck.specs.declared.reading.TheConstants.{MAX_READ}
 use Rattle.singcheck.specs.declared.limits.TheConstants.{MOST_WORKERS, MOST_SLOTS}
 
 -- 1 to 64 workers
@@ -42,9 +41,9 @@ run_fault_of Slots = run.Slots
 run_fault_of (NotYet place) = run.NotYet place
 run_fault_of Memory = run.Memory
 
--- Why a run gave up: as of a check, of what was read.
+-- Why a run gave up: as of a check, of what there was to read.
 abbrev pub RunExplains : Option (List ℕ) → ℕ → ℕ → RunFault → Type 0
 RunExplains all workers slots run.Workers = workers_fit workers ≡ false
 RunExplains all workers slots run.Slots = (workers_fit workers ≡ true) × (slots_fit slots ≡ false)
-RunExplains all workers slots (run.NotYet place) = (workers_fit workers ≡ true) × ((slots_fit slots ≡ true) × IfSome all (λ text. IsNotYet (take MAX_READ text) place))
+RunExplains all workers slots (run.NotYet place) = (workers_fit workers ≡ true) × ((slots_fit slots ≡ true) × IfSome all (λ text. IsNotYet text place))
 RunExplains all workers slots _ = (workers_fit workers ≡ true) × (slots_fit slots ≡ true)

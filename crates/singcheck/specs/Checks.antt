@@ -1,6 +1,6 @@
 -- What `check` answers for a text. Its methods are analysed where nothing is wrong before: with the text, its tokens, its
 -- names and its contracts.
-use Rattle.std.specs.Prelude.{◌≡◌, ◌≢◌, ◌<◌, ◌+◌, ◌⊎◌, ℕ, List, [], length, All, Some, None}
+use Rattle.std.specs.Prelude.{◌≡◌, ◌≢◌, ◌<◌, ℕ, List, [], length, All, Some, None}
 use Rattle.source.specs.Findings.{FindingParts}
 use Rattle.source.specs.declared.place.Place.{Place}
 use Rattle.tree.specs.Trees.{ItemTree, contracts_of}
@@ -10,10 +10,7 @@ use Rattle.names.specs.Resolution.{resolved_contracts}
 use Rattle.contracts.specs.Conditions.{AreExactly, IsSound}
 use Rattle.program.specs.Methods.{MethodSeen}
 use Rattle.resolving.specs.Methods.{methods_told, not_yet}
-use Rattle.rules.specs.Steps.{outcome, entry_of}
-use Rattle.analyse.specs.Reach.{Reaches, Finds}
-use Rattle.analyse.specs.Verdicts.{too_many_pairs, place_of_method}
-use Rattle.analyse.specs.declared.analysing.TheConstants.{MOST_PAIRS}
+use Rattle.analyse.specs.Verdicts.{IsFoundIn}
 use Rattle.singcheck.specs.Answers.{AreFindings, IsProgram}
 use Rattle.singcheck.specs.Lines.{clear_line}
 use Rattle.singcheck.specs.Reports.{IsReport}
@@ -40,16 +37,6 @@ pub record IsNotYet (text : List ℕ) (place : Place) : Type 0 where
   pub contracts : List ContractSeen
   pub program : IsSoundProgram text items contracts
   pub first : not_yet items ≡ Some place
-
--- more pairs are reached in a method than may be
-abbrev pub IsTooMany : List MethodSeen → ℕ → Type 0
-IsTooMany methods n = Reaches (outcome methods n) (entry_of methods n) (MOST_PAIRS + 1)
-
--- this is found in a method: that there are too many pairs, or what a step at a reached pair fails with
-abbrev pub IsFoundIn : List MethodSeen → ℕ → FindingParts → Type 0
-IsFoundIn methods n f =
-    (IsTooMany methods n × (f ≡ too_many_pairs (place_of_method methods n)))
-    ⊎ ((IsTooMany methods n → ⊥) × Finds (outcome methods n) (entry_of methods n) f)
 
 -- this is found in one of the methods
 abbrev pub IsWrong : List MethodSeen → FindingParts → Type 0

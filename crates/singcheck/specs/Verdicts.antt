@@ -6,7 +6,7 @@ use Rattle.contracts.specs.Conditions.{AreExactly}
 use Rattle.program.specs.Methods.{MethodSeen}
 use Rattle.analyse.specs.Tasks.{number_of, numbers_below}
 use Rattle.analyse.specs.declared.task.Task.{Task}
-use Rattle.singcheck.specs.Checks.{IsFoundIn}
+use Rattle.analyse.specs.Verdicts.{IsFoundIn}
 
 -- all that is found in a method is added
 pub record AddsVerdict (methods : List MethodSeen) (n : ℕ) (old new : List Finding) : Type 0 where

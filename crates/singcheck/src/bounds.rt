@@ -1,6 +1,6 @@
 //! Queue bounds of the contracts of a text.
 
-ghost use Rattle.std.specs.Prelude.{◌≡◌, ◌≢◌, ℕ, List, take, IfOk, IfSome, IsErrOf, OnOk, OnErr, string_bytes};
+ghost use Rattle.std.specs.Prelude.{◌≡◌, ◌≢◌, ℕ, List, IfOk, IfSome, IsErrOf, OnOk, OnErr, string_bytes};
 ghost use Rattle.std.specs.Io.KnownBytes.{Keeps};
 ghost use Rattle.contracts.specs.Sounds.{sound_parts};
 ghost use Rattle.singcheck.specs.Answers.{Answers, AreBounds};
@@ -32,9 +32,9 @@ pub fn run_bounds<R: Source, W: Sink>(
     writer: &mut W,
 ) -> Result<Status, RunFault>
     ensures written { IfOk result (λ status. IfSome (R.remaining reader.old) (λ text.
-        Writes Answers (take MAX_READ text) (W.contents writer.old) (W.contents writer.new) status)) }
+        Writes Answers text (W.contents writer.old) (W.contents writer.new) status)) }
     ensures begun { IsErrOf result RunFault.Write → IfSome (R.remaining reader.old) (λ text.
-        BeginsAnswer Answers (take MAX_READ text) (W.contents writer.old) (W.contents writer.new)) }
+        BeginsAnswer Answers text (W.contents writer.old) (W.contents writer.new)) }
     ensures rest { OnOk result (LeavesRest MAX_READ (R.remaining reader.old) (R.remaining reader.new)) }
     ensures most { TakesAtMost MAX_READ (R.remaining reader.old) (R.remaining reader.new) }
     ensures read { IsErrOf result (RunFault.Read Input.Text) → R.failed reader.new ≢ R.failed reader.old }

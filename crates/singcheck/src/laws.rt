@@ -4,6 +4,8 @@ ghost use Rattle.std.specs.Prelude.{◌≡◌, ℕ, List};
 ghost use Rattle.singcheck.specs.Answers.{Answers};
 ghost use Rattle.singcheck.specs.Checks.{Checks};
 ghost use Rattle.singcheck.specs.declared.fault.Status.{Status};
+ghost use Rattle.singcheck.specs.declared.limits.TheConstants.{MOST_SLOTS, MOST_WORKERS};
+ghost use Rattle.singcheck.specs.declared.reading.TheConstants.{MAX_READ};
 
 use source::laws::{one_cutting, one_fault};
 use syntax::one_tree_a_spelling;
@@ -31,3 +33,10 @@ pub fn one_check()
     one_fault();
     one_tree_a_spelling();
 }
+
+/// The limits in digits.
+pub fn limits()
+    ensures workers { MOST_WORKERS ≡ 64 }
+    ensures slots { MOST_SLOTS ≡ 16777216 }
+    ensures read { MAX_READ ≡ 4194305 }
+{}

@@ -1,6 +1,6 @@
 //! A run that checks a text.
 
-ghost use Rattle.std.specs.Prelude.{◌≡◌, ◌≢◌, ◌&&◌, true, false, take, IfOk, IfErr, IfSome, IsErrOf, OnOk, OnErr};
+ghost use Rattle.std.specs.Prelude.{◌≡◌, ◌≢◌, ◌&&◌, true, false, IfOk, IfErr, IfSome, IsErrOf, OnOk, OnErr};
 ghost use Rattle.std.specs.Io.KnownBytes.{Keeps};
 ghost use Rattle.singcheck.specs.Checks.{Checks};
 ghost use Rattle.singcheck.specs.CheckFaults.{RunExplains, workers_fit, slots_fit};
@@ -30,9 +30,9 @@ pub fn run_check<R: Source, W: Sink, G: Gate>(
     gate: &G,
 ) -> Result<Status, RunFault>
     ensures written { IfOk result (λ status. IfSome (R.remaining reader.old) (λ text.
-        Writes Checks (take MAX_READ text) (W.contents writer.old) (W.contents writer.new) status)) }
+        Writes Checks text (W.contents writer.old) (W.contents writer.new) status)) }
     ensures begun { IsErrOf result RunFault.Write → IfSome (R.remaining reader.old) (λ text.
-        BeginsAnswer Checks (take MAX_READ text) (W.contents writer.old) (W.contents writer.new)) }
+        BeginsAnswer Checks text (W.contents writer.old) (W.contents writer.new)) }
     ensures rest { OnOk result (LeavesRest MAX_READ (R.remaining reader.old) (R.remaining reader.new)) }
     ensures most { TakesAtMost MAX_READ (R.remaining reader.old) (R.remaining reader.new) }
     ensures read { IsErrOf result (RunFault.Read Input.Text) → R.failed reader.new ≢ R.failed reader.old }

@@ -13,3 +13,4 @@ pub mod LexedLemmas
 pub mod FaultLemmas
 pub mod SpelledLemmas
 pub mod OrderLemmas
+pub mod EachLemmas

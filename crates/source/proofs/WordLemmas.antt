@@ -7,8 +7,7 @@ use Rattle.std.proofs.lemmas.Bool.{false≢true, and_parts}
 use Rattle.std.proofs.lemmas.Bool.Decides.{nat_tests}
 use Rattle.source.specs.declared.kind.Kind.{Kind}
 use Rattle.source.specs.declared.kind.Kind.TheVariants.{Name}
-use Rattle.source.specs.declared.words.TheConstants.{RESERVED}
-use Rattle.source.specs.Words.{word_kind, word_text, kind_among}
+use Rattle.source.specs.Words.{reserved, word_kind, word_text, kind_among}
 
 -- those of the words that have n bytes
 abbrev pub of_length : ℕ → List Kind → List Kind
@@ -39,9 +38,9 @@ of_length_find (k ∷ ks) word = by (of_length_find ks word) (length (word_text 
     by same false h = same ∙ ap (λ t. cond t (Some k) (find (is_written word) ks)) (sym (not_written word k (is_written word k) refl h))
 
 -- the kind of a word of n bytes
-pub kind_of_length : (word : List ℕ) (n : ℕ) → length word ≡ n → kind_among (of_length n RESERVED) word ≡ word_kind word
+pub kind_of_length : (word : List ℕ) (n : ℕ) → length word ≡ n → kind_among (of_length n reserved) word ≡ word_kind word
 unfolding word_kind
-kind_of_length word n e = ap (λ m. kind_among (of_length m RESERVED) word) (sym e) ∙ ap (λ r. unwrap_or r Name) (of_length_find RESERVED word)
+kind_of_length word n e = ap (λ m. kind_among (of_length m reserved) word) (sym e) ∙ ap (λ r. unwrap_or r Name) (of_length_find reserved word)
 
 -- the lengths of the reserved words
 abbrev has_length : ℕ → Bool
@@ -62,5 +61,5 @@ no_length n a b c d e f g h k = grind (arith, nat_tests)
 -- a word of no such length is a name
 pub name_of_length : (word : List ℕ) → length word ≢ 2 → length word ≢ 3 → length word ≢ 4 → length word ≢ 5 → length word ≢ 6 → length word ≢ 7 → length word ≢ 8 → length word ≢ 10 → length word ≢ 13 → Name ≡ word_kind word
 name_of_length word a b c d e f g h k =
-    ap (λ ks. kind_among ks word) (sym (of_no_length RESERVED (length word) refl (no_length (length word) a b c d e f g h k)))
+    ap (λ ks. kind_among ks word) (sym (of_no_length reserved (length word) refl (no_length (length word) a b c d e f g h k)))
     ∙ kind_of_length word (length word) refl

@@ -1,9 +1,16 @@
 -- Words: which are reserved, and how they are written.
-use Rattle.std.specs.Prelude.{ℕ, List, [], find, nat_eq, unwrap_or, codes}
+use Rattle.std.specs.Prelude.{ℕ, List, [], ◌∷◌, find, nat_eq, unwrap_or, codes}
 use Rattle.std.specs.Cmp.Lexicographic.{pointwise}
 use Rattle.source.specs.declared.kind.Kind.{Kind}
 use Rattle.source.specs.declared.kind.Kind.TheVariants.{Name, Bool as BoolWord, Break, Byte, Case, Class, ChannelClosed, Claims, Continue, Contract, Delete, Else, Exp, ExHeap, False, If, Imp, In, Int, Internal, Message, New, NewChannel, One, Out, Private, Public, Receive, Rep, Return, Start, State, Static, Struct, Switch, True, Void, While}
-use Rattle.source.specs.declared.words.TheConstants.{RESERVED}
+
+-- the reserved words
+abbrev pub reserved : List Kind
+reserved =
+    BoolWord ∷ Break ∷ Byte ∷ Case ∷ Class ∷ ChannelClosed ∷ Claims ∷ Continue ∷ Contract ∷ Delete
+    ∷ Else ∷ Exp ∷ ExHeap ∷ False ∷ If ∷ Imp ∷ In ∷ Int ∷ Internal ∷ Message
+    ∷ New ∷ NewChannel ∷ One ∷ Out ∷ Private ∷ Public ∷ Receive ∷ Rep ∷ Return ∷ Start
+    ∷ State ∷ Static ∷ Struct ∷ Switch ∷ True ∷ Void ∷ While ∷ []
 
 -- how a reserved word of statements and expressions is written
 abbrev pub statement_word : Kind → List ℕ
@@ -56,4 +63,4 @@ kind_among kinds bytes = unwrap_or (find (λ k. pointwise nat_eq (word_text k) b
 
 -- the kind of a whole word: the reserved word that is written so, else a name
 unfoldable pub word_kind : List ℕ → Kind
-word_kind bytes = kind_among RESERVED bytes
+word_kind bytes = kind_among reserved bytes

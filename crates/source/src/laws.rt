@@ -1,10 +1,13 @@
-//! Laws of the cutting: they hold of every text, whatever the lexer does.
+//! Laws of texts: they hold whatever the lexer does.
 
-ghost use Rattle.std.specs.Prelude.{◌≡◌, ℕ, List, []};
+ghost use Rattle.std.specs.Prelude.{◌≡◌, ◌⊎◌, ℕ, List, []};
 ghost use Rattle.source.specs.Cutting.{Cuts};
 ghost use Rattle.source.specs.Faults.{IsFault};
 ghost use Rattle.source.specs.Tokens.{AreTokens};
+ghost use Rattle.source.specs.declared.brackets.TheConstants.{MAX_DEPTH};
 ghost use Rattle.source.specs.declared.fault.TextFault.{TextFault};
+ghost use Rattle.source.specs.declared.lexer.TheConstants.{MAX_TEXT};
+ghost use Rattle.source.specs.declared.numbers.TheConstants.{MAX_NUMBER};
 ghost use Rattle.source.specs.declared.token.Token.{Token};
 
 /// A text is cut in one way, so its tokens are the only ones.
@@ -21,4 +24,18 @@ pub fn one_fault()
         → IsFault text f → IsFault text g → f ≡ g }
     ensures none { (text : List ℕ) (tokens : List Token) (f : TextFault)
         → AreTokens text tokens → IsFault text f → ⊥ }
+{}
+
+/// Each text has tokens or a fault, so there is always an answer beside `Memory`: at each place the longest piece is found
+/// by trying all lengths from the rest's own downwards, and where none is a piece, that is a fault.
+pub fn each_text_is_cut()
+    ensures { (text : List ℕ)
+        → ((tokens : List Token) × AreTokens text tokens) ⊎ ((fault : TextFault) × IsFault text fault) }
+{}
+
+/// The limits in digits.
+pub fn limits()
+    ensures text { MAX_TEXT ≡ 4194304 }
+    ensures depth { MAX_DEPTH ≡ 100 }
+    ensures number { MAX_NUMBER ≡ 2147483647 }
 {}

@@ -6,47 +6,6 @@ ghost use Rattle.source.specs.Words.{word_kind, kind_among, word_text, statement
 
 use crate::kind::Kind;
 
-/// The reserved words.
-pub(crate) const RESERVED: [Kind; 37] = [
-    Kind::Bool,
-    Kind::Break,
-    Kind::Byte,
-    Kind::Case,
-    Kind::Class,
-    Kind::ChannelClosed,
-    Kind::Claims,
-    Kind::Continue,
-    Kind::Contract,
-    Kind::Delete,
-    Kind::Else,
-    Kind::Exp,
-    Kind::ExHeap,
-    Kind::False,
-    Kind::If,
-    Kind::Imp,
-    Kind::In,
-    Kind::Int,
-    Kind::Internal,
-    Kind::Message,
-    Kind::New,
-    Kind::NewChannel,
-    Kind::One,
-    Kind::Out,
-    Kind::Private,
-    Kind::Public,
-    Kind::Receive,
-    Kind::Rep,
-    Kind::Return,
-    Kind::Start,
-    Kind::State,
-    Kind::Static,
-    Kind::Struct,
-    Kind::Switch,
-    Kind::True,
-    Kind::Void,
-    Kind::While,
-];
-
 /// How a reserved word is written; nothing for another kind.
 pub(crate) fn written(kind: Kind) -> &'static [u8]
     ensures { result.now ≡ word_text kind }

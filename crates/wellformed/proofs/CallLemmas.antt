@@ -24,7 +24,7 @@ use Rattle.resolving.specs.Messages.{contract_of, end_contract, message_sent}
 use Rattle.resolving.specs.Methods.{method_told}
 use Rattle.resolving.specs.Plain.{call_of, send_told, sent, sent_by}
 use Rattle.program.specs.Lists.{Each}
-use Rattle.program.specs.WellFormed.{Setting, IsCallOf, IsMention, IsTaken, parameters}
+use Rattle.program.specs.WellFormed.{Setting, IsCallOf, IsMention, IsTarget, parameters}
 use Rattle.wellformed.proofs.ArgumentLemmas.{arguments_given, given_parameters, reads_mentioned}
 use Rattle.wellformed.proofs.FindingLemmas.{as_many, unless_none}
 use Rattle.wellformed.proofs.MentionLemmas.{held_known}
@@ -149,7 +149,7 @@ call_means p t class result s f g role c around standing none Is fits = front_me
 
 -- a call of a method whose result is taken so
 pub call_of_fits : (p : Program) (t : ClassTree) (class : ℕ) (result : Option tree.Type.Type) (s : Setting) (f : Frame) (g : names.Frame) (c : CallTree) (target : Option Mention) (behind : List Mention) (Is : MethodTree → Type 0)
-    → Around p t class result s → AreStanding p s.variables f g → (x : CallsMethod p class f g Is c) → IsTaken s (result_held p x.method.result) target → Each (IsMention s) behind
+    → Around p t class result s → AreStanding p s.variables f g → (x : CallsMethod p class f g Is c) → IsTarget s (result_held p x.method.result) target → Each (IsMention s) behind
     → IsCallOf s (call_of p class f c target behind (record { number = x.number; method = x.method })) (method_told p x.told.class x.method)
 call_of_fits p t class result s f g c target behind Is around standing x taken mentioned = record {
   reads = reads_mentioned p class s f g standing c.arguments;
@@ -165,7 +165,7 @@ pub method_there : (p : Program) (t : ClassTree) (class : ℕ) (result : Option 
 method_there p t class result s m number around is = ap (λ ms. slice_get ms number) around.methods_are ∙ is.told
 
 pub call_fits : (p : Program) (t : ClassTree) (class : ℕ) (result : Option tree.Type.Type) (s : Setting) (f : Frame) (g : names.Frame) (c : CallTree) (target : Option Mention) (behind : List Mention) (Is : MethodTree → Type 0)
-    → Around p t class result s → AreStanding p s.variables f g → (x : CallsMethod p class f g Is c) → IsTaken s (result_held p x.method.result) target → Each (IsMention s) behind
+    → Around p t class result s → AreStanding p s.variables f g → (x : CallsMethod p class f g Is c) → IsTarget s (result_held p x.method.result) target → Each (IsMention s) behind
     → IsSomeAnd (slice_get s.methods x.number) (IsCallOf s (call_of p class f c target behind (record { number = x.number; method = x.method })))
 call_fits p t class result s f g c target behind Is around standing x taken mentioned =
     subst (λ o. IsSomeAnd o (IsCallOf s (call_of p class f c target behind (record { number = x.number; method = x.method })))) (sym (method_there p t class result s x.method x.number around x.told))

@@ -22,8 +22,8 @@ use Rattle.names.specs.declared.kinds.Kind.TheVariants as kind
 use Rattle.program.specs.Methods.{VariableSeen}
 use Rattle.resolving.specs.Locals.{Frame, Local, mention_of}
 use Rattle.resolving.specs.Told.{Staying, behind_case, case_endpoint, case_told, cases_told}
-use Rattle.program.specs.Lists.{Each}
-use Rattle.program.specs.WellFormed.{endpoints, closes, is_among}
+use Rattle.program.specs.Lists.{Each, is_among}
+use Rattle.program.specs.WellFormed.{endpoints, closes}
 use Rattle.wellformed.proofs.MentionLemmas.{held_known}
 use Rattle.wellformed.proofs.ListLemmas.{both_none, each_append}
 use Rattle.wellformed.proofs.Standing.{AreStanding, IsKnown, scope_of}

@@ -21,15 +21,16 @@ use Rattle.program.specs.declared.kind.Kind.{Kind}
 use Rattle.program.specs.declared.kind.Kind.TheVariants.{Endpoint}
 use Rattle.program.specs.declared.statement.Action.TheVariants as does
 use Rattle.resolving.specs.Kinds.{contract_named, contract_number, number_at}
-use Rattle.resolving.specs.Locals.{Frame, mention, mention_of}
+use Rattle.resolving.specs.Locals.{number_of, Frame, mention, mention_of}
 use Rattle.resolving.specs.Plain.{channel, channel_of, ends_of}
+use Rattle.program.specs.Scopes.{IsInScope}
 use Rattle.program.specs.WellFormed.{IsAction, Setting, are_ends}
 use Rattle.wellformed.proofs.ContractLemmas.{contract_is_at}
 use Rattle.wellformed.proofs.FindingLemmas.{unless_none}
 use Rattle.wellformed.proofs.MentionLemmas.{block_mentioned, held_known}
 use Rattle.wellformed.proofs.KindLemmas.{HasContract, HoldsEnd, contract_known, end_holds}
 use Rattle.wellformed.proofs.ListLemmas.{both_none}
-use Rattle.wellformed.proofs.Standing.{Around, AreStanding, IsHeld, IsKnown, scope_of}
+use Rattle.wellformed.proofs.Standing.{AreStanding, Around, IsHeld, IsKnown, last_of, scope_of}
 
 -- a kind that is that of an end of this contract
 record IsEndKind (n : ℕ) (k : declared.Kind.Kind) : Type 0 where
@@ -78,9 +79,9 @@ channel_contract p contract c side named known =
     ap (λ o. option_and_then (number_at p) (option_map (λ x. x.0) o)) named ∙ ap (option_map (λ x. contract_number p c.0)) at.is
 
 found_fits : (p : Program) (class : ℕ) (s : Setting) (f : Frame) (g : names.Frame) (n : made.NewChannel.NewChannel) (c : Numbered ContractTree) → items.contract_named p n.contract ≡ Some c
-    → AreStanding p s.variables f g → variable_findings (scope_of p g) n.first ≡ [] → variable_findings (scope_of p g) n.second ≡ []
+    → s.scope ≡ last_of f → AreStanding p s.variables f g → variable_findings (scope_of p g) n.first ≡ [] → variable_findings (scope_of p g) n.second ≡ []
     → ends_findings c.0 (held (meant (scope_of p g) n.first)) (held (meant (scope_of p g) n.second)) n.first n.second ≡ [] → IsAction s (channel p class f n)
-found_fits p class s f g n c named standing first second none =
+found_fits p class s f g n c named here standing first second none =
     let a = held (meant (scope_of p g) n.first) in
     let b = held (meant (scope_of p g) n.second) in
     let known_a = held_known p s.variables f g n.first standing first in
@@ -103,22 +104,24 @@ found_fits p class s f g n c named standing first second none =
     ap (option_and_then (λ m. option_map (ends_of p class f n.word.place (contract_number p c.0) m) (mention p.text f.locals n.second))) v.is
     ∙ ap (option_map (ends_of p class f n.word.place (contract_number p c.0) (mention_of n.first v.number))) w.is in
     let found = ap (option_and_then (channel_of p class f n)) contract ∙ mentions in
-    subst (λ o. IsAction s (option_map_or (λ x. x) o does.Nothing)) (sym found)
-    (subst (λ o. IsSomeAnd o (λ x. IsSomeAnd (slice_get s.variables w.number) (λ y. are_ends (contract_number p c.0).0 x.kind y.kind ≡ true))) (sym v.there)
-    (subst (λ o. IsSomeAnd o (λ y. are_ends (contract_number p c.0).0 v.variable.kind y.kind ≡ true)) (sym w.there) ends))
+    subst (λ o. IsAction s (option_map_or (λ x. x) o does.Nothing)) (sym found) (
+      (subst (λ o. IsInScope s.variables o (number_of v.number)) (sym here) v.inside, subst (λ o. IsInScope s.variables o (number_of w.number)) (sym here) w.inside),
+      subst (λ o. IsSomeAnd o (λ x. IsSomeAnd (slice_get s.variables w.number) (λ y. are_ends (contract_number p c.0).0 x.kind y.kind ≡ true))) (sym v.there)
+          (subst (λ o. IsSomeAnd o (λ y. are_ends (contract_number p c.0).0 v.variable.kind y.kind ≡ true)) (sym w.there) ends),
+    )
 
 named_fits : (p : Program) (class : ℕ) (s : Setting) (f : Frame) (g : names.Frame) (n : made.NewChannel.NewChannel) (o : Option (Numbered ContractTree)) → items.contract_named p n.contract ≡ o
-    → AreStanding p s.variables f g → variable_findings (scope_of p g) n.first ≡ [] → variable_findings (scope_of p g) n.second ≡ []
+    → s.scope ≡ last_of f → AreStanding p s.variables f g → variable_findings (scope_of p g) n.first ≡ [] → variable_findings (scope_of p g) n.second ≡ []
     → new_ends_findings (scope_of p g) o n.contract n.first n.second ≡ [] → IsAction s (channel p class f n)
-named_fits p class s f g n None named standing first second none = cc
-named_fits p class s f g n (Some c) named standing first second none = found_fits p class s f g n c named standing first second none
+named_fits p class s f g n None named here standing first second none = cc
+named_fits p class s f g n (Some c) named here standing first second none = found_fits p class s f g n c named here standing first second none
 
 -- a new channel
 pub channel_fits : (p : Program) (t : ClassTree) (class : ℕ) (result : Option type_nodes.Type.Type) (s : Setting) (f : Frame) (g : names.Frame) (n : made.NewChannel.NewChannel)
-    → Around p t class result s → AreStanding p s.variables f g → channel_findings (scope_of p g) n.contract n.first n.second ≡ [] → IsAction s (channel p class f n)
-channel_fits p t class result s f g n around standing none =
+    → Around p t class result s → s.scope ≡ last_of f → AreStanding p s.variables f g → channel_findings (scope_of p g) n.contract n.first n.second ≡ [] → IsAction s (channel p class f n)
+channel_fits p t class result s f g n around here standing none =
     let named = items.contract_named p n.contract in
     let ends = new_ends_findings (scope_of p g) named n.contract n.first n.second in
     let both = both_none ends (variable_findings (scope_of p g) n.first ++ variable_findings (scope_of p g) n.second) none in
     let halves = both_none (variable_findings (scope_of p g) n.first) (variable_findings (scope_of p g) n.second) both.1 in
-    named_fits p class s f g n named refl standing halves.0 halves.1 both.0
+    named_fits p class s f g n named refl here standing halves.0 halves.1 both.0

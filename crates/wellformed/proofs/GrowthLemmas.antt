@@ -19,7 +19,7 @@ use Rattle.program.specs.declared.method.Role.TheVariants.{Local}
 use Rattle.resolving.specs.Binds.{bind_told, binds_told, bound_as}
 use Rattle.resolving.specs.Kinds.{kind_held, state_in, type_held}
 use Rattle.resolving.specs.Locals.{Frame, closed, declared, number_of}
-use Rattle.resolving.specs.Told.{Staying, in_loop, in_switch, behind_case, awaited_message, awaited_params, statement_told, statements_told, block_told, test_told, others_told, case_told, cases_told}
+use Rattle.resolving.specs.Told.{Staying, stays_here, in_switch, behind_case, awaited_message, awaited_params, statement_told, statements_told, block_told, test_told, others_told, case_told, cases_told}
 use Rattle.program.specs.Scopes.{AreNested}
 use Rattle.wellformed.proofs.ListLemmas.{each_append}
 use Rattle.wellformed.proofs.Standing.{Grows, IsLocal, Within, declares}
@@ -112,7 +112,7 @@ module _ (p : Program) (class : ℕ) where
     statement_grows stays (trees.Delete name) f = same_grows p f _ refl
     statement_grows stays (trees.NewChannel n) f = same_grows p f _ refl
     statement_grows stays (trees.If first others) f = grows_then p f _ _ (test_grows stays first f) (others_grow stays others (test_told p class stays first f).frame)
-    statement_grows stays (trees.While test) f = test_grows (in_loop f) test f
+    statement_grows stays (trees.While test) f = test_grows (stays_here f) test f
     statement_grows stays (trees.Break word) f = same_grows p f _ refl
     statement_grows stays (trees.Continue word) f = same_grows p f _ refl
     statement_grows stays (trees.Return word value) f = same_grows p f _ refl
@@ -155,7 +155,7 @@ module _ (p : Program) (class : ℕ) where
     statement_nests stays (trees.Delete name) f n = n
     statement_nests stays (trees.NewChannel new) f n = n
     statement_nests stays (trees.If first others) f n = others_nest stays others (test_told p class stays first f).frame (test_nests stays first f n)
-    statement_nests stays (trees.While test) f n = test_nests (in_loop f) test f n
+    statement_nests stays (trees.While test) f n = test_nests (stays_here f) test f n
     statement_nests stays (trees.Break word) f n = n
     statement_nests stays (trees.Continue word) f n = n
     statement_nests stays (trees.Return word value) f n = n

@@ -24,7 +24,7 @@ use Rattle.program.specs.declared.kind.Kind.{Kind}
 use Rattle.program.specs.declared.kind.Kind.TheVariants as holds
 use Rattle.resolving.specs.Counts.{contracts_before, structs_before}
 use Rattle.resolving.specs.Kinds.{contract_at, contract_number, kind_held, state_of}
-use Rattle.program.specs.WellFormed.{IsKind, IsStateOf, same_type, contract_held}
+use Rattle.program.specs.WellFormed.{is_end, IsKind, IsStateOf, same_type, contract_held}
 use Rattle.wellformed.proofs.ContractLemmas.{contract_is_at, state_there}
 use Rattle.wellformed.proofs.Standing.{IsKnown, IsHeld, IsHeldAs}
 use Rattle.wellformed.proofs.TypeLemmas.{item_number, pointer_known, endpoint_known, pointer_block, endpoint_block}
@@ -111,7 +111,7 @@ held_none p k state true is known none = let holding = block_holds p k state kno
 pub held_as : (p : Program) (k : declared.Kind.Kind) (state : Option Span) → IsKnown p k → IsHeldAs p k (kind_held p k state)
 held_as p k state known = as_held p k state (kind_held p k state) refl (held_none p k state (is_block k) refl known)
 
-loud_left : (a b : Bool) → a ≡ false → (a || b) ≡ true → b ≡ true
+pub loud_left : (a b : Bool) → a ≡ false → (a || b) ≡ true → b ≡ true
 loud_left true b loud fits = cc
 loud_left false b loud fits = fits
 
@@ -136,6 +136,15 @@ pointer_held p n held is = mapped_is (struct_of (structs_before p.items n)) held
 
 array_held : (p : Program) (element : Scalar) (held : Kind) → IsHeld p (kind.Array element) held → held ≡ holds.Array element
 array_held p element held is = sym (same_Some (holds.Array element) held is.is)
+
+-- what is like a struct or an array is held as no end of a channel
+pub pointer_no_end : (p : Program) (m : ℕ) (k : declared.Kind.Kind) (held : Kind) → alike (kind.Pointer m) k ≡ true → IsHeld p k held → is_end held ≡ false
+pointer_no_end p m (kind.Pointer n) held fits is = ap is_end (pointer_held p n held is)
+pointer_no_end p m k held fits is = cc
+
+pub array_no_end : (p : Program) (s : Scalar) (k : declared.Kind.Kind) (held : Kind) → alike (kind.Array s) k ≡ true → IsHeld p k held → is_end held ≡ false
+array_no_end p s (kind.Array t) held fits is = ap is_end (array_held p t held is)
+array_no_end p s k held fits is = cc
 
 -- what an end of a channel holds
 pub record HoldsEnd (p : Program) (n : ℕ) (side : Side) (held : Kind) : Type 0 where

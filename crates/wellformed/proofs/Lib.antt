@@ -3,6 +3,7 @@ pub mod PlaceLemmas
 pub mod FindingLemmas
 pub mod Standing
 pub mod GrowthLemmas
+pub mod LeadLemmas
 pub mod ScopeLemmas
 pub mod ContractLemmas
 pub mod TypeLemmas

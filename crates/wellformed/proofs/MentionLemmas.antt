@@ -12,19 +12,21 @@ use Rattle.names.specs.Variables as names
 use Rattle.names.specs.Variables.{variable_named}
 use Rattle.names.specs.declared.kinds as declared
 use Rattle.program.specs.Methods.{VariableSeen}
+use Rattle.program.specs.Scopes.{IsInScope}
+use Rattle.program.specs.declared.number.VarId.{VarId}
 use Rattle.program.specs.declared.statement.Mention.{Mention}
-use Rattle.resolving.specs.Locals.{Local, Frame, local_named, number_named, mention, mention_of}
+use Rattle.resolving.specs.Locals.{number_of, Local, Frame, local_named, number_named, mention, mention_of}
 use Rattle.program.specs.Lists.{Each}
 use Rattle.wellformed.proofs.KindLemmas.{scalar_holds}
 use Rattle.wellformed.proofs.ScopeLemmas.{same_named}
-use Rattle.wellformed.proofs.Standing.{IsKnown, IsHeld, IsNumbered, AreStanding, Stands, named, scope_of}
+use Rattle.wellformed.proofs.Standing.{IsKnown, IsHeld, IsInside, IsNumbered, AreStanding, Stands, last_of, named, scope_of}
 
 -- a name in scope means a variable that stands for one of the method
 pub record IsMeant (p : Program) (vs : List VariableSeen) (f : Frame) (g : names.Frame) (name : Span) : Type 0 where
   pub local : Local
   pub is : local_named p.text f.locals name ≡ Some local
   pub meant_is : meant (scope_of p g) name ≡ Some (record { name = local.name; kind = local.kind })
-  pub stands : Stands p vs local
+  pub stands : Stands p vs (last_of f) local
 
 -- what holds of each variable in scope holds of one that a name means
 element_at : {X : Type 0} → (P : X → Type 0) → (xs : List X) (n : ℕ) (x : X) → Each P xs → slice_get xs n ≡ Some x → P x
@@ -33,9 +35,9 @@ element_at P (y ∷ xs) zero x each is = subst P (let same : y ≡ x = cc in sam
 element_at P (y ∷ xs) (suc n) x each is = element_at P xs n x each.1 is
 
 local_stands : (p : Program) (vs : List VariableSeen) (f : Frame) (g : names.Frame) (name : Span) (l : Local) → AreStanding p vs f g
-    → local_named p.text f.locals name ≡ Some l → Stands p vs l
+    → local_named p.text f.locals name ≡ Some l → Stands p vs (last_of f) l
 local_stands p vs f g name l standing is =
-    option_and_then_some (slice_get f.locals) (first_among p.text (map (λ x. x.name) f.locals) name) l is (λ n first at. element_at (Stands p vs) f.locals n l standing.locals at)
+    option_and_then_some (slice_get f.locals) (first_among p.text (map (λ x. x.name) f.locals) name) l is (λ n first at. element_at (Stands p vs (last_of f)) f.locals n l standing.locals at)
 
 -- what a name means among the names and kinds in scope is what it means among the variables
 meant_as : (p : Program) (vs : List VariableSeen) (f : Frame) (g : names.Frame) (name : Span) → AreStanding p vs f g
@@ -67,6 +69,7 @@ pub record IsMentioned (p : Program) (vs : List VariableSeen) (f : Frame) (g : n
   pub is : mention p.text f.locals name ≡ Some (mention_of name number)
   pub there : slice_get vs number ≡ Some variable
   pub holds : IsHeld p (held (meant (scope_of p g) name)) variable.kind
+  pub inside : IsInScope vs (last_of f) (number_of number)
 
 -- its number decides whether it is a mention
 mention_by : (text : List ℕ) (f : Frame) (name : Span) (l : Local) (n : Option ℕ) → local_named text f.locals name ≡ Some l → l.number ≡ n → mention text f.locals name ≡ option_map (mention_of name) n
@@ -82,7 +85,7 @@ numbered_there : (p : Program) (vs : List VariableSeen) (k : declared.Kind.Kind)
 numbered_there p vs k n None is holds = absurd holds
 numbered_there p vs k n (Some v) is holds = record { variable = v; there = is; holds = holds }
 
-numbered_by : (p : Program) (vs : List VariableSeen) (l : Local) (n : ℕ) → l.number ≡ Some n → Stands p vs l → NumberedBy p vs l.kind n
+numbered_by : {last : Option VarId} → (p : Program) (vs : List VariableSeen) (l : Local) (n : ℕ) → l.number ≡ Some n → Stands p vs last l → NumberedBy p vs l.kind n
 numbered_by p vs l n number stands = numbered_there p vs l.kind n (slice_get vs n) refl (subst (IsNumbered p vs l.kind) number stands.numbered)
 
 mentioned_by : (p : Program) (vs : List VariableSeen) (f : Frame) (g : names.Frame) (name : Span) (m : IsMeant p vs f g name) (o : Option ℕ) → m.local.number ≡ o
@@ -99,6 +102,7 @@ mentioned_by p vs f g name m (Some n) number block =
       is = mention_by p.text f name m.local (Some n) m.is number;
       there = v.there;
       holds = subst (λ o. IsHeld p (held o) v.variable.kind) (sym m.meant_is) v.holds;
+      inside = subst (IsInside vs (last_of f)) number m.stands.inside;
     }
 
 pub block_mentioned : (p : Program) (vs : List VariableSeen) (f : Frame) (g : names.Frame) (name : Span) → AreStanding p vs f g
@@ -108,7 +112,7 @@ block_mentioned p vs f g name standing none block =
     mentioned_by p vs f g name m m.local.number refl block
 
 -- a variable of a scalar kind has no number
-scalar_numbered : (p : Program) (vs : List VariableSeen) (l : Local) (o : Option ℕ) → l.number ≡ o → Stands p vs l → is_block l.kind ≡ false → o ≡ None
+scalar_numbered : {last : Option VarId} → (p : Program) (vs : List VariableSeen) (l : Local) (o : Option ℕ) → l.number ≡ o → Stands p vs last l → is_block l.kind ≡ false → o ≡ None
 scalar_numbered p vs l None number stands scalar = refl
 scalar_numbered p vs l (Some n) number stands scalar =
     let v = numbered_by p vs l n number stands in
@@ -123,7 +127,7 @@ scalar_not_mentioned p vs f g name standing none scalar =
     mention_by p.text f name m.local None m.is (scalar_numbered p vs m.local m.local.number refl m.stands (ap (λ o. is_block (held o)) (sym m.meant_is) ∙ scalar))
 
 -- whatever is mentioned is a variable of the method
-number_within : (p : Program) (vs : List VariableSeen) (l : Local) (n : ℕ) → l.number ≡ Some n → Stands p vs l → n < length vs
+number_within : {last : Option VarId} → (p : Program) (vs : List VariableSeen) (l : Local) (n : ℕ) → l.number ≡ Some n → Stands p vs last l → n < length vs
 number_within p vs l n number stands =
     let v = numbered_by p vs l n number stands in
     slice_get_within vs n v.variable v.there

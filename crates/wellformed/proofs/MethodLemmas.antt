@@ -1,5 +1,5 @@
 -- The methods of a program with whose names and kinds nothing is wrong are well formed.
-use Rattle.std.proofs.Common.{◌≡◌, ℕ, ◌<◌, false, List, [], ◌∷◌, ◌++◌, length, sym, refl, subst, append-nil}
+use Rattle.std.proofs.Common.{◌≡◌, ◌≢◌, ◌==◌, ℕ, zero, suc, ◌<◌, ◌≤◌, Bool, true, false, List, [], ◌∷◌, ◌++◌, length, sym, refl, subst, ap, ◌∙◌, append-nil, arith, length-append, eq-eqb, eqb-true}
 use Rattle.std.specs.Prelude.{Option, None, Some, option_map, slice_get, IfSome}
 use Rattle.source.specs.declared.token.Span.{Span}
 use Rattle.tree.specs.StatementTrees as trees
@@ -23,16 +23,21 @@ use Rattle.resolving.specs.Brought.{messages_told}
 use Rattle.resolving.specs.Kinds.{kind_held, result_held, state_in, type_held}
 use Rattle.resolving.specs.Locals.{Frame, declared, declared_as, number_of}
 use Rattle.resolving.specs.Methods.{body_told, method_told, methods_told, no_variables, parameter_declaration, parameters_frame, role_of}
-use Rattle.resolving.specs.Told.{outside}
+use Rattle.resolving.specs.Told.{stays_here}
 use Rattle.program.specs.Lists.{Each}
-use Rattle.program.specs.WellFormed.{AreStatements, AreWellFormed, IsKind, IsScope, IsWellFormed, Setting, setting}
+use Rattle.program.specs.WellFormed.{AreStatements, AreWellFormed, IsKind, IsWellFormed, Setting, is_parameter, setting}
+use Rattle.program.specs.Scopes.{IsInScope}
+use Rattle.program.specs.declared.limits.TheConstants.{MOST_VARIABLES}
+use Rattle.program.specs.declared.method.Role.TheVariants as role
 use Rattle.wellformed.proofs.BroughtLemmas.{brought_kinds}
 use Rattle.wellformed.proofs.GrowthLemmas.{Nests, declared_nests, declared_within, statements_grow, statements_nest, within_before}
-use Rattle.wellformed.proofs.KindLemmas.{held_as, held_kind, type_known}
+use Rattle.wellformed.proofs.KindLemmas.{heap_block, held_as, held_kind, type_known}
 use Rattle.wellformed.proofs.ListLemmas.{each_append, both_none}
 use Rattle.wellformed.proofs.ProgramLemmas.{every_method, method_clean}
-use Rattle.wellformed.proofs.ScopeLemmas.{declared_stands, last_within, leads_here}
-use Rattle.wellformed.proofs.Standing.{Around, AreStanding, AreStaying, Grows, IsLocal, Within}
+use Rattle.wellformed.proofs.LeadLemmas.{leads_here, leads_then}
+use Rattle.wellformed.proofs.ReturnLemmas.{void_gives}
+use Rattle.wellformed.proofs.ScopeLemmas.{declared_inner, declared_stands, last_within}
+use Rattle.wellformed.proofs.Standing.{Around, AreStanding, AreStaying, Grows, IsLocal, Within, declares, last_of}
 use Rattle.wellformed.proofs.StatementLemmas.{statements_go}
 
 -- the parameters of a method come into scope
@@ -53,7 +58,7 @@ params_stand p (x ∷ params) vs f g standing within none =
     let both = both_none next.found (parameters_turn p params next.frame).found none in
     let unknown = both_none (type_unknown p x.kind) (names.declared_variable p.text x.name (type_kind p x.kind) (is_heap x.kind) g).found both.0 in
     let known = type_known p x.kind unknown.0 in
-    let after = declared_stands p vs x.name (type_kind p x.kind) (type_held p x.kind) (role_of x) (is_heap x.kind) f g known (held_as p (type_kind p x.kind) (state_in x.kind) known) standing (params_within p params (declared p.text d f) vs within) in
+    let after = declared_stands p vs x.name (type_kind p x.kind) (type_held p x.kind) (role_of x) (is_heap x.kind) f g (heap_block p x.kind unknown.0) known (held_as p (type_kind p x.kind) (state_in x.kind) known) standing (params_within p params (declared p.text d f) vs within) unknown.1 in
     params_stand p params vs (declared p.text d f) next.frame after within both.1
 
 -- what a program's variables hold stands for something
@@ -79,31 +84,67 @@ local_kinds p [] all = tt
 local_kinds p (v ∷ vs) all = (held_kind p all.0.kind v.kind all.0.held, local_kinds p vs all.1)
 
 -- the body of a method
+record BodyFits (s : Setting) (p : Program) (class : ℕ) (b : BlockTree) (f : Frame) : Type 0 where
+  pub statements : AreStatements s (body_told p class b f).what (last_of (body_told p class b f).frame)
+  pub few : length (body_told p class b f).frame.variables ≤ MOST_VARIABLES
+
+number_within : (n : ℕ) (o : Option ℕ) → IfSome o (λ k. k < n) → IfSome (option_map number_of o) (λ v. v.0 < n)
+number_within n None h = tt
+number_within n (Some k) h = h
+
 body_grows : (p : Program) (class : ℕ) (b : BlockTree) (f : Frame) → Grows p f (body_told p class b f).frame
-body_grows p class (trees.Braces statements close) f = statements_grow p class outside statements f
+body_grows p class (trees.Braces statements close) f = statements_grow p class (stays_here f) statements f
 
 body_nests : (p : Program) (class : ℕ) (b : BlockTree) (f : Frame) → Nests f → Nests (body_told p class b f).frame
-body_nests p class (trees.Braces statements close) f n = statements_nest p class outside statements f n
+body_nests p class (trees.Braces statements close) f n = statements_nest p class (stays_here f) statements f n
 
 -- what stands round it
 abbrev surrounds : Program → ClassTree → Option tree.Type.Type → Surroundings
 surrounds p c result = record { program = p; class = c; result = result; breaks = false; continues = false }
 
-record BodyFits (s : Setting) (p : Program) (class : ℕ) (b : BlockTree) (f : Frame) : Type 0 where
-  pub statements : AreStatements s (body_told p class b f).what
-  pub scope : IsScope s (option_map number_of (body_told p class b f).frame.last)
+body_fits : (p : Program) (c : ClassTree) (class : ℕ) (result : Option tree.Type.Type) (s : Setting) (b : BlockTree) (f : Frame) (g : names.Frame) → Around p c class result s → AreStaying s f (stays_here f)
+    → AreStanding p s.variables f g → Within s.variables (body_told p class b f).frame → (block_turn (surrounds p c result) b g).found ≡ [] → BodyFits s p class b f
+body_fits p c class result s (trees.Braces statements close) f g around staying standing within none =
+    let r = statements_go (surrounds p c result) class s around (stays_here f) statements f g standing staying within none in
+    record { statements = r.fits; few = r.standing.few }
 
-number_within : (s : Setting) (o : Option ℕ) → IfSome o (λ n. n < length s.variables) → IfSome (option_map number_of o) (λ v. v.0 < length s.variables)
-number_within s None h = tt
-number_within s (Some n) h = h
+-- the parameters of a method are in scope behind them
+abbrev AllInScope : List VariableSeen → Frame → Type 0
+AllInScope vs f = (n : ℕ) → n < length f.variables → IsInScope vs (last_of f) (number_of n)
 
-body_fits : (p : Program) (c : ClassTree) (class : ℕ) (result : Option tree.Type.Type) (s : Setting) (b : BlockTree) (f : Frame) (g : names.Frame) → Around p c class result s → AreStanding p s.variables f g
-    → Within s.variables (body_told p class b f).frame → (block_turn (surrounds p c result) b g).found ≡ [] → BodyFits s p class b f
-body_fits p c class result s (trees.Braces statements close) f g around standing within none =
-    let after = (body_told p class (trees.Braces statements close) f).frame in
-    let staying : AreStaying s.variables f outside = record { at_break = standing.ends; at_continue = standing.ends } in
-    let r = statements_go (surrounds p c result) class s around outside statements f g standing staying within none in
-    record { statements = r.fits; scope = (number_within s after.last (last_within s.variables after within r.standing.last), r.standing.ends) }
+newest_or : (p : Program) (vs : List VariableSeen) (name : Span) (kind : declared_kinds.Kind.Kind) (held : Kind) (role : Role) (f : Frame) → Within vs (declares p.text name kind (Some held) role f)
+    → AllInScope vs f → (n : ℕ) (b : Bool) → (n == length f.variables) ≡ b → n < length (declares p.text name kind (Some held) role f).variables
+    → IsInScope vs (last_of (declares p.text name kind (Some held) role f)) (number_of n)
+newest_or p vs name kind held role f within all n true newest below =
+    let same = eqb-true n (length f.variables) newest in
+    subst (λ k. IsInScope vs (last_of (declares p.text name kind (Some held) role f)) (number_of k)) (sym same) (leads_here vs (last_of (declares p.text name kind (Some held) role f)))
+newest_or p vs name kind held role f within all n false older below =
+    let differ : n ≢ length f.variables = λ same. (let equal = eq-eqb n (length f.variables) same in cc) in
+    let before : n < length f.variables = omega (arith, length-append {A = VariableSeen}) in
+    leads_then vs (last_of (declares p.text name kind (Some held) role f)) (last_of f) (Some (number_of n)) (declared_inner p vs name kind (Some held) role f within) (all n before)
+
+declared_in_scope : (p : Program) (vs : List VariableSeen) (name : Span) (kind : declared_kinds.Kind.Kind) (held : Option Kind) (role : Role) (f : Frame) → Within vs (declares p.text name kind held role f)
+    → AllInScope vs f → AllInScope vs (declares p.text name kind held role f)
+declared_in_scope p vs name kind None role f within all = all
+declared_in_scope p vs name kind (Some held) role f within all = λ n below. newest_or p vs name kind held role f within all n (n == length f.variables) refl below
+
+params_in_scope : (p : Program) (params : List Parameter) (vs : List VariableSeen) (f : Frame) → Within vs (parameters_frame p params f) → AllInScope vs f → AllInScope vs (parameters_frame p params f)
+params_in_scope p [] vs f within all = all
+params_in_scope p (x ∷ params) vs f within all =
+    let d = parameter_declaration p x in
+    let next = declared_in_scope p vs x.name (type_kind p x.kind) (type_held p x.kind) (role_of x) f (params_within p params (declared p.text d f) vs within) all in
+    params_in_scope p params vs (declared p.text d f) within next
+
+-- what stands behind the parameters of a method is none
+no_parameter : (p : Program) (more : List VariableSeen) (n : ℕ) (v : VariableSeen) → Each (IsLocal p) more → slice_get more n ≡ Some v → is_parameter v.role ≡ true → ⊥
+no_parameter p [] n v local at param = cc
+no_parameter p (x ∷ more) zero v local at param = let same : x ≡ v = cc in let is : v.role ≡ role.Local = ap (λ y. y.role) (sym same) ∙ local.0.is in let none = ap is_parameter is in cc
+no_parameter p (x ∷ more) (suc n) v local at param = no_parameter p more n v local.1 at param
+
+parameter_before : (p : Program) (first more : List VariableSeen) (n : ℕ) (v : VariableSeen) → Each (IsLocal p) more → slice_get (first ++ more) n ≡ Some v → is_parameter v.role ≡ true → n < length first
+parameter_before p [] more n v local at param = absurd (no_parameter p more n v local at param)
+parameter_before p (x ∷ first) more zero v local at param = omega arith
+parameter_before p (x ∷ first) more (suc n) v local at param = let before = parameter_before p first more n v local at param in omega arith
 
 result_kind : (p : Program) (t : Option tree.Type.Type) (o : Option Kind) → result_held p t ≡ o → IfSome o (IsKind (contracts p))
 result_kind p t None is = tt
@@ -115,30 +156,39 @@ method_fits : (p : Program) (class : ℕ) (c : ClassTree) (m : MethodTree) (plac
     → IsWellFormed (contracts p) (messages_told p) (methods_told p) (method_told p class m)
 method_fits p class c m place clean there at =
     let seen = method_told p class m in
-    let s = setting (contracts p) (messages_told p) (methods_told p) seen in
+    let vs = seen.variables in
     let opened = parameters_frame p m.params no_variables in
+    let begins = last_of opened in
+    let s = setting (contracts p) (messages_told p) (methods_told p) seen begins in
     let after = (body_told p class m.body opened).frame in
     let start : names.Frame = record { variables = []; heap = 0 } in
     let turns = method_clean p class c m place clean there at in
     let next = parameters_turn p m.params start in
     let both = both_none (result_unknown p m.result) (next.found ++ (block_turn (surrounds p c m.result) m.body next.frame).found) turns in
     let halves = both_none next.found (block_turn (surrounds p c m.result) m.body next.frame).found both.1 in
-    let all : Within s.variables after = record { rest = []; is = sym (append-nil after.variables) } in
+    let all : Within vs after = record { rest = []; is = sym (append-nil after.variables) } in
     let grows = body_grows p class m.body opened in
-    let within = within_before p opened after s.variables grows all in
+    let within = within_before p opened after vs grows all in
     let empty : Nests no_variables = record { nested = record { all = λ n v h. cc }; last = tt } in
-    let nests = body_nests p class m.body opened (params_nest p m.params no_variables empty) in
-    let none_stands : AreStanding p s.variables no_variables start = record { same = refl; locals = tt; last = tt; ends = leads_here s.variables None } in
-    let standing = params_stand p m.params s.variables no_variables start none_stands within halves.0 in
+    let opens = params_nest p m.params no_variables empty in
+    let nests = body_nests p class m.body opened opens in
+    let none_stands : AreStanding p vs no_variables start = record { same = refl; locals = tt; last = tt; ends = leads_here vs None; counted = refl; few = omega arith } in
+    let standing = params_stand p m.params vs no_variables start none_stands within halves.0 in
     let around : Around p c class m.result s = record { clean = clean; class_is = there; contracts_are = refl; messages_are = refl; methods_are = refl; result_is = refl; result_known = both.0; nested = nests.nested } in
-    let fits = body_fits p c class m.result s m.body opened next.frame around standing all halves.1 in
+    let staying : AreStaying s opened (stays_here opened) = record { scope = refl; break_is = refl; continue_is = refl; at_break = leads_here vs begins; at_continue = leads_here vs begins } in
+    let fits = body_fits p c class m.result s m.body opened next.frame around staying standing all halves.1 in
     let kinds = each_append (λ v. IsKind (contracts p) v.kind) opened.variables grows.more (params_kinds p m.params no_variables tt) (local_kinds p grows.more grows.local) in
+    let in_scope = params_in_scope p m.params vs no_variables within (λ n below. absurd (omega arith)) in
     record {
       result = result_kind p m.result (result_held p m.result) refl;
+      void = void_gives p m.result;
       kinds = subst (AreKinds p) (sym grows.is) kinds;
+      few = fits.few;
       nested = nests.nested;
+      begins = begins;
+      begins_with = number_within (length vs) opened.last (last_within vs opened within opens.last);
+      parameters = λ n v there param. in_scope n.0 (parameter_before p opened.variables grows.more n.0 v grows.local (subst (λ l. slice_get l n.0 ≡ Some v) grows.is there) param);
       statements = fits.statements;
-      scope = fits.scope;
     }
 
 pub well_formed : (p : Program) → program_findings p ≡ [] → AreWellFormed (resolved_contracts p.text (contracts_of p.items)) (messages_told p) (methods_told p)

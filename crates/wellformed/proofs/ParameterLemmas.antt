@@ -21,7 +21,7 @@ use Rattle.program.specs.declared.method.Role.TheVariants as role
 use Rattle.resolving.specs.Kinds.{type_held}
 use Rattle.resolving.specs.Locals.{Frame, declared, declared_as}
 use Rattle.resolving.specs.Methods.{body_told, method_told, no_variables, parameter_declaration, parameters_frame, role_of}
-use Rattle.resolving.specs.Told.{outside}
+use Rattle.resolving.specs.Told.{stays_here}
 use Rattle.program.specs.Lists.{Each}
 use Rattle.program.specs.WellFormed.{is_claimed, is_parameter, parameters}
 use Rattle.wellformed.proofs.GrowthLemmas.{statements_grow}
@@ -73,7 +73,7 @@ headed_all p (x ∷ params) f =
 -- The body of a method declares none.
 headed_body : (p : Program) (class : ℕ) (b : BlockTree) (f : Frame) → headed (body_told p class b f).frame.variables ≡ headed f.variables
 headed_body p class (trees.Braces statements close) f =
-    let grows = statements_grow p class outside statements f in
+    let grows = statements_grow p class (stays_here f) statements f in
     ap headed grows.is ∙ headed_append f.variables grows.more ∙ ap (λ l. headed f.variables ++ l) (headed_none p grows.more grows.local) ∙ append-nil (headed f.variables)
 
 pub parameters_are : (p : Program) (class : ℕ) (m : MethodTree) → map (λ v. (v.kind, v.role)) (parameters (method_told p class m)) ≡ flat_map (heading p) m.params

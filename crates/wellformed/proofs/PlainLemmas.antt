@@ -29,13 +29,16 @@ use Rattle.resolving.specs.Locals.{Frame, declared_as, mention, mention_of, next
 use Rattle.resolving.specs.Plain.{assigned, deleted, first_value, frame_behind, written}
 use Rattle.resolving.specs.Reads.{listed, reads}
 use Rattle.program.specs.Lists.{Each}
+use Rattle.program.specs.Scopes.{IsInScope}
 use Rattle.program.specs.WellFormed.{IsAction, IsMention, IsStatement, Setting}
 use Rattle.wellformed.proofs.ExpressionLemmas.{element_scalar, expression_scalar, field_scalar, reads_within}
 use Rattle.wellformed.proofs.MentionLemmas.{block_mentioned, held_known, mention_within, scalar_not_mentioned}
 use Rattle.wellformed.proofs.KindLemmas.{held_as, known_certain, type_known}
 use Rattle.wellformed.proofs.PlaceLemmas.{at_seam}
+use Rattle.wellformed.proofs.LeadLemmas.{leads_here}
 use Rattle.wellformed.proofs.ListLemmas.{both_none}
-use Rattle.wellformed.proofs.Standing.{Around, AreStanding, IsHeld, IsHeldAs, IsKnown, Within, scope_of}
+use Rattle.wellformed.proofs.ScopeLemmas.{block_held}
+use Rattle.wellformed.proofs.Standing.{Around, AreStanding, IsHeldAs, IsKnown, Within, last_of, scope_of}
 use Rattle.wellformed.proofs.ValueLemmas.{part_taken_fits, scalar_taken_fits, taken_fits}
 
 -- a name is a mention of a variable, or of none
@@ -48,31 +51,31 @@ name_mentioned p s f g standing name = name_within p s f g standing name (mentio
 
 -- a variable takes a value
 variable_fits : (p : Program) (t : ClassTree) (class : ℕ) (result : Option tree.Type.Type) (s : Setting) (f : Frame) (g : names.Frame) (name : Span) (value : ValueTree) (b : Bool)
-    → is_block (held (meant (scope_of p g) name)) ≡ b → Around p t class result s → AreStanding p s.variables f g → variable_findings (scope_of p g) name ≡ []
+    → is_block (held (meant (scope_of p g) name)) ≡ b → Around p t class result s → s.scope ≡ last_of f → AreStanding p s.variables f g → variable_findings (scope_of p g) name ≡ []
     → value_findings (record { scope = scope_of p g; class = t }) (held (meant (scope_of p g) name)) value ≡ [] → IsStatement s (assigned p class f (mention p.text f.locals name) value)
-variable_fits p t class result s f g name value false scalar around standing none given =
+variable_fits p t class result s f g name value false scalar around here standing none given =
     let known = held_known p s.variables f g name standing none in
     subst (λ o. IsStatement s (assigned p class f o value)) (sym (scalar_not_mentioned p s.variables f g name standing none scalar))
     (scalar_taken_fits p t class result s f g (held (meant (scope_of p g) name)) value around standing known scalar given)
-variable_fits p t class result s f g name value true block around standing none given =
+variable_fits p t class result s f g name value true block around here standing none given =
     let known = held_known p s.variables f g name standing none in
     let m = block_mentioned p s.variables f g name standing none block in
     subst (λ o. IsStatement s (assigned p class f o value)) (sym m.is)
-    (taken_fits p t class result s f g (held (meant (scope_of p g) name)) (mention_of name m.number) m.variable value around standing known block m.there m.holds given)
+    (taken_fits p t class result s f g (held (meant (scope_of p g) name)) (mention_of name m.number) m.variable value around standing known block m.there m.holds (subst (λ o. IsInScope s.variables o (number_of m.number)) (sym here) m.inside) given)
 
 -- an assignment
 pub assign_fits : (p : Program) (t : ClassTree) (class : ℕ) (result : Option tree.Type.Type) (s : Setting) (f : Frame) (g : names.Frame) (target : TargetTree) (value : ValueTree)
-    → Around p t class result s → AreStanding p s.variables f g → target_findings (scope_of p g) target ≡ []
+    → Around p t class result s → s.scope ≡ last_of f → AreStanding p s.variables f g → target_findings (scope_of p g) target ≡ []
     → value_findings (record { scope = scope_of p g; class = t }) (target_kind (scope_of p g) target) value ≡ [] → IsStatement s (written p class f target value)
-assign_fits p t class result s f g (trees.Variable name) value around standing none given =
-    variable_fits p t class result s f g name value (is_block (held (meant (scope_of p g) name))) refl around standing none given
-assign_fits p t class result s f g (trees.Field name field) value around standing none given =
+assign_fits p t class result s f g (trees.Variable name) value around here standing none given =
+    variable_fits p t class result s f g name value (is_block (held (meant (scope_of p g) name))) refl around here standing none given
+assign_fits p t class result s f g (trees.Field name field) value around here standing none given =
     let k = held (meant (scope_of p g) name) in
     let both = both_none (variable_findings (scope_of p g) name) (field_findings (scope_of p g) k name field ++ length_findings (scope_of p g) k field) none in
     let fields = both_none (field_findings (scope_of p g) k name field) (length_findings (scope_of p g) k field) both.1 in
     let scalar = field_scalar p g k name field (held_known p s.variables f g name standing both.0) fields.0 in
     part_taken_fits p t class result s f g (target_kind (scope_of p g) (trees.Field name field)) [] (mention p.text f.locals name) value around standing scalar.0 scalar.1 tt (name_mentioned p s f g standing name) given
-assign_fits p t class result s f g (trees.Element name index) value around standing none given =
+assign_fits p t class result s f g (trees.Element name index) value around here standing none given =
     let k = held (meant (scope_of p g) name) in
     let i = kind_of (scope_of p g) (shape index) in
     let both = both_none (number_findings (scope_of p g) (shape index)) (variable_findings (scope_of p g) name ++ element_findings k name) none in
@@ -83,40 +86,32 @@ assign_fits p t class result s f g (trees.Element name index) value around stand
     part_taken_fits p t class result s f g (target_kind (scope_of p g) (trees.Element name index)) (reads p.text f.locals index) (mention p.text f.locals name) value around standing
     (subst (λ b. IsKnown p (element_kind k b)) (sym certain) scalar.0) (subst (λ b. is_block (element_kind k b) ≡ false) (sym certain) scalar.1) (reads_within p s.variables f g standing index) (name_mentioned p s f g standing name) given
 
--- what holds something is of the exchange heap
-held_block : (p : Program) (k : declared.Kind.Kind) (held : Kind) → IsHeld p k held → is_block k ≡ true
-held_block p (kind.Pointer n) held is = refl
-held_block p (kind.Array element) held is = refl
-held_block p (kind.Endpoint n side) held is = refl
-held_block p (kind.Scalar x) held is = let none = is.is in cc
-held_block p kind.Missing held is = let none = is.is in cc
-held_block p kind.Unknown held is = let none = is.is in cc
-
 -- a variable that is declared takes its first value
 first_fits : (p : Program) (t : ClassTree) (class : ℕ) (result : Option tree.Type.Type) (s : Setting) (f : Frame) (g : names.Frame) (name : Span) (k : declared.Kind.Kind) (state : Option Span) (role : Role) (value : ValueTree)
     (o : Option Kind) (rest : List VariableSeen) → kind_held p k state ≡ o → s.variables ≡ (declared_as p.text (record { name = name; kind = k; held = o; role = role }) o f).variables ++ rest → IsHeldAs p k o
-    → Around p t class result s → AreStanding p s.variables f g → IsKnown p k → value_findings (record { scope = scope_of p g; class = t }) k value ≡ []
-    → IsStatement s (assigned p class f (option_map (mention_of name) (next_number o f)) value)
-first_fits p t class result s f g name k state role value None rest is within holds around standing known none = scalar_taken_fits p t class result s f g k value around standing known holds none
-first_fits p t class result s f g name k state role value (Some held) rest is within holds around standing known none =
+    → s.scope ≡ last_of (declared_as p.text (record { name = name; kind = k; held = o; role = role }) o f) → Around p t class result s → AreStanding p s.variables f g → IsKnown p k
+    → value_findings (record { scope = scope_of p g; class = t }) k value ≡ [] → IsStatement s (assigned p class f (option_map (mention_of name) (next_number o f)) value)
+first_fits p t class result s f g name k state role value None rest is within holds here around standing known none = scalar_taken_fits p t class result s f g k value around standing known holds none
+first_fits p t class result s f g name k state role value (Some held) rest is within holds here around standing known none =
     let v : VariableSeen = record { name = word_at p.text name; kind = held; role = role; outer = option_map number_of f.last } in
     let there = ap (λ vs. slice_get vs (length f.variables)) within ∙ at_seam f.variables rest v in
-    taken_fits p t class result s f g k (mention_of name (length f.variables)) v value around standing known (held_block p k held holds) there holds none
+    taken_fits p t class result s f g k (mention_of name (length f.variables)) v value around standing known (block_held p k held holds) there holds
+    (subst (λ o. IsInScope s.variables o (number_of (length f.variables))) (sym here) (leads_here s.variables (Some (number_of (length f.variables))))) none
 
 value_fits : (p : Program) (t : ClassTree) (class : ℕ) (result : Option tree.Type.Type) (s : Setting) (f : Frame) (g : names.Frame) (d : DeclareTree) (value : Option ValueTree)
-    → Around p t class result s → AreStanding p s.variables f g → Within s.variables (frame_behind p class f (stated.Declare d)) → type_unknown p d.kind ≡ []
+    → s.scope ≡ last_of (frame_behind p class f (stated.Declare d)) → Around p t class result s → AreStanding p s.variables f g → Within s.variables (frame_behind p class f (stated.Declare d)) → type_unknown p d.kind ≡ []
     → given_findings (record { scope = scope_of p g; class = t }) (type_kind p d.kind) value ≡ [] → IsStatement s (first_value p class f d.name (next_number (type_held p d.kind) f) value)
-value_fits p t class result s f g d None around standing within known none = (tt, tt)
-value_fits p t class result s f g d (Some value) around standing within known none =
+value_fits p t class result s f g d None here around standing within known none = (tt, tt)
+value_fits p t class result s f g d (Some value) here around standing within known none =
     let k = type_kind p d.kind in
     let sure = type_known p d.kind known in
-    first_fits p t class result s f g d.name k (state_in d.kind) role.Local value (type_held p d.kind) within.rest refl within.is (held_as p k (state_in d.kind) sure) around standing sure none
+    first_fits p t class result s f g d.name k (state_in d.kind) role.Local value (type_held p d.kind) within.rest refl within.is (held_as p k (state_in d.kind) sure) here around standing sure none
 
 pub declare_fits : (p : Program) (t : ClassTree) (class : ℕ) (result : Option tree.Type.Type) (s : Setting) (f : Frame) (g : names.Frame) (d : DeclareTree)
-    → Around p t class result s → AreStanding p s.variables f g → Within s.variables (frame_behind p class f (stated.Declare d)) → type_unknown p d.kind ≡ []
+    → s.scope ≡ last_of (frame_behind p class f (stated.Declare d)) → Around p t class result s → AreStanding p s.variables f g → Within s.variables (frame_behind p class f (stated.Declare d)) → type_unknown p d.kind ≡ []
     → given_findings (record { scope = scope_of p g; class = t }) (type_kind p d.kind) d.value ≡ []
     → IsStatement s (first_value p class f d.name (next_number (type_held p d.kind) f) d.value)
-declare_fits p t class result s f g d around standing within known none = value_fits p t class result s f g d d.value around standing within known none
+declare_fits p t class result s f g d here around standing within known none = value_fits p t class result s f g d d.value here around standing within known none
 
 deleted_fits : (s : Setting) (o : Option Mention) → Each (IsMention s) (listed o) → IsAction s (deleted o)
 deleted_fits s None within = tt

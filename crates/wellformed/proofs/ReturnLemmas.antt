@@ -23,7 +23,7 @@ use Rattle.resolving.specs.Locals.{Frame, number_of}
 use Rattle.resolving.specs.Methods.{method_told}
 use Rattle.resolving.specs.Plain.{call_of, called, lone, returned, started, stated_call, told}
 use Rattle.program.specs.Scopes.{LeadsOut}
-use Rattle.program.specs.WellFormed.{IsScope, IsStartOf, IsStatement, IsTaken, Setting}
+use Rattle.program.specs.WellFormed.{IsStartOf, IsStatement, IsTaken, Setting}
 use Rattle.wellformed.proofs.ArgumentLemmas.{IsAsked, asked_block, asked_known, asked_scalar}
 use Rattle.wellformed.proofs.CallLemmas.{CallsMethod, call_means, call_of_fits, method_there}
 use Rattle.wellformed.proofs.ExpressionLemmas.{reads_within}
@@ -32,7 +32,7 @@ use Rattle.wellformed.proofs.SendLemmas.{SendsMessage}
 use Rattle.wellformed.proofs.KindLemmas.{Holding, block_holds, scalar_holds, type_known}
 use Rattle.wellformed.proofs.ProgramLemmas.{all_claimed, parameters_clean}
 use Rattle.wellformed.proofs.ListLemmas.{both_none}
-use Rattle.wellformed.proofs.Standing.{Around, AreStanding, IsKnown, scope_of}
+use Rattle.wellformed.proofs.Standing.{AreStanding, Around, IsKnown, last_of, scope_of}
 use Rattle.wellformed.proofs.ValueLemmas.{alone_call, by_none, gives_none, no_send}
 
 -- a call that stands alone, of a method or a send
@@ -53,7 +53,7 @@ both_not false false h = (refl, refl)
 both_not false true h = cc
 both_not true b h = cc
 
-void_gives : (p : Program) (result : Option tree.Type.Type) → is_some result ≡ false → result_held p result ≡ None
+pub void_gives : (p : Program) (result : Option tree.Type.Type) → is_some result ≡ false → result_held p result ≡ None
 void_gives p None void = refl
 void_gives p (Some t) void = cc
 
@@ -63,15 +63,10 @@ pub start_fits : (p : Program) (t : ClassTree) (class : ℕ) (result : Option tr
 start_fits p t class result s f g c word around standing none =
     let x = no_send p class s f g (λ m. can_start m ≡ true) c _ (call_means p t class result s f g _ c around standing none (λ m. can_start m ≡ true) (λ m name starts F same fits. none_said (can_start m) _ starts)) refl in
     let free = both_not (is_some x.method.result) (any_lent x.method.params) x.fits in
-    let call = call_of_fits p t class result s f g c None [] (λ m. can_start m ≡ true) around standing x (subst (λ o. IsTaken s o None) (sym (void_gives p x.method.result free.0)) tt) tt in
+    let call = call_of_fits p t class result s f g c None [] (λ m. can_start m ≡ true) around standing x (subst (λ o. IsTaken s o None) (sym (void_gives p x.method.result free.0)) tt, tt) tt in
     let starts : IsStartOf s (call_of p class f c None [] (record { number = x.number; method = x.method })) (method_told p x.told.class x.method) = record { call = call; void = free.0; claimed = all_claimed p x.told.class x.method (parameters_clean p x.method x.number around.clean x.told) free.1 } in
     subst (λ o. IsStatement s (option_map_or seen.Start (option_map (call_of p class f c None []) o) (told [] does.Nothing))) (sym x.is)
     (subst (λ o. IsSomeAnd o (IsStartOf s (call_of p class f c None [] (record { number = x.number; method = x.method })))) (sym (method_there p t class result s x.method x.number around x.told)) starts)
-
--- the last variable in scope, where one leaves the method
-scope_fits : (s : Setting) (o : Option ℕ) → IfSome o (λ n. n < length s.variables) → LeadsOut s.variables (option_map number_of o) None → IsScope s (option_map number_of o)
-scope_fits s None within ends = (tt, ends)
-scope_fits s (Some n) within ends = (within, ends)
 
 -- a return of nothing
 empty_fits : (p : Program) (s : Setting) (g : names.Frame) (result : Option tree.Type.Type) (word : Span) → s.result ≡ result_held p result → return_findings (scope_of p g) result word None ≡ [] → IsTaken s s.result None
@@ -98,9 +93,9 @@ value_returned p class s f g (Some t) word e is known standing none =
     subst (λ o. IsTaken s o (lone p class f e)) (sym is) (given_fits p class s f g t e (is_block (type_kind p t)) refl standing sure (asked_known p s.variables f g standing (type_kind p t) e sure none))
 
 pub return_fits : (p : Program) (t : ClassTree) (class : ℕ) (result : Option tree.Type.Type) (s : Setting) (f : Frame) (g : names.Frame) (word : Span) (value : Option ExpressionTree)
-    → Around p t class result s → AreStanding p s.variables f g → IfSome f.last (λ n. n < length s.variables) → return_findings (scope_of p g) result word value ≡ []
+    → Around p t class result s → AreStanding p s.variables f g → s.scope ≡ last_of f → return_findings (scope_of p g) result word value ≡ []
     → IsStatement s (returned p class f word.place value)
-return_fits p t class result s f g word None around standing within none =
-    (tt, (empty_fits p s g result word around.result_is none, scope_fits s f.last within standing.ends))
-return_fits p t class result s f g word (Some e) around standing within none =
-    (reads_within p s.variables f g standing e, (value_returned p class s f g result word e around.result_is around.result_known standing none, scope_fits s f.last within standing.ends))
+return_fits p t class result s f g word None around standing here none =
+    (tt, (empty_fits p s g result word around.result_is none, sym here))
+return_fits p t class result s f g word (Some e) around standing here none =
+    (reads_within p s.variables f g standing e, (value_returned p class s f g result word e around.result_is around.result_known standing none, sym here))

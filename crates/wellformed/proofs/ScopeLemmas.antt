@@ -1,5 +1,5 @@
--- Scopes: what comes into scope, and what goes out of it.
-use Rattle.std.proofs.Common.{◌≡◌, ℕ, zero, suc, ◌<◌, ◌≤◌, Bool, true, false, List, [], ◌∷◌, ◌++◌, length, map, if◌then◌else◌, is_some, refl, sym, ap, ◌∙◌, subst, append_assoc, arith, length-append, eq-eqb}
+-- What is declared comes into scope, and goes out of it where its block ends.
+use Rattle.std.proofs.Common.{◌≡◌, ◌≢◌, ◌==◌, ◌+◌, ℕ, zero, suc, ◌<◌, ◌≤◌, Bool, true, false, List, [], ◌∷◌, ◌++◌, length, map, if◌then◌else◌, is_some, refl, sym, ap, ◌∙◌, subst, append_assoc, arith, length-append, eq-eqb, eqb-true}
 use Rattle.std.proofs.lemmas.Option.{slice_get-map}
 use Rattle.std.specs.Option.{option_map_or}
 use Rattle.std.specs.Prelude.{Option, None, Some, option_and_then, option_map, slice_get, IfSome, IsSomeAnd}
@@ -8,7 +8,10 @@ use Rattle.source.specs.declared.token.Span.{Span}
 use Rattle.names.specs.Declarations.{first_among}
 use Rattle.names.specs.Program.{Program}
 use Rattle.names.specs.Variables as names
-use Rattle.names.specs.Variables.{variable_named, declared_variable}
+use Rattle.names.specs.Found.{limit_passed}
+use Rattle.names.specs.Kinds.{is_block}
+use Rattle.names.specs.Variables.{variable_named, declared_variable, past_heap}
+use Rattle.names.specs.declared.kinds.Kind.TheVariants as kinds
 use Rattle.names.specs.declared.kinds.Kind.{Kind}
 use Rattle.program.specs.Methods.{VariableSeen}
 use Rattle.program.specs.declared.kind as held
@@ -16,68 +19,14 @@ use Rattle.program.specs.declared.method.Role.{Role}
 use Rattle.program.specs.declared.number.VarId.{VarId}
 use Rattle.resolving.specs.Locals.{Local, Frame, local_named, number_of, closed, forget, forgotten, same_last}
 use Rattle.program.specs.Lists.{Each}
-use Rattle.program.specs.Scopes.{LeadsOut, AreNested, outer_of, outward}
-use Rattle.program.specs.WellFormed.{Setting, IsForget}
+use Rattle.program.specs.Scopes as scopes
+use Rattle.program.specs.Scopes.{LeadsOut, IsLocalBehind, outer_of}
+use Rattle.program.specs.declared.limits.TheConstants.{MOST_VARIABLES}
+use Rattle.program.specs.declared.method.Role.TheVariants as roles
 use Rattle.wellformed.proofs.GrowthLemmas.{still_below}
-use Rattle.wellformed.proofs.ListLemmas.{each_append}
-use Rattle.wellformed.proofs.Standing.{IsKnown, IsHeldAs, IsHeld, Stands, AreStanding, Grows, Within, declares, named, last_of}
-
-pub leads_here : (vs : List VariableSeen) (a : Option VarId) → LeadsOut vs a a
-leads_here vs a = record { steps = 0; is = refl }
-
-leads_from : (vs : List VariableSeen) (n : ℕ) (a b c : Option VarId) → outward vs n a ≡ b → LeadsOut vs b c → LeadsOut vs a c
-leads_from vs zero a b c is leads = subst (λ x. LeadsOut vs x c) (sym is) leads
-leads_from vs (suc n) a b c is leads = let further = leads_from vs n (option_and_then (outer_of vs) a) b c is leads in record { steps = suc further.steps; is = further.is }
-
-pub leads_then : (vs : List VariableSeen) (a b c : Option VarId) → LeadsOut vs a b → LeadsOut vs b c → LeadsOut vs a c
-leads_then vs a b c first second = leads_from vs first.steps a b c first.is second
-
--- before the first variable stands none
-outward_none : (vs : List VariableSeen) (n : ℕ) → outward vs n None ≡ None
-outward_none vs zero = refl
-outward_none vs (suc n) = outward_none vs n
-
-pub leads_nowhere : (vs : List VariableSeen) (v : VarId) → LeadsOut vs None (Some v) → ⊥
-leads_nowhere vs v leads = let none = outward_none vs leads.steps in cc leads.is
-
-outer_below : (vs : List VariableSeen) (n : ℕ) (o : VarId) (x : Option VariableSeen) → AreNested vs → slice_get vs n ≡ x → option_and_then (λ v. v.outer) x ≡ Some o → o.0 < n
-outer_below vs n o None nested at is = cc
-outer_below vs n o (Some v) nested at is = subst (λ y. IfSome y (λ i. i.0 < n)) is (nested.all n v at)
-
--- what lies no later than the variable before this one lies no later than this one
-outer_down : (vs : List VariableSeen) (n : ℕ) (a b : VarId) (o : Option VarId) → AreNested vs → outer_of vs a ≡ o → outward vs n o ≡ Some b → IfSome o (λ x. b.0 ≤ x.0) → b.0 ≤ a.0
-outer_down vs n a b None nested outer is down = let none = outward_none vs n in cc
-outer_down vs n a b (Some o) nested outer is down = let before = outer_below vs a.0 o (slice_get vs a.0) nested refl outer in omega arith
-
-outward_down : (vs : List VariableSeen) (n : ℕ) (a : Option VarId) (b : VarId) → AreNested vs → outward vs n a ≡ Some b → IfSome a (λ x. b.0 ≤ x.0)
-outward_down vs n None b nested is = tt
-outward_down vs zero (Some a) b nested is = let same : a ≡ b = cc in subst (λ x. x.0 ≤ a.0) same (omega arith)
-outward_down vs (suc n) (Some a) b nested is = outer_down vs n a b (outer_of vs a) nested refl is (outward_down vs n (outer_of vs a) b nested is)
-
--- outward stand no later variables
-pub leads_down : (vs : List VariableSeen) → AreNested vs → (a b : VarId) → LeadsOut vs (Some a) (Some b) → b.0 ≤ a.0
-leads_down vs nested a b leads = outward_down vs leads.steps (Some a) b nested leads.is
-
--- From a variable that does not stay, steps outward begin with the one before it.
-leads_behind : (vs : List VariableSeen) (n : ℕ) (last : ℕ) (outer : Option ℕ) → same_last last outer ≡ false → outward vs n (Some (number_of last)) ≡ option_map number_of outer
-    → LeadsOut vs (outer_of vs (number_of last)) (option_map number_of outer)
-leads_behind vs zero last None differ is = cc
-leads_behind vs zero last (Some o) differ is = let same : last ≡ o = ap (λ x. option_map_or (λ v. v.0) x 0) is in let equal = eq-eqb last o same in cc
-leads_behind vs (suc n) last outer differ is = record { steps = n; is = is }
-
-forget_unless : (s : Setting) (place : Place) (outer : Option ℕ) (last : ℕ) (same : Bool) → same_last last outer ≡ same → last < length s.variables
-    → LeadsOut s.variables (Some (number_of last)) (option_map number_of outer) → IfSome (if same then None else Some (forgotten place outer last)) (IsForget s)
-forget_unless s place outer last true is within leads = tt
-forget_unless s place outer last false is within leads = record {
-  last = within;
-  forgotten = record { inside = leads_here s.variables (Some (number_of last)); outside = leads_behind s.variables leads.steps last outer is leads.is };
-}
-
--- what goes out of scope, where the last one that stays lies outward
-pub forget_fits : (s : Setting) (place : Place) (outer last : Option ℕ) → IfSome last (λ n. n < length s.variables)
-    → LeadsOut s.variables (option_map number_of last) (option_map number_of outer) → IfSome (forget place outer last) (IsForget s)
-forget_fits s place outer None within leads = tt
-forget_fits s place outer (Some last) within leads = forget_unless s place outer last (same_last last outer) refl within leads
+use Rattle.wellformed.proofs.LeadLemmas.{grows_none, leads_here, leads_then}
+use Rattle.wellformed.proofs.ListLemmas.{both_none, each_append}
+use Rattle.wellformed.proofs.Standing.{IsInside, IsKnown, IsHeldAs, IsHeld, Stands, AreStanding, Grows, Within, declares, named, last_of}
 
 -- the names of variables are those of their names and kinds
 names_same : (locals : List Local) → map (λ v. v.name) (map named locals) ≡ map (λ l. l.name) locals
@@ -105,6 +54,21 @@ declared_there vs xs x rest is = ap (λ ys. slice_get ys (length xs)) (is ∙ ap
 pub declared_outer : (p : Program) (vs : List VariableSeen) (name : Span) (kind : Kind) (held : held.Kind.Kind) (role : Role) (f : Frame) → Within vs (declares p.text name kind (Some held) role f)
     → outer_of vs (number_of (length f.variables)) ≡ last_of f
 declared_outer p vs name kind held role f within = ap (λ x. option_and_then (λ v. v.outer) x) (declared_there vs f.variables _ within.rest within.is)
+
+-- one that is no parameter
+pub declared_local : (p : Program) (vs : List VariableSeen) (name : Span) (kind : Kind) (held : held.Kind.Kind) (f : Frame) → Within vs (declares p.text name kind (Some held) roles.Local f)
+    → IsLocalBehind vs (number_of (length f.variables)) (λ outer. outer ≡ last_of f)
+declared_local p vs name kind held f within =
+    subst (λ o. IsSomeAnd o (λ x. (x.role ≡ roles.Local) × (x.outer ≡ last_of f))) (sym (declared_there vs f.variables _ within.rest within.is)) (refl, refl)
+
+-- the scope grows by it
+pub declared_grows : (p : Program) (vs : List VariableSeen) (name : Span) (kind : Kind) (held : Option held.Kind.Kind) (f : Frame) → Within vs (declares p.text name kind held roles.Local f)
+    → scopes.Grows vs (last_of f) (last_of (declares p.text name kind held roles.Local f))
+declared_grows p vs name kind None f within = grows_none vs (last_of f) (last_of f) refl
+declared_grows p vs name kind (Some held) f within = record {
+  count = 1;
+  by = subst (λ o. IsSomeAnd o (λ x. (x.role ≡ roles.Local) × (last_of f ≡ x.outer))) (sym (declared_there vs f.variables _ within.rest within.is)) (refl, refl);
+}
 
 -- it stands right before those that were in scope
 pub declared_inner : (p : Program) (vs : List VariableSeen) (name : Span) (kind : Kind) (held : Option held.Kind.Kind) (role : Role) (f : Frame) → Within vs (declares p.text name kind held role f)
@@ -134,34 +98,73 @@ entered_same text name ls vs l same =
     let alike = entered ∙ sym (ap (λ b. if b then map named ls else map named ls ++ named l ∷ []) taken) in
     subst (λ xs. map named (if is_some (local_named text ls name) then ls else ls ++ l ∷ []) ≡ (if is_some (variable_named text xs name) then xs else xs ++ named l ∷ [])) same alike
 
+-- what was in scope is in scope behind it
+inside_then : (vs : List VariableSeen) (a b : Option VarId) (o : Option ℕ) → LeadsOut vs b a → IsInside vs a o → IsInside vs b o
+inside_then vs a b None leads inside = tt
+inside_then vs a b (Some n) leads inside = leads_then vs b a (Some (number_of n)) leads inside
+
+stands_then : (p : Program) (vs : List VariableSeen) (a b : Option VarId) (ls : List Local) → LeadsOut vs b a → Each (Stands p vs a) ls → Each (Stands p vs b) ls
+stands_then p vs a b [] leads all = tt
+stands_then p vs a b (l ∷ ls) leads all =
+    (record { known = all.0.known; numbered = all.0.numbered; inside = inside_then vs a b l.number leads all.0.inside }, stands_then p vs a b ls leads all.1)
+
+-- a kind is that of a block where a variable of it holds something
+pub block_held : (p : Program) (k : Kind) (held : held.Kind.Kind) → IsHeld p k held → is_block k ≡ true
+block_held p (kinds.Pointer n) held is = refl
+block_held p (kinds.Array element) held is = refl
+block_held p (kinds.Endpoint n side) held is = refl
+block_held p (kinds.Scalar x) held is = let none = is.is in cc
+block_held p kinds.Missing held is = let none = is.is in cc
+block_held p kinds.Unknown held is = let none = is.is in cc
+
+not_most : (name : Span) (heap : ℕ) (n : ℕ) (b : Bool) → (heap == MOST_VARIABLES) ≡ b → (if b then limit_passed name ∷ [] else []) ≡ [] → heap ≡ n → n ≤ MOST_VARIABLES → n < MOST_VARIABLES
+not_most name heap n true is none same few = cc
+not_most name heap n false is none same few = let differ : n ≢ MOST_VARIABLES = λ equal. (let full = eq-eqb heap MOST_VARIABLES (same ∙ equal) in cc) in omega arith
+
+not_past : (name : Span) (heap : ℕ) (n : ℕ) → past_heap name heap ≡ [] → heap ≡ n → n ≤ MOST_VARIABLES → n < MOST_VARIABLES
+not_past name heap n none is few = not_most name heap n (heap == MOST_VARIABLES) refl none is few
+
 -- a variable that is declared comes into scope
 pub declared_stands : (p : Program) (vs : List VariableSeen) (name : Span) (kind : Kind) (held : Option held.Kind.Kind) (role : Role) (heap : Bool) (f : Frame) (g : names.Frame)
-    → IsKnown p kind → IsHeldAs p kind held → AreStanding p vs f g → Within vs (declares p.text name kind held role f)
-    → AreStanding p vs (declares p.text name kind held role f) (declared_variable p.text name kind heap g).frame
-declared_stands p vs name kind None role heap f g known holds standing within = record {
+    → heap ≡ is_block kind → IsKnown p kind → IsHeldAs p kind held → AreStanding p vs f g → Within vs (declares p.text name kind held role f)
+    → (declared_variable p.text name kind heap g).found ≡ [] → AreStanding p vs (declares p.text name kind held role f) (declared_variable p.text name kind heap g).frame
+declared_stands p vs name kind None role heap f g block known holds standing within none = record {
   same = entered_same p.text name f.locals g.variables (record { name = name; kind = kind; number = None }) standing.same;
-  locals = each_entered (Stands p vs) (is_some (local_named p.text f.locals name)) f.locals (record { name = name; kind = kind; number = None }) standing.locals (record { known = known; numbered = holds });
+  locals = each_entered (Stands p vs (last_of f)) (is_some (local_named p.text f.locals name)) f.locals (record { name = name; kind = kind; number = None }) standing.locals
+      (record { known = known; numbered = holds; inside = tt });
   last = standing.last;
   ends = standing.ends;
+  counted = ap (λ (b : Bool). if b then g.heap + 1 else g.heap) (block ∙ holds) ∙ standing.counted;
+  few = standing.few;
 }
-declared_stands p vs name kind (Some held) role heap f g known holds standing within =
+declared_stands p vs name kind (Some held) role heap f g block known holds standing within none =
     let l : Local = record { name = name; kind = kind; number = Some (length f.variables) } in
     let there = subst (λ o. IsSomeAnd o (λ v. IsHeld p kind v.kind)) (sym (declared_there vs f.variables _ within.rest within.is)) holds in
+    let heaped : heap ≡ true = block ∙ block_held p kind held holds in
+    let past = both_none (if heap then past_heap name g.heap else []) _ none in
+    let below = not_past name g.heap (length f.variables) (subst (λ (b : Bool). (if b then past_heap name g.heap else []) ≡ []) heaped past.0) standing.counted standing.few in
+    let last = last_of (declares p.text name kind (Some held) role f) in
     record {
       same = entered_same p.text name f.locals g.variables l standing.same;
-      locals = each_entered (Stands p vs) (is_some (local_named p.text f.locals name)) f.locals l standing.locals (record { known = known; numbered = there });
+      locals = each_entered (Stands p vs last) (is_some (local_named p.text f.locals name)) f.locals l
+          (stands_then p vs (last_of f) last f.locals (declared_inner p vs name kind (Some held) role f within) standing.locals)
+          (record { known = known; numbered = there; inside = leads_here vs last });
       last = omega (arith, length-append {A = VariableSeen});
       ends = leads_then vs _ (last_of f) None (declared_inner p vs name kind (Some held) role f within) standing.ends;
+      counted = let same = standing.counted in ap (λ (b : Bool). if b then g.heap + 1 else g.heap) heaped ∙ omega (arith, length-append {A = VariableSeen});
+      few = omega (arith, length-append {A = VariableSeen});
     }
 
 -- what was declared since is in scope no more
-pub closed_stands : (p : Program) (vs : List VariableSeen) (f after : Frame) (g : names.Frame) (heap : ℕ)
-    → AreStanding p vs f g → Grows p f after → AreStanding p vs (closed f after) (record { variables = g.variables; heap = heap })
-closed_stands p vs f after g heap standing grows = record {
+pub closed_stands : (p : Program) (vs : List VariableSeen) (f after : Frame) (g behind : names.Frame)
+    → AreStanding p vs f g → Grows p f after → AreStanding p vs after behind → AreStanding p vs (closed f after) (record { variables = g.variables; heap = behind.heap })
+closed_stands p vs f after g behind standing grows inner = record {
   same = standing.same;
   locals = standing.locals;
   last = still_below f.variables grows.more after.variables f.last grows.is standing.last;
   ends = standing.ends;
+  counted = inner.counted;
+  few = inner.few;
 }
 
 -- the last variable in scope is one of the method

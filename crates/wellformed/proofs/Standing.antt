@@ -1,5 +1,5 @@
 -- What holds of the variables in scope at a place of a program with whose names and kinds nothing is wrong.
-use Rattle.std.proofs.Common.{◌≡◌, ℕ, ◌<◌, false, List, [], ◌∷◌, ◌++◌, length, map}
+use Rattle.std.proofs.Common.{◌≡◌, ℕ, ◌<◌, ◌≤◌, false, List, [], ◌∷◌, ◌++◌, length, map}
 use Rattle.std.specs.Option.{option_map_or}
 use Rattle.std.specs.Prelude.{Option, None, Some, option_map, slice_get, IfSome, IsSomeAnd}
 use Rattle.source.specs.declared.token.Span.{Span}
@@ -28,7 +28,9 @@ use Rattle.resolving.specs.Callees.{Callee}
 use Rattle.resolving.specs.Methods.{methods_told, method_told, role_of}
 use Rattle.resolving.specs.Told.{Staying}
 use Rattle.program.specs.Lists.{Each}
-use Rattle.program.specs.Scopes.{LeadsOut, AreNested}
+use Rattle.program.specs.Scopes as scopes
+use Rattle.program.specs.Scopes.{LeadsOut, AreNested, IsInScope}
+use Rattle.program.specs.declared.limits.TheConstants.{MOST_VARIABLES}
 use Rattle.program.specs.WellFormed.{Setting}
 
 -- a kind whose names are declared
@@ -55,9 +57,15 @@ abbrev pub IsNumbered : Program → List VariableSeen → declared.Kind.Kind →
 IsNumbered p vs k None = is_block k ≡ false
 IsNumbered p vs k (Some n) = IsSomeAnd (slice_get vs n) (λ v. IsHeld p k v.kind)
 
-pub record Stands (p : Program) (vs : List VariableSeen) (l : Local) : Type 0 where
+-- it is in scope where this one is the last
+abbrev pub IsInside : List VariableSeen → Option VarId → Option ℕ → Type 0
+IsInside vs last None = Unit {0}
+IsInside vs last (Some n) = IsInScope vs last (number_of n)
+
+pub record Stands (p : Program) (vs : List VariableSeen) (last : Option VarId) (l : Local) : Type 0 where
   pub known : IsKnown p l.kind
   pub numbered : IsNumbered p vs l.kind l.number
+  pub inside : IsInside vs last l.number
 
 -- a variable in scope as its name and kind
 abbrev pub named : Local → names.Variable
@@ -67,12 +75,15 @@ named l = record { name = l.name; kind = l.kind }
 abbrev pub last_of : Frame → Option VarId
 last_of f = option_map number_of f.last
 
--- the variables of a frame are those in scope, and each stands for one of the method
+-- The variables of a frame are those in scope, and each stands for one of the method. Those of the exchange heap are counted, and
+-- not past their limit.
 pub record AreStanding (p : Program) (vs : List VariableSeen) (f : Frame) (g : names.Frame) : Type 0 where
   pub same : map named f.locals ≡ g.variables
-  pub locals : Each (Stands p vs) f.locals
+  pub locals : Each (Stands p vs (last_of f)) f.locals
   pub last : IfSome f.last (λ n. n < length f.variables)
   pub ends : LeadsOut vs (last_of f) None
+  pub counted : g.heap ≡ length f.variables
+  pub few : length f.variables ≤ MOST_VARIABLES
 
 -- a variable that is no parameter, and holds what some kind says
 pub record IsLocal (p : Program) (v : VariableSeen) : Type 0 where
@@ -91,10 +102,13 @@ pub record Within (vs : List VariableSeen) (f : Frame) : Type 0 where
   pub rest : List VariableSeen
   pub is : vs ≡ f.variables ++ rest
 
--- what stays in scope at a break and at a continue lies outward
-pub record AreStaying (vs : List VariableSeen) (f : Frame) (s : Staying) : Type 0 where
-  pub at_break : LeadsOut vs (last_of f) (option_map number_of s.at_break)
-  pub at_continue : LeadsOut vs (last_of f) (option_map number_of s.at_continue)
+-- the last variable in scope, and what stays in scope at a break and at a continue, which lies outward
+pub record AreStaying (s : Setting) (f : Frame) (stays : Staying) : Type 0 where
+  pub scope : s.scope ≡ last_of f
+  pub break_is : s.at_break ≡ option_map number_of stays.at_break
+  pub continue_is : s.at_continue ≡ option_map number_of stays.at_continue
+  pub at_break : LeadsOut s.variables (last_of f) (option_map number_of stays.at_break)
+  pub at_continue : LeadsOut s.variables (last_of f) (option_map number_of stays.at_continue)
 
 -- Where a statement stands: in a method of the class that is the item at this place, which gives this result, of a program with
 -- whose names and kinds nothing is wrong.
@@ -116,11 +130,17 @@ declares text name kind held role f = locals.declared text (record { name = name
 abbrev pub scope_of : Program → names.Frame → InScope
 scope_of p g = record { program = p; variables = g.variables }
 
--- a piece of a method that is well formed, and the frame behind it
+-- a piece of a method that is well formed, and the frame behind it, in which variables have come into scope
 pub record Goes (p : Program) (vs : List VariableSeen) (X : Type 0) (f after : Frame) (behind : names.Frame) : Type 0 where
   pub fits : X
   pub standing : AreStanding p vs after behind
-  pub inner : LeadsOut vs (last_of after) (last_of f)
+  pub grows : scopes.Grows vs (last_of f) (last_of after)
+
+-- the same of a piece that leaves the scope as it is
+pub record Passes (p : Program) (vs : List VariableSeen) (X : Type 0) (f after : Frame) (behind : names.Frame) : Type 0 where
+  pub fits : X
+  pub standing : AreStanding p vs after behind
+  pub same : last_of after ≡ last_of f
 
 -- what a parameter holds, where it is of the exchange heap, and how the method comes to it
 abbrev pub heading : Program → Parameter → List (Kind × Role)

@@ -1,5 +1,6 @@
 -- Statements with which nothing is wrong are well formed, and leave the variables in scope standing.
-use Rattle.std.proofs.Common.{◌≡◌, ℕ, List, [], ◌∷◌, ◌++◌, sym, subst}
+use Rattle.std.proofs.Common.{◌≡◌, ℕ, List, [], ◌∷◌, ◌++◌, ◌∙◌, refl, sym, subst}
+use Rattle.std.specs.Prelude.{Option, option_map}
 use Rattle.source.specs.declared.place.Place.{Place}
 use Rattle.tree.specs.StatementTrees as trees
 use Rattle.tree.specs.StatementTrees.{StatementTree, StatementTrees, BlockTree, TestTree, OtherTrees, CaseTree, CaseTrees, DeclareTree}
@@ -14,82 +15,154 @@ use Rattle.names.specs.Values.{target_findings, target_kind, value_findings}
 use Rattle.names.specs.Variables as names
 use Rattle.resolving.specs.Binds.{binds_told}
 use Rattle.resolving.specs.Kinds.{state_in, type_held}
-use Rattle.resolving.specs.Locals.{Frame, declared, next_number}
+use Rattle.resolving.specs.Locals.{Frame, closed, declared, forget, next_number, number_of}
 use Rattle.resolving.specs.Plain.{declaration_of, first_value}
-use Rattle.resolving.specs.Told.{Staying, awaited_message, awaited_params, behind_case, block_told, case_told, cases_told, in_loop, in_switch, others_told, statement_told, statements_told, test_told}
+use Rattle.resolving.specs.Told.{Staying, awaited_message, awaited_params, behind_case, block_told, case_told, cases_told, in_switch, others_told, statement_told, statements_told, stays_here, test_told}
 use Rattle.program.specs.Methods.{VariableSeen}
 use Rattle.program.specs.declared.method.Role.TheVariants as role
-use Rattle.program.specs.Scopes.{LeadsOut}
-use Rattle.program.specs.WellFormed.{AreCases, AreOthers, AreStatements, IsBlock, IsCase, IsStatement, IsTest, Setting}
-use Rattle.wellformed.proofs.BindLemmas.{binds_stand, bound_fits}
+use Rattle.program.specs.Scopes as scopes
+use Rattle.program.specs.Scopes.{GoesBack, InTurn, LeadsOut}
+use Rattle.program.specs.Statements.{StatementSeen}
+use Rattle.program.specs.declared.number.VarId.{VarId}
+use Rattle.program.specs.WellFormed as settings
+use Rattle.program.specs.WellFormed.{AreCases, AreOthers, AreStatements, IsBlock, IsCase, IsStatement, IsTest, Setting, in_loop, reached}
+use Rattle.wellformed.proofs.BindLemmas.{binds_stand}
 use Rattle.wellformed.proofs.BroughtLemmas.{binds_hold}
 use Rattle.wellformed.proofs.CaseLemmas.{all_close, heads_clean}
 use Rattle.wellformed.proofs.ExpressionLemmas.{reads_within}
 use Rattle.wellformed.proofs.GrowthLemmas.{binds_grow, grows_then, cases_grow, others_grow, statements_grow, within_before}
 use Rattle.wellformed.proofs.HeadLemmas.{head_fits}
-use Rattle.wellformed.proofs.KindLemmas.{held_as, type_known}
+use Rattle.wellformed.proofs.KindLemmas.{heap_block, held_as, type_known}
 use Rattle.wellformed.proofs.ListLemmas.{both_none}
 use Rattle.wellformed.proofs.ChannelLemmas.{channel_fits}
 use Rattle.wellformed.proofs.PlainLemmas.{assign_fits, declare_fits, delete_fits}
 use Rattle.wellformed.proofs.ReturnLemmas.{call_stated_fits, return_fits, start_fits}
-use Rattle.wellformed.proofs.ScopeLemmas.{closed_stands, declared_inner, declared_stands, forget_fits, last_within, leads_here, leads_then}
-use Rattle.wellformed.proofs.Standing.{Around, AreStanding, AreStaying, Goes, Within, last_of, scope_of}
+use Rattle.wellformed.proofs.LeadLemmas.{goes_back, grown, grows_none, grows_on, leads_here, leads_then}
+use Rattle.wellformed.proofs.ScopeLemmas.{closed_stands, declared_grows, declared_stands}
+use Rattle.wellformed.proofs.Standing.{Around, AreStanding, AreStaying, Goes, Passes, Within, last_of, scope_of}
 
 -- where a statement of a method stands
 abbrev pub InMethod : Surroundings → ℕ → Setting → Type 0
 InMethod m class s = Around m.program m.class class m.result s
 
--- what stays in scope lies outward still
-staying_then : (vs : List VariableSeen) (f after : Frame) (stays : Staying) → LeadsOut vs (last_of after) (last_of f) → AreStaying vs f stays → AreStaying vs after stays
-staying_then vs f after stays inner staying = record {
-  at_break = leads_then vs (last_of after) (last_of f) _ inner staying.at_break;
-  at_continue = leads_then vs (last_of after) (last_of f) _ inner staying.at_continue;
+-- the same place in another scope, where these stay
+abbrev placed : Setting → (scope at_break at_continue : Option VarId) → Setting
+placed s scope at_break at_continue = record {
+  contracts = s.contracts;
+  messages = s.messages;
+  methods = s.methods;
+  variables = s.variables;
+  result = s.result;
+  scope = scope;
+  at_break = at_break;
+  at_continue = at_continue;
 }
 
--- a statement behind which the same variables are in scope
-same_frame : (p : Program) (s : Setting) (X : Type 0) (f : Frame) (g : names.Frame) → X → AreStanding p s.variables f g → Goes p s.variables X f f g
-same_frame p s X f g fits standing = record { fits = fits; standing = standing; inner = leads_here s.variables (last_of f) }
+around_at : (m : Surroundings) (class : ℕ) (s : Setting) (scope at_break at_continue : Option VarId) → InMethod m class s → InMethod m class (placed s scope at_break at_continue)
+around_at m class s scope at_break at_continue a = record {
+  clean = a.clean;
+  class_is = a.class_is;
+  contracts_are = a.contracts_are;
+  messages_are = a.messages_are;
+  methods_are = a.methods_are;
+  result_is = a.result_is;
+  result_known = a.result_known;
+  nested = a.nested;
+}
+
+-- behind another statement
+around_behind : (m : Surroundings) (class : ℕ) (s : Setting) (scope : Option VarId) → InMethod m class s → InMethod m class (reached s scope)
+around_behind m class s scope a = around_at m class s scope s.at_break s.at_continue a
+
+-- what stays in scope lies outward still, where the scope is the same
+staying_same : (s : Setting) (f after : Frame) (stays : Staying) → last_of after ≡ last_of f → AreStaying s f stays → AreStaying s after stays
+staying_same s f after stays same staying = record {
+  scope = staying.scope ∙ sym same;
+  break_is = staying.break_is;
+  continue_is = staying.continue_is;
+  at_break = subst (λ o. LeadsOut s.variables o (option_map number_of stays.at_break)) (sym same) staying.at_break;
+  at_continue = subst (λ o. LeadsOut s.variables o (option_map number_of stays.at_continue)) (sym same) staying.at_continue;
+}
+
+-- and where it has grown
+staying_then : (s : Setting) (f after : Frame) (stays : Staying) → LeadsOut s.variables (last_of after) (last_of f) → AreStaying s f stays → AreStaying (reached s (last_of after)) after stays
+staying_then s f after stays inner staying = record {
+  scope = refl;
+  break_is = staying.break_is;
+  continue_is = staying.continue_is;
+  at_break = leads_then s.variables (last_of after) (last_of f) _ inner staying.at_break;
+  at_continue = leads_then s.variables (last_of after) (last_of f) _ inner staying.at_continue;
+}
+
+-- a piece behind which the same variables are in scope
+same_frame : (p : Program) (s : Setting) (X : Type 0) (f : Frame) (g : names.Frame) → X → AreStanding p s.variables f g → Passes p s.variables X f f g
+same_frame p s X f g fits standing = record { fits = fits; standing = standing; same = refl }
+
+-- a statement that leaves the scope as it is
+statement_passes : (p : Program) (s : Setting) (x : StatementSeen) (f after : Frame) (behind : names.Frame) → s.scope ≡ last_of f → Passes p s.variables (IsStatement s x) f after behind
+    → Goes p s.variables (IsStatement (reached s (last_of after)) x) f after behind
+statement_passes p s x f after behind here r = record {
+  fits = subst (λ o. IsStatement (reached s o) x) (here ∙ sym r.same) r.fits;
+  standing = r.standing;
+  grows = grows_none s.variables (last_of f) (last_of after) (sym r.same);
+}
+
+stands_still : (p : Program) (s : Setting) (x : StatementSeen) (f : Frame) (g : names.Frame) → s.scope ≡ last_of f → IsStatement s x → AreStanding p s.variables f g
+    → Goes p s.variables (IsStatement (reached s (last_of f)) x) f f g
+stands_still p s x f g here fits standing = statement_passes p s x f f g here (same_frame p s (IsStatement s x) f g fits standing)
 
 -- one piece, and then another
-both_go : (p : Program) (vs : List VariableSeen) (X Y : Type 0) (f middle after : Frame) (g behind : names.Frame) → Goes p vs X f middle g → Goes p vs Y middle after behind → Goes p vs (X × Y) f after behind
-both_go p vs X Y f middle after g behind first second = record {
-  fits = (first.fits, second.fits);
-  standing = second.standing;
-  inner = leads_then vs (last_of after) (last_of middle) (last_of f) second.inner first.inner;
-}
+both_pass : (p : Program) (vs : List VariableSeen) (X Y : Type 0) (f middle after : Frame) (g behind : names.Frame) → Passes p vs X f middle g → Passes p vs Y middle after behind → Passes p vs (X × Y) f after behind
+both_pass p vs X Y f middle after g behind first second = record { fits = (first.fits, second.fits); standing = second.standing; same = second.same ∙ first.same }
 
 -- a declaration
 declaration_goes : (m : Surroundings) (class : ℕ) (s : Setting) → InMethod m class s → (d : DeclareTree) (f : Frame) (g : names.Frame) → AreStanding m.program s.variables f g
     → Within s.variables (declared m.program.text (declaration_of m.program d) f) → (bodies.declaration_turn m d g).found ≡ []
-    → Goes m.program s.variables (IsStatement s (first_value m.program class f d.name (next_number (type_held m.program d.kind) f) d.value)) f (declared m.program.text (declaration_of m.program d) f) (bodies.declaration_turn m d g).frame
+    → Goes m.program s.variables (IsStatement (reached s (last_of (declared m.program.text (declaration_of m.program d) f))) (first_value m.program class f d.name (next_number (type_held m.program d.kind) f) d.value)) f (declared m.program.text (declaration_of m.program d) f) (bodies.declaration_turn m d g).frame
 declaration_goes m class s around d f g standing within none =
     let p = m.program in
+    let after = declared m.program.text (declaration_of m.program d) f in
     let unknown = type_unknown p d.kind in
     let given = bodies.given_findings (bodies.inside_of m g) (type_kind p d.kind) d.value in
     let enters = names.declared_variable p.text d.name (type_kind p d.kind) (is_heap d.kind) g in
-    let first = both_none unknown given (both_none (unknown ++ given) enters.found none).0 in
+    let parts = both_none (unknown ++ given) enters.found none in
+    let first = both_none unknown given parts.0 in
     let known = type_known p d.kind first.0 in
     record {
-      fits = declare_fits p m.class class m.result s f g d around standing within first.0 first.1;
-      standing = declared_stands p s.variables d.name (type_kind p d.kind) (type_held p d.kind) role.Local (is_heap d.kind) f g known (held_as p (type_kind p d.kind) (state_in d.kind) known) standing within;
-      inner = declared_inner p s.variables d.name (type_kind p d.kind) (type_held p d.kind) role.Local f within;
+      fits = declare_fits p m.class class m.result (reached s (last_of after)) f g d refl (around_behind m class s (last_of after) around) standing within first.0 first.1;
+      standing = declared_stands p s.variables d.name (type_kind p d.kind) (type_held p d.kind) role.Local (is_heap d.kind) f g (heap_block p d.kind first.0) known (held_as p (type_kind p d.kind) (state_in d.kind) known) standing within parts.1;
+      grows = declared_grows p s.variables d.name (type_kind p d.kind) (type_held p d.kind) f within;
     }
+
+-- a scope that has grown, from where a statement stands
+grows_here : (s : Setting) (f : Frame) (after : Option VarId) → s.scope ≡ last_of f → scopes.Grows s.variables (last_of f) after → scopes.Grows s.variables s.scope after
+grows_here s f after here grows = subst (λ o. scopes.Grows s.variables o after) (sym here) grows
+
+-- what a `break` or a `continue` leaves
+left_fits : (s : Setting) (f : Frame) (place : Place) (to : Option VarId) (stays : Option ℕ) → s.scope ≡ last_of f → to ≡ option_map number_of stays
+    → LeadsOut s.variables (last_of f) (option_map number_of stays) → GoesBack s.scope to (forget place stays f.last)
+left_fits s f place to stays here is leads =
+    subst (λ o. GoesBack o to (forget place stays f.last)) (sym here) (subst (λ o. GoesBack (last_of f) o (forget place stays f.last)) (sym is) (goes_back s.variables place stays f.last leads))
+
+-- a scope that goes back to where a statement stands
+back_here : (s : Setting) (f last : Frame) (place : Place) → s.scope ≡ last_of f → LeadsOut s.variables (last_of last) (last_of f) → GoesBack (last_of last) s.scope (forget place f.last last.last)
+back_here s f last place here leads = subst (λ o. GoesBack (last_of last) o (forget place f.last last.last)) (sym here) (goes_back s.variables place f.last last.last leads)
 
 mutual
   pub statement_goes : (m : Surroundings) (class : ℕ) (s : Setting) → InMethod m class s → (stays : Staying) (x : StatementTree) (f : Frame) (g : names.Frame)
-      → AreStanding m.program s.variables f g → AreStaying s.variables f stays → Within s.variables (statement_told m.program class stays x f).frame → (statement_turn m x g).found ≡ []
-      → Goes m.program s.variables (IsStatement s (statement_told m.program class stays x f).what) f (statement_told m.program class stays x f).frame (statement_turn m x g).frame
+      → AreStanding m.program s.variables f g → AreStaying s f stays → Within s.variables (statement_told m.program class stays x f).frame → (statement_turn m x g).found ≡ []
+      → Goes m.program s.variables (IsStatement (reached s (last_of (statement_told m.program class stays x f).frame)) (statement_told m.program class stays x f).what) f (statement_told m.program class stays x f).frame (statement_turn m x g).frame
   statement_goes m class s around stays (trees.Block b) f g standing staying within none =
       let r = block_goes m class s around stays b f g standing staying within none in
-      record { fits = r.fits; standing = r.standing; inner = r.inner }
+      statement_passes m.program s (statement_told m.program class stays (trees.Block b) f).what f (block_told m.program class stays b f).frame _ staying.scope (record { fits = r.fits; standing = r.standing; same = r.same })
   statement_goes m class s around stays (trees.Declare d) f g standing staying within none = declaration_goes m class s around d f g standing within none
   statement_goes m class s around stays (trees.Assign a) f g standing staying within none =
       let both = both_none (target_findings (scope_of m.program g) a.target) (value_findings (bodies.inside_of m g) (target_kind (scope_of m.program g) a.target) a.value) none in
-      same_frame m.program s _ f g (assign_fits m.program m.class class m.result s f g a.target a.value around standing both.0 both.1) standing
-  statement_goes m class s around stays (trees.Call c) f g standing staying within none = same_frame m.program s _ f g (call_stated_fits m.program m.class class m.result s f g c around standing none) standing
-  statement_goes m class s around stays (trees.Start word c) f g standing staying within none = same_frame m.program s _ f g (start_fits m.program m.class class m.result s f g c word around standing none) standing
-  statement_goes m class s around stays (trees.Delete name) f g standing staying within none = same_frame m.program s _ f g (tt, delete_fits m.program s f g standing name) standing
-  statement_goes m class s around stays (trees.NewChannel n) f g standing staying within none = same_frame m.program s _ f g (tt, channel_fits m.program m.class class m.result s f g n around standing none) standing
+      stands_still m.program s (statement_told m.program class stays (trees.Assign a) f).what f g staying.scope (assign_fits m.program m.class class m.result s f g a.target a.value around staying.scope standing both.0 both.1) standing
+  statement_goes m class s around stays (trees.Call c) f g standing staying within none = stands_still m.program s (statement_told m.program class stays (trees.Call c) f).what f g staying.scope (call_stated_fits m.program m.class class m.result s f g c around standing none) standing
+  statement_goes m class s around stays (trees.Start word c) f g standing staying within none = stands_still m.program s (statement_told m.program class stays (trees.Start word c) f).what f g staying.scope (start_fits m.program m.class class m.result s f g c word around standing none) standing
+  statement_goes m class s around stays (trees.Delete name) f g standing staying within none = stands_still m.program s (statement_told m.program class stays (trees.Delete name) f).what f g staying.scope (tt, delete_fits m.program s f g standing name) standing
+  statement_goes m class s around stays (trees.NewChannel n) f g standing staying within none = stands_still m.program s (statement_told m.program class stays (trees.NewChannel n) f).what f g staying.scope (tt, channel_fits m.program m.class class m.result s f g n around staying.scope standing none) standing
   statement_goes m class s around stays (trees.If first others) f g standing staying within none =
       let p = m.program in
       let middle = (test_told p class stays first f).frame in
@@ -97,76 +170,89 @@ mutual
       let after = (others_told p class stays others middle).frame in
       let both = both_none (test_turn m first g).found (others_turn m others next).found none in
       let one = test_goes m class s around stays first f g standing staying (within_before p middle after s.variables (others_grow p class stays others middle) within) both.0 in
-      let two = others_go m class s around stays others middle next one.standing (staying_then s.variables f middle stays one.inner staying) within both.1 in
-      both_go p s.variables _ _ f middle after next _ one two
+      let two = others_go m class s around stays others middle next one.standing (staying_same s f middle stays one.same staying) within both.1 in
+      statement_passes p s (statement_told p class stays (trees.If first others) f).what f after _ staying.scope (both_pass p s.variables _ _ f middle after next _ one two)
   statement_goes m class s around stays (trees.While test) f g standing staying within none =
-      let here : AreStaying s.variables f (in_loop f) = record { at_break = leads_here s.variables (last_of f); at_continue = leads_here s.variables (last_of f) } in
-      let r = test_goes (bodies.in_loop m) class s around (in_loop f) test f g standing here within none in
-      record { fits = r.fits; standing = r.standing; inner = r.inner }
+      let inside : AreStaying (in_loop s) f (stays_here f) =
+      record { scope = staying.scope; break_is = staying.scope; continue_is = staying.scope; at_break = leads_here s.variables (last_of f); at_continue = leads_here s.variables (last_of f) } in
+      let r = test_goes (bodies.in_loop m) class (in_loop s) (around_at m class s s.scope s.scope s.scope around) (stays_here f) test f g standing inside within none in
+      statement_passes m.program s (statement_told m.program class stays (trees.While test) f).what f (test_told m.program class (stays_here f) test f).frame _ staying.scope (record { fits = r.fits; standing = r.standing; same = r.same })
   statement_goes m class s around stays (trees.Break word) f g standing staying within none =
-      same_frame m.program s _ f g (tt, forget_fits s word.place stays.at_break f.last (last_within s.variables f within standing.last) staying.at_break) standing
+      stands_still m.program s (statement_told m.program class stays (trees.Break word) f).what f g staying.scope (tt, left_fits s f word.place s.at_break stays.at_break staying.scope staying.break_is staying.at_break) standing
   statement_goes m class s around stays (trees.Continue word) f g standing staying within none =
-      same_frame m.program s _ f g (tt, forget_fits s word.place stays.at_continue f.last (last_within s.variables f within standing.last) staying.at_continue) standing
+      stands_still m.program s (statement_told m.program class stays (trees.Continue word) f).what f g staying.scope (tt, left_fits s f word.place s.at_continue stays.at_continue staying.scope staying.continue_is staying.at_continue) standing
   statement_goes m class s around stays (trees.Return word value) f g standing staying within none =
-      same_frame m.program s _ f g (return_fits m.program m.class class m.result s f g word value around standing (last_within s.variables f within standing.last) none) standing
+      stands_still m.program s (statement_told m.program class stays (trees.Return word value) f).what f g staying.scope (return_fits m.program m.class class m.result s f g word value around standing staying.scope none) standing
   statement_goes m class s around stays (trees.Switch word first cases close) f g standing staying within none =
       let p = m.program in
       let inside = in_switch stays f in
-      let here : AreStaying s.variables f inside = record { at_break = leads_here s.variables (last_of f); at_continue = staying.at_continue } in
+      let t = settings.in_switch s in
+      let surrounds = around_at m class s s.scope s.scope s.at_continue around in
+      let here : AreStaying t f inside =
+      record { scope = staying.scope; break_is = staying.scope; continue_is = staying.continue_is; at_break = leads_here s.variables (last_of f); at_continue = staying.at_continue } in
       let all = head_of first ∷ heads_of cases in
       let middle = (case_told p class inside (behind_case cases close.place) first f).frame in
       let next = (case_turn (bodies.in_switch m) all [] first g).frame in
       let after = (cases_told p class inside cases close.place middle).frame in
       let both = both_none (case_turn (bodies.in_switch m) all [] first g).found (cases_turn (bodies.in_switch m) all (head_of first ∷ []) cases next).found none in
-      let one = case_goes (bodies.in_switch m) class s around inside (behind_case cases close.place) all [] first f g standing here (within_before p middle after s.variables (cases_grow p class inside cases close.place middle) within) both.0 in
-      let two = cases_go (bodies.in_switch m) class s around inside close.place all (head_of first ∷ []) cases middle next one.standing (staying_then s.variables f middle inside one.inner here) within both.1 in
+      let one = case_goes (bodies.in_switch m) class t surrounds inside (behind_case cases close.place) all [] first f g standing here (within_before p middle after s.variables (cases_grow p class inside cases close.place middle) within) both.0 in
+      let two = cases_go (bodies.in_switch m) class t surrounds inside close.place all (head_of first ∷ []) cases middle next one.standing (staying_same t f middle inside one.same here) within both.1 in
       let clean = heads_clean (bodies.in_switch m) all [] (trees.MoreCases first cases) g none in
-      let cases_fit = both_go p s.variables _ _ f middle after next _ one two in
-      record { fits = (all_close p class s.variables inside first cases close.place f g standing clean, cases_fit.fits); standing = cases_fit.standing; inner = cases_fit.inner }
+      let cases_fit = both_pass p s.variables _ _ f middle after next _ one two in
+      statement_passes p s (statement_told p class stays (trees.Switch word first cases close) f).what f after _ staying.scope
+      (record { fits = (all_close p class s.variables inside first cases close.place f g standing clean, cases_fit.fits); standing = cases_fit.standing; same = cases_fit.same })
 
   pub statements_go : (m : Surroundings) (class : ℕ) (s : Setting) → InMethod m class s → (stays : Staying) (xs : StatementTrees) (f : Frame) (g : names.Frame)
-      → AreStanding m.program s.variables f g → AreStaying s.variables f stays → Within s.variables (statements_told m.program class stays xs f).frame → (statements_turn m xs g).found ≡ []
-      → Goes m.program s.variables (AreStatements s (statements_told m.program class stays xs f).what) f (statements_told m.program class stays xs f).frame (statements_turn m xs g).frame
-  statements_go m class s around stays trees.NoStatement f g standing staying within none = same_frame m.program s _ f g tt standing
+      → AreStanding m.program s.variables f g → AreStaying s f stays → Within s.variables (statements_told m.program class stays xs f).frame → (statements_turn m xs g).found ≡ []
+      → Goes m.program s.variables (AreStatements s (statements_told m.program class stays xs f).what (last_of (statements_told m.program class stays xs f).frame)) f (statements_told m.program class stays xs f).frame (statements_turn m xs g).frame
+  statements_go m class s around stays trees.NoStatement f g standing staying within none =
+      let none_more = grows_none s.variables (last_of f) (last_of f) refl in
+      record { fits = grows_here s f (last_of f) staying.scope none_more; standing = standing; grows = none_more }
   statements_go m class s around stays (trees.MoreStatements x xs) f g standing staying within none =
       let p = m.program in
+      let vs = s.variables in
       let middle = (statement_told p class stays x f).frame in
       let next = (statement_turn m x g).frame in
       let after = (statements_told p class stays xs middle).frame in
       let both = both_none (statement_turn m x g).found (statements_turn m xs next).found none in
-      let one = statement_goes m class s around stays x f g standing staying (within_before p middle after s.variables (statements_grow p class stays xs middle) within) both.0 in
-      let two = statements_go m class s around stays xs middle next one.standing (staying_then s.variables f middle stays one.inner staying) within both.1 in
-      both_go p s.variables _ _ f middle after next _ one two
+      let one = statement_goes m class s around stays x f g standing staying (within_before p middle after vs (statements_grow p class stays xs middle) within) both.0 in
+      let further = staying_then s f middle stays (grown vs (last_of f) (last_of middle) one.grows) staying in
+      let two = statements_go m class (reached s (last_of middle)) (around_behind m class s (last_of middle) around) stays xs middle next one.standing further within both.1 in
+      record {
+        fits = (last_of middle, (grows_here s f (last_of middle) staying.scope one.grows, (one.fits, two.fits)));
+        standing = two.standing;
+        grows = grows_on vs (last_of f) (last_of middle) (last_of after) one.grows two.grows;
+      }
 
   block_goes : (m : Surroundings) (class : ℕ) (s : Setting) → InMethod m class s → (stays : Staying) (b : BlockTree) (f : Frame) (g : names.Frame)
-      → AreStanding m.program s.variables f g → AreStaying s.variables f stays → Within s.variables (block_told m.program class stays b f).frame → (block_turn m b g).found ≡ []
-      → Goes m.program s.variables (IsBlock s (block_told m.program class stays b f).what) f (block_told m.program class stays b f).frame (block_turn m b g).frame
+      → AreStanding m.program s.variables f g → AreStaying s f stays → Within s.variables (block_told m.program class stays b f).frame → (block_turn m b g).found ≡ []
+      → Passes m.program s.variables (IsBlock s (block_told m.program class stays b f).what) f (block_told m.program class stays b f).frame (block_turn m b g).frame
   block_goes m class s around stays (trees.Braces statements close) f g standing staying within none =
       let p = m.program in
       let last = (statements_told p class stays statements f).frame in
       let inside : Within s.variables last = record { rest = within.rest; is = within.is } in
       let r = statements_go m class s around stays statements f g standing staying inside none in
       record {
-        fits = (r.fits, forget_fits s close.place f.last last.last (last_within s.variables last inside r.standing.last) r.inner);
-        standing = closed_stands p s.variables f last g _ standing (statements_grow p class stays statements f);
-        inner = leads_here s.variables (last_of f);
+        fits = (last_of last, (r.fits, back_here s f last close.place staying.scope (grown s.variables (last_of f) (last_of last) r.grows)));
+        standing = closed_stands p s.variables f last g _ standing (statements_grow p class stays statements f) r.standing;
+        same = refl;
       }
 
   test_goes : (m : Surroundings) (class : ℕ) (s : Setting) → InMethod m class s → (stays : Staying) (t : TestTree) (f : Frame) (g : names.Frame)
-      → AreStanding m.program s.variables f g → AreStaying s.variables f stays → Within s.variables (test_told m.program class stays t f).frame → (test_turn m t g).found ≡ []
-      → Goes m.program s.variables (IsTest s (test_told m.program class stays t f).what) f (test_told m.program class stays t f).frame (test_turn m t g).frame
+      → AreStanding m.program s.variables f g → AreStaying s f stays → Within s.variables (test_told m.program class stays t f).frame → (test_turn m t g).found ≡ []
+      → Passes m.program s.variables (IsTest s (test_told m.program class stays t f).what) f (test_told m.program class stays t f).frame (test_turn m t g).frame
   test_goes m class s around stays (trees.Test word left test body) f g standing staying within none =
       let both = both_none (truth_findings (scope_of m.program g) (shape test)) (block_turn m body g).found none in
       let r = block_goes m class s around stays body f g standing staying within both.1 in
-      record { fits = (reads_within m.program s.variables f g standing test, r.fits); standing = r.standing; inner = r.inner }
+      record { fits = (reads_within m.program s.variables f g standing test, r.fits); standing = r.standing; same = r.same }
 
   others_go : (m : Surroundings) (class : ℕ) (s : Setting) → InMethod m class s → (stays : Staying) (others : OtherTrees) (f : Frame) (g : names.Frame)
-      → AreStanding m.program s.variables f g → AreStaying s.variables f stays → Within s.variables (others_told m.program class stays others f).frame → (others_turn m others g).found ≡ []
-      → Goes m.program s.variables (AreOthers s (others_told m.program class stays others f).what) f (others_told m.program class stays others f).frame (others_turn m others g).frame
+      → AreStanding m.program s.variables f g → AreStaying s f stays → Within s.variables (others_told m.program class stays others f).frame → (others_turn m others g).found ≡ []
+      → Passes m.program s.variables (AreOthers s (others_told m.program class stays others f).what) f (others_told m.program class stays others f).frame (others_turn m others g).frame
   others_go m class s around stays trees.NoOther f g standing staying within none = same_frame m.program s _ f g tt standing
   others_go m class s around stays (trees.Else b) f g standing staying within none =
       let r = block_goes m class s around stays b f g standing staying within none in
-      record { fits = r.fits; standing = r.standing; inner = r.inner }
+      record { fits = r.fits; standing = r.standing; same = r.same }
   others_go m class s around stays (trees.ElseIf t others) f g standing staying within none =
       let p = m.program in
       let middle = (test_told p class stays t f).frame in
@@ -174,12 +260,12 @@ mutual
       let after = (others_told p class stays others middle).frame in
       let both = both_none (test_turn m t g).found (others_turn m others next).found none in
       let one = test_goes m class s around stays t f g standing staying (within_before p middle after s.variables (others_grow p class stays others middle) within) both.0 in
-      let two = others_go m class s around stays others middle next one.standing (staying_then s.variables f middle stays one.inner staying) within both.1 in
-      both_go p s.variables _ _ f middle after next _ one two
+      let two = others_go m class s around stays others middle next one.standing (staying_same s f middle stays one.same staying) within both.1 in
+      both_pass p s.variables _ _ f middle after next _ one two
 
   case_goes : (m : Surroundings) (class : ℕ) (s : Setting) → InMethod m class s → (stays : Staying) (behind : Place) (all before : List Head) (c : CaseTree) (f : Frame) (g : names.Frame)
-      → AreStanding m.program s.variables f g → AreStaying s.variables f stays → Within s.variables (case_told m.program class stays behind c f).frame → (case_turn m all before c g).found ≡ []
-      → Goes m.program s.variables (IsCase s (case_told m.program class stays behind c f).what) f (case_told m.program class stays behind c f).frame (case_turn m all before c g).frame
+      → AreStanding m.program s.variables f g → AreStaying s f stays → Within s.variables (case_told m.program class stays behind c f).frame → (case_turn m all before c g).found ≡ []
+      → Passes m.program s.variables (IsCase s (case_told m.program class stays behind c f).what) f (case_told m.program class stays behind c f).frame (case_turn m all before c g).frame
   case_goes m class s around stays behind all before (trees.Case word endpoint awaited left binds statements) f g standing staying within none =
       let p = m.program in
       let h : Head = record { endpoint = endpoint; awaited = awaited; binds = binds } in
@@ -193,17 +279,21 @@ mutual
       let halves = both_none (binds_turn p params binds g).found (statements_turn m statements (binds_turn p params binds g).frame).found clean in
       let opened = binds_stand p s.variables params binds f g standing (within_before p bound.frame last s.variables (statements_grow p class stays statements bound.frame) inside) fits.known fits.many halves.0 in
       let holds = binds_hold p s params binds f g (within_before p bound.frame last s.variables (statements_grow p class stays statements bound.frame) inside) fits.known fits.many halves.0 in
-      let r = statements_go m class s around stays statements bound.frame (binds_turn p params binds g).frame opened.standing (staying_then s.variables f bound.frame stays opened.inner staying) inside halves.1 in
-      let down = leads_then s.variables (last_of last) (last_of bound.frame) (last_of f) r.inner opened.inner in
+      let opens = staying_then s f bound.frame stays opened.inner staying in
+      let r = statements_go m class (reached s (last_of bound.frame)) (around_behind m class s (last_of bound.frame) around) stays statements bound.frame (binds_turn p params binds g).frame opened.standing opens inside halves.1 in
+      let down = leads_then s.variables (last_of last) (last_of bound.frame) (last_of f) (grown s.variables (last_of bound.frame) (last_of last) r.grows) opened.inner in
+      let grown_since = grows_then p f bound.frame last (binds_grow p params binds f) (statements_grow p class stays statements bound.frame) in
+      let closes = closed_stands p s.variables f last g (statements_turn m statements (binds_turn p params binds g).frame).frame standing grown_since r.standing in
+      let turn = subst (λ o. InTurn s.variables o bound.what (last_of bound.frame)) (sym staying.scope) opened.turn in
       record {
-        fits = ((fits.end, fits.brings bound.what holds), (bound_fits s p behind f bound.frame last _ bound.what around.nested standing.last opened r.inner, (r.fits, forget_fits s behind f.last last.last (last_within s.variables last inside r.standing.last) down)));
-        standing = closed_stands p s.variables f last g _ standing (grows_then p f bound.frame last (binds_grow p params binds f) (statements_grow p class stays statements bound.frame));
-        inner = leads_here s.variables (last_of f);
+        fits = ((fits.end, fits.brings bound.what holds), (last_of bound.frame, last_of last, (turn, (r.fits, back_here s f last behind staying.scope down))));
+        standing = subst (λ x. AreStanding p s.variables (closed f last) (record { variables = g.variables; heap = (statements_turn m statements (binds_turn p x binds g).frame).frame.heap })) fits.params closes;
+        same = refl;
       }
 
   cases_go : (m : Surroundings) (class : ℕ) (s : Setting) → InMethod m class s → (stays : Staying) (close : Place) (all before : List Head) (cases : CaseTrees) (f : Frame) (g : names.Frame)
-      → AreStanding m.program s.variables f g → AreStaying s.variables f stays → Within s.variables (cases_told m.program class stays cases close f).frame → (cases_turn m all before cases g).found ≡ []
-      → Goes m.program s.variables (AreCases s (cases_told m.program class stays cases close f).what) f (cases_told m.program class stays cases close f).frame (cases_turn m all before cases g).frame
+      → AreStanding m.program s.variables f g → AreStaying s f stays → Within s.variables (cases_told m.program class stays cases close f).frame → (cases_turn m all before cases g).found ≡ []
+      → Passes m.program s.variables (AreCases s (cases_told m.program class stays cases close f).what) f (cases_told m.program class stays cases close f).frame (cases_turn m all before cases g).frame
   cases_go m class s around stays close all before trees.NoCase f g standing staying within none = same_frame m.program s _ f g tt standing
   cases_go m class s around stays close all before (trees.MoreCases c cases) f g standing staying within none =
       let p = m.program in
@@ -212,5 +302,5 @@ mutual
       let after = (cases_told p class stays cases close middle).frame in
       let both = both_none (case_turn m all before c g).found (cases_turn m all (before ++ head_of c ∷ []) cases next).found none in
       let one = case_goes m class s around stays (behind_case cases close) all before c f g standing staying (within_before p middle after s.variables (cases_grow p class stays cases close middle) within) both.0 in
-      let two = cases_go m class s around stays close all (before ++ head_of c ∷ []) cases middle next one.standing (staying_then s.variables f middle stays one.inner staying) within both.1 in
-      both_go p s.variables _ _ f middle after next _ one two
+      let two = cases_go m class s around stays close all (before ++ head_of c ∷ []) cases middle next one.standing (staying_same s f middle stays one.same staying) within both.1 in
+      both_pass p s.variables _ _ f middle after next _ one two

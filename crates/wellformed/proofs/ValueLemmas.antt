@@ -4,16 +4,19 @@ use Rattle.std.proofs.lemmas.Option.{slice_get_within}
 use Rattle.std.specs.Option.{option_map_or}
 use Rattle.std.specs.Prelude.{Option, None, Some, option_map, slice_get, IsSomeAnd}
 use Rattle.std.proofs.lemmas.Bool.{not-true}
-use Rattle.tree.specs.Trees.{ClassTree, MethodTree}
+use Rattle.source.specs.declared.token.Span.{Span}
+use Rattle.tree.specs.Trees.{ClassTree, MethodTree, StructTree}
 use Rattle.tree.specs.Values as values
-use Rattle.tree.specs.Values.{CallTree, MadeTree, ValueTree}
+use Rattle.tree.specs.Values.{CallTree, MadeTree, NewTree, ValueTree}
 use Rattle.tree.specs.declared.types as tree
-use Rattle.names.specs.Kinds.{agree, is_block, type_kind}
+use Rattle.names.specs.Kinds.{agree, alike, is_block, is_silent, pointer_kind, pointer_unknown, type_kind, unless}
 use Rattle.names.specs.Methods.{result_unknown}
-use Rattle.names.specs.Program.{Program}
-use Rattle.names.specs.Values.{value_findings}
+use Rattle.names.specs.Program.{Numbered, Program, struct_named}
+use Rattle.names.specs.Values.{made_findings, made_kind, new_findings, value_findings}
 use Rattle.names.specs.Variables as names
 use Rattle.names.specs.declared.kinds as declared
+use Rattle.names.specs.declared.kinds.Kind.TheVariants as kind
+use Rattle.program.specs.declared.kind.Kind.{Kind}
 use Rattle.program.specs.Methods.{VariableSeen}
 use Rattle.program.specs.Statements.{Call}
 use Rattle.program.specs.declared.statement.Action.TheVariants as does
@@ -23,13 +26,14 @@ use Rattle.resolving.specs.Locals.{Frame}
 use Rattle.resolving.specs.Plain.{call_of, called, lone, made_reads, moved, part_taken, scalar_taken, taken, told, used}
 use Rattle.resolving.specs.Reads.{listed, reads}
 use Rattle.program.specs.Lists.{Each}
-use Rattle.program.specs.WellFormed.{Holds, IsAction, IsMention, IsStatement, IsTaken, Setting}
+use Rattle.program.specs.WellFormed.{Holds, IsAction, IsIn, IsMention, IsStatement, IsTaken, Setting, TakesNew, is_end}
 use Rattle.wellformed.proofs.ArgumentLemmas.{asked_block, asked_known, holds_there}
 use Rattle.wellformed.proofs.CallLemmas.{CallsMethod, call_fits, call_means}
 use Rattle.wellformed.proofs.ExpressionLemmas.{reads_within}
 use Rattle.wellformed.proofs.SendLemmas.{SendsMessage}
-use Rattle.wellformed.proofs.KindLemmas.{Holding, agree_alike, alike_block, alike_held, alike_sym, block_holds, scalar_holds, type_known}
-use Rattle.wellformed.proofs.ListLemmas.{each_append}
+use Rattle.wellformed.proofs.KindLemmas.{Holding, agree_alike, alike_block, alike_held, alike_sym, array_no_end, block_holds, known_loud, loud_left, pointer_no_end, scalar_holds, type_known}
+use Rattle.wellformed.proofs.FindingLemmas.{unless_none}
+use Rattle.wellformed.proofs.ListLemmas.{both_none, each_append}
 use Rattle.wellformed.proofs.ProgramLemmas.{result_clean}
 use Rattle.wellformed.proofs.Standing.{Around, AreStanding, IsHeld, IsKnown, scope_of}
 
@@ -90,7 +94,7 @@ told_call p class s f g c target behind Is x fits = subst (λ o. IsStatement s (
 pub void_call : (p : Program) (t : ClassTree) (class : ℕ) (result : Option tree.Type.Type) (s : Setting) (f : Frame) (g : names.Frame) (c : CallTree) (behind : List Mention) (Is : MethodTree → Type 0)
     → Around p t class result s → AreStanding p s.variables f g → (x : CallsMethod p class f g Is c) → result_held p x.method.result ≡ None → Each (IsMention s) behind → IsStatement s (called p class f c None behind)
 void_call p t class result s f g c behind Is around standing x void mentioned =
-    told_call p class s f g c None behind Is x (call_fits p t class result s f g c None behind Is around standing x (subst (λ o. IsTaken s o None) (sym void) tt) mentioned)
+    told_call p class s f g c None behind Is x (call_fits p t class result s f g c None behind Is around standing x (subst (λ o. IsTaken s o None) (sym void) tt, tt) mentioned)
 
 -- a call that stands alone
 pub alone_call : (p : Program) (t : ClassTree) (class : ℕ) (result : Option tree.Type.Type) (s : Setting) (f : Frame) (g : names.Frame) (c : CallTree)
@@ -112,24 +116,40 @@ made_within p class s f g standing (values.Struct name left) = tt
 made_within p class s f g standing (values.Array element length) = reads_within p s.variables f g standing length
 
 move_fits : (s : Setting) (target : Mention) (v : VariableSeen) (o : Option Mention) (source : Mention) → o ≡ Some source → slice_get s.variables target.variable.0 ≡ Some v → Holds s v.kind source.variable
-    → IsAction s (moved target o)
-move_fits s target v o source is there holds = subst (λ x. IsAction s (moved target x)) (sym is) (subst (λ x. IsSomeAnd x (λ w. Holds s w.kind source.variable)) (sym there) holds)
+    → IsIn s target.variable → IsAction s (moved target o)
+move_fits s target v o source is there holds inside =
+    subst (λ x. IsAction s (moved target x)) (sym is) (inside, subst (λ x. IsSomeAnd x (λ w. Holds s w.kind source.variable)) (sym there) holds)
 
-is_there : (s : Setting) (m : Mention) (v : VariableSeen) → slice_get s.variables m.variable.0 ≡ Some v → IsMention s m
-is_there s m v there = slice_get_within s.variables m.variable.0 v there
+-- what takes a new struct or array is no end of a channel
+struct_no_end : (p : Program) (name : Span) (o : Option (Numbered StructTree)) (k : declared.Kind.Kind) (held : Kind) → IsKnown p k → pointer_unknown p.text o name ≡ []
+    → agree (pointer_kind o) k ≡ true → IsHeld p k held → is_end held ≡ false
+struct_no_end p name None k held known none fits is = cc
+struct_no_end p name (Some x) k held known none fits is = pointer_no_end p x.0 k held (loud_left (is_silent k) (alike (kind.Pointer x.0) k) (known_loud p k known) fits) is
+
+made_no_end : (p : Program) (g : names.Frame) (m : MadeTree) (k : declared.Kind.Kind) (held : Kind) → IsKnown p k → made_findings (scope_of p g) m ≡ []
+    → agree (made_kind (scope_of p g) m) k ≡ true → IsHeld p k held → is_end held ≡ false
+made_no_end p g (values.Struct name left) k held known none fits is = struct_no_end p name (struct_named p name) k held known none fits is
+made_no_end p g (values.Array element length) k held known none fits is = array_no_end p element k held (loud_left (is_silent k) (alike (kind.Array element) k) (known_loud p k known) fits) is
+
+new_fits : (p : Program) (s : Setting) (g : names.Frame) (k : declared.Kind.Kind) (target : Mention) (v : VariableSeen) (n : NewTree) → IsKnown p k → slice_get s.variables target.variable.0 ≡ Some v → IsHeld p k v.kind
+    → new_findings (scope_of p g) k n ≡ [] → TakesNew s target.variable
+new_fits p s g k target v n known there holds none =
+    let both = both_none (made_findings (scope_of p g) n.made) (unless (agree (made_kind (scope_of p g) n.made) k) n.word.place) none in
+    let fits = unless_none (agree (made_kind (scope_of p g) n.made) k) n.word.place both.1 in
+    subst (λ o. IsSomeAnd o (λ x. is_end x.kind ≡ false)) (sym there) (made_no_end p g n.made k v.kind known both.0 fits holds)
 
 -- a variable of the exchange heap takes a value
 pub taken_fits : (p : Program) (t : ClassTree) (class : ℕ) (result : Option tree.Type.Type) (s : Setting) (f : Frame) (g : names.Frame) (k : declared.Kind.Kind) (target : Mention) (v : VariableSeen) (value : ValueTree)
     → Around p t class result s → AreStanding p s.variables f g → IsKnown p k → is_block k ≡ true → slice_get s.variables target.variable.0 ≡ Some v → IsHeld p k v.kind
-    → value_findings (record { scope = scope_of p g; class = t }) k value ≡ [] → IsStatement s (taken p class f target value)
-taken_fits p t class result s f g k target v (values.Expression e) around standing known block there holds none =
+    → IsIn s target.variable → value_findings (record { scope = scope_of p g; class = t }) k value ≡ [] → IsStatement s (taken p class f target value)
+taken_fits p t class result s f g k target v (values.Expression e) around standing known block there holds inside none =
     let given = asked_block p class s f g standing k v.kind e (asked_known p s.variables f g standing k e known none) block holds in
-    (tt, move_fits s target v (lone p class f e) given.mention given.is there given.holds)
-taken_fits p t class result s f g k target v (values.Call c) around standing known block there holds none =
+    (tt, move_fits s target v (lone p class f e) given.mention given.is there given.holds inside)
+taken_fits p t class result s f g k target v (values.Call c) around standing known block there holds inside none =
     let x = asked_call p t class result s f g k c around standing none in
     let taken_is = block_result p s k target v x.method.result (result_clean p x.method x.number around.clean x.told) known block there holds x.fits in
-    told_call p class s f g c (Some target) [] _ x (call_fits p t class result s f g c (Some target) [] _ around standing x taken_is tt)
-taken_fits p t class result s f g k target v (values.New n) around standing known block there holds none = (made_within p class s f g standing n.made, is_there s target v there)
+    told_call p class s f g c (Some target) [] _ x (call_fits p t class result s f g c (Some target) [] _ around standing x (taken_is, inside) tt)
+taken_fits p t class result s f g k target v (values.New n) around standing known block there holds inside none = (made_within p class s f g standing n.made, (inside, new_fits p s g k target v n known there holds none))
 
 -- a scalar takes a value
 pub scalar_taken_fits : (p : Program) (t : ClassTree) (class : ℕ) (result : Option tree.Type.Type) (s : Setting) (f : Frame) (g : names.Frame) (k : declared.Kind.Kind) (value : ValueTree)

@@ -7,7 +7,7 @@ ghost use Rattle.tree.specs.Trees.{contracts_of, program_tree};
 ghost use Rattle.names.specs.Findings.{program_findings};
 ghost use Rattle.names.specs.Program.{program_of};
 ghost use Rattle.names.specs.Resolution.{resolved_contracts};
-ghost use Rattle.names.specs.declared.limits.TheConstants.{MOST_METHODS};
+ghost use Rattle.program.specs.declared.limits.TheConstants.{MOST_METHODS};
 ghost use Rattle.resolving.specs.Brought.{messages_told};
 ghost use Rattle.resolving.specs.Methods.{methods_told};
 

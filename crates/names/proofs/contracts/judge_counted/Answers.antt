@@ -7,7 +7,7 @@ use Rattle.names.specs.Found.{Adds}
 use Rattle.names.specs.Listed.{past_limit}
 use Rattle.names.specs.Outlines.{outlined_states}
 use Rattle.names.specs.Scopes.{declared_among}
-use Rattle.names.specs.declared.limits.TheConstants.{MOST_CONTRACTS, MOST_STATES}
+use Rattle.program.specs.declared.limits.TheConstants.{MOST_CONTRACTS, MOST_STATES}
 use Rattle.names.specs.declared.members.Declared.{Declared}
 use Rattle.names.specs.declared.members.Members.{Members}
 use Rattle.names.proofs.AddLemmas.{adds_then}

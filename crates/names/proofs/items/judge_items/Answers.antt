@@ -10,7 +10,7 @@ use Rattle.names.specs.Methods.{methods_in}
 use Rattle.names.specs.Program.{defined_name, item_names}
 use Rattle.names.specs.Tables.{IsTable}
 use Rattle.names.specs.Words.{words_at}
-use Rattle.names.specs.declared.limits.TheConstants.{MOST_METHODS}
+use Rattle.program.specs.declared.limits.TheConstants.{MOST_METHODS}
 use Rattle.names.proofs.AddLemmas.{adds_then}
 use Rattle.names.proofs.items.judge_items.Goals as goal
 

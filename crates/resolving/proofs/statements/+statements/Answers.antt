@@ -125,7 +125,7 @@ tell_statement-returns-in_ok-test-in-While t c = λ items own f round h.
     let test = c.in_ok-test-in-While.test in
     let after = c.tell_test.new.locals in
     told_as p own (staying_seen c.args.stays) f (ap statement_tree c.in-While.is ∙ of_while c.in-While.test) (seen_as.of_while test)
-    (subst (λ stays. IsTold text (remade seen.While (test_told p own stays (test_tree c.in-While.test) f)) (seen.While (test_seen test)) after) (c.in_loop-inside.ensures f (number_is c.last.result f.last (c.last.ensures text f h)))
+    (subst (λ stays. IsTold text (remade seen.While (test_told p own stays (test_tree c.in-While.test) f)) (seen.While (test_seen test)) after) (c.here-inside.ensures f (number_is c.last.result f.last (c.last.ensures text f h)))
     (made_told text seen.While _ _ after (c.in_ok-test-in-While.ensures items own f round h)))
 
 pub tell_statement-returns-in-Declare : goal.tell_statement-returns-in-Declare

@@ -6,5 +6,5 @@ use Rattle.rules.proofs.stepping.entry.Goals as goal
 
 pub returns : goal.returns
 returns c =
-    entry_is (slice_get (methods_of c.args.program.now) c.args.method.0) c.method.result.now c.graph.result.now _ c.method.ensures c.graph.ensures
+    entry_is (slice_get (methods_of c.args.program.now) c.args.method.0) c.method.result.now c.graph.result.now _ c.method.ensures.method c.graph.ensures
     (c.in_ok-row.ensures ∙ ap (map (λ v. entry_leaf v.role)) c.deref.ensures.value)

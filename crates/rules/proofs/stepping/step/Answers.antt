@@ -11,7 +11,7 @@ pub returns-in-Some : goal.returns-in-Some
 returns-in-Some c =
     let methods = methods_of c.args.program.now in
     let there = ap (λ l. slice_get l c.args.point) (sym c.deref.ensures.value) ∙ slice_get_read c.deref.result.now _ c.args.point c.in-Some.instruction.now refl c.in-Some.ensures.lookup.3.0 c.in-Some.ensures.lookup.1 in
-    IfOk-weaker c.applied.result _ _ (λ o h. h ∙ sym (outcome_is methods c.args.method.0 _ ∙ outcome_at (slice_get methods c.args.method.0) c.method.result.now c.graph.result.now c.args.point _ (Some c.in-Some.instruction.now) c.method.ensures c.graph.ensures there)) c.applied.ensures
+    IfOk-weaker c.applied.result _ _ (λ o h. h ∙ sym (outcome_is methods c.args.method.0 _ ∙ outcome_at (slice_get methods c.args.method.0) c.method.result.now c.graph.result.now c.args.point _ (Some c.in-Some.instruction.now) c.method.ensures.method c.graph.ensures there)) c.applied.ensures
 
 pub returns-in-None : goal.returns-in-None
 returns-in-None c =

@@ -3,6 +3,7 @@ use Rattle.std.specs.Io.KnownBytes.{Appends}
 use Rattle.singcheck.specs.Answers.{Answers}
 use Rattle.singcheck.specs.Devices.{Begins}
 use Rattle.singcheck.specs.declared.reading.TheConstants.{MAX_READ}
+use Rattle.singcheck.proofs.LongLemmas.{answers_of_front}
 use Rattle.singcheck.proofs.Texts.{text_is, rest_is, writes_is, begins_is}
 use Rattle.singcheck.proofs.bounds.run_bounds.Goals as goal
 
@@ -10,7 +11,7 @@ pub returns-in_err-write_all-clause-begun : goal.returns-in_err-write_all-clause
 returns-in_err-write_all-clause-begun g c = λ told.
     let answer = c.in_ok-answer.answer in
     let is = text_is (g.R.Source.remaining c.args.reader.now) (g.R.Source.remaining c.read_text.new.reader) c.in_ok-text.text.items MAX_READ c.in_ok-text.ensures.bytes c.in_ok-text.ensures.long c.in_ok-text.ensures.end in
-    begins_is Answers (g.R.Source.remaining c.args.reader.now) (g.W.Sink.contents c.args.writer.now) (g.W.Sink.contents c.write_all.new.writer) c.in_ok-text.text.items answer.bytes.items answer.status MAX_READ is
+    begins_is Answers (g.R.Source.remaining c.args.reader.now) (g.W.Sink.contents c.args.writer.now) (g.W.Sink.contents c.write_all.new.writer) c.in_ok-text.text.items answer.bytes.items answer.status MAX_READ answers_of_front is
     (subst (λ t. Answers t answer.bytes.items answer.status) c.deref.ensures.value c.in_ok-answer.ensures)
     (subst (λ b. Begins (g.W.Sink.contents c.args.writer.now) (g.W.Sink.contents c.write_all.new.writer) b) c.deref-2.ensures.value c.in_err-write_all.ensures.begun)
 
@@ -18,7 +19,7 @@ pub returns-clause-written : goal.returns-clause-written
 returns-clause-written g c =
     let answer = c.in_ok-answer.answer in
     let is = text_is (g.R.Source.remaining c.args.reader.now) (g.R.Source.remaining c.read_text.new.reader) c.in_ok-text.text.items MAX_READ c.in_ok-text.ensures.bytes c.in_ok-text.ensures.long c.in_ok-text.ensures.end in
-    writes_is Answers (g.R.Source.remaining c.args.reader.now) (g.W.Sink.contents c.args.writer.now) (g.W.Sink.contents c.write_all.new.writer) c.in_ok-text.text.items answer.bytes.items answer.status MAX_READ is
+    writes_is Answers (g.R.Source.remaining c.args.reader.now) (g.W.Sink.contents c.args.writer.now) (g.W.Sink.contents c.write_all.new.writer) c.in_ok-text.text.items answer.bytes.items answer.status MAX_READ answers_of_front is
     (subst (λ t. Answers t answer.bytes.items answer.status) c.deref.ensures.value c.in_ok-answer.ensures)
     (subst (λ b. Appends (g.W.Sink.contents c.args.writer.now) (g.W.Sink.contents c.write_all.new.writer) b) c.deref-2.ensures.value c.in_ok-write_all.ensures.all)
 

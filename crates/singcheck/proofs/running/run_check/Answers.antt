@@ -5,6 +5,7 @@ use Rattle.singcheck.specs.Checks.{Checks}
 use Rattle.singcheck.specs.Devices.{Begins}
 use Rattle.singcheck.specs.declared.reading.TheConstants.{MAX_READ}
 use Rattle.singcheck.proofs.FaultLemmas.{read_explains, text_explains}
+use Rattle.singcheck.proofs.LongLemmas.{checks_of_front}
 use Rattle.singcheck.proofs.Texts.{text_is, rest_is, writes_is, begins_is}
 use Rattle.singcheck.proofs.running.run_check.Goals as goal
 
@@ -23,7 +24,7 @@ pub returns-in_err-write_all-clause-begun : goal.returns-in_err-write_all-clause
 returns-in_err-write_all-clause-begun g c = λ told.
     let report = c.in_ok-report.report in
     let is = text_is (g.R.Source.remaining c.args.reader.now) (g.R.Source.remaining c.read_text.new.reader) c.in_ok-text.text.items MAX_READ c.in_ok-text.ensures.bytes c.in_ok-text.ensures.long c.in_ok-text.ensures.end in
-    begins_is Checks (g.R.Source.remaining c.args.reader.now) (g.W.Sink.contents c.args.writer.now) (g.W.Sink.contents c.write_all.new.writer) c.in_ok-text.text.items report.bytes.items report.status MAX_READ is
+    begins_is Checks (g.R.Source.remaining c.args.reader.now) (g.W.Sink.contents c.args.writer.now) (g.W.Sink.contents c.write_all.new.writer) c.in_ok-text.text.items report.bytes.items report.status MAX_READ checks_of_front is
     (subst (λ t. Checks t report.bytes.items report.status) c.deref.ensures.value c.in_ok-report.ensures.report)
     (subst (λ b. Begins (g.W.Sink.contents c.args.writer.now) (g.W.Sink.contents c.write_all.new.writer) b) c.deref-2.ensures.value c.in_err-write_all.ensures.begun)
 
@@ -31,7 +32,7 @@ pub returns-clause-written : goal.returns-clause-written
 returns-clause-written g c =
     let report = c.in_ok-report.report in
     let is = text_is (g.R.Source.remaining c.args.reader.now) (g.R.Source.remaining c.read_text.new.reader) c.in_ok-text.text.items MAX_READ c.in_ok-text.ensures.bytes c.in_ok-text.ensures.long c.in_ok-text.ensures.end in
-    writes_is Checks (g.R.Source.remaining c.args.reader.now) (g.W.Sink.contents c.args.writer.now) (g.W.Sink.contents c.write_all.new.writer) c.in_ok-text.text.items report.bytes.items report.status MAX_READ is
+    writes_is Checks (g.R.Source.remaining c.args.reader.now) (g.W.Sink.contents c.args.writer.now) (g.W.Sink.contents c.write_all.new.writer) c.in_ok-text.text.items report.bytes.items report.status MAX_READ checks_of_front is
     (subst (λ t. Checks t report.bytes.items report.status) c.deref.ensures.value c.in_ok-report.ensures.report)
     (subst (λ b. Appends (g.W.Sink.contents c.args.writer.now) (g.W.Sink.contents c.write_all.new.writer) b) c.deref-2.ensures.value c.in_ok-write_all.ensures.all)
 

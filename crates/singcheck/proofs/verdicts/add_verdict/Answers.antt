@@ -10,5 +10,5 @@ pub returns-in_ok-append-in-Ok : goal.returns-in_ok-append-in-Ok
 returns-in_ok-append-in-Ok c = record {
   more = map finding_parts (findings_of c.in-Ok.verdict);
   exactly = verdict_exactly (methods_of c.args.program.now) (number_of c.args.task) (map finding_parts (findings_of c.in-Ok.verdict)) c.in-Ok.ensures.found;
-  added = ap (map finding_parts) (c.in_ok-append-in-Ok.ensures.items ∙ ap (λ l. c.args.found.now.items ++ l) c.into_findings.ensures) ∙ map-append finding_parts c.args.found.now.items (findings_of c.in-Ok.verdict);
+  added = ap (map finding_parts) (c.in_ok-append-in-Ok.ensures.items ∙ ap (λ l. c.args.found.now.items ++ l) c.into_findings.ensures.findings) ∙ map-append finding_parts c.args.found.now.items (findings_of c.in-Ok.verdict);
 }
