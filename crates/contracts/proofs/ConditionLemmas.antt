@@ -52,7 +52,7 @@ parts_are f place code text p c t = ap (λ x. made x f.code (string_bytes f.text
 pub one_of : {A : Type 0} (x y : A) → Some x ≡ Some y → x ≡ y
 one_of x y e = cc
 
-abbrev against : Edge → MessageParts → FindingParts
+abbrev pub against : Edge → MessageParts → FindingParts
 against e m = record { place = e.place; code = C01; text = utf8_lossy m.name ++ codes " against its direction" }
 
 pub against_more : (messages : List MessageParts) (edges : List Edge) (i : ℕ) (e : Edge) (m : MessageParts) (found : List FindingParts)

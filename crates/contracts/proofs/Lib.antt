@@ -1,11 +1,14 @@
 pub mod ArcLemmas
 pub mod BoundLemmas
+pub mod CandidateLemmas
 pub mod ConditionLemmas
 pub mod CountLemmas
 pub mod EndLemmas
 pub mod FoundLemmas
 pub mod GraphLemmas
+pub mod GreatestLemmas
 pub mod HeightLemmas
+pub mod LeavingLemmas
 pub mod MarkLemmas
 pub mod NextLemmas
 pub mod NumberLemmas

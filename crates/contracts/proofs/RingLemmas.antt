@@ -14,13 +14,13 @@ use Rattle.contracts.proofs.NumberLemmas.{numbering}
 use Rattle.contracts.proofs.PartLemmas.{at_place}
 use Rattle.contracts.proofs.Rings.{ring_edge, edge_ring}
 
-contains_head : {A : Type 0} (x : A) (xs : List A) → Contains (x ∷ xs) x
+pub contains_head : {A : Type 0} (x : A) (xs : List A) → Contains (x ∷ xs) x
 contains_head x xs = (0, omega arith, refl)
 
-contains_tail : {A : Type 0} (y x : A) (xs : List A) → Contains xs x → Contains (y ∷ xs) x
+pub contains_tail : {A : Type 0} (y x : A) (xs : List A) → Contains xs x → Contains (y ∷ xs) x
 contains_tail y x xs c = let lt = c.1 in (suc c.0, omega (arith, lt), c.2)
 
-contains_either : {A : Type 0} (P : Type 0) (y x : A) (xs : List A) → Contains (y ∷ xs) x → (y ≡ x → P) → (Contains xs x → P) → P
+pub contains_either : {A : Type 0} (P : Type 0) (y x : A) (xs : List A) → Contains (y ∷ xs) x → (y ≡ x → P) → (Contains xs x → P) → P
 contains_either P y x xs (zero, lt, e) first rest = first e
 contains_either P y x xs (suc k, lt, e) first rest = rest (k, omega (arith, lt), e)
 

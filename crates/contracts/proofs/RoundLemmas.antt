@@ -22,7 +22,7 @@ use Rattle.contracts.proofs.GraphLemmas.{state_number}
 use Rattle.contracts.proofs.RingLemmas.{in_row}
 use Rattle.contracts.proofs.WalkLemmas.{ring_round}
 
-abbrev round : StateParts → FindingParts
+abbrev pub round : StateParts → FindingParts
 round s = record { place = s.place; code = C04; text = codes "one direction round " ++ utf8_lossy s.name }
 
 pub round_more : (states : List StateParts) (edges : List Edge) (i : ℕ) (s : StateParts) (sign : Sign) (found : List FindingParts)

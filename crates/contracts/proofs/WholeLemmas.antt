@@ -1,6 +1,6 @@
 -- From positions of numbers to the lists of a contract.
 use Rattle.std.proofs.Common.{◌≡◌, ◌≢◌, ℕ, false, ◌<◌, List, length, map, get_or, Option, Some, None, not, eqb, eq-eqb, sym, refl, ap, ◌∙◌, subst, arith, ⊎_elim}
-use Rattle.std.specs.Prelude.{Contains, AllPairs, IsSome, is_some}
+use Rattle.std.specs.Prelude.{Contains, All, AllPairs, IsSome, is_some}
 use Rattle.std.specs.Option.{option_eq}
 use Rattle.std.specs.BTreeMap.{BTreeMap, get}
 use Rattle.std.specs.Ordering.{is_eq, nat_cmp}
@@ -71,3 +71,7 @@ numbers_apart number ids none one apart = λ i j d less lt same.
 
 pub in_numbers : {A : Type 0} (number : A → ℕ) (ids : List A) (x : A) → Contains ids x → Contains (map number ids) (number x)
 in_numbers number ids x c = contains_map number ids x c
+
+-- what holds of all numbers holds of what has them
+pub unmapped : {A : Type 0} (P : ℕ → Type 0) (number : A → ℕ) (ids : List A) → All P (map number ids) → All (λ x. P (number x)) ids
+unmapped P number ids all = λ k d lt. subst P (get_or-map number ids k d (number d) lt) (all k (number d) (let size = length-map ids number in omega (arith, size, lt)))

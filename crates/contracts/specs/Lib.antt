@@ -3,6 +3,7 @@ pub mod Bounds
 pub mod Conditions
 pub mod Found
 pub mod Graphs
+pub mod Leaving
 pub mod Marking
 pub mod Numbering
 pub mod Parts

@@ -7,6 +7,8 @@ mod conditions;
 mod ends;
 mod heights;
 mod keys;
+pub mod laws;
+mod leaving;
 mod marking;
 mod numbering;
 mod parts;

@@ -1,20 +1,26 @@
 //! Contracts that meet the four conditions.
 
-ghost use Rattle.std.specs.Prelude.{◌≡◌, IfOk, OnOk};
+ghost use Rattle.std.specs.Prelude.{◌≡◌, ◌<◌, All, [], IfOk, IfSome, OnOk, map, option_map};
 ghost use Rattle.std.proofs.Props.{props};
+ghost use Rattle.std.specs.BTreeMap.{get};
+ghost use Rattle.std.specs.Option.{option_map_or};
+ghost use Rattle.std.specs.Ordering.{nat_cmp};
 ghost use Rattle.program.specs.declared.contract.Sign.TheVariants.{Send, Receive};
+ghost use Rattle.program.specs.declared.limits.TheConstants.{MOST_STATES};
 ghost use Rattle.contracts.specs.Bounds.{IsBound, sign_to};
 ghost use Rattle.contracts.specs.Conditions.{FindingParts, IsFault, IsSound};
+ghost use Rattle.contracts.specs.Leaving.{AreLeaving, edges_from, end_on, name_among, sign_from};
 ghost use Rattle.contracts.specs.Parts.{IsWhole, parts_of};
-ghost use Rattle.contracts.specs.Positions.{AreEdgePositions};
+ghost use Rattle.contracts.specs.Positions.{AreEdgePositions, ArePositions};
 ghost use Rattle.contracts.specs.Walks.{IsNext};
 
 use crate::bounds::{Bounds, bounds_of};
 use crate::conditions::faults;
-use crate::keys::edge_keys;
+use crate::keys::{edge_keys, message_numbers};
+use crate::leaving::leaving;
 use crate::parts::Edges;
 use lemmas::first_positions;
-use program::{MessageId, Side, StateId};
+use program::{Edge, MessageId, Side, Sign, StateId};
 use source::{Finding, Memory};
 use std::alloc::{AllocError, AllocFailed, Global};
 use std::collections::BTreeMap;
@@ -64,17 +70,24 @@ impl From<Memory> for SoundFault {
     }
 }
 
-/// A contract that meets the four conditions, with the bounds of its queues.
+/// A contract that meets the four conditions, with the bounds of its queues. It finds an edge, the edges from a state and a
+/// message by their numbers.
 #[derive(Drop)]
 pub struct Sound {
     edges: Edges,
     bounds: Bounds,
     firsts: BTreeMap<(u32, u32), usize>,
+    messages: BTreeMap<u32, usize>,
+    sends: BTreeMap<u32, Vec<Edge>>,
+    receives: BTreeMap<u32, Vec<Edge>>,
     pub ghost whole: { ∥ IsWhole (parts_of edges) ∥₁ },
     pub ghost sound: { IsSound (parts_of edges) },
     ghost to_imp: { ∥ IsBound edges.edges.items edges.first Send bounds.to_imp ∥₁ },
     ghost to_exp: { ∥ IsBound edges.edges.items edges.first Receive bounds.to_exp ∥₁ },
     ghost keyed: { AreEdgePositions edges.edges.items firsts } by { Prim.hlevel props },
+    ghost named: { ArePositions (map (λ m. m.id.0) edges.messages.items) messages } by { Prim.hlevel props },
+    ghost sent: { AreLeaving edges.edges.items Send sends } by { Prim.hlevel props },
+    ghost received: { AreLeaving edges.edges.items Receive receives } by { Prim.hlevel props },
 }
 
 /// What a contract is judged to be.
@@ -103,10 +116,16 @@ impl Sound {
         let bounds = bounds_of(alloc, &edges)?;
         let keys = edge_keys(alloc, &edges.edges)?;
         let firsts = first_positions(alloc, &keys)?;
+        let messages = first_positions(alloc, &message_numbers(alloc, &edges.messages)?)?;
+        let sends = leaving(alloc, &edges.edges, Sign::Send)?;
+        let receives = leaving(alloc, &edges.edges, Sign::Receive)?;
         let sound = Sound {
             edges,
             bounds,
             firsts,
+            messages,
+            sends,
+            receives,
         };
         Ok(Judged::Sound(sound))
     }
@@ -152,5 +171,79 @@ impl Sound {
     {
         let position = self.firsts.get(&(state.0, message.0)).copied()?;
         Some(self.edges.edges[position].to)
+    }
+
+    /// The state in which a channel of it begins.
+    pub fn first(&self) -> StateId
+        ensures first { result ≡ (sound_parts self.now).first }
+        ensures numbered { result.0 < MOST_STATES }
+    {
+        self.edges.first
+    }
+
+    /// The edges along which the end of this side sends in a state, in order of the text.
+    pub fn edges_out(&self, side: Side, state: StateId) -> &[Edge]
+        ensures { result.now ≡ edges_from (sound_parts self.now).edges (sign_from side) state.0 }
+    {
+        match side {
+            Side::Imp => edges_of(&self.receives, state),
+            Side::Exp => edges_of(&self.sends, state),
+        }
+    }
+
+    /// The edges along which the end of this side receives in a state, in order of the text.
+    pub fn edges_in(&self, side: Side, state: StateId) -> &[Edge]
+        ensures edges { result.now ≡ edges_from (sound_parts self.now).edges (sign_to side) state.0 }
+        ensures numbered { All (λ e. e.to.0 < MOST_STATES) result.now }
+    {
+        match side {
+            Side::Imp => edges_of(&self.sends, state),
+            Side::Exp => edges_of(&self.receives, state),
+        }
+    }
+
+    /// The state in which the edge ends along which the end of this side sends the message in a state, if there is one.
+    pub fn sent(&self, side: Side, state: StateId, message: MessageId) -> Option<StateId>
+        ensures end { option_map (λ q. q.0) result
+            ≡ end_on (edges_from (sound_parts self.now).edges (sign_from side) state.0) message.0 }
+        ensures numbered { IfSome result (λ q. q.0 < MOST_STATES) }
+    {
+        let position = self.firsts.get(&(state.0, message.0)).copied()?;
+        let edge = self.edges.edges[position];
+        if edge.sign == sign_from(side) {
+            Some(edge.to)
+        } else {
+            None
+        }
+    }
+
+    /// The name of a message: nothing, where the contract has no such message.
+    pub fn message_name(&self, message: MessageId) -> &[u8]
+        ensures { result.now ≡ name_among (sound_parts self.now).messages message.0 }
+    {
+        match self.messages.get(&message.0).copied() {
+            Some(position) => self.edges.messages[position].name.as_bytes(),
+            None => &[],
+        }
+    }
+}
+
+/// The edges that a map has for a state.
+fn edges_of(leaving: &BTreeMap<u32, Vec<Edge>>, state: StateId) -> &[Edge]
+    ensures { result.now ≡ option_map_or (λ v. v.items) (get nat_cmp leaving.now state.0) [] }
+{
+    match leaving.get(&state.0) {
+        Some(edges) => edges.as_slice(),
+        None => &[],
+    }
+}
+
+/// The sign of the edges along which an end sends.
+fn sign_from(side: Side) -> Sign
+    ensures { result ≡ sign_from side }
+{
+    match side {
+        Side::Imp => Sign::Receive,
+        Side::Exp => Sign::Send,
     }
 }

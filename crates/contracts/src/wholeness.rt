@@ -1,21 +1,22 @@
 //! Whether the lists of a contract have what its edges name.
 
-ghost use Rattle.std.specs.Prelude.{◌≢◌, ◌↔◌, IfOk, IsTrue, AllPairs, All, IsSome};
+ghost use Rattle.std.specs.Prelude.{◌≢◌, ◌<◌, ◌↔◌, IfOk, IsTrue, AllPairs, All, IsSome};
 ghost use Rattle.std.specs.BTreeMap.{get};
 ghost use Rattle.std.specs.Ordering.{nat_cmp};
 ghost use Rattle.contracts.specs.Parts.{IsWhole, parts_of};
 ghost use Rattle.contracts.specs.Positions.{ArePositions, EndsHave};
+ghost use Rattle.program.specs.declared.limits.TheConstants.{MOST_STATES};
 
 use crate::keys::{message_numbers, state_numbers};
 use crate::parts::Edges;
 use lemmas::first_positions;
-use program::Edge;
+use program::{Edge, MOST_STATES};
 use source::Memory;
 use std::alloc::Global;
 use std::collections::BTreeMap;
 
-/// Whether the first state, and the states and messages of the edges, stand in the lists, each number once there. This
-/// is what `faults` and `Sound::new` ask for.
+/// Whether the first state, and the states and messages of the edges, stand in the lists, each number once there, and each number of
+/// a state is less than `MOST_STATES`. This is what `faults` and `Sound::new` ask for.
 pub fn is_whole(alloc: Global, edges: &Edges) -> Result<bool, Memory>
     ensures { IfOk result (λ whole. IsTrue whole ↔ IsWhole (parts_of edges.now)) }
 {
@@ -25,7 +26,16 @@ pub fn is_whole(alloc: Global, edges: &Edges) -> Result<bool, Memory>
     let message_positions = first_positions(alloc, &messages)?;
     let once = stand_once(&states, &state_positions) & stand_once(&messages, &message_positions);
     let listed = are_listed(&edges.edges, &state_positions, &message_positions);
-    Ok(once & listed & has(&state_positions, edges.first.0))
+    Ok(once & listed & has(&state_positions, edges.first.0) & are_numbered(&states))
+}
+
+/// Whether each of these is a number that a state may have.
+fn are_numbered(numbers: &[u32]) -> bool
+    ensures { IsTrue result ↔ All (λ q. q < MOST_STATES) numbers.now }
+{
+    numbers
+        .iter()
+        .all(|number| (*number as usize) < MOST_STATES)
 }
 
 /// Whether the map has the number.

@@ -17,7 +17,9 @@ use Rattle.program.specs.declared.statement.Statement.TheVariants as variants
 use Rattle.flow.specs.declared.graph.Entrance.{Entrance}
 use Rattle.flow.specs.declared.graph.Instr.{Instr}
 use Rattle.flow.specs.declared.graph.Instr.TheVariants as instr
-use Rattle.flow.specs.Graphs.{EntranceSeen, Switch, entrance_seen, instruction_seen}
+use Rattle.flow.specs.Cases.{EntranceSeen, entrance_seen}
+use Rattle.flow.specs.Graphs.{Switch, cases_seen, instruction_seen}
+use Rattle.flow.specs.declared.cases.Cases.{Cases}
 use Rattle.flow.specs.Growths.{Grew, GrewCases, CasesBehind}
 use Rattle.flow.specs.Lowering.{Lays, LaidCases, LaysCases, block, cases, case_before, no_cases, waits}
 use Rattle.flow.proofs.BehindLemmas.{one_more}
@@ -128,13 +130,13 @@ map_reverse f [] = refl
 map_reverse f (x ∷ xs) = ap (map f) (reverse-append (x ∷ []) xs) ∙ map-append f (reverse xs) (x ∷ []) ∙ ap (λ l. l ++ f x ∷ []) (map_reverse f xs) ∙ sym (reverse-append (f x ∷ []) (map f xs))
 
 -- a switch on top of its cases
-pub switch_laid : (old mid new : List Instr) (place : Place) (a : ℕ → LaysCases) (es : List Entrance) (v : Vec Entrance Global) (entry next : ℕ) → GrewCases old mid (map entrance_seen es) (a next (length old) next) → v.items ≡ reverse es
-    → new ≡ mid ++ instr.Switch place v ∷ [] → entry ≡ length mid → Grew old new entry (waits place a (length old) next)
-switch_laid old mid new place a es v entry next g is grown at =
+pub switch_laid : (old mid new : List Instr) (place : Place) (a : ℕ → LaysCases) (es : List Entrance) (listed : List Entrance) (cs : Cases) (entry next : ℕ) → GrewCases old mid (map entrance_seen es) (a next (length old) next) → listed ≡ reverse es
+    → cases_seen cs ≡ map entrance_seen listed → new ≡ mid ++ instr.Switch place cs ∷ [] → entry ≡ length mid → Grew old new entry (waits place a (length old) next)
+switch_laid old mid new place a es listed cs entry next g is same grown at =
     let all = a next (length old) next in
-    let entrances : map entrance_seen v.items ≡ all.entrances = ap (map entrance_seen) is ∙ map_reverse entrance_seen es ∙ ap reverse g.entrances ∙ reverse-reverse all.entrances in
+    let entrances : cases_seen cs ≡ all.entrances = same ∙ ap (map entrance_seen) is ∙ map_reverse entrance_seen es ∙ ap reverse g.entrances ∙ reverse-reverse all.entrances in
     record {
-      instructions = ap (map instruction_seen) grown ∙ map-append instruction_seen mid (instr.Switch place v ∷ []) ∙ ap (λ l. map instruction_seen mid ++ Switch place l ∷ []) entrances
+      instructions = ap (map instruction_seen) grown ∙ map-append instruction_seen mid (instr.Switch place cs ∷ []) ∙ ap (λ l. map instruction_seen mid ++ Switch place l ∷ []) entrances
           ∙ ap (λ l. l ++ Switch place all.entrances ∷ []) g.instructions ∙ append_assoc (map instruction_seen old) all.instructions (Switch place all.entrances ∷ []);
       begins = at ∙ grew_cases_length old mid (map entrance_seen es) all g;
     }

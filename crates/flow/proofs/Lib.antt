@@ -1,7 +1,9 @@
 pub mod BehindLemmas
 pub mod ClosedLemmas
+pub mod EndpointLemmas
 pub mod FormLemmas
 pub mod GrowthLemmas
+pub mod KeyLemmas
 pub mod LoopLemmas
 pub mod WithinLemmas
 pub mod CaseLemmas

@@ -1,6 +1,7 @@
 -- Instructions that are laid behind others.
 use Rattle.std.specs.Prelude.{◌≡◌, ℕ, List, ◌++◌, map, reverse}
-use Rattle.flow.specs.Graphs.{EntranceSeen, instruction_seen}
+use Rattle.flow.specs.Cases.{EntranceSeen}
+use Rattle.flow.specs.Graphs.{instruction_seen}
 use Rattle.flow.specs.Lowering.{Laid, LaidCases}
 use Rattle.flow.specs.declared.graph.Instr.{Instr}
 

@@ -1,3 +1,4 @@
+pub mod Cases
 pub mod Graphs
 pub mod Growths
 pub mod Lowering

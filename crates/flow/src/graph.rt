@@ -1,5 +1,6 @@
 //! Instructions, and where each goes on.
 
+use crate::cases::Cases;
 use program::{Argument, Awaited, Channel, Forget, Mention, MessageId, MethodId, VarId};
 use source::Place;
 
@@ -20,6 +21,45 @@ pub struct Entrance {
     pub awaited: Awaited,
     pub bound: Vec<VarId>,
     pub next: usize,
+}
+
+/// A message goes to the other end of a channel: what is given for each of its parameters of the exchange heap.
+#[derive(Drop)]
+pub struct Sending {
+    pub place: Place,
+    pub endpoint: Mention,
+    pub message: MessageId,
+    pub payloads: Vec<Mention>,
+    pub next: usize,
+}
+
+/// Calls a method: what is given for each parameter of the exchange heap, and the variable that takes the block which it gives, if it
+/// gives one.
+#[derive(Drop)]
+pub struct Calling {
+    pub place: Place,
+    pub method: MethodId,
+    pub arguments: Vec<Argument>,
+    pub target: Option<Mention>,
+    pub next: usize,
+}
+
+/// Starts a method as a process of its own.
+#[derive(Drop)]
+pub struct Starting {
+    pub place: Place,
+    pub method: MethodId,
+    pub arguments: Vec<Argument>,
+    pub next: usize,
+}
+
+/// The method ends, and gives what this variable has, if there is one. The last variable of the exchange heap in scope, if there is
+/// one, names all of them.
+#[derive(Clone, Copy)]
+pub struct Returning {
+    pub place: Place,
+    pub value: Option<Mention>,
+    pub scope: Option<VarId>,
 }
 
 /// An instruction, and the point at which the method goes on behind it. A point is the number of an instruction in its graph.
@@ -52,18 +92,12 @@ pub enum Instr {
         channel: Channel,
         next: usize,
     },
-    /// A message goes to the other end of a channel: what is given for each of its parameters of the exchange heap.
-    Send {
-        place: Place,
-        endpoint: Mention,
-        message: MessageId,
-        payloads: Vec<Mention>,
-        next: usize,
-    },
+    /// A message is sent.
+    Send(Sending),
     /// Waits for a message at one of the endpoints of these cases, or for the end of their peers.
     Switch {
         place: Place,
-        cases: Vec<Entrance>,
+        cases: Cases,
     },
     /// A condition, at its `if` or `while`.
     Branch {
@@ -75,29 +109,12 @@ pub enum Instr {
         forget: Forget,
         next: usize,
     },
-    /// Calls a method: what is given for each parameter of the exchange heap, and the variable that takes the block which it
-    /// gives, if it gives one.
-    Call {
-        place: Place,
-        method: MethodId,
-        arguments: Vec<Argument>,
-        target: Option<Mention>,
-        next: usize,
-    },
-    /// Starts a method as a process of its own.
-    Start {
-        place: Place,
-        method: MethodId,
-        arguments: Vec<Argument>,
-        next: usize,
-    },
-    /// The method ends, and gives what this variable has, if there is one. The last variable of the exchange heap in scope, if
-    /// there is one, names all of them.
-    Return {
-        place: Place,
-        value: Option<Mention>,
-        scope: Option<VarId>,
-    },
+    /// A method is called.
+    Call(Calling),
+    /// A method is started.
+    Start(Starting),
+    /// The method ends.
+    Return(Returning),
     /// The end of a method that ought to have given something.
     Stop {
         place: Place,

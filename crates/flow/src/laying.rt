@@ -2,11 +2,11 @@
 
 ghost use Rattle.std.specs.Prelude.{◌≡◌, IfOk, [], ◌∷◌, ◌++◌, length};
 ghost use Rattle.program.specs.Statements.{call_seen, send_seen, simple_seen};
-ghost use Rattle.flow.specs.Graphs.{entrance_seen};
+ghost use Rattle.flow.specs.Cases.{entrance_seen};
 ghost use Rattle.flow.specs.Growths.{Grew};
 ghost use Rattle.flow.specs.Lowering as laid;
 
-use crate::graph::{Branches, Entrance, Instr};
+use crate::graph::{Branches, Calling, Entrance, Instr, Returning, Sending, Starting};
 use program::{Action, Call, Case, Forget, Mention, Send, Simple, Ways};
 use source::{Memory, Place};
 use std::alloc::Global;
@@ -116,11 +116,11 @@ fn lay_action(
             place,
             value,
             scope,
-        } => Instr::Return {
+        } => Instr::Return(Returning {
             place,
             value,
             scope,
-        },
+        }),
     };
     lay(instructions, instruction)
 }
@@ -149,13 +149,13 @@ pub(crate) fn lay_call(
     ensures { IfOk result (λ entry. Grew instructions.old.items instructions.new.items entry (laid.called (call_seen call.now) (length instructions.old.items) next)) }
 {
     let next = lay_reads(instructions, &call.behind, next)?;
-    let instruction = Instr::Call {
+    let instruction = Instr::Call(Calling {
         place: call.place,
         method: call.method,
         arguments: Vec::from_slice(alloc, &call.arguments)?,
         target: call.target,
         next,
-    };
+    });
     let at = lay(instructions, instruction)?;
     lay_reads(instructions, &call.reads, at)
 }
@@ -169,12 +169,12 @@ pub(crate) fn lay_start(
 ) -> Result<usize, Memory>
     ensures { IfOk result (λ entry. Grew instructions.old.items instructions.new.items entry (laid.started (call_seen call.now) (length instructions.old.items) next)) }
 {
-    let instruction = Instr::Start {
+    let instruction = Instr::Start(Starting {
         place: call.place,
         method: call.method,
         arguments: Vec::from_slice(alloc, &call.arguments)?,
         next,
-    };
+    });
     let at = lay(instructions, instruction)?;
     lay_reads(instructions, &call.reads, at)
 }
@@ -188,13 +188,13 @@ pub(crate) fn lay_send(
 ) -> Result<usize, Memory>
     ensures { IfOk result (λ entry. Grew instructions.old.items instructions.new.items entry (laid.sent (send_seen send.now) (length instructions.old.items) next)) }
 {
-    let instruction = Instr::Send {
+    let instruction = Instr::Send(Sending {
         place: send.place,
         endpoint: send.endpoint,
         message: send.message,
         payloads: Vec::from_slice(alloc, &send.payloads)?,
         next,
-    };
+    });
     let at = lay(instructions, instruction)?;
     lay_reads(instructions, &send.reads, at)
 }

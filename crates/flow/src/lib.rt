@@ -1,9 +1,11 @@
 //! A method as a graph of instructions.
 #![tactic(auto)]
 
+mod cases;
 mod graph;
 mod laying;
 mod lowering;
 
-pub use graph::{Branches, Entrance, Graph, Instr};
+pub use cases::Cases;
+pub use graph::{Branches, Calling, Entrance, Graph, Instr, Returning, Sending, Starting};
 pub use lowering::lower;

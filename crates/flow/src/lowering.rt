@@ -11,7 +11,8 @@ ghost use Rattle.flow.specs.Lowering as laid;
 ghost use Rattle.flow.specs.Lowering.{Lays, graph_of};
 ghost use Rattle.flow.specs.Within.{IsClosed};
 
-use crate::graph::{Graph, Instr};
+use crate::cases::Cases;
+use crate::graph::{Graph, Instr, Returning};
 use crate::laying::{
     Exits, branches, entrance_of, lay, lay_branches, lay_call, lay_forget, lay_reads, lay_send,
     lay_simple, lay_start,
@@ -55,11 +56,11 @@ fn ending(method: &Method) -> Instr
     if method.gives {
         return Instr::Stop { place };
     }
-    Instr::Return {
+    Instr::Return(Returning {
         place,
         value: None,
         scope: method.scope,
-    }
+    })
 }
 
 /// Lays these statements, behind which the method goes on at `next`. The answer is the point at which they begin.
@@ -216,9 +217,6 @@ fn lay_switch(
         entrances.push(entrance_of(alloc, case, entry)?)?;
     }
     entrances.reverse();
-    let switch = Instr::Switch {
-        place,
-        cases: entrances,
-    };
-    lay(instructions, switch)
+    let cases = Cases::new(alloc, entrances)?;
+    lay(instructions, Instr::Switch { place, cases })
 }

@@ -1,11 +1,12 @@
 -- A contract by its parts, without memory.
-use Rattle.std.specs.Prelude.{◌≢◌, ℕ, List, map, Contains, AllPairs, string_bytes}
+use Rattle.std.specs.Prelude.{◌≢◌, ◌<◌, ℕ, List, map, All, Contains, AllPairs, string_bytes}
 use Rattle.std.specs.List.{flat_map}
 use Rattle.source.specs.declared.place.Place.{Place}
 use Rattle.program.specs.declared.contract.Direction.{Direction}
 use Rattle.program.specs.declared.contract.Contract.{Contract}
 use Rattle.program.specs.declared.contract.Edge.{Edge}
 use Rattle.program.specs.declared.contract.Message.{Message}
+use Rattle.program.specs.declared.limits.TheConstants.{MOST_STATES}
 use Rattle.program.specs.declared.number.MessageId.{MessageId}
 use Rattle.program.specs.declared.contract.State.{State}
 use Rattle.program.specs.declared.number.StateId.{StateId}
@@ -49,7 +50,8 @@ state_ids parts = map (λ s. s.id) parts.states
 abbrev pub message_ids : Parts → List MessageId
 message_ids parts = map (λ m. m.id) parts.messages
 
--- The first state, and the states and messages of the edges, stand in the lists, and each number stands once there.
+-- The first state, and the states and messages of the edges, stand in the lists, and each number stands once there. The number of a
+-- state is one that a state may have.
 pub record IsWhole (parts : Parts) : Type 0 where
   pub first : Contains (state_ids parts) parts.first
   pub from : (e : Edge) → Contains parts.edges e → Contains (state_ids parts) e.from
@@ -57,6 +59,7 @@ pub record IsWhole (parts : Parts) : Type 0 where
   pub message : (e : Edge) → Contains parts.edges e → Contains (message_ids parts) e.message
   pub states_once : AllPairs (λ x y. x ≢ y) (state_ids parts)
   pub messages_once : AllPairs (λ x y. x ≢ y) (message_ids parts)
+  pub numbered : All (λ q. q.0 < MOST_STATES) (state_ids parts)
 
 -- No two states of a program have one number, and no two messages.
 pub record AreApart (contracts : List Parts) : Type 0 where

@@ -19,3 +19,12 @@ methods_seen p = map method_seen p.2
 -- what each message brings, as the code has it
 abbrev pub rows : List (Vec Kind) → List (List Kind)
 rows told = map (λ kinds. kinds.items) told
+
+-- a program: its contracts, what each message brings for its parameters of the exchange heap, its methods
+pub record ProgramSeen : Type 0 where
+  pub contracts : List ContractSeen
+  pub messages : List (List Kind)
+  pub methods : List MethodSeen
+
+abbrev pub program_seen : List Contract × List (List Kind) × List Method → ProgramSeen
+program_seen p = record { contracts = contracts_seen p; messages = messages_seen p; methods = methods_seen p }

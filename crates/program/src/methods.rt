@@ -4,7 +4,8 @@ ghost use Rattle.std.specs.Prelude.{◌≡◌, ◌<◌, Some, length, map, slice
 ghost use Rattle.program.specs.Parts.{contract_seen};
 ghost use Rattle.program.specs.Methods.{method_seen};
 ghost use Rattle.program.specs.Programs.{contracts_seen, messages_seen, methods_seen, rows};
-ghost use Rattle.program.specs.WellFormed.{AreWellFormed, IsWellFormed};
+ghost use Rattle.program.specs.Lists.{Each};
+ghost use Rattle.program.specs.WellFormed.{AreWellFormed, IsKind, IsWellFormed};
 
 use crate::contract::Resolved;
 use crate::kind::Kind;
@@ -70,7 +71,8 @@ impl Methods {
 
     /// What each message brings for its parameters of the exchange heap, in order; a message has its place here as its number.
     pub fn messages(&self) -> &[Vec<Kind>]
-        ensures { rows result.now ≡ messages_seen self.now }
+        ensures messages { rows result.now ≡ messages_seen self.now }
+        ensures kinds { Each (Each (IsKind (contracts_seen self.now))) (messages_seen self.now) }
     {
         &self.messages
     }

@@ -42,4 +42,4 @@ lay_switch-returns t c =
     let none : length l.case-iterator.iter.rest.now ≡ 0 = search rules in
     let all = cases_end c.args.cases.now l.case-iterator.iter.rest.now _ c.args.instructions.now.items l.instructions.items _ (laid_cases c.args.next c.args.again (length c.args.instructions.now.items) c.args.next) none l.invariant in
     IfOk-weaker c.lay.result _ _ (λ entry h exit. switch_laid c.args.instructions.now.items l.instructions.items c.lay.new.instructions.items c.args.place
-    (λ end. cases (case_row (map case_seen c.args.cases.now)) end c.args.again) l.entrances.items c.reverse.new.self entry c.args.next all c.reverse.ensures.items h.0 h.1) c.lay.ensures
+    (λ end. cases (case_row (map case_seen c.args.cases.now)) end c.args.again) l.entrances.items c.reverse.new.self.items c.in_ok-cases.cases entry c.args.next all c.reverse.ensures.items c.in_ok-cases.ensures h.0 h.1) c.lay.ensures

@@ -2,7 +2,7 @@ use Rattle.std.proofs.Common.{length, map, reverse}
 use Rattle.std.specs.Option.{option_map}
 use Rattle.program.specs.Statements.{statement_seen, statement_row, block_seen, test_seen, other_row}
 use Rattle.program.specs.declared.statement as made
-use Rattle.flow.specs.Graphs.{entrance_seen}
+use Rattle.flow.specs.Cases.{entrance_seen}
 use Rattle.flow.specs.Growths.{Behind, CasesBehind}
 use Rattle.flow.specs.Lowering.{statements, others}
 use Rattle.flow.proofs.CaseLemmas.{laid_cases}

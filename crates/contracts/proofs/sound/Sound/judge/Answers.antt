@@ -1,5 +1,9 @@
-use Rattle.std.proofs.Common.{◌≡◌, ◌∙◌, List, [], ◌∷◌, length, map, ap, sym, refl, arith}
+use Rattle.std.proofs.Common.{◌≡◌, ◌∙◌, List, [], ◌∷◌, length, map, ap, sym, refl, subst, arith}
 use Rattle.std.specs.Prelude.{Contains}
+use Rattle.std.specs.Ordering.{nat_cmp}
+use Rattle.program.specs.declared.contract.Message.{Message}
+use Rattle.program.specs.declared.contract.Sign.TheVariants.{Send, Receive}
+use Rattle.contracts.specs.Leaving.{AreLeaving}
 use Rattle.std.proofs.lemmas.Bool.{eqb-true, eqb-false}
 use Rattle.std.proofs.lemmas.List.{length-map}
 use Rattle.contracts.specs.Conditions.{FindingParts, finding_parts, AreExactly, IsFault, IsSound}
@@ -42,3 +46,14 @@ invariant_of-sound-clause-sound c =
 
 pub invariant_of-sound-clause-keyed : goal.invariant_of-sound-clause-keyed
 invariant_of-sound-clause-keyed c = λ k. c.in_ok-firsts.ensures k ∙ ap (λ l. first_position pair_cmp l k) (c.deref-2.ensures.value ∙ c.in_ok-keys.ensures ∙ ap (map key_of) c.deref.ensures.value)
+
+pub invariant_of-sound-clause-named : goal.invariant_of-sound-clause-named
+invariant_of-sound-clause-named c =
+    let number = λ (m : Message). m.id.0 in
+    λ k. c.in_ok-messages.ensures k ∙ ap (λ l. first_position nat_cmp l k) (c.deref-4.ensures.value ∙ c.in_ok-message_numbers.ensures ∙ ap (map number) c.deref-3.ensures.value)
+
+pub invariant_of-sound-clause-sent : goal.invariant_of-sound-clause-sent
+invariant_of-sound-clause-sent c = subst (λ edges. AreLeaving edges Send c.in_ok-sends.sends) c.deref-5.ensures.value c.in_ok-sends.ensures
+
+pub invariant_of-sound-clause-received : goal.invariant_of-sound-clause-received
+invariant_of-sound-clause-received c = subst (λ edges. AreLeaving edges Receive c.in_ok-receives.receives) c.deref-6.ensures.value c.in_ok-receives.ensures

@@ -1,0 +1,149 @@
+-- The edges of one sign from a state, where a message leads along them, and the names of messages.
+use Rattle.std.proofs.Common.{◌≡◌, ℕ, zero, suc, ◌<◌, ◌==◌, List, [], ◌∷◌, length, map, get_or, true, Option, Some, None, sym, refl, ap, ◌∙◌, subst, arith, inl, inr, ⊎_elim}
+use Rattle.std.specs.Prelude.{◌⊎◌, All, Contains, string_bytes}
+use Rattle.std.specs.Ordering.{is_eq, nat_cmp}
+use Rattle.std.proofs.lemmas.Bool.{true≢false, eq-eqb, eqb-true, cases_Bool, cond-true, cond-false, and_parts, and_from, false_from_ne_true}
+use Rattle.std.proofs.lemmas.Option.{none-some}
+use Rattle.std.proofs.lemmas.List.{length-map, get_or-map}
+use Rattle.std.proofs.lemmas.List.Elements.{All-contains, All-filter}
+use Rattle.std.proofs.lemmas.List.Quantifiers.{position-Some}
+use Rattle.std.proofs.Math.Logic.{∥∥₁_elim}
+use Rattle.std.proofs.Props.{props}
+use Rattle.lemmas.specs.Places.{first_position}
+use Rattle.lemmas.proofs.FirstPlaces.{equal_is, is_equal, number_there}
+use Rattle.program.specs.declared.contract.Edge.{Edge}
+use Rattle.program.specs.declared.contract.Message.{Message}
+use Rattle.program.specs.declared.contract.Sign.{Sign}
+use Rattle.program.specs.declared.contract.Sign.TheVariants.{Send, Receive}
+use Rattle.program.specs.declared.limits.TheConstants.{MOST_STATES}
+use Rattle.program.specs.declared.number.MessageId.{MessageId}
+use Rattle.program.specs.declared.number.StateId.{StateId}
+use Rattle.contracts.specs.Conditions.{IsSound}
+use Rattle.contracts.specs.Leaving.{same_sign, leaves, edges_from, end_on, name_among}
+use Rattle.contracts.specs.Parts.{Parts, message_parts, state_ids, IsWhole}
+use Rattle.contracts.specs.Walks.{IsNext}
+use Rattle.contracts.proofs.ArcLemmas.{none_in}
+use Rattle.contracts.proofs.PartLemmas.{all_from, contains_map}
+use Rattle.contracts.proofs.RingLemmas.{contains_head, contains_tail, contains_either, kept_in, in_kept}
+use Rattle.contracts.proofs.SoundLemmas.{same_edge}
+
+state_of : ℕ → StateId
+state_of n = record { 0 = n }
+
+message_of : ℕ → MessageId
+message_of n = record { 0 = n }
+
+same_is : (a b : Sign) → same_sign a b ≡ true → a ≡ b
+same_is Send Send h = refl
+same_is Receive Receive h = refl
+same_is Send Receive h = cc
+same_is Receive Send h = cc
+
+is_same : (a b : Sign) → a ≡ b → same_sign a b ≡ true
+is_same Send Send h = refl
+is_same Receive Receive h = refl
+is_same Send Receive h = cc
+is_same Receive Send h = cc
+
+-- an edge of the sign from the state on the message
+record IsOn (edges : List Edge) (s : Sign) (q : StateId) (m : MessageId) (e : Edge) : Type 0 where
+  listed : Contains edges e
+  from : e.from ≡ q
+  on : e.message ≡ m
+  sign : e.sign ≡ s
+
+-- one of the edges on the message ends there, or there is none
+abbrev Ended : List Edge → ℕ → Option ℕ → Type 0
+Ended edges m to = ((to ≡ None) × ((e : Edge) → Contains edges e → e.message.0 ≡ m → ⊥)) ⊎ ((e : Edge) × Contains edges e × (e.message.0 ≡ m) × (to ≡ Some e.to.0))
+
+ended_tail : (d : Edge) (edges : List Edge) (m : ℕ) (to : Option ℕ) → (d.message.0 ≡ m → ⊥) → Ended edges m to → Ended (d ∷ edges) m to
+ended_tail d edges m to other (inl none) = inl (none.0, λ e c on. contains_either ⊥ d e edges c (λ same. other (ap (λ (x : Edge). x.message.0) same ∙ on)) (λ later. none.1 e later on))
+ended_tail d edges m to other (inr some) = inr (some.0, contains_tail d some.0 edges some.1, some.2, some.3)
+
+ended : (edges : List Edge) (m : ℕ) → Ended edges m (end_on edges m)
+ended [] m = inl (refl, λ e c on. none_in e c)
+ended (d ∷ edges) m = ⊎_elim
+    (λ yes. inr (d, contains_head d edges, eqb-true d.message.0 m yes, cond-true (d.message.0 == m) (Some d.to.0) (end_on edges m) yes))
+    (λ no'. subst (Ended (d ∷ edges) m) (sym (cond-false (d.message.0 == m) (Some d.to.0) (end_on edges m) no'))
+    (ended_tail d edges m (end_on edges m) (λ on. true≢false (sym (eq-eqb d.message.0 m on) ∙ no')) (ended edges m)))
+    (cases_Bool (d.message.0 == m))
+
+-- the edges of the sign from the state are those of the contract that have it and begin there
+on_from : (edges : List Edge) (s : Sign) (q : StateId) (m : MessageId) (e : Edge) → Contains (edges_from edges s q.0) e → e.message.0 ≡ m.0 → IsOn edges s q m e
+unfolding state_of message_of
+on_from edges s q m e c on =
+    let kept = kept_in (leaves s q.0) edges e c in
+    let two = and_parts (e.from.0 == q.0) (same_sign e.sign s) kept.1 in
+    record { listed = kept.0; from = ap state_of (eqb-true e.from.0 q.0 two.0); on = ap message_of on; sign = same_is e.sign s two.1 }
+
+from_on : (edges : List Edge) (s : Sign) (q : StateId) (m : MessageId) (e : Edge) → IsOn edges s q m e → Contains (edges_from edges s q.0) e
+from_on edges s q m e h = in_kept (leaves s q.0) edges e h.listed (and_from (e.from.0 == q.0) (same_sign e.sign s) (eq-eqb e.from.0 q.0 (ap (λ (x : StateId). x.0) h.from)) (is_same e.sign s h.sign))
+
+end_none : (edges : List Edge) (s : Sign) (q : StateId) (m : MessageId) → ((d : Edge) → IsOn edges s q m d → ⊥) → None ≡ end_on (edges_from edges s q.0) m.0
+end_none edges s q m none = ⊎_elim
+    (λ is. sym is.0)
+    (λ some. absurd (none some.0 (on_from edges s q m some.0 some.1 some.2)))
+    (ended (edges_from edges s q.0) m.0)
+
+end_some : (edges : List Edge) (s : Sign) (q : StateId) (m : MessageId) (e : Edge) → IsOn edges s q m e → ((d : Edge) → IsOn edges s q m d → d ≡ e) → Some e.to.0 ≡ end_on (edges_from edges s q.0) m.0
+end_some edges s q m e h one = ⊎_elim
+    (λ none. absurd (none.1 e (from_on edges s q m e h) (ap (λ (x : MessageId). x.0) h.on)))
+    (λ some. sym (some.3 ∙ ap (λ (x : Edge). Some x.to.0) (one some.0 (on_from edges s q m some.0 some.1 some.2))))
+    (ended (edges_from edges s q.0) m.0)
+
+-- where the state has no edge on the message, none leads anywhere
+pub no_end : (edges : List Edge) (s : Sign) (q : StateId) (m : MessageId) → IsNext edges q m None → None ≡ end_on (edges_from edges s q.0) m.0
+no_end edges s q m none = end_none edges s q m (λ d h. none d h.listed h.from h.on)
+
+-- where its edge on the message has the sign, the message leads to the end of that edge
+pub end_there : (parts : Parts) → ∥ IsWhole parts ∥₁ → IsSound parts → (s : Sign) (q : StateId) (m : MessageId) (e : Edge) → Contains parts.edges e → e.from ≡ q → e.message ≡ m → e.sign ≡ s → Some e.to.0 ≡ end_on (edges_from parts.edges s q.0) m.0
+end_there parts whole sound s q m e c from on sign = ∥∥₁_elim whole (Prim.hlevel props) (λ w.
+    end_some parts.edges s q m e (record { listed = c; from = from; on = on; sign = sign })
+    (λ d h. same_edge parts w sound d e h.listed c (h.from ∙ sym from) (h.on ∙ sym on)))
+
+-- and where it has the other sign, nowhere
+pub end_elsewhere : (parts : Parts) → ∥ IsWhole parts ∥₁ → IsSound parts → (s : Sign) (q : StateId) (m : MessageId) (e : Edge) → Contains parts.edges e → e.from ≡ q → e.message ≡ m → (e.sign ≡ s → ⊥) → None ≡ end_on (edges_from parts.edges s q.0) m.0
+end_elsewhere parts whole sound s q m e c from on other = ∥∥₁_elim whole (Prim.hlevel props) (λ w.
+    end_none parts.edges s q m
+    (λ d h. other (sym (ap (λ (x : Edge). x.sign) (same_edge parts w sound d e h.listed c (h.from ∙ sym from) (h.on ∙ sym on))) ∙ h.sign)))
+
+-- an edge of a contract ends in a state with a number that a state may have
+pub to_numbered : (parts : Parts) → ∥ IsWhole parts ∥₁ → (e : Edge) → Contains parts.edges e → e.to.0 < MOST_STATES
+to_numbered parts whole e c = ∥∥₁_elim whole (Prim.hlevel props) (λ w.
+    All-contains (λ (q : StateId). q.0 < MOST_STATES) (state_ids parts) e.to w.numbered (w.to e c))
+
+pub ends_numbered : (parts : Parts) → ∥ IsWhole parts ∥₁ → (s : Sign) (q : ℕ) → All (λ (e : Edge). e.to.0 < MOST_STATES) (edges_from parts.edges s q)
+ends_numbered parts whole s q = All-filter (leaves s q) (λ (e : Edge). e.to.0 < MOST_STATES) parts.edges
+    (all_from (λ (e : Edge). e.to.0 < MOST_STATES) parts.edges (to_numbered parts whole))
+
+-- the name of the first message of a number
+name_first : (messages : List Message) (x i : ℕ) (d : Message) → i < length messages → (get_or messages i d).id.0 ≡ x → ((k : ℕ) → k < i → (get_or messages k d).id.0 ≡ x → ⊥) → string_bytes (get_or messages i d).name ≡ name_among (map message_parts messages) x
+name_first [] x i d lt is before = absurd (omega (arith, lt))
+name_first (m ∷ messages) x zero d lt is before = sym (cond-true (m.id.0 == x) (string_bytes m.name) (name_among (map message_parts messages) x) (eq-eqb m.id.0 x is))
+name_first (m ∷ messages) x (suc i) d lt is before =
+    name_first messages x i d (omega (arith, lt)) is (λ k less. before (suc k) (omega (arith, less)))
+    ∙ sym (cond-false (m.id.0 == x) (string_bytes m.name) (name_among (map message_parts messages) x) (false_from_ne_true (m.id.0 == x) (λ e. before 0 (omega arith) (eqb-true m.id.0 x e))))
+
+name_nowhere : (messages : List Message) (x : ℕ) → ((m : Message) → Contains messages m → m.id.0 ≡ x → ⊥) → [] ≡ name_among (map message_parts messages) x
+name_nowhere [] x none = refl
+name_nowhere (m ∷ messages) x none =
+    name_nowhere messages x (λ n c. none n (contains_tail m n messages c))
+    ∙ sym (cond-false (m.id.0 == x) (string_bytes m.name) (name_among (map message_parts messages) x) (false_from_ne_true (m.id.0 == x) (λ e. none m (contains_head m messages) (eqb-true m.id.0 x e))))
+
+-- at the position of a number stands the first message that has it
+pub name_there : (messages : List Message) (x i : ℕ) (d : Message) → first_position nat_cmp (map (λ (m : Message). m.id.0) messages) x ≡ Some i → string_bytes (get_or messages i d).name ≡ name_among (map message_parts messages) x
+name_there messages x i d is =
+    let at = position-Some (λ y. is_eq (nat_cmp x y)) (map (λ (m : Message). m.id.0) messages) i 0 is in
+    let size = length-map messages (λ (m : Message). m.id.0) in
+    let long = at.0 in
+    let lt : i < length messages = omega (arith, long, size) in
+    let number = λ (k : ℕ) (below : k < length messages). get_or-map (λ (m : Message). m.id.0) messages k d 0 below in
+    name_first messages x i d lt (sym (number i lt) ∙ sym (equal_is x _ at.1))
+    (λ k less same. let below : k < length messages = omega (arith, less, lt) in
+    true≢false (sym (ap (λ y. is_eq (nat_cmp x y)) (number k below ∙ same) ∙ is_equal x) ∙ at.2 k less))
+
+-- where a number has no position, no message has it
+pub no_name : (messages : List Message) (x : ℕ) → first_position nat_cmp (map (λ (m : Message). m.id.0) messages) x ≡ None → [] ≡ name_among (map message_parts messages) x
+no_name messages x none = name_nowhere messages x (λ m c is.
+    let there = number_there (map (λ (m : Message). m.id.0) messages) x (subst (Contains (map (λ (m : Message). m.id.0) messages)) is (contains_map (λ (m : Message). m.id.0) messages m c)) in
+    none-some there.0 (sym none ∙ there.1))

@@ -1,0 +1,59 @@
+-- The cases of a switch: the endpoints that they name, and the case for what comes at one of them.
+use Rattle.std.specs.Prelude.{◌≡◌, ℕ, ◌==◌, Bool, true, false, ◌&&◌, List, [], ◌∷◌, Option, Some, None, map, if◌then◌else◌}
+use Rattle.std.specs.BTreeMap.{BTreeMap, get}
+use Rattle.std.specs.Option.{option_cmp}
+use Rattle.std.specs.Ordering.{nat_cmp, ordering_then}
+use Rattle.std.specs.declared.cmp.Ordering.{Ordering}
+use Rattle.lemmas.specs.Places.{first_position}
+use Rattle.program.specs.Lists.{is_among}
+use Rattle.program.specs.declared.number.VarId.{VarId}
+use Rattle.program.specs.declared.statement.Awaited.{Awaited}
+use Rattle.program.specs.declared.statement.Awaited.TheVariants.{Message, Closed}
+use Rattle.program.specs.declared.statement.Mention.{Mention}
+use Rattle.flow.specs.declared.graph.Entrance.{Entrance}
+
+-- a case of a switch: its endpoint, what it waits for, what it binds, and the point at which the method goes on then
+pub record EntranceSeen : Type 0 where
+  pub endpoint : Mention
+  pub awaited : Awaited
+  pub bound : List VarId
+  pub next : ℕ
+
+abbrev pub entrance_seen : Entrance → EntranceSeen
+entrance_seen e = record { endpoint = e.endpoint; awaited = e.awaited; bound = e.bound.items; next = e.next }
+
+-- the endpoints of cases, each where it is named first, but for these
+abbrev pub first_mentions : List ℕ → List EntranceSeen → List Mention
+first_mentions seen [] = []
+first_mentions seen (c ∷ cases) =
+    if is_among seen c.endpoint.variable.0 then first_mentions seen cases else (c.endpoint ∷ first_mentions (c.endpoint.variable.0 ∷ seen) cases)
+
+-- a case waits for this message, or where there is none, for the close
+abbrev pub awaits : Awaited → Option ℕ → Bool
+awaits (Message id) (Some message) = id.0 == message
+awaits Closed None = true
+awaits _ _ = false
+
+-- the first case for it at this endpoint
+abbrev pub case_for : List EntranceSeen → ℕ → Option ℕ → Option EntranceSeen
+case_for [] endpoint message = None
+case_for (c ∷ cases) endpoint message = if (c.endpoint.variable.0 == endpoint) && awaits c.awaited message then Some c else case_for cases endpoint message
+
+-- what tells cases apart: the number of the endpoint, and of the message where it waits for one
+abbrev pub CaseKey : Type 0
+CaseKey = ℕ × Option ℕ
+
+abbrev pub awaited_number : Awaited → Option ℕ
+awaited_number (Message id) = Some id.0
+awaited_number Closed = None
+
+abbrev pub key_of : EntranceSeen → CaseKey
+key_of c = (c.endpoint.variable.0, awaited_number c.awaited)
+
+-- how these are compared
+abbrev pub key_cmp : CaseKey → CaseKey → Ordering
+key_cmp x y = ordering_then (nat_cmp x.0 y.0) (option_cmp nat_cmp x.1 y.1)
+
+-- the map has for each key the position of the first case that has it
+abbrev pub AreCasePositions : List EntranceSeen → BTreeMap CaseKey ℕ → Type 0
+AreCasePositions cases positions = (k : CaseKey) → get key_cmp positions k ≡ first_position key_cmp (map key_of cases) k

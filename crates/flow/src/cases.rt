@@ -1,0 +1,111 @@
+//! The cases of a switch.
+
+ghost use Rattle.std.specs.Prelude.{◌≡◌, [], IfOk, map, option_map};
+ghost use Rattle.std.proofs.Props.{props};
+ghost use Rattle.flow.specs.Cases.{AreCasePositions, entrance_seen, first_mentions, key_of};
+
+use crate::graph::Entrance;
+use lemmas::first_positions;
+use program::{Awaited, Mention, MessageId, VarId};
+use source::Memory;
+use std::alloc::Global;
+use std::collections::{BTreeMap, BTreeSet};
+
+/// The cases of a switch in order of the text. It finds the case for what comes at an endpoint by their numbers.
+#[derive(Drop)]
+pub struct Cases {
+    list: Vec<Entrance>,
+    endpoints: Vec<Mention>,
+    firsts: BTreeMap<(usize, Option<u32>), usize>,
+    ghost named: { endpoints.items ≡ first_mentions [] (map entrance_seen list.items) },
+    ghost keyed: { AreCasePositions (map entrance_seen list.items) firsts } by { Prim.hlevel props },
+}
+
+impl Cases {
+    ghost use Rattle.flow.specs.Cases.{case_for};
+    ghost use Rattle.flow.specs.Graphs.{cases_seen};
+
+    /// These cases.
+    ///
+    /// `Memory` is answered where a growth was refused.
+    pub fn new(alloc: Global, list: Vec<Entrance>) -> Result<Cases, Memory>
+        ensures { IfOk result (λ cases. cases_seen cases ≡ map entrance_seen list.items) }
+    {
+        let endpoints = endpoints_of(alloc, &list)?;
+        let firsts = first_positions(alloc, &keys_of(alloc, &list)?)?;
+        Ok(Cases {
+            list,
+            endpoints,
+            firsts,
+        })
+    }
+
+    /// Its cases, in order of the text.
+    pub fn list(&self) -> &[Entrance]
+        ensures { map entrance_seen result.now ≡ cases_seen self.now }
+    {
+        &self.list
+    }
+
+    /// Its endpoints, each where a case names it first.
+    pub fn endpoints(&self) -> &[Mention]
+        ensures { result.now ≡ first_mentions [] (cases_seen self.now) }
+    {
+        &self.endpoints
+    }
+
+    /// The case for a message at an endpoint, or, where there is no message, for the close.
+    pub fn find(&self, endpoint: VarId, message: Option<MessageId>) -> Option<&Entrance>
+        ensures { option_map (λ e. entrance_seen e.now) result
+            ≡ case_for (cases_seen self.now) endpoint.0 (option_map (λ m. m.0) message) }
+    {
+        let key = (endpoint.0, number_of(message));
+        let position = self.firsts.get(&key).copied()?;
+        Some(&self.list[position])
+    }
+}
+
+/// The endpoints of these cases, each where it is named first.
+fn endpoints_of(alloc: Global, cases: &[Entrance]) -> Result<Vec<Mention>, Memory>
+    ensures { IfOk result (λ endpoints. endpoints.items ≡ first_mentions [] (map entrance_seen cases.now)) }
+{
+    let mut seen = BTreeSet::new(alloc);
+    let mut endpoints = Vec::new(alloc);
+    for case in cases {
+        if seen.insert(case.endpoint.variable.0)? {
+            endpoints.push(case.endpoint)?;
+        }
+    }
+    Ok(endpoints)
+}
+
+/// The number of a message, if there is one.
+fn number_of(message: Option<MessageId>) -> Option<u32>
+    ensures { result ≡ option_map (λ m. m.0) message }
+{
+    match message {
+        Some(message) => Some(message.0),
+        None => None,
+    }
+}
+
+/// What tells cases apart.
+fn key_of(case: &Entrance) -> (usize, Option<u32>)
+    ensures { result ≡ key_of (entrance_seen case.now) }
+{
+    match case.awaited {
+        Awaited::Message(id) => (case.endpoint.variable.0, Some(id.0)),
+        Awaited::Closed => (case.endpoint.variable.0, None),
+    }
+}
+
+/// What tells each of these cases apart.
+fn keys_of(alloc: Global, cases: &[Entrance]) -> Result<Vec<(usize, Option<u32>)>, Memory>
+    ensures { IfOk result (λ keys. keys.items ≡ map (λ c. key_of (entrance_seen c)) cases.now) }
+{
+    let mut keys = Vec::new(alloc);
+    for case in cases {
+        keys.push(key_of(case))?;
+    }
+    Ok(keys)
+}
