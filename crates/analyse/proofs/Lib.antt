@@ -4,3 +4,4 @@ pub mod PairLemmas
 pub mod VerdictLemmas
 pub mod WholeLemmas
 pub mod SearchLemmas
+pub mod EachLemmas

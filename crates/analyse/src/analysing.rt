@@ -2,7 +2,7 @@
 
 ghost use Rattle.std.specs.Prelude.{◌≡◌, ◌<◌, IfOk, IfErr, length, map};
 ghost use Rattle.source.specs.Findings.{finding_parts};
-ghost use Rattle.rules.specs.Programs.{methods_of};
+ghost use Rattle.rules.specs.Programs.{seen_of};
 ghost use Rattle.analyse.specs.Tasks.{findings_of, number_of, program_of, verdict_number};
 ghost use Rattle.analyse.specs.Verdicts.{IsMethodVerdict};
 
@@ -22,10 +22,10 @@ pub const MOST_PAIRS: usize = 20_000;
 ///
 /// `Memory` is answered where a growth was refused, and gives the task back.
 pub fn analyse(alloc: Global, task: Task, program: &Program) -> Result<Verdict, (Task, Memory)>
-    requires there { number_of task < length (methods_of program.now) }
+    requires there { number_of task < length (seen_of program.now).methods }
     ensures program { IfOk result (λ v. program_of v ≡ program.now) }
     ensures method { IfOk result (λ v. verdict_number v ≡ number_of task) }
-    ensures found { IfOk result (λ v. IsMethodVerdict (methods_of program.now) (number_of task) (map finding_parts (findings_of v))) }
+    ensures found { IfOk result (λ v. IsMethodVerdict (seen_of program.now) (number_of task) (map finding_parts (findings_of v))) }
     ensures kept { IfErr result (λ e. e.0 ≡ task) }
 {
     match verdict_of(alloc, program, task.method) {

@@ -1,11 +1,14 @@
 //! Laws of the search: they hold of every program.
 
 ghost use Rattle.std.specs.Prelude.{◌≡◌, ℕ, List, Some, slice_get};
+ghost use Rattle.source.specs.Findings.{FindingParts};
 ghost use Rattle.program.specs.Methods.{MethodSeen};
-ghost use Rattle.rules.specs.RuleTable.{Pair};
+ghost use Rattle.program.specs.Programs.{ProgramSeen};
+ghost use Rattle.rules.specs.Outcomes.{Pair};
 ghost use Rattle.rules.specs.Rows.{IsRowOf};
 ghost use Rattle.rules.specs.Steps.{entry_of, outcome};
 ghost use Rattle.analyse.specs.Reach.{Reached};
+ghost use Rattle.analyse.specs.Verdicts.{IsMethodVerdict};
 ghost use Rattle.analyse.specs.declared.analysing.TheConstants.{MOST_PAIRS};
 
 use rules::laws::a_leaf_for_each_variable;
@@ -17,8 +20,13 @@ pub fn limits()
 
 /// The row of each pair that is reached has a leaf for each variable of the method.
 pub fn reached_rows_are_whole()
-    ensures { (methods : List MethodSeen) (n : ℕ) (m : MethodSeen) (pair : Pair) → slice_get methods n ≡ Some m
-        → Reached (outcome methods n) (entry_of methods n) pair → IsRowOf m pair.1 }
+    ensures { (p : ProgramSeen) (n : ℕ) (m : MethodSeen) (pair : Pair) → slice_get p.methods n ≡ Some m
+        → Reached (outcome p n) (entry_of p n) pair → IsRowOf m pair.1 }
 {
     a_leaf_for_each_variable();
 }
+
+/// Each method has a verdict: its findings are a list, so there is always an answer beside `Memory`.
+pub fn each_method_has_a_verdict()
+    ensures { (p : ProgramSeen) (n : ℕ) → ((found : List FindingParts) → IsMethodVerdict p n found → ⊥) → ⊥ }
+{}

@@ -1,7 +1,7 @@
 //! Methods that are still to be analysed.
 
 ghost use Rattle.std.specs.Prelude.{◌≡◌, ◌<◌, ◌^◌, IfOk, length, map};
-ghost use Rattle.rules.specs.Programs.{methods_of};
+ghost use Rattle.rules.specs.Programs.{seen_of};
 ghost use Rattle.analyse.specs.Tasks.{numbers_below, number_of};
 
 use program::MethodId;
@@ -42,8 +42,8 @@ pub fn give_up_all(mut tasks: IntoIter<Task, Global>) {
 ///
 /// `Memory` is answered where a growth was refused.
 pub fn tasks(alloc: Global, program: &Program) -> Result<Vec<Task>, Memory>
-    requires few { length (methods_of program.now) < 2 ^ 32 }
-    ensures { IfOk result (λ tasks. map number_of tasks.items ≡ numbers_below (length (methods_of program.now))) }
+    requires few { length (seen_of program.now).methods < 2 ^ 32 }
+    ensures { IfOk result (λ tasks. map number_of tasks.items ≡ numbers_below (length (seen_of program.now).methods)) }
 {
     let count = program.methods().len();
     let mut tasks = Vec::with_capacity(alloc, count)?;

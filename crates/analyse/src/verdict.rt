@@ -2,7 +2,7 @@
 
 ghost use Rattle.std.specs.Prelude.{◌≡◌, map};
 ghost use Rattle.source.specs.Findings.{finding_parts};
-ghost use Rattle.rules.specs.Programs.{methods_of};
+ghost use Rattle.rules.specs.Programs.{seen_of};
 ghost use Rattle.analyse.specs.Verdicts.{IsMethodVerdict};
 
 use program::MethodId;
@@ -17,7 +17,7 @@ pub struct Verdict {
     pub(crate) method: MethodId,
     pub(crate) program: Snapshot<Program>,
     pub(crate) findings: Vec<Finding>,
-    ghost judged: { ∥ IsMethodVerdict (methods_of program.value) method.0 (map finding_parts findings.items) ∥₁ },
+    ghost judged: { ∥ IsMethodVerdict (seen_of program.value) method.0 (map finding_parts findings.items) ∥₁ },
 }
 
 impl Verdict {
@@ -33,7 +33,7 @@ impl Verdict {
     /// What is found in it, in no order, and perhaps more than once.
     pub fn findings(&self) -> &[Finding]
         ensures findings { result.now ≡ findings_of self.now }
-        ensures judged { ∥ IsMethodVerdict (methods_of (program_of self.now)) (verdict_number self.now) (map finding_parts result.now) ∥₁ }
+        ensures judged { ∥ IsMethodVerdict (seen_of (program_of self.now)) (verdict_number self.now) (map finding_parts result.now) ∥₁ }
     {
         &self.findings
     }
@@ -41,7 +41,7 @@ impl Verdict {
     /// What is found in it, in no order, and perhaps more than once.
     pub fn into_findings(self) -> Vec<Finding>
         ensures findings { result.items ≡ findings_of self }
-        ensures judged { ∥ IsMethodVerdict (methods_of (program_of self)) (verdict_number self) (map finding_parts result.items) ∥₁ }
+        ensures judged { ∥ IsMethodVerdict (seen_of (program_of self)) (verdict_number self) (map finding_parts result.items) ∥₁ }
     {
         self.findings
     }

@@ -31,6 +31,16 @@ among_numbers f id make same first ys n h =
     let size = numbers f id first ys in
     (k, omega (arith, lt, size), number_at f id make same first ys k (make n) lt ∙ ap make (omega (arith, low)))
 
+-- what each number among so many has, the number of each thing has
+pub all_numbered : {Y Z I : Type 0} (P : I → Type 0) (f : ℕ → Y → Z) (id : Z → I) (make : ℕ → I)
+    → ((n : ℕ) (y : Y) → id (f n y) ≡ make n) → (first : ℕ) (ys : List Y) → ((n : ℕ) → Among first (length ys) n → P (make n))
+    → All P (map id (map (λ p. f p.0 p.1) (enumerate_from first ys)))
+all_numbered P f id make same first ys each = λ k d lt.
+    let size = numbers f id first ys in
+    let within : k < length ys = omega (arith, lt, size) in
+    let among : Among first (length ys) (first + k) = record { low = omega arith; high = omega (arith, within) } in
+    subst P (sym (number_at f id make same first ys k d within)) (each (first + k) among)
+
 pub once_numbered : {Y Z I : Type 0} (f : ℕ → Y → Z) (id : Z → I) (make : ℕ → I) (value : I → ℕ) → ((n : ℕ) (y : Y) → id (f n y) ≡ make n) → ((n : ℕ) → value (make n) ≡ n) → (first : ℕ) (ys : List Y)
     → AllPairs (λ x y. x ≢ y) (map id (map (λ p. f p.0 p.1) (enumerate_from first ys)))
 once_numbered f id make value same back first ys = λ i j d less lt e.

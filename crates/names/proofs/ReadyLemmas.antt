@@ -122,10 +122,20 @@ not_past most names none =
     (λ w. w.0)
     (slice_get_cases names most).1
 
+-- where nothing is wrong with a program, nothing is within its contracts
+pub contracts_clean : (p : Program) → program_findings p ≡ [] → flat_map (contract_findings p) (contracts_of p.items) ≡ []
+contracts_clean p nothing = all_clean p p.items (nil_right (counted_findings p) _ (nil_right (items_findings p) _ nothing))
+
+-- and there are no more states than there may be
+pub few_states : (p : Program) → program_findings p ≡ [] → state_count (contracts_of p.items) ≤ MOST_STATES
+few_states p nothing =
+    let cs = contracts_of p.items in
+    let limits = nil_left (counted_findings p) _ (nil_right (items_findings p) _ nothing) in
+    not_past MOST_STATES (all_counted_states cs) (nil_right (past_limit MOST_CONTRACTS (names_of_contracts cs)) _ limits)
+
 -- what is known of a scope with whose names nothing is wrong
 pub record IsCleared (p : Program) (scope : Scope) : Type 0 where
   pub clean : program_findings p ≡ []
-  pub none : flat_map (contract_findings p) (contracts_of p.items) ≡ []
   pub ready : All (IsReady p.text) (declared_in scope.members.items)
   pub messages : declared_messages (declared_in scope.members.items) ≡ message_count (contracts_of p.items)
   pub states : declared_states (declared_in scope.members.items) ≤ MOST_STATES
@@ -136,16 +146,11 @@ cleared p scope h nothing =
     let cs = contracts_of p.items in
     let ds = declared_in scope.members.items in
     let all : AreDeclared p.text cs ds = all_declared p.text p.items scope.members.items h.members in
-    let behind = nil_right (items_findings p) _ nothing in
-    let limits = nil_left (counted_findings p) _ behind in
-    let within = nil_right (counted_findings p) _ behind in
-    let each : flat_map (contract_findings p) cs ≡ [] = all_clean p p.items within in
     record {
       clean = nothing;
-      none = each;
-      ready = all_ready p cs ds all each;
+      ready = all_ready p cs ds all (contracts_clean p nothing);
       messages = messages_are p.text cs ds all;
-      states = let most = not_past MOST_STATES (all_counted_states cs) (nil_right (past_limit MOST_CONTRACTS (names_of_contracts cs)) _ limits) in let many = states_are p.text cs ds all in omega (arith, most, many);
+      states = let few = few_states p nothing in let many = states_are p.text cs ds all in omega (arith, few, many);
       resolved = all_is p.text cs ds all;
     }
 

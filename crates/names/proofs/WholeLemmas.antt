@@ -10,10 +10,11 @@ use Rattle.std.proofs.lemmas.List.Folds.{length-flat_map-take}
 use Rattle.std.proofs.lemmas.List.Quantifiers.{position-Some}
 use Rattle.lemmas.proofs.Lists.{nil_left, nil_right}
 use Rattle.source.specs.declared.token.Span.{Span}
-use Rattle.tree.specs.Trees.{ContractTree, Empty, MessageTree, PathTree, StateTree}
+use Rattle.tree.specs.Trees.{ContractTree, Empty, MessageTree, PathTree, StateTree, contracts_of}
 use Rattle.tree.specs.declared.contract as tree
 use Rattle.names.specs.Declarations.{counted_in_state, counted_states, first_among, is_declared, messages_of, names_of_messages, names_of_states, paths_of, states_of, unnamed_of}
 use Rattle.names.specs.ContractFindings.{contract_findings, path_findings, state_findings}
+use Rattle.names.specs.Findings.{program_findings}
 use Rattle.names.specs.Found.{unknown}
 use Rattle.names.specs.Listed.{asked_name}
 use Rattle.names.specs.Meant.{path_left}
@@ -23,12 +24,13 @@ use Rattle.names.specs.Resolution.{Meanings, counted_in, edges_from, message_cou
 use Rattle.names.specs.Words.{same_word, word_at, words_at}
 use Rattle.program.specs.declared.contract.Contract.{Contract}
 use Rattle.program.specs.declared.contract.Edge.{Edge}
+use Rattle.program.specs.declared.limits.TheConstants.{MOST_STATES}
 use Rattle.program.specs.declared.number.MessageId.{MessageId}
 use Rattle.program.specs.declared.number.StateId.{StateId}
 use Rattle.names.proofs.BehindLemmas.{nothing_in}
 use Rattle.names.proofs.MeantLemmas.{as_counted, path_is}
-use Rattle.names.proofs.NumberLemmas.{Among, all_behind, among_numbers, once_numbered}
-use Rattle.names.proofs.ReadyLemmas.{clean_edges}
+use Rattle.names.proofs.NumberLemmas.{Among, all_behind, all_numbered, among_numbers, once_numbered}
+use Rattle.names.proofs.ReadyLemmas.{clean_edges, contracts_clean, few_states}
 
 -- a name that nothing is wrong with stands among those that are declared
 pub record Declared (text : List ℕ) (names : List Span) (name : Span) : Type 0 where
@@ -131,10 +133,12 @@ edges_known text m s messages states none =
     path_known text m s messages states from (from + 1 + length (flat_map unnamed_of (take j paths))) p (ap findings same ∙ nothing_in findings paths j p within clean)
     (omega arith) (omega arith) (omega (arith, front, here, room, more, size))))
 
--- a contract that has a state, and whose edges name what it declares, is whole
+-- A contract that has a state, and whose edges name what it declares, is whole. No state has a number past the limit where no more
+-- states stand before it.
 whole_of : (text : List ℕ) (m s : ℕ) (name : Span) (messages : List MessageTree) (states : List StateTree) → 0 < length (counted_states states)
+    → s + length (counted_states states) ≤ MOST_STATES
     → flat_map (state_findings text (names_of_messages messages) (names_of_states states)) states ≡ [] → IsWhole (resolved_contract text m s name messages states).parts
-whole_of text m s name messages states some none =
+whole_of text m s name messages states some few none =
     let counted = flat_map (counted_in text) states in
     let many = as_counted text states in
     let edges = edges_from (means_in text m s messages states) s states in
@@ -144,6 +148,7 @@ whole_of text m s name messages states some none =
     let message_id : ℕ → MessageId = λ n. record { 0 = n } in
     let state = λ (n : ℕ) (h : Among s (length (counted_states states)) n). among_numbers numbered_state (λ t. t.id) state_id (λ k y. refl) s counted n (subst (λ l. Among s l n) (sym many) h) in
     let message = λ (n : ℕ) (h : Among m (length messages) n). among_numbers (numbered_message text) (λ t. t.id) message_id (λ k y. refl) m messages n h in
+    let below : (n : ℕ) → Among s (length counted) n → n < MOST_STATES = λ n h. let high = h.high in omega (arith, high, many, few) in
     record {
       first = state s (record { low = omega arith; high = omega (arith, some) });
       from = λ e h. state e.from.0 (edge e h).from;
@@ -151,22 +156,33 @@ whole_of text m s name messages states some none =
       message = λ e h. message e.message.0 (edge e h).message;
       states_once = once_numbered numbered_state (λ t. t.id) state_id (λ i. i.0) (λ k y. refl) (λ k. refl) s counted;
       messages_once = once_numbered (numbered_message text) (λ t. t.id) message_id (λ i. i.0) (λ k y. refl) (λ k. refl) m messages;
+      numbered = all_numbered (λ q. q.0 < MOST_STATES) numbered_state (λ t. t.id) state_id (λ k y. refl) s counted below;
     }
 
-all_whole : (p : Program) (contracts : List ContractTree) → flat_map (contract_findings p) contracts ≡ [] → All (λ s. IsWhole s.parts) (resolved_contracts p.text contracts)
-all_whole p contracts none =
+all_whole : (p : Program) (contracts : List ContractTree) → flat_map (contract_findings p) contracts ≡ []
+    → state_count contracts ≤ MOST_STATES → All (λ s. IsWhole s.parts) (resolved_contracts p.text contracts)
+all_whole p contracts none few =
     let text = p.text in
     let whole = λ (s : ContractSeen). IsWhole s.parts in
     let seen = λ (before : List ContractTree) (c : ContractTree). resolved_contract text (message_count before) (state_count before) c.name (messages_of c) (states_of c) in
     all_behind whole (λ before c. seen before c ∷ []) [] contracts
-    (λ i c lt is. let before = take i contracts in
-    All-cons whole (seen before c) [] (whole_of text (message_count before) (state_count before) c.name (messages_of c) (states_of c) (omega arith)
+    (λ i c lt is.
+    let before = take i contracts in
+    let room = length-flat_map-take (λ k. counted_states (states_of k)) contracts i c lt in
+    let here = ap (λ k. length (counted_states (states_of k))) is in
+    let within : state_count before + length (counted_states (states_of c)) ≤ MOST_STATES = omega (arith, room, here, few) in
+    All-cons whole (seen before c) []
+    (whole_of text (message_count before) (state_count before) c.name (messages_of c) (states_of c) (omega arith) within
     (clean_edges p c (ap (contract_findings p) is ∙ nothing_in (contract_findings p) contracts i c lt none))) (All-nil whole))
 
+-- the contracts of a program with which nothing is wrong are whole
+pub clean_whole : (p : Program) → program_findings p ≡ [] → All (λ s. IsWhole s.parts) (resolved_contracts p.text (contracts_of p.items))
+clean_whole p nothing = all_whole p (contracts_of p.items) (contracts_clean p nothing) (few_states p nothing)
+
 -- the same of contracts that are seen so
-pub seen_whole : (p : Program) (contracts : List ContractTree) (resolved : List Contract) → map contract_seen resolved ≡ resolved_contracts p.text contracts → flat_map (contract_findings p) contracts ≡ []
-    → All (λ c. IsWhole (contract_parts c)) resolved
-seen_whole p contracts resolved are none = λ k d lt.
+pub seen_whole : (p : Program) (resolved : List Contract) → map contract_seen resolved ≡ resolved_contracts p.text (contracts_of p.items)
+    → program_findings p ≡ [] → All (λ c. IsWhole (contract_parts c)) resolved
+seen_whole p resolved are nothing = λ k d lt.
     let size = length-map resolved contract_seen in
-    let all = subst (All (λ s. IsWhole s.parts)) (sym are) (all_whole p contracts none) in
+    let all = subst (All (λ s. IsWhole s.parts)) (sym are) (clean_whole p nothing) in
     subst (λ s. IsWhole s.parts) (get_or-map contract_seen resolved k d (contract_seen d) lt) (all k (contract_seen d) (omega (arith, lt, size)))

@@ -5,7 +5,6 @@ use Rattle.source.specs.declared.token.Span.{Span}
 use Rattle.source.specs.declared.finding.Code.TheVariants.{N08, N09}
 use Rattle.tree.specs.Trees.{MessageTree}
 use Rattle.tree.specs.declared.contract as contract_nodes
-use Rattle.program.specs.declared.kind as kind_nodes
 use Rattle.tree.specs.declared.types as type_nodes
 use Rattle.program.specs.declared.kind.Side.{Side}
 use Rattle.names.specs.Found.{FindingParts, unknown}

@@ -8,8 +8,6 @@ use Rattle.program.specs.declared.kind.Side.{Side}
 use Rattle.program.specs.declared.kind.Side.TheVariants as side
 use Rattle.program.specs.declared.contract.Direction.{Direction}
 use Rattle.program.specs.declared.contract.Direction.TheVariants as direction
-use Rattle.program.specs.declared.contract as sign_nodes
-use Rattle.program.specs.declared.kind as kind_nodes
 use Rattle.tree.specs.declared.types as type_nodes
 use Rattle.std.specs.Str.Lossy.{utf8_lossy}
 use Rattle.names.specs.Declarations.{first_among, messages_of, names_of_messages}

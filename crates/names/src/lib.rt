@@ -15,6 +15,7 @@ mod heads;
 mod items;
 mod judging;
 mod kinds;
+pub mod laws;
 mod meaning;
 mod members;
 mod mentions;

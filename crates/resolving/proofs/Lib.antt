@@ -5,7 +5,6 @@ pub mod ScopeLemmas
 pub mod LocalLemmas
 pub mod StatementTwins
 pub mod SeenTwins
-pub mod PassedLemmas
 pub mod BodyLemmas
 pub mod KeepLemmas
 pub mod BlockLemmas

@@ -4,7 +4,6 @@ use Rattle.std.specs.Option.{option_map_or}
 use Rattle.source.specs.declared.token.Span.{Span}
 use Rattle.tree.specs.Trees.{contracts_of}
 use Rattle.tree.specs.declared.types as type_nodes
-use Rattle.program.specs.declared.kind as kind_nodes
 use Rattle.tree.specs.declared.types.Heap.TheVariants as heap
 use Rattle.program.specs.declared.kind.Side.{Side}
 use Rattle.tree.specs.declared.types.Type.TheVariants as type

@@ -9,9 +9,7 @@ pub mod Binds
 pub mod Plain
 pub mod Told
 pub mod Around
-pub mod Unknown
 pub mod Brought
 pub mod Methods
 pub mod Frames
 pub mod Steps
-pub mod Passed

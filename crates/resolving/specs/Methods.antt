@@ -1,5 +1,5 @@
 -- The methods of a program with a number for each variable of the exchange heap.
-use Rattle.std.specs.Prelude.{ℕ, List, [], ◌∷◌, map, if◌then◌else◌, Option, None, is_some, option_map}
+use Rattle.std.specs.Prelude.{ℕ, List, [], ◌∷◌, map, if◌then◌else◌, None, is_some, option_map}
 use Rattle.std.specs.List.{enumerate_from, flat_map}
 use Rattle.source.specs.declared.place.Place.{Place}
 use Rattle.tree.specs.StatementTrees as stated
@@ -13,12 +13,10 @@ use Rattle.program.specs.Methods.{MethodSeen}
 use Rattle.program.specs.Statements.{StatementsSeen}
 use Rattle.program.specs.declared.method.Role.{Role}
 use Rattle.program.specs.declared.method.Role.TheVariants.{Lent, Claimed}
-use Rattle.resolving.specs.Callees.{all_methods}
 use Rattle.resolving.specs.Locals.{Frame, declared, number_of}
 use Rattle.resolving.specs.Kinds.{type_held, result_held}
 use Rattle.resolving.specs.Told.{Told, stays_here, statements_told}
 use Rattle.resolving.specs.declared.locals.Declaration.{Declaration}
-use Rattle.resolving.specs.Unknown.{unknown_methods}
 
 abbrev pub role_of : made.Parameter.Parameter → Role
 role_of x = if x.claims then Claimed else Lent
@@ -63,7 +61,3 @@ item_told p i = map (method_told p i.0) (methods_in i.1.definition)
 -- the methods of a program, in order of the text
 abbrev pub methods_told : Program → List MethodSeen
 methods_told p = flat_map (item_told p) (enumerate_from 0 p.items)
-
--- the place of what is not analysed yet, if there is something
-abbrev pub not_yet : List ItemTree → Option Place
-not_yet items = unknown_methods (all_methods items)

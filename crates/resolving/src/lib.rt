@@ -16,8 +16,6 @@ mod reads;
 mod sends;
 mod statements;
 mod staying;
-mod unknown;
 mod values;
 
 pub use methods::{Program, resolve_methods};
-pub use unknown::first_unknown;

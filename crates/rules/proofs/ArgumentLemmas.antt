@@ -1,31 +1,32 @@
 -- Checks of arguments: what was found stands for them, argument by argument.
-use Rattle.std.proofs.Common.{◌≡◌, ℕ, ◌+◌, ◌<◌, ◌≤◌, Bool, true, false, not, cond, ◌||◌, ◌==◌, List, [], ◌∷◌, ◌++◌, length, drop, slice_index_or, Option, None, Some, if◌then◌else◌, refl, sym, ap, ◌∙◌, append_assoc, arith}
+use Rattle.std.proofs.Common.{◌≡◌, ℕ, ◌+◌, ◌<◌, ◌≤◌, Bool, true, false, not, cond, ◌||◌, ◌==◌, List, [], ◌∷◌, ◌++◌, length, drop, slice_index_or, Option, None, Some, if◌then◌else◌, refl, sym, ap, ◌∙◌, append_assoc, arith, zip, ◌⊎◌, inl, inr, min, ⊎_elim}
 use Rattle.std.specs.BTreeSet.{BTreeSet, contains, IsEmpty, Updates}
 use Rattle.std.specs.BTreeMap.{is_at}
 use Rattle.std.specs.List.{list_any}
 use Rattle.std.specs.Option.{option_map}
 use Rattle.std.specs.Ordering.{nat_cmp}
+use Rattle.std.proofs.lemmas.Bool.{cases_lt}
 use Rattle.std.proofs.lemmas.Bool.Decides.{nat_tests}
-use Rattle.std.proofs.lemmas.List.{at_drop_all, at_drop_more}
+use Rattle.std.proofs.lemmas.List.{at_drop_all, at_drop_more, drop_all}
 use Rattle.source.specs.declared.finding.Finding.{Finding}
 use Rattle.program.specs.Lists.{is_among}
 use Rattle.program.specs.Methods.{MethodSeen}
 use Rattle.program.specs.declared.call.Argument.{Argument}
 use Rattle.program.specs.declared.statement.Mention.{Mention}
-use Rattle.rules.specs.Checks.{StandsFor, check_seen, first_again}
-use Rattle.rules.specs.RuleTable.{Check, Pair, checked, claimed, given_before, name_of, refused}
+use Rattle.rules.specs.Checks.{AreIn, StandsFor, check_seen, first_again}
+use Rattle.rules.specs.Arguments.{claimed, given_before}
+use Rattle.rules.specs.Mentions.{name_of}
+use Rattle.rules.specs.Outcomes.{Check, Pair, checked, refused}
 use Rattle.rules.specs.Texts.{twice}
 use Rattle.rules.specs.declared.row.Leaf.{Leaf}
 
 -- so many arguments were looked at, the variables of these earlier ones are in the set, and none of them was given before
-pub record Looked (set : BTreeSet ℕ) (arguments : List Argument) (done : ℕ) : Type 0 where
-  pub earlier : List ℕ
-  pub has : (q : ℕ) → contains nat_cmp set q ≡ is_among earlier q
-  pub same : first_again [] arguments ≡ first_again earlier (drop done arguments)
+pub record Looked (first : BTreeSet ℕ) (set : BTreeSet ℕ) (arguments : List Argument) (done : ℕ) : Type 0 where
+  pub same : (listed : List ℕ) → AreIn listed first → (earlier : List ℕ) × AreIn earlier set × (first_again listed arguments ≡ first_again earlier (drop done arguments))
 
 -- none was looked at
-pub looked_first : (set : BTreeSet ℕ) (arguments : List Argument) → IsEmpty set → Looked set arguments 0
-looked_first set arguments empty = record { earlier = []; has = λ q. ap (list_any (is_at (nat_cmp q))) empty; same = refl }
+pub looked_first : (set : BTreeSet ℕ) (arguments : List Argument) → Looked set set arguments 0
+looked_first set arguments = record { same = λ listed are. (listed, are, refl) }
 
 again_at : (arguments : List Argument) (done : ℕ) (d : Argument) (earlier : List ℕ) (b : Bool) → done < length arguments → is_among earlier (slice_index_or arguments done d).mention.variable.0 ≡ b
     → first_again earlier (drop done arguments)
@@ -50,24 +51,39 @@ same_test a true c is = ap (λ t. cond t true c) is
 same_test a false c is = ap (λ t. cond t true c) is
 
 -- the next one was given before
-pub looked_again : (set : BTreeSet ℕ) (arguments : List Argument) (done : ℕ) (d : Argument) (added : Bool) → done < length arguments → added ≡ false → added ≡ not (contains nat_cmp set (slice_index_or arguments done d).mention.variable.0) → Looked set arguments done → Some (slice_index_or arguments done d).mention ≡ first_again [] arguments
-looked_again set arguments done d added lt old is h =
+pub looked_again : (first set : BTreeSet ℕ) (arguments : List Argument) (done : ℕ) (d : Argument) (added : Bool) → done < length arguments → added ≡ false → added ≡ not (contains nat_cmp set (slice_index_or arguments done d).mention.variable.0)
+    → Looked first set arguments done → (listed : List ℕ) → AreIn listed first → Some (slice_index_or arguments done d).mention ≡ first_again listed arguments
+looked_again first set arguments done d added lt old is h listed are =
     let a = slice_index_or arguments done d in
-    sym (h.same ∙ again_at arguments done d h.earlier true lt (sym (h.has a.mention.variable.0) ∙ was_there added _ old is))
+    let so_far = h.same listed are in
+    sym (so_far.2 ∙ again_at arguments done d so_far.0 true lt (sym (so_far.1 a.mention.variable.0) ∙ was_there added _ old is))
 
 -- the next one was not
-pub looked_more : (set more : BTreeSet ℕ) (arguments : List Argument) (done : ℕ) (d : Argument) (added : Bool) → done < length arguments → added ≡ true → added ≡ not (contains nat_cmp set (slice_index_or arguments done d).mention.variable.0) → Updates nat_cmp set more (slice_index_or arguments done d).mention.variable.0 true → Looked set arguments done → Looked more arguments (done + 1)
-looked_more set more arguments done d added lt fresh is updates h =
+pub looked_more : (first set more : BTreeSet ℕ) (arguments : List Argument) (done : ℕ) (d : Argument) (added : Bool) → done < length arguments → added ≡ true → added ≡ not (contains nat_cmp set (slice_index_or arguments done d).mention.variable.0)
+    → Updates nat_cmp set more (slice_index_or arguments done d).mention.variable.0 true → Looked first set arguments done → Looked first more arguments (done + 1)
+looked_more first set more arguments done d added lt fresh is updates h =
     let v = (slice_index_or arguments done d).mention.variable.0 in
     record {
-      earlier = v ∷ h.earlier;
-      has = λ q. updates.0 q ∙ same_test (is_at (nat_cmp v) q) (v == q) _ (at_same v q) ∙ ap (λ b. (v == q) || b) (h.has q);
-      same = h.same ∙ again_at arguments done d h.earlier false lt (sym (h.has v) ∙ was_not added _ fresh is);
+      same = λ listed are.
+          let so_far = h.same listed are in (
+            v ∷ so_far.0,
+            λ q. updates.0 q ∙ same_test (is_at (nat_cmp v) q) (v == q) _ (at_same v q) ∙ ap (λ b. (v == q) || b) (so_far.1 q),
+            so_far.2 ∙ again_at arguments done d so_far.0 false lt (sym (so_far.1 v) ∙ was_not added _ fresh is),
+          );
     }
 
 -- all were looked at
-pub looked_all : (set : BTreeSet ℕ) (arguments : List Argument) (done : ℕ) → length arguments ≤ done → Looked set arguments done → None ≡ first_again [] arguments
-looked_all set arguments done le h = sym (h.same ∙ at_drop_all (first_again h.earlier) arguments done le)
+pub looked_all : (first set : BTreeSet ℕ) (arguments : List Argument) (done : ℕ) → length arguments ≤ done → Looked first set arguments done → (listed : List ℕ) → AreIn listed first → None ≡ first_again listed arguments
+looked_all first set arguments done le h listed are =
+    let so_far = h.same listed are in
+    sym (so_far.2 ∙ at_drop_all (first_again so_far.0) arguments done le)
+
+-- nothing is in an empty set, and then one
+pub none_in : (set : BTreeSet ℕ) → IsEmpty set → AreIn [] set
+none_in set empty = λ q. ap (list_any (is_at (nat_cmp q))) empty
+
+pub one_in : (set more : BTreeSet ℕ) (v : ℕ) → AreIn [] set → Updates nat_cmp set more v true → AreIn (v ∷ []) more
+one_in set more v none updates = λ q. updates.0 q ∙ same_test (is_at (nat_cmp v) q) (v == q) _ (at_same v q) ∙ ap (λ b. (v == q) || b) (none q)
 
 -- what is said of the one that was given before
 abbrev pub told_again : MethodSeen → Option Mention → Check
@@ -86,9 +102,9 @@ again_is m earlier (a ∷ arguments) more after =
     one m (is_among earlier x.variable.0) x (given_before m (x.variable.0 ∷ earlier) arguments) more (first_again (x.variable.0 ∷ earlier) arguments) after (again_is m (x.variable.0 ∷ earlier) arguments more after)
 
 -- what was found stands for the checks that none was given before
-pub again_stands : (m : MethodSeen) (arguments : List Argument) (again : Option Mention) (found : Option Finding) → again ≡ first_again [] arguments → check_seen found ≡ told_again m again → StandsFor found (given_before m [] arguments)
-again_stands m arguments again found is told =
-    record { all = λ more after. again_is m [] arguments more after ∙ ap (λ a. checked (told_again m a ∷ more) after) (sym is) ∙ ap (λ f. checked (f ∷ more) after) (sym told) }
+pub again_stands : (m : MethodSeen) (earlier : List ℕ) (arguments : List Argument) (again : Option Mention) (found : Option Finding) → again ≡ first_again earlier arguments → check_seen found ≡ told_again m again → StandsFor found (given_before m earlier arguments)
+again_stands m earlier arguments again found is told =
+    record { all = λ more after. again_is m earlier arguments more after ∙ ap (λ a. checked (told_again m a ∷ more) after) (sym is) ∙ ap (λ f. checked (f ∷ more) after) (sym told) }
 
 -- of these checks only those are left
 pub record Left (checks left : List Check) : Type 0 where
@@ -120,3 +136,25 @@ left_none checks left is h = record { all = λ more after. h.all more after ∙ 
 -- what is claimed of one argument more is gone
 pub claimed_more : (row less : List Leaf) (arguments : List Argument) (done : ℕ) (d : Argument) → done < length arguments → less ≡ claimed row (slice_index_or arguments done d ∷ []) → claimed less (drop (done + 1) arguments) ≡ claimed row (drop done arguments)
 claimed_more row less arguments done d lt is = sym (at_drop_more (claimed row) arguments done d lt ∙ ap (λ r. claimed r (drop (done + 1) arguments)) (sym is))
+
+-- two lists side by side, from one place on
+pub zip_more : {A B : Type 0} (xs : List A) (ys : List B) (i : ℕ) (d : A) (e : B) → i < length xs → i < length ys → zip (drop i xs) (drop i ys) ≡ (slice_index_or xs i d, slice_index_or ys i e) ∷ zip (drop (i + 1) xs) (drop (i + 1) ys)
+zip_more xs ys i d e first second =
+    at_drop_more (λ l. zip l (drop i ys)) xs i d first ∙ at_drop_more (λ l. zip (slice_index_or xs i d ∷ drop (i + 1) xs) l) ys i e second
+
+zip_nil : {A B : Type 0} (xs : List A) (ys : List B) → ys ≡ [] → zip xs ys ≡ []
+zip_nil [] ys none = refl
+zip_nil (x ∷ xs) [] none = refl
+zip_nil (x ∷ xs) (y ∷ ys) none = absurd (cc)
+
+-- nothing is left of one of them
+pub zip_none : {A B : Type 0} (xs : List A) (ys : List B) (i : ℕ) → (length xs ≤ i) ⊎ (length ys ≤ i) → zip (drop i xs) (drop i ys) ≡ []
+zip_none xs ys i (inl le) = at_drop_all (λ l. zip l (drop i ys)) xs i le
+zip_none xs ys i (inr le) = zip_nil (drop i xs) (drop i ys) (drop_all i ys le)
+
+-- a number below the smaller of two is below both
+pub below_both : (a b n : ℕ) → n < min a b → (n < a) × (n < b)
+below_both a b n lt = (omega (arith, lt), omega (arith, lt))
+
+pub past_one : (a b n : ℕ) → min a b ≤ n → (a ≤ n) ⊎ (b ≤ n)
+past_one a b n le = ⊎_elim (λ more. inr (omega (arith, le, more))) (λ first. inl first) (cases_lt n a)

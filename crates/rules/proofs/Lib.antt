@@ -4,3 +4,7 @@ pub mod ScopeLemmas
 pub mod GivenLemmas
 pub mod ArgumentLemmas
 pub mod CallLemmas
+pub mod SwitchLemmas
+pub mod BackLemmas
+pub mod EndLemmas
+pub mod KindLemmas

@@ -9,8 +9,9 @@ use Rattle.flow.specs.Graphs.{GraphSeen, graph_seen, instruction_seen}
 use Rattle.flow.specs.Lowering.{graph_of}
 use Rattle.program.specs.declared.method.Method.{Method}
 use Rattle.program.specs.Methods.{MethodSeen, method_seen, variable_seen}
+use Rattle.program.specs.Programs.{ProgramSeen}
 use Rattle.rules.specs.declared.row.Leaf.{Leaf}
-use Rattle.rules.specs.RuleTable.{Goes, Pair}
+use Rattle.rules.specs.Outcomes.{Goes, Pair}
 use Rattle.rules.specs.Steps.{entry_leaf, method_entry, method_outcome, outcome, point_outcome}
 
 -- what stands at one place in two rows that are the same
@@ -25,11 +26,11 @@ one_method : (a b : MethodSeen) → Path (Option MethodSeen) (Some a) (Some b) �
 one_method a b e = cc
 
 -- the pair with which a method begins
-pub entry_is : (o : Option MethodSeen) (m : Method) (g : Graph) (leaves : List Leaf) → o ≡ Some (method_seen m) → IsSomeAnd o (λ s. graph_seen g ≡ graph_of s) → leaves ≡ map (λ v. entry_leaf v.role) m.variables.items → (g.first, leaves) ≡ method_entry o
+pub entry_is : (o : Option MethodSeen) (m : Method) (g : Graph) (leaves : List Leaf) → o ≡ Some (method_seen m) → IsSomeAnd o (λ s. graph_seen g ≡ graph_of s) → leaves ≡ map (λ v. entry_leaf v.role v.kind) m.variables.items → (g.first, leaves) ≡ method_entry o
 entry_is None m g leaves its graph is = absurd graph
 entry_is (Some s) m g leaves its graph is =
     let first : g.first ≡ (graph_of s).first = ap (λ (h : GraphSeen). h.first) graph in
-    let row : leaves ≡ map (λ v. entry_leaf v.role) s.variables = is ∙ sym (map-map (λ v. entry_leaf v.role) variable_seen m.variables.items) ∙ ap (λ (t : MethodSeen). map (λ v. entry_leaf v.role) t.variables) (sym (one_method s (method_seen m) its)) in
+    let row : leaves ≡ map (λ v. entry_leaf v.role v.kind) s.variables = is ∙ sym (map-map (λ v. entry_leaf v.role v.kind) variable_seen m.variables.items) ∙ ap (λ (t : MethodSeen). map (λ v. entry_leaf v.role v.kind) t.variables) (sym (one_method s (method_seen m) its)) in
     λ i. (first i, row i)
 
 -- what stands at a point of a method
@@ -37,16 +38,16 @@ at_point : (s : MethodSeen) (g : Graph) (point : ℕ) (i : Option Instr) → gra
 at_point s g point i graph is = ap (λ (h : GraphSeen). slice_get h.instructions point) (sym graph) ∙ slice_get-map instruction_seen g.instructions.items point ∙ ap (option_map instruction_seen) is
 
 -- the step at a point
-pub outcome_at : (o : Option MethodSeen) (m : Method) (g : Graph) (point : ℕ) (row : List Leaf) (i : Option Instr) → o ≡ Some (method_seen m) → IsSomeAnd o (λ s. graph_seen g ≡ graph_of s) → slice_get g.instructions.items point ≡ i → method_outcome o (point, row) ≡ point_outcome (method_seen m) row (option_map instruction_seen i)
-outcome_at None m g point row i its graph is = absurd graph
-outcome_at (Some s) m g point row i its graph is = λ j. point_outcome (one_method s (method_seen m) its j) row (at_point s g point i graph is j)
+pub outcome_at : (p : ProgramSeen) (o : Option MethodSeen) (m : Method) (g : Graph) (point : ℕ) (row : List Leaf) (i : Option Instr) → o ≡ Some (method_seen m) → IsSomeAnd o (λ s. graph_seen g ≡ graph_of s) → slice_get g.instructions.items point ≡ i → method_outcome p o (point, row) ≡ point_outcome p (method_seen m) row (option_map instruction_seen i)
+outcome_at p None m g point row i its graph is = absurd graph
+outcome_at p (Some s) m g point row i its graph is = λ j. point_outcome p (one_method s (method_seen m) its j) row (at_point s g point i graph is j)
 
 -- no instruction is there
-pub outcome_past : (o : Option MethodSeen) (g : Graph) (point : ℕ) (row : List Leaf) → IsSomeAnd o (λ s. graph_seen g ≡ graph_of s) → slice_get g.instructions.items point ≡ None → method_outcome o (point, row) ≡ Goes []
-outcome_past None g point row graph is = absurd graph
-outcome_past (Some s) g point row graph is = λ j. point_outcome s row (at_point s g point None graph is j)
+pub outcome_past : (p : ProgramSeen) (o : Option MethodSeen) (g : Graph) (point : ℕ) (row : List Leaf) → IsSomeAnd o (λ s. graph_seen g ≡ graph_of s) → slice_get g.instructions.items point ≡ None → method_outcome p o (point, row) ≡ Goes []
+outcome_past p None g point row graph is = absurd graph
+outcome_past p (Some s) g point row graph is = λ j. point_outcome p s row (at_point s g point None graph is j)
 
 -- the step of a method
-pub outcome_is : (methods : List MethodSeen) (n : ℕ) (pair : Pair) → outcome methods n pair ≡ method_outcome (slice_get methods n) pair
+pub outcome_is : (p : ProgramSeen) (n : ℕ) (pair : Pair) → outcome p n pair ≡ method_outcome p (slice_get p.methods n) pair
 unfolding outcome
-outcome_is methods n pair = refl
+outcome_is p n pair = refl

@@ -1,22 +1,33 @@
 -- Rows with a leaf for each variable.
-use Rattle.std.proofs.Common.{◌≡◌, ℕ, Bool, true, false, List, [], ◌∷◌, ◌++◌, length, set, slice_get, Option, None, Some, if◌then◌else◌, refl, sym, ap, subst, ◌∙◌}
+use Rattle.std.proofs.Common.{◌≡◌, ℕ, Bool, true, false, List, [], ◌∷◌, ◌++◌, length, map, flat_map, set, slice_get, Option, None, Some, if◌then◌else◌, refl, sym, ap, subst, ◌∙◌}
 use Rattle.std.specs.List.{All}
 use Rattle.std.proofs.lemmas.List.{length-map, length-set}
-use Rattle.std.proofs.lemmas.List.Elements.{All-nil, All-cons}
+use Rattle.std.proofs.lemmas.List.Elements.{All-append, All-nil, All-cons}
 use Rattle.source.specs.Findings.{FindingParts}
 use Rattle.flow.specs.Graphs.{Instruction, Use, New, Move, Delete, NewChannel, Send, Switch, Branch, Forget, Call, Start, Return, Stop}
 use Rattle.flow.specs.Lowering.{graph_of}
 use Rattle.flow.specs.declared.graph.Branches.{Branches}
 use Rattle.flow.specs.declared.graph.Branches.TheVariants.{Either, Only}
+use Rattle.flow.specs.Cases.{EntranceSeen, case_for, first_mentions}
 use Rattle.program.specs.Methods.{MethodSeen}
+use Rattle.program.specs.Programs.{ProgramSeen}
+use Rattle.program.specs.declared.contract.Edge.{Edge}
+use Rattle.program.specs.declared.kind.Kind.{Kind}
+use Rattle.program.specs.declared.number.VarId.{VarId}
+use Rattle.rules.specs.Endpoints.{brought, declared_leaf, first_state, kind_of, message_name, parameter_kinds, result_of}
+use Rattle.rules.specs.Switches.{awaited_edges, bound_leaves, closed, comes_at, pair_at, received, switch_checks, switch_pairs}
 use Rattle.program.specs.declared.call.Argument.{Argument}
 use Rattle.program.specs.declared.statement.Mention.{Mention}
 use Rattle.rules.specs.Rows.{IsRowOf, leaf_at}
-use Rattle.rules.specs.RuleTable.{Check, Pair, Step, Goes, Fails, Unruled, all_arguments, checked, claimed, given_back, given_block, has_nothing, has_something, instruction_outcome, is_another, is_not_lent, target_checks, value_checks, ways}
+use Rattle.rules.specs.Arguments.{all_payloads, lacks_edge, payload, sent_leaf, all_arguments, claimed, given_leaf, target_checks}
+use Rattle.rules.specs.Mentions.{given_back, has_nothing, has_something, is_another, is_not_lent}
+use Rattle.rules.specs.Outcomes.{Check, Fails, Goes, Pair, Step, checked, refused}
+use Rattle.rules.specs.RuleTable.{back_checks, instruction_outcome, value_checks, ways}
 use Rattle.rules.specs.Scopes.{declared_between}
+use Rattle.rules.specs.Texts.{not_sent}
 use Rattle.rules.specs.Steps.{entry_leaf, method_entry, method_outcome, outcome, point_outcome}
 use Rattle.rules.specs.declared.row.Leaf.{Leaf}
-use Rattle.rules.specs.declared.row.Leaf.TheVariants.{Nothing, Block}
+use Rattle.rules.specs.declared.row.Leaf.TheVariants.{Nothing, Block, CutOff, State}
 use Rattle.rules.proofs.ProgramLemmas.{outcome_is}
 
 claimed_size : (row : List Leaf) (arguments : List Argument) → length (claimed row arguments) ≡ length row
@@ -28,9 +39,16 @@ claimed_size row (a ∷ arguments) =
     one true = length-set row a.mention.variable.0 Nothing
     one false = refl
 
-given_size : (row : List Leaf) (target : Option Mention) → length (given_block row target) ≡ length row
-given_size row None = refl
-given_size row (Some v) = length-set row v.variable.0 Block
+given_size : (row : List Leaf) (kind : Option Kind) (target : Option Mention) → length (given_leaf row kind target) ≡ length row
+given_size row None None = refl
+given_size row None (Some v) = refl
+given_size row (Some kind) None = refl
+given_size row (Some kind) (Some v) = length-set row v.variable.0 (declared_leaf kind)
+
+bound_size : (row : List Leaf) (bound : List VarId) (kinds : List Kind) → length (bound_leaves row bound kinds) ≡ length row
+bound_size row [] kinds = refl
+bound_size row (v ∷ bound) [] = refl
+bound_size row (v ∷ bound) (kind ∷ kinds) = bound_size (set row v.0 (declared_leaf kind)) bound kinds ∙ length-set row v.0 (declared_leaf kind)
 
 same_goes : (a b : List Pair) → Path (Step Pair FindingParts) (Goes a) (Goes b) → a ≡ b
 same_goes a b e = cc
@@ -44,15 +62,15 @@ goes_on (Some finding ∷ checks) after to e = absurd (no_step finding e)
     no_step : (f : FindingParts) → Path (Step Pair FindingParts) (Fails f) (Goes to) → ⊥
     no_step f k = cc
 
-module _ (m : MethodSeen) where
+module _ (p : ProgramSeen) (m : MethodSeen) where
   abbrev AreRows : List Pair → Type 0
-  AreRows to = All (λ p. IsRowOf m p.1) to
+  AreRows to = All (λ x. IsRowOf m x.1) to
 
   no_rows : AreRows []
-  no_rows = All-nil (λ p. IsRowOf m p.1)
+  no_rows = All-nil (λ x. IsRowOf m x.1)
 
   one_row : (next : ℕ) (row : List Leaf) (rest : List Pair) → IsRowOf m row → AreRows rest → AreRows ((next, row) ∷ rest)
-  one_row next row rest is all = All-cons (λ p. IsRowOf m p.1) (next, row) rest is all
+  one_row next row rest is all = All-cons (λ x. IsRowOf m x.1) (next, row) rest is all
 
   leads_on : (checks : List Check) (next : ℕ) (row : List Leaf) (to : List Pair)
       → IsRowOf m row → checked checks ((next, row) ∷ []) ≡ Goes to → AreRows to
@@ -62,16 +80,43 @@ module _ (m : MethodSeen) where
   ways_on (Either inside past) row is = one_row inside row ((past, row) ∷ []) is (one_row past row [] is no_rows)
   ways_on (Only point) row is = one_row point row [] is no_rows
 
+  both_rows : (a b : List Pair) → AreRows a → AreRows b → AreRows (a ++ b)
+  both_rows a b first second = All-append (λ x. IsRowOf m x.1) a b first second
+
+  each_row : {X : Type 0} (f : X → List Pair) (xs : List X) → ((x : X) → AreRows (f x)) → AreRows (flat_map f xs)
+  each_row f [] all = no_rows
+  each_row f (x ∷ xs) all = both_rows (f x) (flat_map f xs) (all x) (each_row f xs all)
+
+  case_row : (o : Option EntranceSeen) (after : EntranceSeen → List Leaf) → ((c : EntranceSeen) → IsRowOf m (after c)) → AreRows (pair_at o after)
+  case_row None after is = no_rows
+  case_row (Some c) after is = one_row c.next (after c) [] (is c) no_rows
+
+  received_on : (row : List Leaf) (cases : List EntranceSeen) (e : ℕ) (d : Edge) → IsRowOf m row → AreRows (received p m row cases e d)
+  received_on row cases e d is =
+      case_row (case_for cases e (Some d.message.0)) (λ c. bound_leaves (set row e (State d.to.0)) c.bound (brought p d.message.0))
+      (λ c. bound_size (set row e (State d.to.0)) c.bound (brought p d.message.0) ∙ length-set row e (State d.to.0) ∙ is)
+
+  closed_on : (row : List Leaf) (cases : List EntranceSeen) (e : ℕ) → IsRowOf m row → AreRows (closed p m row cases e)
+  closed_on row cases e is = case_row (case_for cases e None) (λ c. set row e CutOff) (λ c. length-set row e CutOff ∙ is)
+
+  switch_on : (row : List Leaf) (cases : List EntranceSeen) → IsRowOf m row → AreRows (switch_pairs p m row cases)
+  switch_on row cases is =
+      each_row (comes_at p m row cases) (first_mentions [] cases)
+      (λ e. both_rows (flat_map (received p m row cases e.variable.0) (awaited_edges p m row e)) (closed p m row cases e.variable.0)
+      (each_row (received p m row cases e.variable.0) (awaited_edges p m row e) (λ d. received_on row cases e.variable.0 d is))
+      (closed_on row cases e.variable.0 is))
+
   instruction_on : (i : Instruction) (row : List Leaf) (to : List Pair)
-      → IsRowOf m row → instruction_outcome m i row ≡ Goes to → AreRows to
+      → IsRowOf m row → instruction_outcome p m i row ≡ Goes to → AreRows to
   instruction_on (Use v next) row to is e = leads_on (has_something m row v ∷ []) next row to is e
   instruction_on (New v arguments next) row to is e =
       let made = set row v.variable.0 Block in
       leads_on (is_not_lent m v ∷ has_nothing m row v ∷ []) next made to (length-set row v.variable.0 Block ∙ is) e
-  instruction_on (NewChannel c next) row to is e = absurd (no_rule e)
-    where
-      no_rule : Path (Step Pair FindingParts) Unruled (Goes to) → ⊥
-      no_rule k = cc
+  instruction_on (NewChannel c next) row to is e =
+      let first = State (first_state p c.contract.0) in
+      let one = set row c.first.variable.0 first in
+      let checks = is_not_lent m c.first ∷ has_nothing m row c.first ∷ is_not_lent m c.second ∷ has_nothing m row c.second ∷ [] in
+      leads_on checks next (set one c.second.variable.0 first) to (length-set one c.second.variable.0 first ∙ length-set row c.first.variable.0 first ∙ is) e
   instruction_on (Move v w next) row to is e =
       let moved = set row v.variable.0 (leaf_at row w.variable.0) in
       let checks = is_another m v w ∷ is_not_lent m w ∷ has_something m row w ∷ is_not_lent m v ∷ has_nothing m row v ∷ [] in
@@ -80,44 +125,46 @@ module _ (m : MethodSeen) where
   instruction_on (Delete v next) row to is e =
       let freed = set row v.variable.0 Nothing in
       leads_on (is_not_lent m v ∷ has_something m row v ∷ []) next freed to (length-set row v.variable.0 Nothing ∙ is) e
-  instruction_on (Send place x message payloads next) row to is e = absurd (no_rule e)
-    where
-      no_rule : Path (Step Pair FindingParts) Unruled (Goes to) → ⊥
-      no_rule k = cc
-  instruction_on (Switch place cases) row to is e = absurd (no_rule e)
-    where
-      no_rule : Path (Step Pair FindingParts) Unruled (Goes to) → ⊥
-      no_rule k = cc
+  instruction_on (Send place x message payloads next) row to is e =
+      let gone = claimed row (map payload payloads) in
+      let leaf = sent_leaf p (kind_of m x.variable.0) message.0 (leaf_at row x.variable.0) in
+      let leaf_now = leaf_at row x.variable.0 in
+      let kind = kind_of m x.variable.0 in
+      let name = message_name p kind message.0 in
+      leads_on
+      (has_something m row x ∷ (all_payloads m row x name (brought p message.0) (map payload payloads) ++ refused (lacks_edge p kind message.0 leaf_now) (not_sent name place) ∷ []))
+      next (set gone x.variable.0 leaf) to (length-set gone x.variable.0 leaf ∙ claimed_size row (map payload payloads) ∙ is) e
+  instruction_on (Switch place cases) row to is e =
+      subst AreRows (goes_on (switch_checks p m row place cases) (switch_pairs p m row cases) to e) (switch_on row cases is)
   instruction_on (Call place method arguments target next) row to is e =
       let after = claimed row arguments in
-      let checks = all_arguments m row arguments ++ target_checks m after target in
-      leads_on checks next (given_block after target) to (given_size after target ∙ claimed_size row arguments ∙ is) e
+      let kind = result_of p method.0 in
+      leads_on (all_arguments m row (parameter_kinds p method.0) arguments ++ target_checks m after target) next (given_leaf after kind target) to (given_size after kind target ∙ claimed_size row arguments ∙ is) e
   instruction_on (Start place method arguments next) row to is e =
-      leads_on (all_arguments m row arguments) next (claimed row arguments) to (claimed_size row arguments ∙ is) e
+      leads_on (all_arguments m row (parameter_kinds p method.0) arguments) next (claimed row arguments) to (claimed_size row arguments ∙ is) e
   instruction_on (Branch place branches) row to is e = subst AreRows (same_goes (ways branches row) to e) (ways_on branches row is)
   instruction_on (Forget f next) row to is e =
       leads_on (given_back m row f.place None (declared_between m f.outer (Some f.last))) next row to is e
   instruction_on (Return place value scope) row to is e =
-      let checks = value_checks m row value ++ given_back m row place value (declared_between m None scope) in
-      subst AreRows (goes_on checks [] to e) no_rows
+      subst AreRows (goes_on (value_checks p m row value ++ (given_back m row place value (declared_between m None scope) ++ back_checks p m row place)) [] to e) no_rows
   instruction_on (Stop place) row to is e = absurd (no_step e)
     where
       no_step : {f : FindingParts} → Path (Step Pair FindingParts) (Fails f) (Goes to) → ⊥
       no_step k = cc
 
   point_on : (o : Option Instruction) (row : List Leaf) (to : List Pair)
-      → IsRowOf m row → point_outcome m row o ≡ Goes to → AreRows to
+      → IsRowOf m row → point_outcome p m row o ≡ Goes to → AreRows to
   point_on None row to is e = subst AreRows (same_goes [] to e) no_rows
   point_on (Some i) row to is e = instruction_on i row to is e
 
 -- a step from a row with a leaf for each variable leads to such rows
-pub step_on : (methods : List MethodSeen) (n : ℕ) (m : MethodSeen) (pair : Pair) (to : List Pair)
-    → slice_get methods n ≡ Some m → IsRowOf m pair.1 → outcome methods n pair ≡ Goes to → All (λ p. IsRowOf m p.1) to
-step_on methods n m pair to there is e =
-    let here = ap (λ o. method_outcome o pair) (sym there) ∙ sym (outcome_is methods n pair) ∙ e in
-    point_on m (slice_get (graph_of m).instructions pair.0) pair.1 to is here
+pub step_on : (p : ProgramSeen) (n : ℕ) (m : MethodSeen) (pair : Pair) (to : List Pair)
+    → slice_get p.methods n ≡ Some m → IsRowOf m pair.1 → outcome p n pair ≡ Goes to → All (λ x. IsRowOf m x.1) to
+step_on p n m pair to there is e =
+    let here = ap (λ o. method_outcome p o pair) (sym there) ∙ sym (outcome_is p n pair) ∙ e in
+    point_on p m (slice_get (graph_of m).instructions pair.0) pair.1 to is here
 
 -- a method begins with such a row
-pub entry_on : (methods : List MethodSeen) (n : ℕ) (m : MethodSeen)
-    → slice_get methods n ≡ Some m → IsRowOf m (method_entry (slice_get methods n)).1
-entry_on methods n m there = subst (λ o. IsRowOf m (method_entry o).1) (sym there) (length-map m.variables (λ v. entry_leaf v.role))
+pub entry_on : (p : ProgramSeen) (n : ℕ) (m : MethodSeen)
+    → slice_get p.methods n ≡ Some m → IsRowOf m (method_entry (slice_get p.methods n)).1
+entry_on p n m there = subst (λ o. IsRowOf m (method_entry o).1) (sym there) (length-map m.variables (λ v. entry_leaf v.role v.kind))

@@ -5,7 +5,7 @@ use Rattle.program.specs.Scopes.{outer_of}
 use Rattle.program.specs.declared.number.VarId.{VarId}
 use Rattle.program.specs.declared.statement.Mention.{Mention}
 use Rattle.rules.specs.Checks.{first_kept, if_kept, kept_or}
-use Rattle.rules.specs.RuleTable.{is_kept}
+use Rattle.rules.specs.Mentions.{is_kept}
 use Rattle.rules.specs.Scopes.{between, is_this}
 use Rattle.rules.specs.declared.row.Leaf.{Leaf}
 

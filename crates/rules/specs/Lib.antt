@@ -1,8 +1,14 @@
+pub mod Arguments
 pub mod Checks
-pub mod Programs
+pub mod Endpoints
+pub mod Ends
 pub mod Leaves
+pub mod Mentions
+pub mod Outcomes
+pub mod Programs
+pub mod RuleTable
 pub mod Rows
 pub mod Scopes
-pub mod RuleTable
 pub mod Steps
+pub mod Switches
 pub mod Texts

@@ -1,8 +1,6 @@
--- A program as callers see it: its methods.
-use Rattle.std.specs.Prelude.{List}
-use Rattle.program.specs.Methods.{MethodSeen}
+-- A program as callers see it.
+use Rattle.program.specs.Programs.{ProgramSeen, program_seen}
 use Rattle.rules.specs.declared.lowered.Program.{Program}
-use Rattle.program.specs.Programs.{methods_seen}
 
-abbrev pub methods_of : Program → List MethodSeen
-methods_of p = methods_seen p.methods
+abbrev pub seen_of : Program → ProgramSeen
+seen_of p = program_seen p.methods

@@ -3,7 +3,7 @@ use Rattle.std.specs.Prelude.{ℕ, List, ◌++◌, codes}
 use Rattle.std.specs.Str.Lossy.{utf8_lossy}
 use Rattle.source.specs.Findings.{FindingParts}
 use Rattle.source.specs.declared.place.Place.{Place}
-use Rattle.source.specs.declared.finding.Code.TheVariants.{A01, A07, A08, A10, A11, A13}
+use Rattle.source.specs.declared.finding.Code.TheVariants.{A01, A02, A03, A04, A05, A06, A07, A08, A09, A10, A11, A12, A13}
 
 -- it has nothing
 abbrev pub not_owned : List ℕ → Place → FindingParts
@@ -28,3 +28,33 @@ twice name place = record { place = place; code = A11; text = utf8_lossy name ++
 -- the end of a method that ought to have given something
 abbrev pub no_result : Place → FindingParts
 no_result place = record { place = place; code = A13; text = codes "no result" }
+
+-- no edge of its state sends the message
+abbrev pub not_sent : List ℕ → Place → FindingParts
+not_sent message place = record { place = place; code = A02; text = utf8_lossy message ++ codes " not sent here" }
+
+-- it is given with a message, and is not in the state that the message asks
+abbrev pub wrong_for : List ℕ → List ℕ → Place → FindingParts
+wrong_for name message place =
+    record { place = place; code = A03; text = utf8_lossy name ++ (codes " in a wrong state for " ++ utf8_lossy message) }
+
+-- likewise with a call
+abbrev pub wrong_for_call : List ℕ → Place → FindingParts
+wrong_for_call name place = record { place = place; code = A04; text = utf8_lossy name ++ codes " in a wrong state for the call" }
+
+-- no case for a message that may come
+abbrev pub not_covered : List ℕ → List ℕ → Place → FindingParts
+not_covered name message place =
+    record { place = place; code = A05; text = utf8_lossy name ++ (codes "." ++ (utf8_lossy message ++ codes " not covered")) }
+
+-- all endpoints are to send
+abbrev pub nothing_to_receive : Place → FindingParts
+nothing_to_receive place = record { place = place; code = A06; text = codes "nothing to receive" }
+
+-- it was lent, and is not in the state in which it was lent
+abbrev pub not_back : List ℕ → Place → FindingParts
+not_back name place = record { place = place; code = A09; text = utf8_lossy name ++ codes " not back in its state" }
+
+-- it is given back, and is not in the state of the result
+abbrev pub wrong_for_result : List ℕ → Place → FindingParts
+wrong_for_result name place = record { place = place; code = A12; text = utf8_lossy name ++ codes " in a wrong state for the result" }

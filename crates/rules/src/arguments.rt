@@ -1,23 +1,34 @@
-//! The checks of calls and starts, and what their arguments leave behind.
+//! The checks of calls, starts and sends, and what their arguments leave behind.
 
-ghost use Rattle.std.specs.Prelude.{◌≡◌, [], ◌∷◌, IfOk};
+ghost use Rattle.std.specs.Prelude.{◌≡◌, ◌&&◌, ℕ, List, [], ◌∷◌, IfOk, IfSome, map};
 ghost use Rattle.program.specs.Methods.{method_seen};
-ghost use Rattle.rules.specs.Checks.{StandsFor, first_again};
-ghost use Rattle.rules.specs.Rows.{leaves_of};
-ghost use Rattle.rules.specs.RuleTable.{all_arguments, argument_checks, claimed, given_before, given_block, target_checks, value_checks};
+ghost use Rattle.rules.specs.Arguments as table;
+ghost use Rattle.rules.specs.Arguments.{all_arguments, all_payloads, argument_checks, claimed, given_before, given_leaf, payload_checks, target_checks};
+ghost use Rattle.rules.specs.Checks.{AreIn, StandsFor, check_seen, first_again};
+ghost use Rattle.rules.specs.Endpoints.{declared_leaf, is_wrong};
+ghost use Rattle.rules.specs.Mentions.{is_lent, name_of};
+ghost use Rattle.rules.specs.Outcomes.{refused};
+ghost use Rattle.rules.specs.Texts.{lent, wrong_for, wrong_for_call};
+ghost use Rattle.rules.specs.Leaves.{IsNumbered};
+ghost use Rattle.rules.specs.Rows.{leaf_at, leaves_of};
 
-use crate::checks::{given_again, has_nothing, has_something, is_not_lent};
+use crate::checks::{given_again, has_nothing, has_something, is_not_lent, name_of};
+use crate::endpoints::{declared_leaf, is_wrong};
+use crate::here::Here;
 use crate::row::{Leaf, Row};
-use program::{Argument, Mention, Method};
+use program::{Argument, Kind, Mention, Method};
+use source::texts::{in_a_wrong_state_for, in_a_wrong_state_for_the_call};
 use source::{Finding, Memory};
 use std::alloc::Global;
 use std::collections::BTreeSet;
 
-/// The first argument that an earlier one gives too.
-fn first_again(alloc: Global, arguments: &[Argument]) -> Result<Option<Mention>, Memory>
-    ensures { IfOk result (λ found. found ≡ first_again [] arguments.now) }
+/// The first argument whose variable is one of these, or is given by an earlier argument too.
+fn first_again(
+    mut earlier: BTreeSet<usize>,
+    arguments: &[Argument],
+) -> Result<Option<Mention>, Memory>
+    ensures { IfOk result (λ found. (listed : List ℕ) → AreIn listed earlier → found ≡ first_again listed arguments.now) }
 {
-    let mut earlier = BTreeSet::new(alloc);
     for argument in arguments {
         if !earlier.insert(argument.mention.variable.0)? {
             return Ok(Some(argument.mention));
@@ -26,15 +37,17 @@ fn first_again(alloc: Global, arguments: &[Argument]) -> Result<Option<Mention>,
     Ok(None)
 }
 
-/// That no variable is given twice.
+/// That no argument gives one of these variables, and none is given twice.
 fn gives_none_again(
     alloc: Global,
     method: &Method,
+    earlier: BTreeSet<usize>,
     arguments: &[Argument],
 ) -> Result<Option<Finding>, Memory>
-    ensures { IfOk result (λ found. StandsFor found (given_before (method_seen method.now) [] arguments.now)) }
+    ensures { IfOk result (λ found. (listed : List ℕ) → AreIn listed earlier
+        → StandsFor found (given_before (method_seen method.now) listed arguments.now)) }
 {
-    match first_again(alloc, arguments)? {
+    match first_again(earlier, arguments)? {
         Some(again) => {
             let finding = given_again(alloc, method, again)?;
             Ok(Some(finding))
@@ -43,38 +56,162 @@ fn gives_none_again(
     }
 }
 
-/// That what an argument gives is there, and not lent where it is claimed.
-fn can_give(
+/// That what is claimed of an argument is not lent.
+fn can_be_claimed(
     alloc: Global,
     method: &Method,
-    row: &Row,
     argument: Argument,
 ) -> Result<Option<Finding>, Memory>
-    ensures { IfOk result (λ found. StandsFor found (argument_checks (method_seen method.now) (leaves_of row.now) argument)) }
+    ensures { IfOk result (λ found. check_seen found ≡ refused
+        (argument.claimed && is_lent (method_seen method.now) argument.mention.variable.0)
+        (lent (name_of (method_seen method.now) argument.mention.variable.0) argument.mention.place)) }
 {
-    if let Some(finding) = has_something(alloc, method, row, argument.mention)? {
-        return Ok(Some(finding));
-    }
     if !argument.claimed {
         return Ok(None);
     }
     is_not_lent(alloc, method, argument.mention)
 }
 
-/// The checks of arguments.
-pub(crate) fn can_give_all(
+/// That what is given for a parameter of this kind is in its state.
+fn is_in_state(
     alloc: Global,
-    method: &Method,
-    row: &Row,
-    arguments: &[Argument],
+    here: &Here<'_>,
+    kind: Kind,
+    mention: Mention,
 ) -> Result<Option<Finding>, Memory>
-    ensures { IfOk result (λ found. StandsFor found (all_arguments (method_seen method.now) (leaves_of row.now) arguments.now)) }
+    ensures { IfOk result (λ found. check_seen found ≡ refused
+        (is_wrong kind (leaf_at (leaves_of here.now.row.now) mention.variable.0))
+        (wrong_for_call (name_of (method_seen here.now.method.now) mention.variable.0) mention.place)) }
 {
-    if let Some(finding) = gives_none_again(alloc, method, arguments)? {
+    if !is_wrong(kind, here.row.leaf(mention.variable)) {
+        return Ok(None);
+    }
+    let name = name_of(here.method, mention.variable);
+    let finding = in_a_wrong_state_for_the_call(alloc, mention.place, name)?;
+    Ok(Some(finding))
+}
+
+/// That what an argument gives is there, not lent where it is claimed, and in the state that the parameter asks.
+fn can_give(
+    alloc: Global,
+    here: &Here<'_>,
+    kind: Kind,
+    argument: Argument,
+) -> Result<Option<Finding>, Memory>
+    ensures { IfOk result
+        (λ found. StandsFor found (argument_checks (method_seen here.now.method.now) (leaves_of here.now.row.now) kind argument)) }
+{
+    if let Some(finding) = has_something(alloc, here, argument.mention)? {
         return Ok(Some(finding));
     }
-    for argument in arguments {
-        if let Some(finding) = can_give(alloc, method, row, *argument)? {
+    if let Some(finding) = can_be_claimed(alloc, here.method, argument)? {
+        return Ok(Some(finding));
+    }
+    is_in_state(alloc, here, kind, argument.mention)
+}
+
+/// The checks of arguments, for parameters of these kinds.
+pub(crate) fn can_give_all(
+    alloc: Global,
+    here: &Here<'_>,
+    kinds: &[Kind],
+    arguments: &[Argument],
+) -> Result<Option<Finding>, Memory>
+    ensures { IfOk result
+        (λ found. StandsFor found (all_arguments (method_seen here.now.method.now) (leaves_of here.now.row.now) kinds.now arguments.now)) }
+{
+    let earlier = BTreeSet::new(alloc);
+    if let Some(finding) = gives_none_again(alloc, here.method, earlier, arguments)? {
+        return Ok(Some(finding));
+    }
+    for number in 0..kinds.len().min(arguments.len()) {
+        if let Some(finding) = can_give(alloc, here, kinds[number], arguments[number])? {
+            return Ok(Some(finding));
+        }
+    }
+    Ok(None)
+}
+
+/// A message claims what is given with it.
+pub(crate) fn payloads_of(alloc: Global, payloads: &[Mention]) -> Result<Vec<Argument>, Memory>
+    ensures { IfOk result (λ arguments. arguments.items ≡ map table.payload payloads.now) }
+{
+    let mut arguments = Vec::new(alloc);
+    for mention in payloads {
+        arguments.push(payload(*mention))?;
+    }
+    Ok(arguments)
+}
+
+fn payload(mention: Mention) -> Argument
+    ensures { result ≡ table.payload mention }
+{
+    Argument {
+        mention,
+        claimed: true,
+    }
+}
+
+/// That what is sent with a message for a parameter of this kind is in its state.
+fn is_in_state_for(
+    alloc: Global,
+    here: &Here<'_>,
+    message: &[u8],
+    kind: Kind,
+    mention: Mention,
+) -> Result<Option<Finding>, Memory>
+    ensures { IfOk result (λ found. check_seen found ≡ refused
+        (is_wrong kind (leaf_at (leaves_of here.now.row.now) mention.variable.0))
+        (wrong_for (name_of (method_seen here.now.method.now) mention.variable.0) message.now mention.place)) }
+{
+    if !is_wrong(kind, here.row.leaf(mention.variable)) {
+        return Ok(None);
+    }
+    let name = name_of(here.method, mention.variable);
+    let finding = in_a_wrong_state_for(alloc, mention.place, name, message)?;
+    Ok(Some(finding))
+}
+
+/// That what a message takes with it is not lent, there, and in the state that the message asks.
+fn can_send(
+    alloc: Global,
+    here: &Here<'_>,
+    message: &[u8],
+    kind: Kind,
+    payload: Argument,
+) -> Result<Option<Finding>, Memory>
+    ensures { IfOk result
+        (λ found. StandsFor found (payload_checks (method_seen here.now.method.now) (leaves_of here.now.row.now) message.now kind payload)) }
+{
+    if let Some(finding) = is_not_lent(alloc, here.method, payload.mention)? {
+        return Ok(Some(finding));
+    }
+    if let Some(finding) = has_something(alloc, here, payload.mention)? {
+        return Ok(Some(finding));
+    }
+    is_in_state_for(alloc, here, message, kind, payload.mention)
+}
+
+/// The checks of what is sent along an endpoint with a message that brings these kinds.
+pub(crate) fn can_send_all(
+    alloc: Global,
+    here: &Here<'_>,
+    endpoint: Mention,
+    message: &[u8],
+    kinds: &[Kind],
+    payloads: &[Argument],
+) -> Result<Option<Finding>, Memory>
+    ensures { IfOk result
+        (λ found. StandsFor found
+        (all_payloads (method_seen here.now.method.now) (leaves_of here.now.row.now) endpoint message.now kinds.now payloads.now)) }
+{
+    let mut earlier = BTreeSet::new(alloc);
+    earlier.insert(endpoint.variable.0)?;
+    if let Some(finding) = gives_none_again(alloc, here.method, earlier, payloads)? {
+        return Ok(Some(finding));
+    }
+    for number in 0..kinds.len().min(payloads.len()) {
+        if let Some(finding) = can_send(alloc, here, message, kinds[number], payloads[number])? {
             return Ok(Some(finding));
         }
     }
@@ -84,37 +221,18 @@ pub(crate) fn can_give_all(
 /// That what takes a block, if something does, is not lent and has nothing.
 pub(crate) fn can_take(
     alloc: Global,
-    method: &Method,
-    row: &Row,
+    here: &Here<'_>,
     target: Option<Mention>,
 ) -> Result<Option<Finding>, Memory>
-    ensures { IfOk result (λ found. StandsFor found (target_checks (method_seen method.now) (leaves_of row.now) target)) }
+    ensures { IfOk result (λ found. StandsFor found (target_checks (method_seen here.now.method.now) (leaves_of here.now.row.now) target)) }
 {
     let Some(target) = target else {
         return Ok(None);
     };
-    if let Some(finding) = is_not_lent(alloc, method, target)? {
+    if let Some(finding) = is_not_lent(alloc, here.method, target)? {
         return Ok(Some(finding));
     }
-    has_nothing(alloc, method, row, target)
-}
-
-/// That what a method gives, if it is a block, is not lent and there.
-pub(crate) fn can_return(
-    alloc: Global,
-    method: &Method,
-    row: &Row,
-    value: Option<Mention>,
-) -> Result<Option<Finding>, Memory>
-    ensures { IfOk result (λ found. StandsFor found (value_checks (method_seen method.now) (leaves_of row.now) value)) }
-{
-    let Some(value) = value else {
-        return Ok(None);
-    };
-    if let Some(finding) = is_not_lent(alloc, method, value)? {
-        return Ok(Some(finding));
-    }
-    has_something(alloc, method, row, value)
+    has_nothing(alloc, here, target)
 }
 
 /// Takes away what is claimed of an argument.
@@ -135,11 +253,12 @@ pub(crate) fn claim_all(row: &mut Row, arguments: &[Argument])
     }
 }
 
-/// Gives a block to the variable that takes one, if one does.
-pub(crate) fn give_block(row: &mut Row, target: Option<Mention>)
-    ensures { leaves_of row.new ≡ given_block (leaves_of row.old) target }
+/// Gives what a method gives to the variable that takes it, if one does.
+pub(crate) fn give(row: &mut Row, kind: Option<Kind>, target: Option<Mention>)
+    requires numbered { IfSome kind (λ kind. IsNumbered (declared_leaf kind)) }
+    ensures { leaves_of row.new ≡ given_leaf (leaves_of row.old) kind target }
 {
-    if let Some(target) = target {
-        row.set(target.variable, Leaf::Block);
+    if let (Some(kind), Some(target)) = (kind, target) {
+        row.set(target.variable, declared_leaf(kind));
     }
 }

@@ -1,25 +1,25 @@
 //! The checks of the rule table: each answers the finding where it fails.
 
-ghost use Rattle.std.specs.Prelude.{◌≡◌, List, [], ◌∷◌, IfOk, option_map};
+ghost use Rattle.std.specs.Prelude.{◌≡◌, IfOk, option_map};
 ghost use Rattle.source.specs.Findings.{finding_parts};
 ghost use Rattle.program.specs.Methods.{method_seen};
 ghost use Rattle.program.specs.Scopes.{outer_of};
 ghost use Rattle.rules.specs.Checks as checks;
-ghost use Rattle.rules.specs.Checks.{check_seen};
+ghost use Rattle.rules.specs.Checks.{StandsFor, check_seen};
 ghost use Rattle.rules.specs.Rows.{leaves_of};
-ghost use Rattle.rules.specs.RuleTable as table;
-ghost use Rattle.rules.specs.RuleTable.{Pair, checked, given_back};
+ghost use Rattle.rules.specs.Mentions as table;
+ghost use Rattle.rules.specs.Mentions.{given_back};
 ghost use Rattle.rules.specs.Texts as texts;
 ghost use Rattle.rules.specs.Scopes.{declared_between, is_this};
 
-use crate::row::Row;
+use crate::here::Here;
 use program::{Mention, Method, Role, VarId};
 use source::texts::{given_twice, is_lent, not_owned, overwritten, still_owned};
 use source::{Finding, Memory, Place};
 use std::alloc::Global;
 
 /// The name of a variable: none, where there is no such variable.
-fn name_of(method: &Method, variable: VarId) -> &[u8]
+pub(crate) fn name_of(method: &Method, variable: VarId) -> &[u8]
     ensures { result.now ≡ table.name_of (method_seen method.now) variable.0 }
 {
     match method.variables.get(variable.0) {
@@ -39,7 +39,7 @@ fn is_lent_role(role: Role) -> bool
 }
 
 /// Whether a variable is lent: not, where there is no such variable.
-fn lends(method: &Method, variable: VarId) -> bool
+pub(crate) fn lends(method: &Method, variable: VarId) -> bool
     ensures { result ≡ table.is_lent (method_seen method.now) variable.0 }
 {
     match method.variables.get(variable.0) {
@@ -51,16 +51,16 @@ fn lends(method: &Method, variable: VarId) -> bool
 /// That the variable has something.
 pub(crate) fn has_something(
     alloc: Global,
-    method: &Method,
-    row: &Row,
+    here: &Here<'_>,
     mention: Mention,
 ) -> Result<Option<Finding>, Memory>
-    ensures { IfOk result (λ found. check_seen found ≡ table.has_something (method_seen method.now) (leaves_of row.now) mention) }
+    ensures { IfOk result (λ found. check_seen found
+        ≡ table.has_something (method_seen here.now.method.now) (leaves_of here.now.row.now) mention) }
 {
-    if row.owns(mention.variable) {
+    if here.row.owns(mention.variable) {
         return Ok(None);
     }
-    let name = name_of(method, mention.variable);
+    let name = name_of(here.method, mention.variable);
     let finding = not_owned(alloc, mention.place, name)?;
     Ok(Some(finding))
 }
@@ -68,16 +68,16 @@ pub(crate) fn has_something(
 /// That the variable has nothing.
 pub(crate) fn has_nothing(
     alloc: Global,
-    method: &Method,
-    row: &Row,
+    here: &Here<'_>,
     mention: Mention,
 ) -> Result<Option<Finding>, Memory>
-    ensures { IfOk result (λ found. check_seen found ≡ table.has_nothing (method_seen method.now) (leaves_of row.now) mention) }
+    ensures { IfOk result (λ found. check_seen found
+        ≡ table.has_nothing (method_seen here.now.method.now) (leaves_of here.now.row.now) mention) }
 {
-    if !row.owns(mention.variable) {
+    if !here.row.owns(mention.variable) {
         return Ok(None);
     }
-    let name = name_of(method, mention.variable);
+    let name = name_of(here.method, mention.variable);
     let finding = overwritten(alloc, mention.place, name)?;
     Ok(Some(finding))
 }
@@ -104,7 +104,8 @@ pub(crate) fn given_again(
     method: &Method,
     mention: Mention,
 ) -> Result<Finding, Memory>
-    ensures { IfOk result (λ finding. finding_parts finding ≡ texts.twice (table.name_of (method_seen method.now) mention.variable.0) mention.place) }
+    ensures { IfOk result (λ finding. finding_parts finding
+        ≡ texts.twice (table.name_of (method_seen method.now) mention.variable.0) mention.place) }
 {
     given_twice(alloc, mention.place, name_of(method, mention.variable))
 }
@@ -137,10 +138,10 @@ fn is_named(mention: Option<Mention>, variable: VarId) -> bool
 }
 
 /// Whether a variable still has something that is not lent, but for the one that is given.
-fn is_kept(method: &Method, row: &Row, given: Option<Mention>, variable: VarId) -> bool
-    ensures { result ≡ table.is_kept (method_seen method.now) (leaves_of row.now) given variable.0 }
+fn is_kept(here: &Here<'_>, given: Option<Mention>, variable: VarId) -> bool
+    ensures { result ≡ table.is_kept (method_seen here.now.method.now) (leaves_of here.now.row.now) given variable.0 }
 {
-    !is_named(given, variable) && !lends(method, variable) && row.owns(variable)
+    !is_named(given, variable) && !lends(here.method, variable) && here.row.owns(variable)
 }
 
 /// The variable of the exchange heap before this one in scope.
@@ -162,15 +163,16 @@ fn is_this(variable: VarId, other: Option<VarId>) -> bool
 
 /// This variable if it still has something, and else the one that was found before.
 fn kept_or(
-    method: &Method,
-    row: &Row,
+    here: &Here<'_>,
     given: Option<Mention>,
     variable: VarId,
     before: Option<VarId>,
 ) -> Option<VarId>
-    ensures { option_map (λ v. v.0) result ≡ checks.kept_or (checks.if_kept (method_seen method.now) (leaves_of row.now) given variable.0) (option_map (λ v. v.0) before) }
+    ensures { option_map (λ v. v.0) result
+        ≡ checks.kept_or (checks.if_kept (method_seen here.now.method.now) (leaves_of here.now.row.now) given variable.0)
+        (option_map (λ v. v.0) before) }
 {
-    if is_kept(method, row, given, variable) {
+    if is_kept(here, given, variable) {
         Some(variable)
     } else {
         before
@@ -180,25 +182,26 @@ fn kept_or(
 /// The first variable, in order of declaration, that still has something: of those in scope where `last` is the last one,
 /// without those in scope where `outer` is.
 fn first_kept(
-    method: &Method,
-    row: &Row,
+    here: &Here<'_>,
     given: Option<Mention>,
     outer: Option<VarId>,
     last: Option<VarId>,
 ) -> Option<VarId>
-    ensures { option_map (λ v. v.0) result ≡ checks.first_kept (method_seen method.now) (leaves_of row.now) given (declared_between (method_seen method.now) outer last) }
+    ensures { option_map (λ v. v.0) result
+        ≡ checks.first_kept (method_seen here.now.method.now) (leaves_of here.now.row.now) given
+        (declared_between (method_seen here.now.method.now) outer last) }
 {
     let mut first = None;
     let mut at = last;
-    for _ in 0..method.variables.len() {
+    for _ in 0..here.method.variables.len() {
         let Some(variable) = at else {
             return first;
         };
         if is_this(variable, outer) {
             return first;
         }
-        first = kept_or(method, row, given, variable, first);
-        at = outer_of(method, variable);
+        first = kept_or(here, given, variable, first);
+        at = outer_of(here.method, variable);
     }
     first
 }
@@ -219,18 +222,20 @@ fn told_owned(
 /// `last` is the last one, without those in scope where `outer` is.
 pub(crate) fn is_given_back(
     alloc: Global,
-    method: &Method,
-    row: &Row,
+    here: &Here<'_>,
     place: Place,
     given: Option<Mention>,
     outer: Option<VarId>,
     last: Option<VarId>,
 ) -> Result<Option<Finding>, Memory>
-    ensures { IfOk result (λ found. (after : List Pair) → checked (given_back (method_seen method.now) (leaves_of row.now) place given (declared_between (method_seen method.now) outer last)) after ≡ checked (check_seen found ∷ []) after) }
+    ensures { IfOk result
+        (λ found. StandsFor found
+        (given_back (method_seen here.now.method.now) (leaves_of here.now.row.now) place given
+        (declared_between (method_seen here.now.method.now) outer last))) }
 {
-    match first_kept(method, row, given, outer, last) {
+    match first_kept(here, given, outer, last) {
         Some(variable) => {
-            let finding = told_owned(alloc, method, place, variable)?;
+            let finding = told_owned(alloc, here.method, place, variable)?;
             Ok(Some(finding))
         }
         None => Ok(None),

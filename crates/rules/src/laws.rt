@@ -2,14 +2,15 @@
 
 ghost use Rattle.std.specs.Prelude.{◌≡◌, ℕ, List, All, Some, slice_get};
 ghost use Rattle.program.specs.Methods.{MethodSeen};
+ghost use Rattle.program.specs.Programs.{ProgramSeen};
+ghost use Rattle.rules.specs.Outcomes.{Goes, Pair};
 ghost use Rattle.rules.specs.Rows.{IsRowOf};
-ghost use Rattle.rules.specs.RuleTable.{Goes, Pair};
 ghost use Rattle.rules.specs.Steps.{entry_of, outcome};
 
 /// The row with which a method begins has a leaf for each of its variables, and a step leads from such a row to such rows alone.
 pub fn a_leaf_for_each_variable()
-    ensures entry { (methods : List MethodSeen) (n : ℕ) (m : MethodSeen)
-        → slice_get methods n ≡ Some m → IsRowOf m (entry_of methods n).1 }
-    ensures step { (methods : List MethodSeen) (n : ℕ) (m : MethodSeen) (pair : Pair) (to : List Pair)
-        → slice_get methods n ≡ Some m → IsRowOf m pair.1 → outcome methods n pair ≡ Goes to → All (λ p. IsRowOf m p.1) to }
+    ensures entry { (p : ProgramSeen) (n : ℕ) (m : MethodSeen)
+        → slice_get p.methods n ≡ Some m → IsRowOf m (entry_of p n).1 }
+    ensures step { (p : ProgramSeen) (n : ℕ) (m : MethodSeen) (pair : Pair) (to : List Pair)
+        → slice_get p.methods n ≡ Some m → IsRowOf m pair.1 → outcome p n pair ≡ Goes to → All (λ to. IsRowOf m to.1) to }
 {}

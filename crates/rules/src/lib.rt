@@ -3,11 +3,16 @@
 
 mod arguments;
 mod checks;
+mod endpoints;
+mod here;
 pub mod laws;
 mod lowered;
 mod outcome;
+mod returning;
 mod row;
+mod sending;
 mod stepping;
+mod switching;
 mod table;
 
 pub use lowered::Program;

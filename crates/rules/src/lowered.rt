@@ -1,60 +1,85 @@
-//! A program as its methods, and the graph of each.
+//! A program as its methods and its contracts, and the graph of each method.
 
 ghost use Rattle.std.specs.Prelude.{◌≡◌, ◌<◌, ◌≤◌, IfOk, IsSomeAnd, Some, length, map, slice_get};
+ghost use Rattle.contracts.specs.Sounds.{sound_parts};
 ghost use Rattle.flow.specs.Graphs.{graph_seen};
 ghost use Rattle.flow.specs.Lowering.{graph_of};
-ghost use Rattle.program.specs.Methods.{method_seen};
+ghost use Rattle.program.specs.Methods.{method_seen, variable_seen};
+ghost use Rattle.program.specs.Programs.{contracts_seen, methods_seen, program_seen, rows};
+ghost use Rattle.program.specs.WellFormed as formed;
+ghost use Rattle.program.specs.WellFormed.{IsWellFormed, parameters};
 ghost use Rattle.program.specs.declared.limits.TheConstants.{MOST_VARIABLES};
-ghost use Rattle.program.specs.Programs.{methods_seen};
 
+use contracts::Sound;
 use flow::{Graph, lower};
-use program::{Method, MethodId, Methods};
+use program::{ContractId, Kind, Method, MethodId, Methods, Role};
 use source::Memory;
 use std::alloc::Global;
 
-/// The methods of a text in order, which are well formed, and the graph of each.
+/// The methods of a text in order, which are well formed, its contracts, which are sound, and the graph of each method.
 #[derive(Drop)]
 pub struct Program {
-    methods: Methods,
+    pub(crate) methods: Methods,
+    pub(crate) sounds: Vec<Sound>,
     graphs: Vec<Graph>,
+    pub(crate) parameters: Vec<Vec<Kind>>,
+    ghost sound: { map sound_parts sounds.items ≡ map (λ c. c.parts) (contracts_seen methods) },
     ghost lowered: { map graph_seen graphs.items ≡ map graph_of (methods_seen methods) },
+    ghost asked: { rows parameters.items ≡ map (λ m. map (λ v. v.kind) (formed.parameters m)) (methods_seen methods) },
 }
 
 impl Program {
-    ghost use Rattle.rules.specs.Programs.{methods_of};
+    ghost use Rattle.rules.specs.Programs.{seen_of};
 
-    /// The program of these methods.
+    /// The program of these methods, with a sound contract for each of theirs, in order.
     ///
     /// `Memory` is answered where a growth was refused.
-    pub fn new(alloc: Global, methods: Methods) -> Result<Program, Memory>
-        ensures { IfOk result (λ p. methods_of p ≡ methods_seen methods) }
+    pub fn new(alloc: Global, methods: Methods, sounds: Vec<Sound>) -> Result<Program, Memory>
+        requires sound { map sound_parts sounds.items ≡ map (λ c. c.parts) (contracts_seen methods) }
+        ensures { IfOk result (λ p. seen_of p ≡ program_seen methods) }
     {
         let graphs = graphs_of(alloc, methods.list())?;
-        Ok(Program { methods, graphs })
+        let parameters = parameters_of(alloc, methods.list())?;
+        Ok(Program {
+            methods,
+            sounds,
+            graphs,
+            parameters,
+        })
     }
 
     /// Its methods, in order of the text.
     pub fn methods(&self) -> &[Method]
-        ensures { map method_seen result.now ≡ methods_of self.now }
+        ensures { map method_seen result.now ≡ (seen_of self.now).methods }
     {
         self.methods.list()
     }
 
-    /// A method of it.
-    pub(crate) fn method(&self, method: MethodId) -> &Method
-        requires there { method.0 < length (methods_of self.now) }
-        ensures method { slice_get (methods_of self.now) method.0 ≡ Some (method_seen result.now) }
-        ensures few { length result.now.variables.items ≤ MOST_VARIABLES }
+    /// A contract of it.
+    pub fn sound(&self, contract: ContractId) -> &Sound
+        requires there { contract.0 < length (seen_of self.now).contracts }
+        ensures { IsSomeAnd (slice_get (seen_of self.now).contracts contract.0) (λ c. sound_parts result.now ≡ c.parts) }
     {
-        self.methods.method(method)
+        &self.sounds[contract.0 as usize]
     }
 
     /// The graph of a method.
     pub fn graph(&self, method: MethodId) -> &Graph
-        requires there { method.0 < length (methods_of self.now) }
-        ensures { IsSomeAnd (slice_get (methods_of self.now) method.0) (λ m. graph_seen result.now ≡ graph_of m) }
+        requires there { method.0 < length (seen_of self.now).methods }
+        ensures { IsSomeAnd (slice_get (seen_of self.now).methods method.0) (λ m. graph_seen result.now ≡ graph_of m) }
     {
         &self.graphs[method.0 as usize]
+    }
+
+    /// A method of it.
+    pub(crate) fn method(&self, method: MethodId) -> &Method
+        requires there { method.0 < length (seen_of self.now).methods }
+        ensures method { slice_get (seen_of self.now).methods method.0 ≡ Some (method_seen result.now) }
+        ensures few { length result.now.variables.items ≤ MOST_VARIABLES }
+        ensures well_formed { IsWellFormed (seen_of self.now).contracts (seen_of self.now).messages (seen_of self.now).methods
+            (method_seen result.now) }
+    {
+        self.methods.method(method)
     }
 }
 
@@ -67,4 +92,38 @@ fn graphs_of(alloc: Global, methods: &[Method]) -> Result<Vec<Graph>, Memory>
         graphs.push(lower(alloc, method)?)?;
     }
     Ok(graphs)
+}
+
+/// Whether a method gets the variable from its caller.
+fn is_parameter(role: Role) -> bool
+    ensures { result ≡ formed.is_parameter role }
+{
+    match role {
+        Role::Lent | Role::Claimed => true,
+        Role::Local => false,
+    }
+}
+
+/// What a method takes for its parameters of the exchange heap.
+fn kinds_of(alloc: Global, method: &Method) -> Result<Vec<Kind>, Memory>
+    ensures { IfOk result (λ kinds. kinds.items ≡ map (λ v. v.kind) (parameters (method_seen method.now))) }
+{
+    let mut kinds = Vec::new(alloc);
+    for variable in &method.variables {
+        if is_parameter(variable.role) {
+            kinds.push(variable.kind)?;
+        }
+    }
+    Ok(kinds)
+}
+
+/// What each of these methods takes for its parameters of the exchange heap.
+fn parameters_of(alloc: Global, methods: &[Method]) -> Result<Vec<Vec<Kind>>, Memory>
+    ensures { IfOk result (λ kinds. rows kinds.items ≡ map (λ m. map (λ v. v.kind) (parameters m)) (map method_seen methods.now)) }
+{
+    let mut parameters = Vec::new(alloc);
+    for method in methods {
+        parameters.push(kinds_of(alloc, method)?)?;
+    }
+    Ok(parameters)
 }

@@ -10,6 +10,4 @@ pub enum Outcome {
     Next(Vec<(usize, Row)>),
     /// What is wrong there. The method does not go on.
     Found(Finding),
-    /// The rule table has no line for the instruction there: a new channel, a send or a switch. The method is not followed further.
-    Unruled,
 }

@@ -8,9 +8,16 @@ ghost use Rattle.std.specs.Str.Lossy.{utf8_lossy};
 ghost use Rattle.source.specs.Findings.{IsFinding, Reports};
 ghost use Rattle.source.specs.Places.{first_place};
 
+mod ownership;
+
 use crate::fault::{Memory, TextFault};
 use crate::finding::{Code, Finding};
 use crate::place::{self, Place};
+pub use ownership::{
+    given_twice, in_a_wrong_state_for, in_a_wrong_state_for_the_call,
+    in_a_wrong_state_for_the_result, is_lent, no_result, not_back_in_its_state, not_covered,
+    not_owned, not_sent_here, nothing_to_receive, overwritten, still_owned, too_many_pairs,
+};
 use std::alloc::Global;
 
 /// A finding with this text.
@@ -164,7 +171,8 @@ pub fn case_twice(
     endpoint: &[u8],
     message: &[u8],
 ) -> Result<Finding, Memory>
-    ensures { IfOk result (IsFinding place Code.N08 (codes "case " ++ (utf8_lossy endpoint.now ++ (codes "." ++ (utf8_lossy message.now ++ codes " twice"))))) }
+    ensures { IfOk result (IsFinding place Code.N08
+        (codes "case " ++ (utf8_lossy endpoint.now ++ (codes "." ++ (utf8_lossy message.now ++ codes " twice"))))) }
 {
     let mut text = String::from_str(alloc, "case ")?;
     text.push_str(String::from_utf8_lossy(alloc, endpoint)?.as_str())?;
@@ -211,55 +219,6 @@ pub fn one_direction_round(alloc: Global, place: Place, state: &[u8]) -> Result<
     ensures { IfOk result (IsFinding place Code.C04 (codes "one direction round " ++ utf8_lossy state.now)) }
 {
     naming(alloc, place, Code::C04, "one direction round ", state)
-}
-
-/// A variable that is used where it has nothing.
-pub fn not_owned(alloc: Global, place: Place, variable: &[u8]) -> Result<Finding, Memory>
-    ensures { IfOk result (IsFinding place Code.A01 (utf8_lossy variable.now ++ codes " not owned")) }
-{
-    named(alloc, place, Code::A01, variable, " not owned")
-}
-
-/// A variable that takes something while it still has something.
-pub fn overwritten(alloc: Global, place: Place, variable: &[u8]) -> Result<Finding, Memory>
-    ensures { IfOk result (IsFinding place Code.A07 (utf8_lossy variable.now ++ codes " overwritten")) }
-{
-    named(alloc, place, Code::A07, variable, " overwritten")
-}
-
-/// A variable that has something where it goes out of scope.
-pub fn still_owned(alloc: Global, place: Place, variable: &[u8]) -> Result<Finding, Memory>
-    ensures { IfOk result (IsFinding place Code.A08 (utf8_lossy variable.now ++ codes " still owned")) }
-{
-    named(alloc, place, Code::A08, variable, " still owned")
-}
-
-/// A parameter that is only lent, and is given away or assigned.
-pub fn is_lent(alloc: Global, place: Place, variable: &[u8]) -> Result<Finding, Memory>
-    ensures { IfOk result (IsFinding place Code.A10 (utf8_lossy variable.now ++ codes " is lent")) }
-{
-    named(alloc, place, Code::A10, variable, " is lent")
-}
-
-/// A variable that is given away twice at once, or to itself.
-pub fn given_twice(alloc: Global, place: Place, variable: &[u8]) -> Result<Finding, Memory>
-    ensures { IfOk result (IsFinding place Code.A11 (utf8_lossy variable.now ++ codes " twice")) }
-{
-    named(alloc, place, Code::A11, variable, " twice")
-}
-
-/// The end of a method that ought to have given something.
-pub fn no_result(alloc: Global, place: Place) -> Result<Finding, Memory>
-    ensures { IfOk result (IsFinding place Code.A13 (codes "no result")) }
-{
-    plain(alloc, place, Code::A13, "no result")
-}
-
-/// More pairs of a point and a row than a method may have, at its name.
-pub fn too_many_pairs(alloc: Global, place: Place) -> Result<Finding, Memory>
-    ensures { IfOk result (IsFinding place Code.A14 (codes "too many pairs")) }
-{
-    plain(alloc, place, Code::A14, "too many pairs")
 }
 
 /// The finding that a fault of a text is, and none where memory was refused, which is no fault of the text.

@@ -45,3 +45,4 @@ pub mod StatementWays
 pub mod StatementReads
 pub mod ClassRules
 pub mod ItemRules
+pub mod SpelledTokens

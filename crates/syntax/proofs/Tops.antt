@@ -1,6 +1,8 @@
 -- A whole text's tokens: read to the end, or wrong at one of them.
-use Rattle.std.proofs.Common.{◌≡◌, Bool, false, ℕ, ◌+◌, ◌-◌, ◌≤◌, take, drop, length-drop, suc, length, arith, List, [], ◌∷◌, ◌++◌, sym, refl, ap, ◌∙◌, subst, append_assoc}
-use Rattle.std.proofs.lemmas.List.{take-append-drop, take_at}
+use Rattle.std.proofs.Common.{◌≡◌, Bool, true, false, ℕ, zero, add-one, ◌+◌, ◌-◌, ◌≤◌, take, drop, length-drop, suc, length, arith, List, [], ◌∷◌, ◌++◌, sym, refl, ap, ◌∙◌, subst, append_assoc}
+use Rattle.std.proofs.lemmas.List.{take-append-drop, take_at, take_all}
+use Rattle.std.proofs.lemmas.Bool.{true≢false, and_parts}
+use Rattle.std.specs.List.{list_all}
 use Rattle.source.specs.declared.kind.Kind.{Kind}
 use Rattle.source.specs.declared.kind.Kind.TheVariants.{Name}
 use Rattle.source.specs.declared.token.Span.{Span}
@@ -183,3 +185,33 @@ not_wrong {X} {a} ts k x spelled wrong = wrong.bad (record { piece = x; more = d
 -- two trees with one spelling are one
 pub one_spelling : {X : Type 0} {a : X → List Symbol} {f : Symbol → Bool} {at : X → Symbol → Bool} → Piece a f at → (x y : X) → a x ≡ a y → x ≡ y
 one_spelling {X} {a} {f} {at} piece x y e = ((piece.each x).only y [] [] tt tt (ap (λ t. t ++ []) e)).0
+
+-- tokens that are no spelling have a first wrong one, or the end is it
+
+-- whether a symbol is a token's, and not the end
+abbrev pub is_token : Symbol → Bool
+is_token End = false
+is_token y = true
+
+-- the end stands in no spelling
+abbrev pub SpellsTokens : {X : Type 0} → (X → List Symbol) → Type 0
+SpellsTokens {X} a = (x : X) → list_all is_token (a x) ≡ true
+
+-- where the tokens and their end begin a spelling with its end, they are all of it
+ends_there : (ts : List Token) (w more : List Symbol) → list_all is_token w ≡ true
+    → w ++ End ∷ [] ≡ symbols ts ++ more → w ++ End ∷ [] ≡ symbols ts
+ends_there [] [] more h e = refl
+ends_there [] (x ∷ w) more h e = absurd (true≢false (sym (and_parts _ _ h).0 ∙ ap is_token (heads e)))
+ends_there (t ∷ ts) [] more h e = absurd (seen_no_end t.kind t.span (sym (heads e)))
+ends_there (t ∷ ts) (x ∷ w) more h e = λ i. heads e i ∷ ends_there ts w more (and_parts _ _ h).1 (behind e) i
+
+module _ {X : Type 0} {a : X → List Symbol} (some : X) (ts : List Token) (right : (k : ℕ) → IsFirstWrong a ts k → ⊥) where
+  -- where none is the first wrong one, any number of them begins a spelling
+  viable : (k : ℕ) → (Viable (whole a) (take k (symbols ts)) → ⊥) → ⊥
+  viable zero f = f (record { piece = some; more = whole a some; begins = refl })
+  viable (suc k) f = viable k (λ v. right k (record { good = v; bad = λ w. f (rw add-one at w) }))
+
+  pub spelled : SpellsTokens a → ((x : X) → Spells a x ts → ⊥) → ⊥
+  spelled tokens none = viable (length (symbols ts)) (λ v.
+      let all : take (length (symbols ts)) (symbols ts) ≡ symbols ts = take_all _ (symbols ts) (omega arith) in
+      none v.piece (ends_there ts (a v.piece) v.more (tokens v.piece) (v.begins ∙ ap (λ t. t ++ v.more) all)))

@@ -24,6 +24,6 @@ mod types;
 mod values;
 
 pub use fault::SyntaxFault;
-pub use laws::one_tree_a_spelling;
+pub use laws::{one_tree_a_spelling, tokens_are_parsed};
 pub use parsing::parse;
 pub use tree::Tree;

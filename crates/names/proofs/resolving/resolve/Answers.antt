@@ -63,8 +63,9 @@ returns-then-is_empty-clause-whole c =
     let text = c.args.tokens.now.text.items in
     let clear = cleared_by text c.args.tree.now.items.items c.deref.result.now c.in_ok-scope.scope c.new-found.result.items c.judge_program.new.found.items c.judge_program.new.found.len
     c.deref.ensures.value c.new-found.ensures.items (omega (arith, c.judge_program.new.found.ok.0)) (sym c.is_empty.ensures ∙ c.if-is_empty.true) c.in_ok-scope.ensures c.in_ok-judge_program.ensures in
-    seen_whole (program_of text c.args.tree.now) (contracts_of (program_tree c.args.tree.now)) c.in_ok-resolve_contracts.field-0.items
-    (c.in_ok-resolve_contracts.ensures ∙ ap (λ l. all_resolved text (declared_in l)) c.deref-then-is_empty.ensures.value ∙ clear.resolved) clear.none
+    let shown = ap (λ l. all_resolved text (declared_in l)) c.deref-then-is_empty.ensures.value in
+    seen_whole (program_of text c.args.tree.now) c.in_ok-resolve_contracts.field-0.items
+    (c.in_ok-resolve_contracts.ensures ∙ shown ∙ clear.resolved) clear.clean
 
 pub returns-clause-found : goal.returns-clause-found
 returns-clause-found c =

@@ -1,7 +1,7 @@
 use Rattle.std.proofs.Common.{refl, sym, ◌∙◌}
 use Rattle.std.proofs.lemmas.List.{at_drop_all}
 use Rattle.rules.specs.Rows.{leaves_of}
-use Rattle.rules.specs.RuleTable.{claimed}
+use Rattle.rules.specs.Arguments.{claimed}
 use Rattle.rules.proofs.ArgumentLemmas.{claimed_more}
 use Rattle.rules.proofs.arguments.claim_all.Goals as goal
 

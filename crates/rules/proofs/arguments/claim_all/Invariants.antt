@@ -1,6 +1,6 @@
 use Rattle.std.proofs.Common.{◌≡◌, drop}
 use Rattle.rules.specs.Rows.{leaves_of}
-use Rattle.rules.specs.RuleTable.{claimed}
+use Rattle.rules.specs.Arguments.{claimed}
 use Rattle.rules.proofs.arguments.claim_all.Given as goal
 
 abbrev pub invariant-loop-argument : goal.invariant-loop-argument

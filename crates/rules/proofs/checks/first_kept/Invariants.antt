@@ -5,4 +5,4 @@ use Rattle.rules.proofs.ScopeLemmas.{Looked}
 use Rattle.rules.proofs.checks.first_kept.Given as goal
 
 abbrev pub invariant-loop : goal.invariant-loop
-invariant-loop l = Looked (method_seen l.method) (leaves_of l.row) l.given l.outer l.fn.last l.at l.counter (option_map (λ v. v.0) l.first)
+invariant-loop l = Looked (method_seen l.here.method.now) (leaves_of l.here.row.now) l.given l.outer l.fn.last l.at l.counter (option_map (λ v. v.0) l.first)

@@ -1,0 +1,37 @@
+-- Endpoints that were lent, variable by variable.
+use Rattle.std.proofs.Common.{◌≡◌, ℕ, suc, ◌+◌, ◌-◌, ◌<◌, ◌≤◌, List, [], ◌∷◌, length, map, ap, sym, ◌∙◌, arith, Bool, true, Option, Some}
+use Rattle.std.specs.List.{range_with_len}
+use Rattle.source.specs.declared.place.Place.{Place}
+use Rattle.program.specs.Methods.{MethodSeen}
+use Rattle.program.specs.Programs.{ProgramSeen}
+use Rattle.rules.specs.Mentions.{name_of}
+use Rattle.source.specs.declared.finding.Finding.{Finding}
+use Rattle.rules.specs.Checks.{StandsFor, check_seen}
+use Rattle.rules.specs.Outcomes.{Check, checked, refused}
+use Rattle.rules.specs.RuleTable.{is_not_back}
+use Rattle.rules.specs.Texts.{not_back}
+use Rattle.rules.specs.declared.row.Leaf.{Leaf}
+
+module _ (p : ProgramSeen) (m : MethodSeen) (row : List Leaf) (place : Place) where
+  abbrev pub back_check : ℕ → Check
+  back_check v = refused (is_not_back p m row v) (not_back (name_of m v) place)
+
+  -- the checks of the variables from this one on
+  abbrev pub back_from : ℕ → List Check
+  back_from v = map back_check (range_with_len v (length m.variables - v))
+
+  pub back_more : (v : ℕ) → v < length m.variables → back_from v ≡ back_check v ∷ back_from (v + 1)
+  back_more v lt =
+      let left : length m.variables - v ≡ suc (length m.variables - (v + 1)) = omega (arith, lt) in
+      ap (λ n. map back_check (range_with_len v n)) left
+
+  pub back_none : (v : ℕ) → length m.variables ≤ v → back_from v ≡ []
+  back_none v le =
+      let left : length m.variables - v ≡ 0 = omega (arith, le) in
+      ap (λ n. map back_check (range_with_len v n)) left
+
+  -- what is said of one that is not back stands for its check
+  pub told_back : (v : ℕ) (found : Option Finding) → is_not_back p m row v ≡ true → check_seen found ≡ Some (not_back (name_of m v) place) → StandsFor found (back_check v ∷ [])
+  told_back v found out told = record {
+    all = λ more after. ap (λ (b : Bool). checked (refused b (not_back (name_of m v) place) ∷ more) after) out ∙ ap (λ f. checked (f ∷ more) after) (sym told);
+  }

@@ -1,0 +1,63 @@
+-- Switches, endpoint by endpoint and edge by edge.
+use Rattle.std.proofs.Common.{◌≡◌, ℕ, ◌+◌, ◌<◌, ◌≤◌, List, [], ◌∷◌, ◌++◌, length, drop, map, flat_map, slice_index_or, Some, sym, ap, ◌∙◌, append-nil, append_assoc, refl, set, ◌⊎◌, inl, inr}
+use Rattle.std.specs.Prelude.{is_none}
+use Rattle.std.proofs.lemmas.List.{at_drop_all, at_drop_more}
+use Rattle.flow.specs.Cases.{EntranceSeen, case_for}
+use Rattle.program.specs.Methods.{MethodSeen}
+use Rattle.program.specs.Programs.{ProgramSeen}
+use Rattle.program.specs.declared.contract.Edge.{Edge}
+use Rattle.program.specs.declared.statement.Mention.{Mention}
+use Rattle.rules.specs.Endpoints.{kind_of, message_name}
+use Rattle.rules.specs.Mentions.{name_of}
+use Rattle.rules.specs.Outcomes.{Check, refused}
+use Rattle.rules.specs.Switches.{bound_leaves}
+use Rattle.rules.specs.Texts.{not_covered}
+use Rattle.rules.specs.declared.row.Leaf.{Leaf}
+use Rattle.rules.specs.Endpoints.{declared_leaf}
+use Rattle.program.specs.declared.kind.Kind.{Kind}
+use Rattle.program.specs.declared.number.VarId.{VarId}
+
+-- that the messages of these edges have a case at an endpoint
+abbrev pub edge_checks : ProgramSeen → MethodSeen → List EntranceSeen → Mention → List Edge → List Check
+edge_checks p m cases e edges =
+    map
+    (λ d. refused (is_none (case_for cases e.variable.0 (Some d.message.0)))
+    (not_covered (name_of m e.variable.0) (message_name p (kind_of m e.variable.0) d.message.0) e.place))
+    edges
+
+-- what was added, and what the others will add, are all of it
+pub record Adds {X Y : Type 0} (one : X → List Y) (old : List Y) (xs : List X) (now : List Y) (done : ℕ) : Type 0 where
+  pub all : now ++ flat_map one (drop done xs) ≡ old ++ flat_map one xs
+
+pub adds_first : {X Y : Type 0} (one : X → List Y) (old now : List Y) (xs : List X) → now ≡ old → Adds one old xs now 0
+adds_first one old now xs is = record { all = ap (λ l. l ++ flat_map one xs) is }
+
+pub adds_more : {X Y : Type 0} (one : X → List Y) (old now more : List Y) (xs : List X) (done : ℕ) (d : X) → done < length xs → more ≡ now ++ one (slice_index_or xs done d) → Adds one old xs now done → Adds one old xs more (done + 1)
+adds_more one old now more xs done d lt is h =
+    let x = slice_index_or xs done d in
+    let rest = flat_map one (drop (done + 1) xs) in
+    record { all = ap (λ l. l ++ rest) is ∙ append_assoc now (one x) rest ∙ ap (λ l. now ++ l) (sym (at_drop_more (flat_map one) xs done d lt)) ∙ h.all }
+
+pub adds_all : {X Y : Type 0} (one : X → List Y) (old now : List Y) (xs : List X) (done : ℕ) → length xs ≤ done → Adds one old xs now done → now ≡ old ++ flat_map one xs
+adds_all one old now xs done le h = sym (ap (λ l. now ++ l) (at_drop_all (flat_map one) xs done le) ∙ append-nil now) ∙ h.all
+
+-- nothing more is bound
+pub bound_none : (row : List Leaf) (bound : List VarId) (kinds : List Kind) (n : ℕ) → (length bound ≤ n) ⊎ (length kinds ≤ n) → bound_leaves row (drop n bound) (drop n kinds) ≡ row
+bound_none row bound kinds n (inl le) = at_drop_all (λ l. bound_leaves row l (drop n kinds)) bound n le ∙ no_bound (drop n kinds)
+  where
+    no_bound : (ks : List Kind) → bound_leaves row [] ks ≡ row
+    no_bound [] = refl
+    no_bound (k ∷ ks) = refl
+bound_none row bound kinds n (inr le) = at_drop_all (bound_leaves row (drop n bound)) kinds n le ∙ no_kind (drop n bound)
+  where
+    no_kind : (vs : List VarId) → bound_leaves row vs [] ≡ row
+    no_kind [] = refl
+    no_kind (v ∷ vs) = refl
+
+-- one more is bound
+pub bound_more : (row less : List Leaf) (bound : List VarId) (kinds : List Kind) (n : ℕ) (d : VarId) (e : Kind) → n < length bound → n < length kinds → less ≡ set row (slice_index_or bound n d).0 (declared_leaf (slice_index_or kinds n e))
+    → bound_leaves less (drop (n + 1) bound) (drop (n + 1) kinds) ≡ bound_leaves row (drop n bound) (drop n kinds)
+bound_more row less bound kinds n d e first second is =
+    sym (at_drop_more (λ l. bound_leaves row l (drop n kinds)) bound n d first
+    ∙ at_drop_more (bound_leaves row (slice_index_or bound n d ∷ drop (n + 1) bound)) kinds n e second
+    ∙ ap (λ r. bound_leaves r (drop (n + 1) bound) (drop (n + 1) kinds)) (sym is))

@@ -1,0 +1,24 @@
+use Rattle.std.proofs.Common.{◌≡◌, ◌∙◌, Some, None, map, slice_get, refl, sym, ap, subst}
+use Rattle.std.proofs.lemmas.Option.{slice_get-map, slice_get_past, slice_get_read}
+use Rattle.std.specs.Option.{option_map, option_map_or}
+use Rattle.program.specs.Methods.{MethodSeen}
+use Rattle.program.specs.WellFormed.{parameters}
+use Rattle.rules.specs.Programs.{seen_of}
+use Rattle.rules.proofs.KindLemmas.{kinds_past, kinds_there}
+use Rattle.rules.proofs.lowered.Program.parameter_kinds.Goals as goal
+
+pub returns-in-Some : goal.returns-in-Some
+returns-in-Some c =
+    let p = seen_of c.args.self.now in
+    let n = c.args.method.0 in
+    let kinds = c.in-Some.kinds.now in
+    let look = c.in-Some.ensures.lookup in
+    let there = ap (λ l. slice_get l n) (sym c.deref.ensures.value) ∙ slice_get_read c.deref.result.now _ n kinds refl look.3.0 look.1 in
+    c.as_slice.ensures.value ∙ kinds_there c.args.self.now.parameters.items p.methods n kinds c.args.self.now.asked there
+
+pub returns-in-None : goal.returns-in-None
+returns-in-None c =
+    let p = seen_of c.args.self.now in
+    let n = c.args.method.0 in
+    let past = ap (λ l. slice_get l n) (sym c.deref.ensures.value) ∙ slice_get_past c.deref.result.now n c.in-None.ensures.lookup.3 in
+    kinds_past c.args.self.now.parameters.items p.methods n c.args.self.now.asked past

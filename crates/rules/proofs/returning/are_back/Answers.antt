@@ -1,0 +1,19 @@
+use Rattle.std.proofs.Common.{◌≡◌, ◌<◌, length, Some, true, refl, sym, ap, subst, ◌∙◌}
+use Rattle.std.proofs.lemmas.List.{length-map}
+use Rattle.program.specs.Methods.{method_seen, variable_seen}
+use Rattle.rules.specs.Programs.{seen_of}
+use Rattle.rules.specs.Rows.{leaves_of}
+use Rattle.rules.proofs.ArgumentLemmas.{left_found}
+use Rattle.rules.proofs.BackLemmas.{back_check, back_more, told_back}
+use Rattle.rules.proofs.returning.are_back.Goals as goal
+
+pub returns-then-is_not_back : goal.returns-then-is_not_back
+returns-then-is_not_back c =
+    let p = seen_of c.args.here.now.program.now in
+    let m = method_seen c.args.here.now.method.now in
+    let row = leaves_of c.args.here.now.row.now in
+    let v = c.loop-variable.variable in
+    let size = length-map c.args.here.now.method.now.variables.items variable_seen in
+    let lt : v < length m.variables = subst (λ n. v < n) (c.len-variable-end.ensures ∙ c.args.here.now.method.now.variables.ok.0 ∙ sym size) c.loop-variable-test.true in
+    left_found _ _ _ _ (Some c.in_ok-finding.finding) c.in_ok-finding.finding (back_more p m row c.args.place v lt) refl
+    (told_back p m row c.args.place v (Some c.in_ok-finding.finding) (sym c.is_not_back.ensures ∙ c.if-is_not_back.true) (ap Some c.in_ok-finding.ensures)) c.loop-variable.invariant

@@ -1,0 +1,11 @@
+use Rattle.std.proofs.Common.{◌<◌, ◌≤◌, length, subst, sym, ap, ◌∙◌}
+use Rattle.rules.specs.Rows.{leaves_of}
+use Rattle.rules.specs.Switches.{bound_leaves}
+use Rattle.rules.proofs.ArgumentLemmas.{below_both, past_one}
+use Rattle.rules.proofs.SwitchLemmas.{bound_more, bound_none}
+use Rattle.rules.proofs.switching.bind.Goals as goal
+
+pub returns : goal.returns
+returns c =
+    let n = c.loop-number.number in
+    sym (bound_none (leaves_of c.loop-number.row) c.args.bound.now c.args.kinds.now n (past_one (length c.args.bound.now) (length c.args.kinds.now) n (subst (λ end. end ≤ n) c.min-number-end.ensures c.loop-number-test.false))) ∙ c.loop-number.invariant

@@ -1,0 +1,7 @@
+use Rattle.std.proofs.Common.{◌≡◌, drop}
+use Rattle.rules.specs.Rows.{leaves_of}
+use Rattle.rules.specs.Switches.{bound_leaves}
+use Rattle.rules.proofs.switching.bind.Given as goal
+
+abbrev pub invariant-loop-number : goal.invariant-loop-number
+invariant-loop-number l = bound_leaves (leaves_of l.row) (drop l.number l.bound) (drop l.number l.kinds) ≡ bound_leaves (leaves_of l.fn.row) l.bound l.kinds

@@ -1,0 +1,16 @@
+use Rattle.std.proofs.Common.{drop}
+use Rattle.program.specs.Methods.{method_seen}
+use Rattle.flow.specs.Graphs.{cases_seen}
+use Rattle.rules.specs.Programs.{seen_of}
+use Rattle.rules.specs.Rows.{leaves_of}
+use Rattle.rules.proofs.ArgumentLemmas.{Left}
+use Rattle.rules.proofs.SwitchLemmas.{edge_checks}
+use Rattle.rules.specs.Switches.{awaited_edges, covered}
+use Rattle.rules.proofs.switching.is_covered.Given as goal
+
+abbrev pub invariant-loop-edge : goal.invariant-loop-edge
+invariant-loop-edge l =
+    let p = seen_of l.here.program.now in
+    let m = method_seen l.here.method.now in
+    let row = leaves_of l.here.row.now in
+    Left (covered p m row (cases_seen l.cases) l.endpoint) (edge_checks p m (cases_seen l.cases) l.endpoint (drop l.edge-index (awaited_edges p m row l.endpoint)))

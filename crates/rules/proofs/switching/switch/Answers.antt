@@ -1,0 +1,42 @@
+use Rattle.std.proofs.Common.{◌≡◌, ◌≤◌, ◌∙◌, Some, None, false, [], flat_map, length, map, sym, ap, subst}
+use Rattle.std.specs.List.{list_all}
+use Rattle.flow.specs.Cases.{first_mentions}
+use Rattle.flow.specs.Graphs.{cases_seen}
+use Rattle.program.specs.Methods.{method_seen}
+use Rattle.rules.specs.Checks.{StandsFor}
+use Rattle.rules.specs.Mentions.{has_something}
+use Rattle.rules.specs.Outcomes.{Goes}
+use Rattle.rules.specs.Programs.{seen_of}
+use Rattle.rules.specs.Rows.{leaves_of}
+use Rattle.rules.specs.Steps.{pair_seen}
+use Rattle.rules.specs.Switches.{comes_at, covered, is_to_send, switch_pairs}
+use Rattle.rules.specs.Texts.{nothing_to_receive}
+use Rattle.rules.proofs.CallLemmas.{passes, second_of}
+use Rattle.rules.proofs.SwitchLemmas.{adds_all}
+use Rattle.rules.proofs.switching.switch.Goals as goal
+
+pub returns-in-Some-2 : goal.returns-in-Some-2
+returns-in-Some-2 c =
+    let p = seen_of c.args.here.now.program.now in
+    let m = method_seen c.args.here.now.method.now in
+    let row = leaves_of c.args.here.now.row.now in
+    let cases = cases_seen c.args.cases.now in
+    let named = first_mentions [] cases in
+    let there = subst (λ es. StandsFor c.in_ok-finding.field-0 (map (has_something m row) es)) c.endpoints.ensures c.in_ok-finding.ensures in
+    let some_waits : list_all (is_to_send p m row) named ≡ false = ap (list_all (is_to_send p m row)) (sym c.endpoints-2.ensures) ∙ sym c.are_to_send.ensures ∙ c.if-are_to_send.false in
+    let covers = passes (list_all (is_to_send p m row) named) (nothing_to_receive c.args.place) (flat_map (covered p m row cases) named) c.in_ok-finding-2.field-0 some_waits c.in_ok-finding-2.ensures in
+    second_of (map (has_something m row) named) _ c.in_ok-finding.field-0 c.in_ok-finding-2.field-0 (Some c.in-Some-2.finding) (switch_pairs p m row cases) c.in_default.is c.in-Some-2.is there covers
+
+pub returns : goal.returns
+returns c =
+    let p = seen_of c.args.here.now.program.now in
+    let m = method_seen c.args.here.now.method.now in
+    let row = leaves_of c.args.here.now.row.now in
+    let cases = cases_seen c.args.cases.now in
+    let named = first_mentions [] cases in
+    let there = subst (λ es. StandsFor c.in_ok-finding.field-0 (map (has_something m row) es)) c.endpoints.ensures c.in_ok-finding.ensures in
+    let some_waits : list_all (is_to_send p m row) named ≡ false = ap (list_all (is_to_send p m row)) (sym c.endpoints-2.ensures) ∙ sym c.are_to_send.ensures ∙ c.if-are_to_send.false in
+    let covers = passes (list_all (is_to_send p m row) named) (nothing_to_receive c.args.place) (flat_map (covered p m row cases) named) c.in_ok-finding-2.field-0 some_waits c.in_ok-finding-2.ensures in
+    let le : length named ≤ c.loop-endpoint.endpoint-index = subst (λ es. length es ≤ c.loop-endpoint.endpoint-index) c.endpoints-endpoints.ensures c.loop-endpoint-test.false in
+    ap Goes (adds_all (comes_at p m row cases) [] (map pair_seen c.loop-endpoint.pairs.items) named c.loop-endpoint.endpoint-index le c.loop-endpoint.invariant)
+    ∙ second_of (map (has_something m row) named) _ c.in_ok-finding.field-0 c.in_ok-finding-2.field-0 None (switch_pairs p m row cases) c.in_default.is c.in_default-2.is there covers

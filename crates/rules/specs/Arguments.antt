@@ -1,0 +1,77 @@
+-- Calls, starts and sends: the checks of what is given, and what is left of a row behind it.
+use Rattle.std.specs.Prelude.{ℕ, ◌==◌, Bool, true, false, ◌&&◌, List, [], ◌∷◌, ◌++◌, Option, Some, None, flat_map, is_none, map, set, zip, if◌then◌else◌}
+use Rattle.std.specs.Option.{option_map_or}
+use Rattle.program.specs.Lists.{is_among}
+use Rattle.program.specs.Methods.{MethodSeen}
+use Rattle.program.specs.Programs.{ProgramSeen}
+use Rattle.program.specs.declared.call.Argument.{Argument}
+use Rattle.program.specs.declared.kind.Kind.{Kind}
+use Rattle.program.specs.declared.statement.Mention.{Mention}
+use Rattle.contracts.specs.Leaving.{end_on}
+use Rattle.rules.specs.Endpoints.{declared_leaf, edges_out, in_state, is_wrong}
+use Rattle.rules.specs.Mentions.{has_nothing, has_something, is_lent, is_not_lent, name_of}
+use Rattle.rules.specs.Outcomes.{Check, refused}
+use Rattle.rules.specs.Rows.{leaf_at}
+use Rattle.rules.specs.Texts.{lent, twice, wrong_for, wrong_for_call}
+use Rattle.rules.specs.declared.row.Leaf.{Leaf}
+use Rattle.rules.specs.declared.row.Leaf.TheVariants.{Nothing, State}
+
+-- what is claimed of arguments is gone
+abbrev pub claimed : List Leaf → List Argument → List Leaf
+claimed row [] = row
+claimed row (a ∷ arguments) = claimed (if a.claimed then set row a.mention.variable.0 Nothing else row) arguments
+
+-- a message claims what is given with it
+abbrev pub payload : Mention → Argument
+payload x = record { mention = x; claimed = true }
+
+-- a variable takes what a method gives, if it gives something of the exchange heap
+abbrev pub given_leaf : List Leaf → Option Kind → Option Mention → List Leaf
+given_leaf row (Some kind) (Some target) = set row target.variable.0 (declared_leaf kind)
+given_leaf row _ _ = row
+
+-- what an endpoint of this kind has behind a send of the message
+abbrev pub sent_leaf : ProgramSeen → Option Kind → ℕ → Leaf → Leaf
+sent_leaf p kind message leaf = in_state leaf (λ q. option_map_or State (end_on (edges_out p kind q) message) leaf) leaf
+
+-- an endpoint in a state that has no edge on which it sends the message
+abbrev pub lacks_edge : ProgramSeen → Option Kind → ℕ → Leaf → Bool
+lacks_edge p kind message leaf = in_state leaf (λ q. is_none (end_on (edges_out p kind q) message)) false
+
+module _ (m : MethodSeen) where
+  -- none is one of these, and none is given twice
+  abbrev pub given_before : List ℕ → List Argument → List Check
+  given_before earlier [] = []
+  given_before earlier (a ∷ arguments) =
+      refused (is_among earlier a.mention.variable.0) (twice (name_of m a.mention.variable.0) a.mention.place)
+      ∷ given_before (a.mention.variable.0 ∷ earlier) arguments
+
+  -- The checks of what is given for a parameter: it is there, not lent where it is claimed, and in the state that the parameter asks.
+  abbrev pub argument_checks : List Leaf → Kind → Argument → List Check
+  argument_checks row kind a =
+      has_something m row a.mention
+      ∷ refused (a.claimed && is_lent m a.mention.variable.0) (lent (name_of m a.mention.variable.0) a.mention.place)
+      ∷ refused (is_wrong kind (leaf_at row a.mention.variable.0)) (wrong_for_call (name_of m a.mention.variable.0) a.mention.place)
+      ∷ []
+
+  -- the checks of arguments, for parameters of these kinds
+  abbrev pub all_arguments : List Leaf → List Kind → List Argument → List Check
+  all_arguments row kinds arguments = given_before [] arguments ++ flat_map (λ x. argument_checks row x.0 x.1) (zip kinds arguments)
+
+  -- The checks of what a message takes with it: it is not lent, there, and in the state that the message asks.
+  abbrev pub payload_checks : List Leaf → (message : List ℕ) → Kind → Argument → List Check
+  payload_checks row message kind a =
+      is_not_lent m a.mention
+      ∷ has_something m row a.mention
+      ∷ refused (is_wrong kind (leaf_at row a.mention.variable.0)) (wrong_for (name_of m a.mention.variable.0) message a.mention.place)
+      ∷ []
+
+  -- the checks of what is sent along an endpoint
+  abbrev pub all_payloads : List Leaf → Mention → (message : List ℕ) → List Kind → List Argument → List Check
+  all_payloads row endpoint message kinds payloads =
+      given_before (endpoint.variable.0 ∷ []) payloads ++ flat_map (λ x. payload_checks row message x.0 x.1) (zip kinds payloads)
+
+  -- the checks of what takes a block: it is not lent, and has nothing
+  abbrev pub target_checks : List Leaf → Option Mention → List Check
+  target_checks row None = []
+  target_checks row (Some v) = is_not_lent m v ∷ has_nothing m row v ∷ []

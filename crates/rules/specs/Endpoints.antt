@@ -1,0 +1,72 @@
+-- What the rule table asks of a program: the edges along which its endpoints send and receive, what its messages and methods take, and
+-- what a variable is declared to have.
+use Rattle.std.specs.Prelude.{ℕ, ◌==◌, Bool, false, not, List, [], length, Option, Some, None, map, slice_get}
+use Rattle.std.specs.Option.{option_and_then, option_map_or}
+use Rattle.program.specs.Methods.{MethodSeen}
+use Rattle.program.specs.Programs.{ProgramSeen}
+use Rattle.program.specs.WellFormed.{parameters}
+use Rattle.program.specs.declared.contract.Edge.{Edge}
+use Rattle.program.specs.declared.kind.Kind.{Kind}
+use Rattle.program.specs.declared.kind.Kind.TheVariants.{Endpoint}
+use Rattle.contracts.specs.Bounds.{sign_to}
+use Rattle.contracts.specs.Leaving.{edges_from, name_among, sign_from}
+use Rattle.rules.specs.declared.row.Leaf.{Leaf}
+use Rattle.rules.specs.declared.row.Leaf.TheVariants.{Block, State}
+
+-- what a message brings for its parameters of the exchange heap
+abbrev pub brought : ProgramSeen → ℕ → List Kind
+brought p message = option_map_or (λ kinds. kinds) (slice_get p.messages message) []
+
+-- what a method takes for its parameters of the exchange heap
+abbrev pub parameter_kinds : ProgramSeen → ℕ → List Kind
+parameter_kinds p method = option_map_or (λ m. map (λ v. v.kind) (parameters m)) (slice_get p.methods method) []
+
+-- what it gives, where that is of the exchange heap
+abbrev pub result_of : ProgramSeen → ℕ → Option Kind
+result_of p method = option_and_then (λ m. m.result) (slice_get p.methods method)
+
+-- what a variable of a method holds
+abbrev pub kind_of : MethodSeen → ℕ → Option Kind
+kind_of m variable = option_map_or (λ v. Some v.kind) (slice_get m.variables variable) None
+
+abbrev pub edges_of : ProgramSeen → ℕ → List Edge
+edges_of p contract = option_map_or (λ c. c.parts.edges) (slice_get p.contracts contract) []
+
+-- the state in which a channel of the contract begins
+abbrev pub first_state : ProgramSeen → ℕ → ℕ
+first_state p contract = option_map_or (λ c. c.parts.first.0) (slice_get p.contracts contract) 0
+
+-- the edges along which an endpoint of this kind sends in a state
+abbrev pub edges_out : ProgramSeen → Option Kind → ℕ → List Edge
+edges_out p (Some (Endpoint contract side state)) q = edges_from (edges_of p contract.0) (sign_from side) q
+edges_out p _ q = []
+
+-- whether there is such an edge
+abbrev pub sends : ProgramSeen → Option Kind → ℕ → Bool
+sends p kind q = not (length (edges_out p kind q) == 0)
+
+-- the edges along which it receives
+abbrev pub edges_in : ProgramSeen → Option Kind → ℕ → List Edge
+edges_in p (Some (Endpoint contract side state)) q = edges_from (edges_of p contract.0) (sign_to side) q
+edges_in p _ q = []
+
+-- the name of a message of the contract of an endpoint of this kind
+abbrev pub message_name : ProgramSeen → Option Kind → ℕ → List ℕ
+message_name p (Some (Endpoint contract side state)) message =
+    option_map_or (λ c. name_among c.parts.messages message) (slice_get p.contracts contract.0) []
+message_name p _ message = []
+
+-- what is had of this kind where it is given: a block, or an endpoint in the declared state
+abbrev pub declared_leaf : Kind → Leaf
+declared_leaf (Endpoint contract side state) = State state.0
+declared_leaf _ = Block
+
+-- an endpoint neither cut off nor in the declared state
+abbrev pub is_wrong : Kind → Leaf → Bool
+is_wrong (Endpoint contract side state) (State q) = not (q == state.0)
+is_wrong _ _ = false
+
+-- what holds of an endpoint in the state that it is in; of one that is cut off, and of all else, the other
+abbrev pub in_state : {X : Type 0} → Leaf → (ℕ → X) → X → X
+in_state (State q) there other = there q
+in_state _ there other = other

@@ -1,0 +1,153 @@
+//! What the rule table asks of a program.
+
+ghost use Rattle.std.specs.Prelude.{◌≡◌, ◌<◌, All, IfSome, MatchOption, option_map};
+ghost use Rattle.contracts.specs.Leaving.{end_on};
+ghost use Rattle.contracts.specs.Sounds.{sound_parts};
+ghost use Rattle.program.specs.Methods.{method_seen};
+ghost use Rattle.program.specs.declared.limits.TheConstants.{MOST_STATES};
+ghost use Rattle.rules.specs.Endpoints as table;
+ghost use Rattle.rules.specs.Endpoints.{declared_leaf};
+ghost use Rattle.rules.specs.Ends.{IsEndOf, IsNoEnd};
+ghost use Rattle.rules.specs.Leaves.{IsNumbered};
+
+use crate::lowered::Program;
+use crate::row::Leaf;
+use contracts::Sound;
+use program::{ContractId, Edge, Kind, MessageId, Method, MethodId, Side, StateId, VarId};
+
+/// What is had of this kind where it is given.
+pub(crate) fn declared_leaf(kind: Kind) -> Leaf
+    ensures { result ≡ declared_leaf kind }
+{
+    match kind {
+        Kind::Struct(_) | Kind::Array(_) => Leaf::Block,
+        Kind::Endpoint { state, .. } => Leaf::State(state.0),
+    }
+}
+
+/// Whether this is an endpoint neither cut off nor in the state that its kind declares.
+pub(crate) fn is_wrong(kind: Kind, leaf: Leaf) -> bool
+    ensures { result ≡ table.is_wrong kind leaf }
+{
+    match (kind, leaf) {
+        (Kind::Endpoint { state, .. }, Leaf::State(number)) => number != state.0,
+        _ => false,
+    }
+}
+
+/// What a variable of a method holds, if there is such a variable.
+pub(crate) fn kind_of(method: &Method, variable: VarId) -> Option<Kind>
+    ensures { result ≡ table.kind_of (method_seen method.now) variable.0 }
+{
+    match method.variables.get(variable.0) {
+        Some(variable) => Some(variable.kind),
+        None => None,
+    }
+}
+
+impl Program {
+    ghost use Rattle.rules.specs.Programs.{seen_of};
+
+    /// What a message brings for its parameters of the exchange heap.
+    pub(crate) fn brought(&self, message: MessageId) -> &[Kind]
+        ensures kinds { result.now ≡ table.brought (seen_of self.now) message.0 }
+        ensures numbered { All (λ kind. IsNumbered (declared_leaf kind)) result.now }
+    {
+        match self.methods.messages().get(message.0 as usize) {
+            Some(kinds) => kinds.as_slice(),
+            None => &[],
+        }
+    }
+
+    /// What a method takes for its parameters of the exchange heap.
+    pub(crate) fn parameter_kinds(&self, method: MethodId) -> &[Kind]
+        ensures { result.now ≡ table.parameter_kinds (seen_of self.now) method.0 }
+    {
+        match self.parameters.get(method.0 as usize) {
+            Some(kinds) => kinds.as_slice(),
+            None => &[],
+        }
+    }
+
+    /// What a method gives, where that is of the exchange heap.
+    pub(crate) fn result_of(&self, method: MethodId) -> Option<Kind>
+        ensures kind { result ≡ table.result_of (seen_of self.now) method.0 }
+        ensures numbered { IfSome result (λ kind. IsNumbered (declared_leaf kind)) }
+    {
+        self.methods.list().get(method.0 as usize)?.result
+    }
+
+    /// The state in which a channel of the contract begins.
+    pub(crate) fn first_state(&self, contract: ContractId) -> StateId
+        ensures state { result.0 ≡ table.first_state (seen_of self.now) contract.0 }
+        ensures numbered { result.0 < MOST_STATES }
+    {
+        match self.sounds.get(contract.0 as usize) {
+            Some(sound) => sound.first(),
+            None => StateId(0),
+        }
+    }
+
+    /// Whether an endpoint of this kind sends in a state.
+    pub(crate) fn sends(&self, kind: Option<Kind>, state: u32) -> bool
+        ensures { result ≡ table.sends (seen_of self.now) kind state }
+    {
+        match self.end_of(kind) {
+            Some(end) => !end.sound.edges_out(end.side, StateId(state)).is_empty(),
+            None => false,
+        }
+    }
+
+    /// Where an endpoint of this kind is behind a send of the message, if it sends it in that state.
+    pub(crate) fn sent(&self, kind: Option<Kind>, state: u32, message: MessageId) -> Option<StateId>
+        ensures end { option_map (λ q. q.0) result ≡ end_on (table.edges_out (seen_of self.now) kind state) message.0 }
+        ensures numbered { IfSome result (λ q. q.0 < MOST_STATES) }
+    {
+        match self.end_of(kind) {
+            Some(end) => end.sound.sent(end.side, StateId(state), message),
+            None => None,
+        }
+    }
+
+    /// The edges along which an endpoint of this kind receives in a state, in order of the contract.
+    pub(crate) fn edges_in(&self, kind: Option<Kind>, state: u32) -> &[Edge]
+        ensures edges { result.now ≡ table.edges_in (seen_of self.now) kind state }
+        ensures numbered { All (λ e. e.to.0 < MOST_STATES) result.now }
+    {
+        match self.end_of(kind) {
+            Some(end) => end.sound.edges_in(end.side, StateId(state)),
+            None => &[],
+        }
+    }
+
+    /// The name of a message of the contract of an endpoint of this kind.
+    pub(crate) fn message_name(&self, kind: Option<Kind>, message: MessageId) -> &[u8]
+        ensures { result.now ≡ table.message_name (seen_of self.now) kind message.0 }
+    {
+        match self.end_of(kind) {
+            Some(end) => end.sound.message_name(message),
+            None => &[],
+        }
+    }
+
+    /// The contract and the side of an endpoint of this kind.
+    fn end_of(&self, kind: Option<Kind>) -> Option<End<'_>>
+        ensures { MatchOption result (IsNoEnd (seen_of self.now) kind)
+            (λ end. IsEndOf (seen_of self.now) kind (sound_parts end.sound.now) end.side) }
+    {
+        match kind? {
+            Kind::Endpoint { contract, side, .. } => {
+                let sound = self.sounds.get(contract.0 as usize)?;
+                Some(End { sound, side })
+            }
+            Kind::Struct(_) | Kind::Array(_) => None,
+        }
+    }
+}
+
+/// A sound contract, and a side of it.
+#[derive(Clone, Copy)]
+struct End<'a> {
+    sound: &'a Sound,
+    side: Side,
+}

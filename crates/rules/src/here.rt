@@ -1,0 +1,13 @@
+//! Where a step is taken.
+
+use crate::lowered::Program;
+use crate::row::Row;
+use program::Method;
+
+/// Where a step is taken: the program, the method and what its variables have.
+#[derive(Clone, Copy)]
+pub(crate) struct Here<'a> {
+    pub(crate) program: &'a Program,
+    pub(crate) method: &'a Method,
+    pub(crate) row: &'a Row,
+}

@@ -1,0 +1,78 @@
+//! The rule table's line of a send.
+
+ghost use Rattle.std.specs.Prelude.{◌≡◌, IfOk, IfSome, MatchOption, true, false};
+ghost use Rattle.flow.specs.Graphs.{instruction_seen};
+ghost use Rattle.flow.specs.declared.graph.Instr.{Instr};
+ghost use Rattle.program.specs.Methods.{method_seen};
+ghost use Rattle.rules.specs.Arguments as table;
+ghost use Rattle.rules.specs.Arguments.{lacks_edge};
+ghost use Rattle.rules.specs.Checks.{check_seen};
+ghost use Rattle.rules.specs.Endpoints.{message_name};
+ghost use Rattle.rules.specs.Leaves.{IsNumbered};
+ghost use Rattle.rules.specs.Outcomes.{refused};
+ghost use Rattle.rules.specs.Programs.{seen_of};
+ghost use Rattle.rules.specs.Rows.{leaves_of};
+ghost use Rattle.rules.specs.RuleTable.{instruction_outcome};
+ghost use Rattle.rules.specs.Steps.{outcome_seen};
+ghost use Rattle.rules.specs.Texts as texts;
+
+use crate::arguments::{can_send_all, claim_all, payloads_of};
+use crate::checks::has_something;
+use crate::endpoints::kind_of;
+use crate::here::Here;
+use crate::lowered::Program;
+use crate::outcome::Outcome;
+use crate::row::Leaf;
+use crate::table::goes;
+use flow::Sending;
+use program::{Kind, MessageId};
+use source::texts::not_sent_here;
+use source::{Finding, Memory, Place};
+use std::alloc::Global;
+
+/// A message is sent. What it takes with it is gone, and its endpoint is in the next state, or still cut off.
+pub(crate) fn send(alloc: Global, here: &Here<'_>, sending: &Sending) -> Result<Outcome, Memory>
+    ensures { IfOk result (λ o. outcome_seen o
+        ≡ instruction_outcome (seen_of here.now.program.now) (method_seen here.now.method.now) (instruction_seen (Instr.Send sending.now))
+        (leaves_of here.now.row.now)) }
+{
+    let (endpoint, message) = (sending.endpoint, sending.message);
+    if let Some(finding) = has_something(alloc, here, endpoint)? {
+        return Ok(Outcome::Found(finding));
+    }
+    let kind = kind_of(here.method, endpoint.variable);
+    let name = here.program.message_name(kind, message);
+    let payloads = payloads_of(alloc, &sending.payloads)?;
+    let kinds = here.program.brought(message);
+    if let Some(finding) = can_send_all(alloc, here, endpoint, name, kinds, &payloads)? {
+        return Ok(Outcome::Found(finding));
+    }
+    let leaf = here.row.leaf(endpoint.variable);
+    let sent = sent_leaf(here.program, kind, message, leaf);
+    let Some(after) = sent else {
+        let finding = not_sent_here(alloc, sending.place, name)?;
+        return Ok(Outcome::Found(finding));
+    };
+    let mut row = here.row.copied(alloc)?;
+    claim_all(&mut row, &payloads);
+    row.set(endpoint.variable, after);
+    goes(alloc, sending.next, row)
+}
+
+/// What an endpoint has behind a send of the message: nothing is answered where it is in a state that does not send it.
+fn sent_leaf(program: &Program, kind: Option<Kind>, message: MessageId, leaf: Leaf) -> Option<Leaf>
+    requires numbered { IsNumbered leaf }
+    ensures sent { MatchOption result
+        (table.lacks_edge (seen_of program.now) kind message.0 leaf ≡ true)
+        (λ after. (table.lacks_edge (seen_of program.now) kind message.0 leaf ≡ false)
+        × (after ≡ table.sent_leaf (seen_of program.now) kind message.0 leaf)) }
+    ensures numbered { IfSome result IsNumbered }
+{
+    match leaf {
+        Leaf::State(state) => {
+            let next = program.sent(kind, state, message)?;
+            Some(Leaf::State(next.0))
+        }
+        Leaf::Nothing | Leaf::Block | Leaf::CutOff => Some(leaf),
+    }
+}

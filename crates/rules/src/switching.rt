@@ -1,0 +1,225 @@
+//! The rule table's line of a switch.
+
+ghost use Rattle.std.specs.Prelude.{◌≡◌, [], ◌++◌, ◌<◌, All, IfOk, OnOk, flat_map, map};
+ghost use Rattle.std.specs.List.{list_all};
+ghost use Rattle.flow.specs.Cases.{first_mentions};
+ghost use Rattle.flow.specs.Graphs as graphs;
+ghost use Rattle.flow.specs.Graphs.{cases_seen};
+ghost use Rattle.program.specs.Methods.{method_seen};
+ghost use Rattle.program.specs.declared.limits.TheConstants.{MOST_STATES};
+ghost use Rattle.rules.specs.Checks.{StandsFor, check_seen};
+ghost use Rattle.rules.specs.Endpoints.{declared_leaf};
+ghost use Rattle.rules.specs.Leaves.{IsNumbered};
+ghost use Rattle.rules.specs.Mentions.{has_something};
+ghost use Rattle.rules.specs.Programs.{seen_of};
+ghost use Rattle.rules.specs.Rows.{leaves_of};
+ghost use Rattle.rules.specs.RuleTable.{instruction_outcome};
+ghost use Rattle.rules.specs.Steps.{outcome_seen, pair_seen};
+ghost use Rattle.rules.specs.Switches as table;
+ghost use Rattle.rules.specs.Switches.{bound_leaves};
+
+use crate::checks::{has_something, name_of};
+use crate::endpoints::{declared_leaf, kind_of};
+use crate::here::Here;
+use crate::outcome::Outcome;
+use crate::row::{Leaf, Row};
+use flow::Cases;
+use program::{Edge, Kind, Mention, VarId};
+use source::texts::{not_covered, nothing_to_receive};
+use source::{Finding, Memory, Place};
+use std::alloc::Global;
+
+/// A switch waits. It goes on at a case for each message that may come at one of its endpoints, and for the close of each.
+pub(crate) fn switch(
+    alloc: Global,
+    here: &Here<'_>,
+    place: Place,
+    cases: &Cases,
+) -> Result<Outcome, Memory>
+    ensures { IfOk result (λ o. outcome_seen o
+        ≡ instruction_outcome (seen_of here.now.program.now) (method_seen here.now.method.now)
+        (graphs.Switch place (cases_seen cases.now)) (leaves_of here.now.row.now)) }
+{
+    if let Some(finding) = are_there(alloc, here, cases.endpoints())? {
+        return Ok(Outcome::Found(finding));
+    }
+    if are_to_send(here, cases.endpoints()) {
+        return Ok(Outcome::Found(nothing_to_receive(alloc, place)?));
+    }
+    if let Some(finding) = are_covered(alloc, here, cases)? {
+        return Ok(Outcome::Found(finding));
+    }
+    let mut pairs = Vec::new(alloc);
+    let endpoints = cases.endpoints();
+    for endpoint in endpoints {
+        come_at(alloc, here, cases, *endpoint, &mut pairs)?;
+    }
+    Ok(Outcome::Next(pairs))
+}
+
+/// That each endpoint has something.
+fn are_there(
+    alloc: Global,
+    here: &Here<'_>,
+    endpoints: &[Mention],
+) -> Result<Option<Finding>, Memory>
+    ensures { IfOk result
+        (λ found. StandsFor found (map (has_something (method_seen here.now.method.now) (leaves_of here.now.row.now)) endpoints.now)) }
+{
+    for endpoint in endpoints {
+        if let Some(finding) = has_something(alloc, here, *endpoint)? {
+            return Ok(Some(finding));
+        }
+    }
+    Ok(None)
+}
+
+/// Whether an endpoint is in a state in which it sends.
+fn is_to_send(here: &Here<'_>, endpoint: Mention) -> bool
+    ensures { result ≡ table.is_to_send (seen_of here.now.program.now) (method_seen here.now.method.now) (leaves_of here.now.row.now)
+        endpoint }
+{
+    match here.row.leaf(endpoint.variable) {
+        Leaf::State(state) => {
+            let kind = kind_of(here.method, endpoint.variable);
+            here.program.sends(kind, state)
+        }
+        Leaf::Nothing | Leaf::Block | Leaf::CutOff => false,
+    }
+}
+
+/// Whether all endpoints are to send.
+fn are_to_send(here: &Here<'_>, endpoints: &[Mention]) -> bool
+    ensures { result ≡ list_all
+        (table.is_to_send (seen_of here.now.program.now) (method_seen here.now.method.now) (leaves_of here.now.row.now)) endpoints.now }
+{
+    endpoints.iter().all(|endpoint| is_to_send(here, *endpoint))
+}
+
+/// The edges on which an endpoint may receive in its state, in order of the contract.
+fn awaited_edges<'a>(here: &Here<'a>, endpoint: Mention) -> &'a [Edge]
+    ensures edges { result.now
+        ≡ table.awaited_edges (seen_of here.now.program.now) (method_seen here.now.method.now) (leaves_of here.now.row.now) endpoint }
+    ensures numbered { All (λ e. e.to.0 < MOST_STATES) result.now }
+{
+    match here.row.leaf(endpoint.variable) {
+        Leaf::State(state) => {
+            let kind = kind_of(here.method, endpoint.variable);
+            here.program.edges_in(kind, state)
+        }
+        Leaf::Nothing | Leaf::Block | Leaf::CutOff => &[],
+    }
+}
+
+/// That each message which may come at an endpoint has a case.
+fn is_covered(
+    alloc: Global,
+    here: &Here<'_>,
+    cases: &Cases,
+    endpoint: Mention,
+) -> Result<Option<Finding>, Memory>
+    ensures { IfOk result
+        (λ found. StandsFor found
+        (table.covered (seen_of here.now.program.now) (method_seen here.now.method.now) (leaves_of here.now.row.now) (cases_seen cases.now)
+        endpoint)) }
+{
+    let awaited = awaited_edges(here, endpoint);
+    for edge in awaited {
+        if cases.find(endpoint.variable, Some(edge.message)).is_none() {
+            let name = name_of(here.method, endpoint.variable);
+            let kind = kind_of(here.method, endpoint.variable);
+            let message = here.program.message_name(kind, edge.message);
+            let finding = not_covered(alloc, endpoint.place, name, message)?;
+            return Ok(Some(finding));
+        }
+    }
+    Ok(None)
+}
+
+/// That each message which may come at one of the endpoints has a case.
+fn are_covered(alloc: Global, here: &Here<'_>, cases: &Cases) -> Result<Option<Finding>, Memory>
+    ensures { IfOk result
+        (λ found. StandsFor found
+        (flat_map (table.covered (seen_of here.now.program.now) (method_seen here.now.method.now) (leaves_of here.now.row.now)
+        (cases_seen cases.now)) (first_mentions [] (cases_seen cases.now)))) }
+{
+    let endpoints = cases.endpoints();
+    for endpoint in endpoints {
+        if let Some(finding) = is_covered(alloc, here, cases, *endpoint)? {
+            return Ok(Some(finding));
+        }
+    }
+    Ok(None)
+}
+
+/// What the variables take that a case binds.
+fn bind(row: &mut Row, bound: &[VarId], kinds: &[Kind])
+    requires numbered { All (λ kind. IsNumbered (declared_leaf kind)) kinds.now }
+    ensures { leaves_of row.new ≡ bound_leaves (leaves_of row.old) bound.now kinds.now }
+{
+    for number in 0..bound.len().min(kinds.len()) {
+        row.set(bound[number], declared_leaf(kinds[number]));
+    }
+}
+
+/// Adds where a switch goes on with the message of an edge.
+fn receive(
+    alloc: Global,
+    here: &Here<'_>,
+    cases: &Cases,
+    endpoint: VarId,
+    edge: Edge,
+    pairs: &mut Vec<(usize, Row)>,
+) -> Result<(), Memory>
+    requires numbered { edge.to.0 < MOST_STATES }
+    ensures { OnOk result (map pair_seen pairs.new.items ≡ map pair_seen pairs.old.items
+        ++ table.received (seen_of here.now.program.now) (method_seen here.now.method.now) (leaves_of here.now.row.now)
+        (cases_seen cases.now) endpoint.0 edge) }
+{
+    if let Some(case) = cases.find(endpoint, Some(edge.message)) {
+        let mut row = here.row.copied(alloc)?;
+        row.set(endpoint, Leaf::State(edge.to.0));
+        bind(&mut row, &case.bound, here.program.brought(edge.message));
+        pairs.push((case.next, row))?;
+    }
+    Ok(())
+}
+
+/// Adds where a switch goes on with the close of an endpoint, which is cut off then.
+fn close(
+    alloc: Global,
+    here: &Here<'_>,
+    cases: &Cases,
+    endpoint: VarId,
+    pairs: &mut Vec<(usize, Row)>,
+) -> Result<(), Memory>
+    ensures { OnOk result (map pair_seen pairs.new.items ≡ map pair_seen pairs.old.items
+        ++ table.closed (seen_of here.now.program.now) (method_seen here.now.method.now) (leaves_of here.now.row.now)
+        (cases_seen cases.now) endpoint.0) }
+{
+    if let Some(case) = cases.find(endpoint, None) {
+        let mut row = here.row.copied(alloc)?;
+        row.set(endpoint, Leaf::CutOff);
+        pairs.push((case.next, row))?;
+    }
+    Ok(())
+}
+
+/// Adds where a switch goes on with what may come at an endpoint.
+fn come_at(
+    alloc: Global,
+    here: &Here<'_>,
+    cases: &Cases,
+    endpoint: Mention,
+    pairs: &mut Vec<(usize, Row)>,
+) -> Result<(), Memory>
+    ensures { OnOk result (map pair_seen pairs.new.items ≡ map pair_seen pairs.old.items
+        ++ table.comes_at (seen_of here.now.program.now) (method_seen here.now.method.now) (leaves_of here.now.row.now)
+        (cases_seen cases.now) endpoint) }
+{
+    let edges = awaited_edges(here, endpoint);
+    for edge in edges {
+        receive(alloc, here, cases, endpoint.variable, *edge, pairs)?;
+    }
+    close(alloc, here, cases, endpoint.variable, pairs)
+}
