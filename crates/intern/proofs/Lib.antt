@@ -1,0 +1,8 @@
+pub mod WordLemmas
+pub mod ViewLemmas
+pub mod CodeLemmas
+pub mod RuleLemmas
+pub mod SearchLemmas
+pub mod TokenLemmas
+pub mod InternLemmas
+pub mod ReadingLemmas

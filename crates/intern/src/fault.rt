@@ -1,0 +1,25 @@
+//! Why there is no answer.
+
+use thiserror::Error;
+
+/// Why there is no token.
+#[derive(Clone, Copy, Debug, PartialEq, Eq, Error)]
+pub enum InternFault {
+    /// Each slot of the table has a word, and no token names the row.
+    #[error("the table of rows is full")]
+    Full,
+    /// A growth of memory was refused.
+    #[error("out of memory")]
+    Memory,
+}
+
+/// Why there is no table.
+#[derive(Clone, Copy, Debug, PartialEq, Eq, Error)]
+pub enum InternNew {
+    /// The slots are none, or more than `MOST_SLOTS`.
+    #[error("slots not 1 to 16777216")]
+    Slots,
+    /// A growth of memory was refused.
+    #[error("out of memory")]
+    Memory,
+}

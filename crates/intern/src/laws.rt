@@ -1,0 +1,56 @@
+//! Laws of words and tokens: they hold of every table.
+
+ghost use Rattle.std.specs.Prelude.{◌≡◌, ◌+◌, ◌*◌, ◌<◌, ℕ, List, length};
+ghost use Rattle.program.specs.declared.limits.TheConstants.{MOST_VARIABLES};
+ghost use Rattle.rules.specs.Leaves.{IsNumbered};
+ghost use Rattle.rules.specs.declared.row.Leaf.{Leaf};
+ghost use Rattle.intern.specs.Codes.{code};
+ghost use Rattle.intern.specs.Layout.{word};
+ghost use Rattle.intern.specs.Seats.{IsSeatOf, slots_of, view};
+ghost use Rattle.intern.specs.Tokens.{HasNoRoom, IsFaithful, IsKnown, Names};
+ghost use Rattle.intern.specs.View.{Grows, IsInside, IsSound, IsWalk, View};
+ghost use Rattle.intern.specs.declared.layout.TheConstants.{LEAVES, LENGTHS, MOST_SLOTS};
+ghost use Rattle.intern.specs.declared.rows.Rows.{Rows};
+ghost use Rattle.intern.specs.declared.seat.Seat.{Seat};
+ghost use Rattle.intern.specs.declared.token.Token.{Token};
+ghost use Rattle.intern.specs.declared.token.Token.TheVariants.{At};
+
+/// The limits in digits, and the word.
+pub fn limits()
+    ensures slots { MOST_SLOTS ≡ 16777216 }
+    ensures lengths { MOST_VARIABLES < LENGTHS }
+    ensures word { (n leaf tail : ℕ) → word n leaf tail ≡ n + 1024 * leaf + 1073741824 * tail }
+{}
+
+/// Each leaf has a number of its own, which a word has room for.
+pub fn each_leaf_has_a_number()
+    ensures own { (a b : Leaf) → code a ≡ code b → a ≡ b }
+    ensures room { (leaf : Leaf) → IsNumbered leaf → code leaf < LEAVES }
+{}
+
+/// What a seat knows: one word at a slot and one slot for a word, all within the limits and at slots of its table, and each tail
+/// one shorter. So of any two tokens that it knows, they are equal exactly where their rows are.
+pub fn what_a_seat_knows_is_sound()
+    ensures sound { (seat : Seat) → IsSound (view seat) }
+    ensures inside { (rows : Rows) (seat : Seat) → IsSeatOf rows seat → IsInside (slots_of rows) (view seat) }
+    ensures faithful { (seat : Seat) → IsFaithful (view seat) }
+{}
+
+/// A token that a seat knows is known at any later time, and names the same row.
+pub fn a_token_names_its_row_for_good()
+    ensures known { (v u : View) → Grows v u → (token : Token) → IsKnown v token → IsKnown u token }
+    ensures names { (v u : View) → Grows v u → (token : Token) (row : List Leaf) → Names v token row → Names u token row }
+{}
+
+/// A token is known exactly where its words are: that of its slot and, while the length is above 1, that of the slot which it
+/// names, down to length 1.
+pub fn a_token_is_a_walk()
+    ensures walk { (v : View) (slot : ℕ) (row : List Leaf) → Names v (At slot) row → IsWalk v (length row) slot }
+    ensures known { (v : View) → IsSound v → (n slot : ℕ) → IsWalk v n slot → IsKnown v (At slot) }
+{}
+
+/// A row for which a seat once knew no room has none, whatever the seat learns.
+pub fn a_full_table_stays_full()
+    ensures { (rows : Rows) (v : View) (seat : Seat) → IsSeatOf rows seat → Grows v (view seat)
+        → (row : List Leaf) → HasNoRoom (slots_of rows) v row → HasNoRoom (slots_of rows) (view seat) row }
+{}

@@ -1,0 +1,20 @@
+//! Rows as words that threads share: each row has one token, which names it for good.
+#![tactic(auto)]
+
+mod codes;
+mod fault;
+mod interning;
+pub mod laws;
+mod layout;
+mod rows;
+mod seat;
+mod seats;
+mod steps;
+mod table;
+mod token;
+
+pub use fault::{InternFault, InternNew};
+pub use layout::{MOST_SLOTS, word_of};
+pub use rows::Rows;
+pub use seat::Seat;
+pub use token::Token;

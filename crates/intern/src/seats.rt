@@ -1,0 +1,72 @@
+//! A table with its first seat, and seats that are split and joined.
+
+ghost use Rattle.std.specs.Prelude.{◌≡◌, ◌↔◌, [], IfErr, IfOk, IsOkAnd};
+ghost use Rattle.intern.specs.declared.fault.InternNew.TheVariants.{Slots};
+ghost use Rattle.intern.specs.Layout.{IsTableSize};
+ghost use Rattle.intern.specs.Seats.{IsSeatOf, slots_of, view};
+ghost use Rattle.intern.specs.Tokens.{IsFaithful};
+ghost use Rattle.intern.specs.View.{Grows};
+
+use crate::fault::InternNew;
+use crate::layout::MOST_SLOTS;
+use crate::rows::Rows;
+use crate::seat::Seat;
+use crate::table::{Halves, Look};
+use atomic_table::Table;
+use source::Memory;
+use std::alloc::Global;
+
+impl Rows {
+    /// A table of so many slots, in which nothing stands, and its first seat.
+    ///
+    /// `Slots` is answered where the slots are none, or more than `MOST_SLOTS`; `Memory` where a growth was refused.
+    pub fn new(alloc: Global, slots: usize) -> Result<(Rows, Seat), InternNew>
+        ensures seat { IfOk result (λ made. IsSeatOf made.0 made.1) }
+        ensures empty { IfOk result (λ made. view made.1 ≡ []) }
+        ensures size { IfOk result (λ made. slots_of made.0 ≡ slots) }
+        ensures range { IfOk result (λ made. IsTableSize slots) }
+        ensures slots { IfErr result (λ fault. (fault ≡ Slots) ↔ (IsTableSize slots → ⊥)) }
+    {
+        if slots == 0 || slots > MOST_SLOTS {
+            return Err(InternNew::Slots);
+        }
+        let words: Vec<u64> = match vec![in alloc; 0u64; slots] {
+            Ok(words) => words,
+            Err(_) => return Err(InternNew::Memory),
+        };
+        match Table::of_words(alloc, words.as_slice(), &slots) {
+            Ok((table, inner)) => Ok((Rows { table }, Seat { inner })),
+            Err(_) => Err(InternNew::Memory),
+        }
+    }
+
+    /// Two seats, each of which knows all that the seat knew. It takes no memory, and never answers `Memory`.
+    #[tactic(auto, using(crate::proofs::TokenLemmas::faithful))]
+    pub fn split(&self, seat: Seat) -> Result<(Seat, Seat), (Seat, Memory)>
+        requires { IsSeatOf self.now seat }
+        ensures left { IsOkAnd result (λ halves. IsSeatOf self.now halves.0 × (view halves.0 ≡ view seat)) }
+        ensures right { IsOkAnd result (λ halves. IsSeatOf self.now halves.1 × (view halves.1 ≡ view seat)) }
+        ensures faithful { IsFaithful (view seat) }
+    {
+        let mut seat = seat;
+        let inner = self.table.shared.split_seat::<Halves>(&mut seat.inner);
+        Ok((seat, Seat { inner }))
+    }
+
+    /// A seat that knows all that both seats knew. Of any two tokens that it knows, whichever seat got them, they are equal
+    /// exactly where their rows are. It takes no memory, and never answers `Memory`.
+    pub fn join(&self, a: Seat, b: Seat) -> Result<Seat, (Seat, Seat, Memory)>
+        requires a { IsSeatOf self.now a }
+        requires b { IsSeatOf self.now b }
+        ensures seat { IsOkAnd result (λ whole. IsSeatOf self.now whole) }
+        ensures a { IfOk result (λ whole. Grows (view a) (view whole)) }
+        ensures b { IfOk result (λ whole. Grows (view b) (view whole)) }
+        ensures faithful { IfOk result (λ whole. IsFaithful (view whole)) }
+    {
+        let Seat { inner: mut whole } = a;
+        let Seat { inner: part } = b;
+        self.table.shared.join_seat::<Halves>(&mut whole, part);
+        self.table.shared.load::<Look>(&mut whole, 0);
+        Ok(Seat { inner: whole })
+    }
+}
