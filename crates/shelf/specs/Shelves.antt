@@ -1,0 +1,26 @@
+-- Receipts and shelves as callers see them.
+use Rattle.std.specs.Prelude.{ℕ, map}
+use Rattle.source.specs.Findings.{finding_parts}
+use Rattle.rules.specs.Programs.{seen_of}
+use Rattle.analyse.specs.Tasks.{findings_of, program_of, verdict_number}
+use Rattle.analyse.specs.Verdicts.{IsMethodVerdict}
+use Rattle.analyse.specs.declared.verdict.Verdict.{Verdict}
+use Rattle.boxcar.specs.Table.{Shows}
+use Rattle.shelf.specs.declared.receipt.Receipt.{Receipt}
+use Rattle.shelf.specs.declared.shelf.Shelf.{Shelf}
+
+-- the receipt is of this shelf: what it reads stands there
+abbrev pub IsOf : Receipt → Shelf → Type 0
+IsOf receipt shelf = Shows shelf.verdicts receipt.pushed
+
+-- the verdict that was put for the receipt
+abbrev pub verdict_of : Receipt → Verdict
+verdict_of receipt = receipt.pushed.value
+
+-- the place on the shelf of that verdict
+abbrev pub place_of : Receipt → ℕ
+place_of receipt = receipt.pushed.index
+
+-- the findings are the verdict of its method in the program that it remembers
+abbrev pub IsJudged : Verdict → Type 0
+IsJudged verdict = ∥ IsMethodVerdict (seen_of (program_of verdict)) (verdict_number verdict) (map finding_parts (findings_of verdict)) ∥₁

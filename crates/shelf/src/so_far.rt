@@ -1,0 +1,54 @@
+//! The verdicts that were put so far.
+
+ghost use Rattle.std.specs.Prelude.{◌≡◌, MatchOption, option_map};
+ghost use Rattle.std.specs.Iterator.{at_most};
+
+use crate::receipt::Receipt;
+use crate::shelf::Shelf;
+use analyse::Verdict;
+use boxcar::Iter;
+
+/// Goes over the verdicts that were put so far, each once, in order of their places on the shelf.
+///
+/// A verdict whose `put` had not ended when this was made may come or not.
+#[derive(Drop)]
+pub struct SoFar<'a> {
+    pub(crate) shelf: &'a Shelf,
+    pub(crate) places: Iter<'a, Verdict>,
+    pub(crate) last: Option<Receipt>,
+}
+
+impl<'a> SoFar<'a> {
+    ghost use Rattle.shelf.specs.SoFar.{last_of};
+
+    /// The receipt of the verdict that came last. There is none before the first came.
+    pub fn receipt(&self) -> Option<&Receipt>
+        ensures { option_map (λ receipt. receipt.now) result ≡ last_of self.now }
+    {
+        self.last.as_ref()
+    }
+}
+
+impl<'a> Iterator for SoFar<'a> {
+    ghost use Rattle.shelf.specs.SoFar.{Ends, Gives, places_left, shelf_of};
+
+    type Item = &'a Verdict;
+
+    ghost next_gives = { λ old item new. (shelf_of new ≡ shelf_of old)
+        × MatchOption item (Ends old new) (λ verdict. Gives old verdict.now new) };
+
+    ghost remaining = { λ so_far. at_most (places_left so_far) };
+
+    /// A verdict that was put, from a place behind all those that were passed. There is none once no place is left.
+    fn next(&mut self) -> Option<&'a Verdict> {
+        while let Some((place, _)) = self.places.next() {
+            if let Some(pushed) = self.shelf.verdicts.witness(place) {
+                let receipt = Receipt { pushed };
+                let verdict = self.shelf.read(&receipt);
+                self.last = Some(receipt);
+                return Some(verdict);
+            }
+        }
+        None
+    }
+}
