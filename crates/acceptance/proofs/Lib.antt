@@ -1,0 +1,2 @@
+pub mod ContractLemmas
+pub mod ListLemmas

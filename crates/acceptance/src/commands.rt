@@ -2,7 +2,6 @@
 
 use crate::devices::Page;
 use singcheck::{Ask, Input, RunFault, ask, ending};
-use source::Place;
 use std::test::Fail;
 
 const NEVER: u64 = 0;
@@ -24,10 +23,6 @@ fn ends_with_a_line_and_a_status(rt: HostRuntime) -> Result<(), Fail> {
     let mut slots = Page::new(rt.alloc(), 100, NEVER);
     assert!(rt; ending(&RunFault::Slots, "a.sg", &mut slots) == 2);
     assert!(rt; slots.bytes.as_slice() == b"singcheck: slots not 1 to 16777216\n".as_slice());
-    let mut not_yet = Page::new(rt.alloc(), 100, NEVER);
-    let place = Place { line: 12, col: 345 };
-    assert!(rt; ending(&RunFault::NotYet(place), "a.sg", &mut not_yet) == 2);
-    assert!(rt; not_yet.bytes.as_slice() == b"singcheck: not yet at 12:345\n".as_slice());
     let mut closed = Page::new(rt.alloc(), 100, 1);
     assert!(rt; ending(&RunFault::Memory, "a.sg", &mut closed) == 4);
     Ok(())

@@ -74,7 +74,7 @@ fn add_edge(
 }
 
 /// The contract, once it is seen to be whole.
-fn whole(rt: &impl Abort, alloc: Global, edges: Edges) -> Result<Edges, Memory>
+pub(crate) fn whole(rt: &impl Abort, alloc: Global, edges: Edges) -> Result<Edges, Memory>
     ensures { IfOk result (λ edges. IsWhole (parts_of edges)) }
 {
     let whole = is_whole(alloc, &edges)?;
@@ -83,7 +83,7 @@ fn whole(rt: &impl Abort, alloc: Global, edges: Edges) -> Result<Edges, Memory>
 }
 
 /// `state Start: Req? -> Pend; state Pend: Rep! -> Start;`
-fn ping(alloc: Global) -> Result<Edges, AllocError> {
+pub(crate) fn ping(alloc: Global) -> Result<Edges, AllocError> {
     let mut ping = empty(alloc, 7);
     add_message(alloc, &mut ping, 3, "Req", Direction::In)?;
     add_message(alloc, &mut ping, 4, "Rep", Direction::Out)?;

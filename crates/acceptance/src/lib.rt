@@ -4,6 +4,8 @@
 #[cfg(test)]
 mod answers;
 #[cfg(test)]
+mod channels;
+#[cfg(test)]
 mod checks;
 #[cfg(test)]
 mod commands;
@@ -19,5 +21,9 @@ mod numbers;
 mod parsing;
 #[cfg(test)]
 mod resolution;
+#[cfg(test)]
+mod shelves;
+#[cfg(test)]
+mod sounds;
 #[cfg(test)]
 mod steps;

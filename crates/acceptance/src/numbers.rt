@@ -2,8 +2,7 @@
 
 use flow::{Entrance, Instr, lower};
 use names::{MOST_CONTRACTS, resolve};
-use program::{Awaited, Channel, Mention, Method, Methods, VarId, Variable};
-use resolving::first_unknown;
+use program::{Awaited, Channel, Mention, Method, MethodId, Methods, VarId, Variable};
 use source::{Memory, Place, lex};
 use std::alloc::Global;
 use std::test::Fail;
@@ -71,33 +70,27 @@ fn case_line(alloc: Global, case: &Entrance) -> Result<String, Memory> {
 /// An instruction in a line: its place where it has one of its own, what it is about, and where the method goes on.
 fn line_of(alloc: Global, instruction: &Instr) -> Result<String, Memory> {
     match instruction {
-        Instr::Send {
-            place,
-            endpoint,
-            message,
-            payloads,
-            next,
-        } => {
-            let Place { line, col } = *place;
-            let given = mentioned(alloc, payloads)?;
+        Instr::Send(sending) => {
+            let Place { line, col } = sending.place;
+            let given = mentioned(alloc, &sending.payloads)?;
             Ok(format!(in alloc;
-                "{line}:{col} send {} on {} gives{given} to {next}",
-                message.0, endpoint.variable.0
+                "{line}:{col} send {} on {} gives{given} to {}",
+                sending.message.0, sending.endpoint.variable.0, sending.next
             )?)
         }
         Instr::NewChannel { channel, next } => {
             let line = channel_line(alloc, *channel)?;
             Ok(format!(in alloc; "{line} to {next}")?)
         }
-        Instr::Switch { place, cases } => switch_line(alloc, *place, cases),
+        Instr::Switch { place, cases } => switch_line(alloc, *place, cases.list()),
         Instr::Forget { forget, next } => {
             let Place { line, col } = forget.place;
             Ok(format!(in alloc; "{line}:{col} forget from {} to {next}", forget.last.0)?)
         }
         Instr::Use { at, next } => Ok(format!(in alloc; "use {} to {next}", at.variable.0)?),
         Instr::Delete { at, next } => Ok(format!(in alloc; "delete {} to {next}", at.variable.0)?),
-        Instr::Return { place, .. } => {
-            let Place { line, col } = *place;
+        Instr::Return(returning) => {
+            let Place { line, col } = returning.place;
             Ok(format!(in alloc; "{line}:{col} return")?)
         }
         _ => Ok(String::from_str(alloc, "another")?),
@@ -200,9 +193,11 @@ true None
 }
 
 #[test]
-fn first_endpoint_is_not_analysed_yet(rt: HostRuntime) -> Result<(), Fail> {
-    let tokens = lex(rt.alloc(), CHANNELS.as_bytes())?;
-    let tree = parse(rt.alloc(), &tokens)?;
-    assert!(rt; first_unknown(&tree) == Some(Place { line: 6, col: 24 }));
+fn method_of_a_number(rt: HostRuntime) -> Result<(), Fail> {
+    let methods = methods_of(rt.alloc(), CHANNELS)?;
+    if methods.list().is_empty() {
+        return Err(Fail::from("no method"));
+    }
+    assert!(rt; methods.method(MethodId(0)).variables.len() == 6);
     Ok(())
 }

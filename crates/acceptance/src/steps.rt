@@ -1,7 +1,7 @@
 //! The graph and the steps of a method.
 
 ghost use Rattle.std.specs.Prelude.{◌≡◌, IfOk, length};
-ghost use Rattle.rules.specs.Programs.{methods_of};
+ghost use Rattle.rules.specs.Programs.{seen_of};
 
 use analyse::{give_up_all, tasks};
 use flow::{Instr, lower};
@@ -78,7 +78,7 @@ fn plain(alloc: Global, action: Action) -> Statement {
 
 /// The program of that method.
 fn only(alloc: Global) -> Result<Program, Fail>
-    ensures { IfOk result (λ p. length (methods_of p) ≡ 1) }
+    ensures { IfOk result (λ p. length (seen_of p).methods ≡ 1) }
 {
     let tokens = lex(alloc, FREED_AND_READ.as_bytes())?;
     let tree = parse(alloc, &tokens)?;
@@ -86,10 +86,12 @@ fn only(alloc: Global) -> Result<Program, Fail>
     if contracts.contracts.len() > MOST_CONTRACTS {
         return Err(Fail::from("too many contracts"));
     }
-    let program = Program::new(
-        alloc,
-        well_formed_methods(alloc, &tree, &tokens, contracts)?,
-    )?;
+    let methods = well_formed_methods(alloc, &tree, &tokens, contracts)?;
+    if !methods.contracts().contracts.is_empty() {
+        return Err(Fail::from("contracts"));
+    }
+    let sounds = Vec::new(alloc);
+    let program = Program::new(alloc, methods, sounds)?;
     if program.methods().len() != 1 {
         return Err(Fail::from("not one method"));
     }
@@ -125,13 +127,9 @@ fn is_move(instruction: Option<&Instr>, variable: usize, point: usize) -> bool {
 /// Whether it ends the method there, with this variable the last in scope.
 fn is_return(instruction: Option<&Instr>, col: u32, last: usize) -> bool {
     match instruction {
-        Some(
-            Instr::Return {
-                place,
-                value,
-                scope,
-            },
-        ) => place.col == col && value.is_none() && *scope == Some(VarId(last)),
+        Some(Instr::Return(end)) => {
+            end.place.col == col && end.value.is_none() && end.scope == Some(VarId(last))
+        }
         _ => false,
     }
 }
@@ -165,7 +163,7 @@ fn steps_by_the_rule_table(rt: HostRuntime) -> Result<(), Fail> {
             }
             None => assert!(rt; false),
         },
-        Outcome::Found(_) | Outcome::Unruled => assert!(rt; false),
+        Outcome::Found(_) => assert!(rt; false),
     }
     Ok(())
 }

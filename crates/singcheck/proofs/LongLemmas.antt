@@ -8,10 +8,9 @@ use Rattle.source.specs.Tokens.{AreTokens}
 use Rattle.source.specs.declared.fault.TextFault.{TextFault}
 use Rattle.source.specs.declared.fault.TextFault.TheVariants.{Stray, OpenComment, TooLong, TooDeep, TooLarge, Memory}
 use Rattle.source.specs.declared.lexer.TheConstants.{MAX_TEXT}
-use Rattle.source.specs.declared.place.Place.{Place}
 use Rattle.source.specs.declared.token.Token.{Token}
 use Rattle.singcheck.specs.Answers.{AreFindings, OfText, OfSyntax, OfNames, OfContracts, Answers, IsProgram}
-use Rattle.singcheck.specs.Checks.{AreCheckFindings, Before, OfMethods, Checks, IsNotYet}
+use Rattle.singcheck.specs.Checks.{AreCheckFindings, Before, OfMethods, Checks}
 use Rattle.singcheck.specs.declared.fault.Status.{Status}
 use Rattle.singcheck.specs.declared.fault.Status.TheVariants.{Empty, Found}
 use Rattle.singcheck.specs.declared.reading.TheConstants.{MAX_READ}
@@ -76,7 +75,3 @@ pub checks_of_front : IsOfFront Checks MAX_READ
 checks_of_front = record {
   whole = λ text bytes status. of_front (λ t. Checks t bytes status) MAX_TEXT MAX_READ refl (λ a b x y. checks_long a b bytes status (record { one = x; two = y })) text;
 }
-
--- and so is a place that is not analysed yet
-pub not_yet_of_front : (text : List ℕ) (place : Place) → IsNotYet (take MAX_READ text) place → IsNotYet text place
-not_yet_of_front text place = of_front (λ t. IsNotYet t place) MAX_TEXT MAX_READ refl (λ a b x y told. no_program a x told.program.parsed.tokens told.program.parsed.lexed) text

@@ -2,50 +2,59 @@
 use Rattle.std.proofs.Common.{◌≡◌, ℕ, List, length, refl, sym, ap, ◌∙◌, subst}
 use Rattle.source.specs.Findings.{FindingParts}
 use Rattle.tree.specs.Trees.{contracts_of}
-use Rattle.program.specs.Parts.{ContractSeen}
 use Rattle.names.specs.Resolution.{resolved_contracts}
 use Rattle.contracts.specs.Conditions.{AreExactly}
-use Rattle.program.specs.Methods.{MethodSeen}
+use Rattle.program.specs.Programs.{ProgramSeen}
+use Rattle.resolving.specs.Brought.{messages_told}
 use Rattle.resolving.specs.Methods.{methods_told}
 use Rattle.singcheck.specs.Answers.{AreFindings}
-use Rattle.singcheck.specs.Checks.{AreCheckFindings, Before, OfMethods, Checks, HasMethods, IsClear, IsWrong}
+use Rattle.singcheck.specs.Checks.{AreCheckFindings, Before, OfMethods, Checks, HasProgram, IsClear, IsWrong}
 use Rattle.singcheck.specs.Lines.{clear_line}
 use Rattle.singcheck.specs.declared.fault.Status.{Status}
 use Rattle.singcheck.specs.declared.fault.Status.TheVariants.{Empty, Found}
 use Rattle.singcheck.proofs.OnlyLemmas.{Laws, found_or_sound, one_findings, one_program, some_in}
 use Rattle.singcheck.proofs.SameLemmas.{AreAlike, alike_exactly, one_report}
 
-one_items : Laws → (text : List ℕ) (c d : List ContractSeen) (m n : List MethodSeen) (one : HasMethods text c m) (other : HasMethods text d n) → one.items ≡ other.items
-one_items laws text c d m n one other = one_program laws text one.items other.items one.program.parsed other.program.parsed
+one_items : Laws → (text : List ℕ) (p q : ProgramSeen) (one : HasProgram text p) (other : HasProgram text q) → one.items ≡ other.items
+one_items laws text p q one other = one_program laws text one.items other.items one.program.parsed other.program.parsed
 
-one_contracts : Laws → (text : List ℕ) (c d : List ContractSeen) (m n : List MethodSeen) → HasMethods text c m → HasMethods text d n → c ≡ d
-one_contracts laws text c d m n one other = one.program.are ∙ ap (λ l. resolved_contracts text (contracts_of l)) (one_items laws text c d m n one other) ∙ sym other.program.are
+one_contracts : Laws → (text : List ℕ) (p q : ProgramSeen) → HasProgram text p → HasProgram text q → p.contracts ≡ q.contracts
+one_contracts laws text p q one other = one.program.are ∙ ap (λ l. resolved_contracts text (contracts_of l)) (one_items laws text p q one other) ∙ sym other.program.are
 
-one_methods : Laws → (text : List ℕ) (c d : List ContractSeen) (m n : List MethodSeen) → HasMethods text c m → HasMethods text d n → m ≡ n
-one_methods laws text c d m n one other = one.are ∙ ap (λ items. methods_told (record { text = text; items = items })) (one_items laws text c d m n one other) ∙ sym other.are
+one_messages : Laws → (text : List ℕ) (p q : ProgramSeen) → HasProgram text p → HasProgram text q → p.messages ≡ q.messages
+one_messages laws text p q one other = one.messages ∙ ap (λ items. messages_told (record { text = text; items = items })) (one_items laws text p q one other) ∙ sym other.messages
+
+one_methods : Laws → (text : List ℕ) (p q : ProgramSeen) → HasProgram text p → HasProgram text q → p.methods ≡ q.methods
+one_methods laws text p q one other = one.methods ∙ ap (λ items. methods_told (record { text = text; items = items })) (one_items laws text p q one other) ∙ sym other.methods
+
+one_seen : Laws → (text : List ℕ) (p q : ProgramSeen) → HasProgram text p → HasProgram text q → p ≡ q
+one_seen laws text p q one other =
+    let contracts = one_contracts laws text p q one other in
+    let messages = one_messages laws text p q one other in
+    let methods = one_methods laws text p q one other in
+    λ i. record { contracts = contracts i; messages = messages i; methods = methods i }
 
 -- what an earlier stage found is not found in a program with which nothing is wrong so far
-before_or_methods : Laws → (text : List ℕ) (found : List FindingParts) (c : List ContractSeen) (m : List MethodSeen) → AreFindings text found → HasMethods text c m → ⊥
-before_or_methods laws text found c m are has = found_or_sound laws text found c are (record { items = has.items; parsed = has.program.parsed; clean = has.program.clean; are = has.program.are }) has.program.sound
+before_or_methods : Laws → (text : List ℕ) (found : List FindingParts) (p : ProgramSeen) → AreFindings text found → HasProgram text p → ⊥
+before_or_methods laws text found p are has = found_or_sound laws text found p.contracts are (record { items = has.items; parsed = has.program.parsed; clean = has.program.clean; are = has.program.are }) has.program.sound
 
 one_found : Laws → (text : List ℕ) (a b : List FindingParts) → AreCheckFindings text a → AreCheckFindings text b → AreAlike a b
 one_found laws text a b (Before x) (Before y) = one_findings laws text a b x y
-one_found laws text a b (Before x) (OfMethods y) = absurd (before_or_methods laws text a y.contracts y.methods x y.has)
-one_found laws text a b (OfMethods x) (Before y) = absurd (before_or_methods laws text b x.contracts x.methods y x.has)
+one_found laws text a b (Before x) (OfMethods y) = absurd (before_or_methods laws text a y.program x y.has)
+one_found laws text a b (OfMethods x) (Before y) = absurd (before_or_methods laws text b x.program y x.has)
 one_found laws text a b (OfMethods x) (OfMethods y) =
-    alike_exactly (IsWrong y.methods) a b (subst (λ m. AreExactly (IsWrong m) a) (one_methods laws text x.contracts y.contracts x.methods y.methods x.has y.has) x.are) y.are
+    alike_exactly (IsWrong y.program) a b (subst (λ p. AreExactly (IsWrong p) a) (one_seen laws text x.program y.program x.has y.has) x.are) y.are
 
 -- a text with findings is not clear
 found_or_clear : Laws → (text bytes : List ℕ) (found : List FindingParts) → AreCheckFindings text found → IsClear text bytes → ⊥
-found_or_clear laws text bytes found (Before x) clear = before_or_methods laws text found clear.contracts clear.methods x clear.has
+found_or_clear laws text bytes found (Before x) clear = before_or_methods laws text found clear.program x clear.has
 found_or_clear laws text bytes found (OfMethods x) clear =
     let first = some_in found x.some in
-    clear.none first.0 (subst (λ m. IsWrong m first.0) (one_methods laws text x.contracts clear.contracts x.methods clear.methods x.has clear.has) (x.are.right first.0 first.1))
+    clear.none first.0 (subst (λ p. IsWrong p first.0) (one_seen laws text x.program clear.program x.has clear.has) (x.are.right first.0 first.1))
 
 one_clear : Laws → (text a b : List ℕ) → IsClear text a → IsClear text b → a ≡ b
 one_clear laws text a b one other =
-    one.are ∙ ap (λ l. clear_line (length l) (length one.methods)) (one_contracts laws text one.contracts other.contracts one.methods other.methods one.has other.has)
-    ∙ ap (λ l. clear_line (length other.contracts) (length l)) (one_methods laws text one.contracts other.contracts one.methods other.methods one.has other.has) ∙ sym other.are
+    one.are ∙ ap (λ (p : ProgramSeen). clear_line (length p.contracts) (length p.methods)) (one_seen laws text one.program other.program one.has other.has) ∙ sym other.are
 
 pub one_answer_of : Laws → (text a b : List ℕ) (s t : Status) → Checks text a s → Checks text b t → a ≡ b
 one_answer_of laws text a b Empty Empty one other = one_clear laws text a b one other

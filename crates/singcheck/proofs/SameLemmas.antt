@@ -15,21 +15,21 @@ pub record AreAlike (xs ys : List FindingParts) : Type 0 where
   pub from : (f : FindingParts) → Contains xs f → Contains ys f
   pub back : (f : FindingParts) → Contains ys f → Contains xs f
 
-at_front : (x : FindingParts) (xs : List FindingParts) → Contains (x ∷ xs) x
+pub at_front : {X : Type 0} (x : X) (xs : List X) → Contains (x ∷ xs) x
 at_front x xs = (0, omega arith, refl)
 
-behind_front : (x y : FindingParts) (xs : List FindingParts) → Contains xs y → Contains (x ∷ xs) y
+pub behind_front : {X : Type 0} (x y : X) (xs : List X) → Contains xs y → Contains (x ∷ xs) y
 behind_front x y xs c = let below = c.1 in (suc c.0, omega arith, c.2)
 
-front_or_behind : (x y : FindingParts) (xs : List FindingParts) → Contains (x ∷ xs) y → (x ≡ y) ⊎ Contains xs y
-front_or_behind x y xs c = go c.0 c.1 c.2
+pub front_or_behind : {X : Type 0} (x y : X) (xs : List X) → Contains (x ∷ xs) y → (x ≡ y) ⊎ Contains xs y
+front_or_behind {X} x y xs c = go c.0 c.1 c.2
   where
     go : (k : ℕ) → k < length (x ∷ xs) → get_or (x ∷ xs) k y ≡ y → (x ≡ y) ⊎ Contains xs y
     go zero lt e = inl e
     go (suc k) lt e = inr (k, omega (arith, lt), e)
 
-nothing_in : (f : FindingParts) → Contains [] f → ⊥
-nothing_in f c = let below = c.1 in omega arith
+pub nothing_in : {X : Type 0} (x : X) → Contains [] x → ⊥
+nothing_in x c = let below = c.1 in omega arith
 
 each_in : (P : FindingParts → Type 0) (xs : List FindingParts) (y : FindingParts) → AllByRecursion P xs → Contains xs y → P y
 each_in P [] y all c = absurd (nothing_in y c)

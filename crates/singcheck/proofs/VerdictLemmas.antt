@@ -8,7 +8,7 @@ use Rattle.std.proofs.lemmas.List.Elements.{Contains-append_left, Contains-appen
 use Rattle.source.specs.Findings.{FindingParts, finding_parts}
 use Rattle.source.specs.declared.finding.Finding.{Finding}
 use Rattle.contracts.specs.Conditions.{AreExactly}
-use Rattle.program.specs.Methods.{MethodSeen}
+use Rattle.program.specs.Programs.{ProgramSeen}
 use Rattle.analyse.specs.Tasks.{numbers_below, number_of}
 use Rattle.analyse.specs.declared.task.Task.{Task}
 use Rattle.analyse.specs.Verdicts.{IsFoundIn, IsMethodVerdict}
@@ -17,12 +17,12 @@ use Rattle.singcheck.specs.Verdicts.{AddsVerdict, AreAnalysed, IsWrongBelow}
 use Rattle.singcheck.proofs.JudgeLemmas.{none_of}
 
 -- a verdict is all that is found in its method
-pub verdict_exactly : (methods : List MethodSeen) (n : ℕ) (found : List FindingParts) → IsMethodVerdict methods n found → AreExactly (IsFoundIn methods n) found
-verdict_exactly methods n found verdict = record { right = λ f h. (verdict.exactly f).0 h; all = λ f w. (verdict.exactly f).1 w }
+pub verdict_exactly : (p : ProgramSeen) (n : ℕ) (found : List FindingParts) → IsMethodVerdict p n found → AreExactly (IsFoundIn p n) found
+verdict_exactly p n found verdict = record { right = λ f h. (verdict.exactly f).0 h; all = λ f w. (verdict.exactly f).1 w }
 
 -- one more method
-pub wrong_more : (methods : List MethodSeen) (n : ℕ) (old new : List Finding) → AreExactly (IsWrongBelow methods n) (map finding_parts old) → AddsVerdict methods n old new → AreExactly (IsWrongBelow methods (n + 1)) (map finding_parts new)
-wrong_more methods n old new so_far adds = record {
+pub wrong_more : (p : ProgramSeen) (n : ℕ) (old new : List Finding) → AreExactly (IsWrongBelow p n) (map finding_parts old) → AddsVerdict p n old new → AreExactly (IsWrongBelow p (n + 1)) (map finding_parts new)
+wrong_more p n old new so_far adds = record {
   right = λ f h. ⊎_elim
       (λ earlier. let r = so_far.right f earlier in (r.0, omega arith, r.2))
       (λ here. (n, omega arith, adds.exactly.right f here))
@@ -30,9 +30,9 @@ wrong_more methods n old new so_far adds = record {
   all = λ f w. subst (λ l. Contains l f) (sym adds.added) (which f w);
 }
   where
-    which : (f : FindingParts) → IsWrongBelow methods (n + 1) f → Contains (map finding_parts old ++ adds.more) f
+    which : (f : FindingParts) → IsWrongBelow p (n + 1) f → Contains (map finding_parts old ++ adds.more) f
     which f w = ⊎_elim
-        (λ same. Contains-append_right (map finding_parts old) adds.more f (adds.exactly.all f (subst (λ k. IsFoundIn methods k f) same w.2)))
+        (λ same. Contains-append_right (map finding_parts old) adds.more f (adds.exactly.all f (subst (λ k. IsFoundIn p k f) same w.2)))
         (λ earlier. Contains-append_left (map finding_parts old) adds.more f (so_far.all f (w.0, earlier, w.2)))
         (eq-or-lt_of_le (omega (arith, w.1)))
 
@@ -65,39 +65,39 @@ task_at before rest task n e =
     (sym here ∙ ap (λ l. get_or l (length before) 0) (sym parts ∙ e) ∙ number_at n (length before) below, below)
 
 -- one more task
-pub analysed_more : (methods : List MethodSeen) (rest all : List Task) (task : Task) (old new : List Finding) → AreAnalysed methods all old → all ≡ task ∷ rest → AddsVerdict methods (number_of task) old new → AreAnalysed methods rest new
-analysed_more methods rest all task old new so_far is adds =
+pub analysed_more : (p : ProgramSeen) (rest all : List Task) (task : Task) (old new : List Finding) → AreAnalysed p all old → all ≡ task ∷ rest → AddsVerdict p (number_of task) old new → AreAnalysed p rest new
+analysed_more p rest all task old new so_far is adds =
     let before = so_far.done in
-    let tasks = subst (λ l. map number_of (before ++ l) ≡ numbers_below (length methods)) is so_far.tasks in
-    let at = task_at before rest task (length methods) tasks in
-    let more = wrong_more methods (length before) old new so_far.exactly (subst (λ k. AddsVerdict methods k old new) at.0 adds) in
+    let tasks = subst (λ l. map number_of (before ++ l) ≡ numbers_below (length p.methods)) is so_far.tasks in
+    let at = task_at before rest task (length p.methods) tasks in
+    let more = wrong_more p (length before) old new so_far.exactly (subst (λ k. AddsVerdict p k old new) at.0 adds) in
     let size : length before + 1 ≡ length (before ++ task ∷ []) = sym (length-append before (task ∷ [])) in
     record {
       done = before ++ task ∷ [];
       tasks = ap (map number_of) (append_assoc before (task ∷ []) rest) ∙ tasks;
-      exactly = subst (λ k. AreExactly (IsWrongBelow methods k) (map finding_parts new)) size more;
+      exactly = subst (λ k. AreExactly (IsWrongBelow p k) (map finding_parts new)) size more;
     }
 
 -- a task that is left is one of a method
-pub task_there : (methods : List MethodSeen) (rest all : List Task) (task : Task) (found : List Finding) → AreAnalysed methods all found → all ≡ task ∷ rest → number_of task < length methods
-task_there methods rest all task found so_far is =
-    let at = task_at so_far.done rest task (length methods) (subst (λ l. map number_of (so_far.done ++ l) ≡ numbers_below (length methods)) is so_far.tasks) in
+pub task_there : (p : ProgramSeen) (rest all : List Task) (task : Task) (found : List Finding) → AreAnalysed p all found → all ≡ task ∷ rest → number_of task < length p.methods
+task_there p rest all task found so_far is =
+    let at = task_at so_far.done rest task (length p.methods) (subst (λ l. map number_of (so_far.done ++ l) ≡ numbers_below (length p.methods)) is so_far.tasks) in
     omega (arith, at.0, at.1)
 
 -- and all of them
-pub analysed_all : (methods : List MethodSeen) (rest : List Task) (found : List Finding) → AreAnalysed methods rest found → rest ≡ [] → AreExactly (IsWrong methods) (map finding_parts found)
-analysed_all methods rest found analysed none =
+pub analysed_all : (p : ProgramSeen) (rest : List Task) (found : List Finding) → AreAnalysed p rest found → rest ≡ [] → AreExactly (IsWrong p) (map finding_parts found)
+analysed_all p rest found analysed none =
     let before = analysed.done in
-    let tasks = ap (map number_of) (sym (append-nil before)) ∙ subst (λ l. map number_of (before ++ l) ≡ numbers_below (length methods)) none analysed.tasks in
+    let tasks = ap (map number_of) (sym (append-nil before)) ∙ subst (λ l. map number_of (before ++ l) ≡ numbers_below (length p.methods)) none analysed.tasks in
     let size = ap length tasks in
     let mapped = length-map before number_of in
-    let many = many_below (length methods) in
-    let all : length before ≡ length methods = omega (arith, size, mapped, many) in
-    subst (λ k. AreExactly (IsWrongBelow methods k) (map finding_parts found)) all analysed.exactly
+    let many = many_below (length p.methods) in
+    let all : length before ≡ length p.methods = omega (arith, size, mapped, many) in
+    subst (λ k. AreExactly (IsWrongBelow p k) (map finding_parts found)) all analysed.exactly
 
 -- none yet
-pub analysed_none : (methods : List MethodSeen) (all : List Task) → map number_of all ≡ numbers_below (length methods) → AreAnalysed methods all []
-analysed_none methods all tasks = record {
+pub analysed_none : (p : ProgramSeen) (all : List Task) → map number_of all ≡ numbers_below (length p.methods) → AreAnalysed p all []
+analysed_none p all tasks = record {
   done = [];
   tasks = tasks;
   exactly = record {

@@ -1,15 +1,15 @@
 -- What `check` answers for a text. Its methods are analysed where nothing is wrong before: with the text, its tokens, its
 -- names and its contracts.
-use Rattle.std.specs.Prelude.{◌≡◌, ◌≢◌, ◌<◌, ℕ, List, [], length, All, Some, None}
+use Rattle.std.specs.Prelude.{◌≡◌, ◌≢◌, ◌<◌, ℕ, List, [], length, All}
 use Rattle.source.specs.Findings.{FindingParts}
-use Rattle.source.specs.declared.place.Place.{Place}
 use Rattle.tree.specs.Trees.{ItemTree, contracts_of}
 use Rattle.names.specs.Findings.{program_findings}
 use Rattle.program.specs.Parts.{ContractSeen}
 use Rattle.names.specs.Resolution.{resolved_contracts}
 use Rattle.contracts.specs.Conditions.{AreExactly, IsSound}
-use Rattle.program.specs.Methods.{MethodSeen}
-use Rattle.resolving.specs.Methods.{methods_told, not_yet}
+use Rattle.program.specs.Programs.{ProgramSeen}
+use Rattle.resolving.specs.Brought.{messages_told}
+use Rattle.resolving.specs.Methods.{methods_told}
 use Rattle.analyse.specs.Verdicts.{IsFoundIn}
 use Rattle.singcheck.specs.Answers.{AreFindings, IsProgram}
 use Rattle.singcheck.specs.Lines.{clear_line}
@@ -24,31 +24,23 @@ pub record IsSoundProgram (text : List ℕ) (items : List ItemTree) (contracts :
   pub are : contracts ≡ resolved_contracts text (contracts_of items)
   pub sound : All (λ c. IsSound c.parts) contracts
 
--- and these are its methods, with a number for each name
-pub record HasMethods (text : List ℕ) (contracts : List ContractSeen) (methods : List MethodSeen) : Type 0 where
+-- and this is what it comes to, with a number for each name
+pub record HasProgram (text : List ℕ) (p : ProgramSeen) : Type 0 where
   pub items : List ItemTree
-  pub program : IsSoundProgram text items contracts
-  pub known : not_yet items ≡ None
-  pub are : methods ≡ methods_told (record { text = text; items = items })
-
--- the first of what is not analysed yet stands there
-pub record IsNotYet (text : List ℕ) (place : Place) : Type 0 where
-  pub items : List ItemTree
-  pub contracts : List ContractSeen
-  pub program : IsSoundProgram text items contracts
-  pub first : not_yet items ≡ Some place
+  pub program : IsSoundProgram text items p.contracts
+  pub messages : p.messages ≡ messages_told (record { text = text; items = items })
+  pub methods : p.methods ≡ methods_told (record { text = text; items = items })
 
 -- this is found in one of the methods
-abbrev pub IsWrong : List MethodSeen → FindingParts → Type 0
-IsWrong methods f = (n : ℕ) × (n < length methods) × IsFoundIn methods n f
+abbrev pub IsWrong : ProgramSeen → FindingParts → Type 0
+IsWrong p f = (n : ℕ) × (n < length p.methods) × IsFoundIn p n f
 
 -- something is wrong in the methods of the text: all of it
 pub record IsMisowned (text : List ℕ) (found : List FindingParts) : Type 0 where
-  pub contracts : List ContractSeen
-  pub methods : List MethodSeen
-  pub has : HasMethods text contracts methods
+  pub program : ProgramSeen
+  pub has : HasProgram text program
   pub some : found ≢ []
-  pub are : AreExactly (IsWrong methods) found
+  pub are : AreExactly (IsWrong program) found
 
 -- these are the findings of the first stage of the text that has some, its methods the last stage
 pub data AreCheckFindings (text : List ℕ) (found : List FindingParts) : Type 0 where
@@ -63,11 +55,10 @@ pub record IsCheckReport (text bytes : List ℕ) : Type 0 where
 
 -- the text has no findings, and the bytes say how many contracts and methods it has
 pub record IsClear (text bytes : List ℕ) : Type 0 where
-  pub contracts : List ContractSeen
-  pub methods : List MethodSeen
-  pub has : HasMethods text contracts methods
-  pub none : (f : FindingParts) → IsWrong methods f → ⊥
-  pub are : bytes ≡ clear_line (length contracts) (length methods)
+  pub program : ProgramSeen
+  pub has : HasProgram text program
+  pub none : (f : FindingParts) → IsWrong program f → ⊥
+  pub are : bytes ≡ clear_line (length program.contracts) (length program.methods)
 
 -- what `check` answers for a text, and the status
 abbrev pub Checks : List ℕ → List ℕ → Status → Type 0

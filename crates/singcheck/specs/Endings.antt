@@ -1,9 +1,7 @@
 -- How the program ends after a run that gave up.
 use Rattle.std.specs.Prelude.{ℕ, List, ◌++◌, codes}
-use Rattle.std.specs.Fmt.{decimal}
-use Rattle.source.specs.declared.place.Place.{Place}
 use Rattle.singcheck.specs.declared.fault.RunFault.{RunFault}
-use Rattle.singcheck.specs.declared.fault.RunFault.TheVariants.{Read, Write, Workers, Slots, NotYet, Memory}
+use Rattle.singcheck.specs.declared.fault.RunFault.TheVariants.{Read, Write, Workers, Slots, Memory}
 
 -- the exit status: 2 for what is asked and cannot be, 3 for a device, 4 for want of memory
 abbrev pub status_of : RunFault → ℕ
@@ -11,12 +9,7 @@ status_of (Read input) = 3
 status_of Write = 3
 status_of Workers = 2
 status_of Slots = 2
-status_of (NotYet place) = 2
 status_of Memory = 4
-
--- `singcheck: not yet at LINE:COL`
-abbrev pub not_yet_line : Place → List ℕ
-not_yet_line place = codes "singcheck: not yet at " ++ decimal place.line ++ codes ":" ++ decimal place.col ++ codes "\n"
 
 -- the line that is written, where the file has this name
 abbrev pub line_of : RunFault → List ℕ → List ℕ
@@ -24,5 +17,4 @@ line_of (Read input) name = codes "singcheck: cannot read " ++ name ++ codes "\n
 line_of Write name = codes "singcheck: cannot write\n"
 line_of Workers name = codes "singcheck: workers not 1 to 64\n"
 line_of Slots name = codes "singcheck: slots not 1 to 16777216\n"
-line_of (NotYet place) name = not_yet_line place
 line_of Memory name = codes "singcheck: out of memory\n"

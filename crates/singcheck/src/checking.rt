@@ -6,9 +6,10 @@ ghost use Rattle.source.specs.Tokens.{AreTokens};
 ghost use Rattle.tree.specs.Spelled.{Spells};
 ghost use Rattle.tree.specs.Programs.{program};
 ghost use Rattle.tree.specs.Trees.{program_tree};
+ghost use Rattle.contracts.specs.Sounds.{sound_parts};
 ghost use Rattle.program.specs.Parts.{contract_seen};
 ghost use Rattle.singcheck.specs.Checks.{Checks, IsSoundProgram};
-ghost use Rattle.singcheck.specs.CheckFaults.{AreUnfit, Explains, IsTextFault, workers_fit, slots_fit};
+ghost use Rattle.singcheck.specs.CheckFaults.{AreUnfit, Explains, workers_fit, slots_fit};
 ghost use Rattle.singcheck.specs.Reports.{IsReport};
 
 use crate::fault::{CheckFault, Status};
@@ -16,10 +17,8 @@ use crate::gate::Gate;
 use crate::limits::{MOST_SLOTS, MOST_WORKERS};
 use crate::lines::add_clear;
 use crate::reports::{Report, report_of};
-use crate::stages::{Parsed, Staged, named, parse_text};
+use crate::stages::{Clean, Parsed, Staged, named, parse_text};
 use crate::verdicts::analyse_methods;
-use program::Resolved;
-use resolving::first_unknown;
 use rules::Program;
 use source::{Finding, Memory, Tokens};
 use std::alloc::Global;
@@ -31,8 +30,8 @@ use wellformed::well_formed_methods;
 ///
 /// Each method is checked once, and the gate is entered before it with the number of methods that stand before it in the
 /// text. The report is the same for every number of `workers` and `slots`. `Workers` is answered where there are not 1 to
-/// `MOST_WORKERS`, then `Slots` where there are not 1 to `MOST_SLOTS`, before the text is looked at; `NotYet` where nothing is
-/// found before the methods and one of them holds what is not analysed yet; `Memory` where a growth was refused.
+/// `MOST_WORKERS`, then `Slots` where there are not 1 to `MOST_SLOTS`, before the text is looked at; `Memory` where a growth was
+/// refused.
 pub fn check<G: Gate>(
     alloc: Global,
     text: &[u8],
@@ -43,10 +42,11 @@ pub fn check<G: Gate>(
     ensures report { IfOk result (λ r. Checks text.now r.bytes.items r.status) }
     ensures workers { OnOk result (workers_fit workers ≡ true) }
     ensures slots { OnOk result (slots_fit slots ≡ true) }
-    ensures fault { IfErr result (Explains text.now workers slots) }
+    ensures fault { IfErr result (Explains workers slots) }
 {
     judge_numbers(workers, slots)?;
-    check_text(alloc, text, gate)
+    let report = check_text(alloc, text, gate)?;
+    Ok(report)
 }
 
 /// Whether there may be so many workers and slots.
@@ -65,16 +65,11 @@ pub(crate) fn judge_numbers(workers: usize, slots: usize) -> Result<(), CheckFau
 }
 
 /// The report of a text.
-pub(crate) fn check_text<G: Gate>(
-    alloc: Global,
-    text: &[u8],
-    gate: &G,
-) -> Result<Report, CheckFault>
-    ensures report { IfOk result (λ r. Checks text.now r.bytes.items r.status) }
-    ensures fault { IfErr result (IsTextFault text.now) }
+pub(crate) fn check_text<G: Gate>(alloc: Global, text: &[u8], gate: &G) -> Result<Report, Memory>
+    ensures { IfOk result (λ r. Checks text.now r.bytes.items r.status) }
 {
     match parse_text(alloc, text)? {
-        Parsed::Found(findings) => Ok(reported(alloc, findings)?),
+        Parsed::Found(findings) => reported(alloc, findings),
         Parsed::Program(tokens, tree) => check_program(alloc, &tokens, &tree, gate),
     }
 }
@@ -96,16 +91,15 @@ fn check_program<G: Gate>(
     tokens: &Tokens,
     tree: &Tree,
     gate: &G,
-) -> Result<Report, CheckFault>
+) -> Result<Report, Memory>
     requires lexed { AreTokens tokens.now.text.items tokens.now.list.items }
     requires spelled { Spells program (program_tree tree.now) tokens.now.list.items }
     requires few { length tokens.now.list.items < 2 ^ 32 }
-    ensures report { IfOk result (λ r. Checks tokens.now.text.items r.bytes.items r.status) }
-    ensures fault { IfErr result (IsTextFault tokens.now.text.items) }
+    ensures { IfOk result (λ r. Checks tokens.now.text.items r.bytes.items r.status) }
 {
     match named(alloc, tree, tokens)? {
-        Staged::Found(findings) => Ok(reported(alloc, findings)?),
-        Staged::Clean(clean) => check_methods(alloc, tokens, tree, clean.resolved, gate),
+        Staged::Found(findings) => reported(alloc, findings),
+        Staged::Clean(clean) => check_methods(alloc, tokens, tree, clean, gate),
     }
 }
 
@@ -114,24 +108,22 @@ fn check_methods<G: Gate>(
     alloc: Global,
     tokens: &Tokens,
     tree: &Tree,
-    resolved: Resolved,
+    clean: Clean,
     gate: &G,
-) -> Result<Report, CheckFault>
-    requires sound { IsSoundProgram tokens.now.text.items (program_tree tree.now) (map contract_seen resolved.contracts.items) }
-    requires room { length resolved.contracts.items < 2 ^ 32 }
-    ensures report { IfOk result (λ r. Checks tokens.now.text.items r.bytes.items r.status) }
-    ensures fault { IfErr result (IsTextFault tokens.now.text.items) }
+) -> Result<Report, Memory>
+    requires sound { IsSoundProgram tokens.now.text.items (program_tree tree.now) (map contract_seen clean.resolved.contracts.items) }
+    requires judged { map sound_parts clean.sounds.items ≡ map (λ c. c.parts) (map contract_seen clean.resolved.contracts.items) }
+    requires room { length clean.resolved.contracts.items < 2 ^ 32 }
+    ensures { IfOk result (λ r. Checks tokens.now.text.items r.bytes.items r.status) }
 {
-    if let Some(place) = first_unknown(tree) {
-        return Err(CheckFault::NotYet(place));
-    }
+    let Clean { resolved, sounds } = clean;
     let contracts = resolved.contracts.len();
     let methods = well_formed_methods(alloc, tree, tokens, resolved)?;
     let count = methods.list().len();
-    let program = Program::new(alloc, methods)?;
+    let program = Program::new(alloc, methods, sounds)?;
     let findings = analyse_methods(alloc, &program, gate)?;
     if !findings.is_empty() {
-        return Ok(reported(alloc, findings)?);
+        return reported(alloc, findings);
     }
     let mut bytes = Vec::new(alloc);
     add_clear(alloc, &mut bytes, contracts, count)?;

@@ -1,16 +1,13 @@
 //! How the program ends after a run that gave up.
 
 ghost use Rattle.std.specs.Prelude.{◌≡◌, ◌≢◌, ◌++◌, codes, OnOk, OnErr};
-ghost use Rattle.std.specs.Fmt.{decimal};
 ghost use Rattle.std.specs.Io.KnownBytes.{Appends};
 ghost use Rattle.singcheck.specs.Devices.{Begins};
-ghost use Rattle.singcheck.specs.Endings.{status_of, line_of, not_yet_line};
+ghost use Rattle.singcheck.specs.Endings.{status_of, line_of};
 
 use crate::device::Sink;
 use crate::fault::RunFault;
 use crate::writing::write_all;
-use itoa::Buffer;
-use source::Place;
 
 /// Writes the line of a fault, and answers the exit status: 2 for what was asked and cannot be, 3 for a file or a device,
 /// 4 for want of memory.
@@ -31,7 +28,7 @@ fn exit_status(fault: &RunFault) -> u8
     ensures { result ≡ status_of fault.now }
 {
     match fault {
-        RunFault::Workers | RunFault::Slots | RunFault::NotYet(_) => 2,
+        RunFault::Workers | RunFault::Slots => 2,
         RunFault::Read(_) | RunFault::Write => 3,
         RunFault::Memory => 4,
     }
@@ -47,7 +44,6 @@ fn write_line<W: Sink>(fault: &RunFault, name: &str, writer: &mut W) -> Result<(
         RunFault::Write => write_all(b"singcheck: cannot write\n", writer),
         RunFault::Workers => write_all(b"singcheck: workers not 1 to 64\n", writer),
         RunFault::Slots => write_all(b"singcheck: slots not 1 to 16777216\n", writer),
-        RunFault::NotYet(place) => write_not_yet_line(*place, writer),
         RunFault::Memory => write_all(b"singcheck: out of memory\n", writer),
     }
 }
@@ -62,27 +58,4 @@ fn write_read_line<W: Sink>(name: &str, writer: &mut W) -> Result<(), RunFault>
     write_all(b"singcheck: cannot read ", writer)?;
     write_all(name.as_bytes(), writer)?;
     write_all(b"\n", writer)
-}
-
-fn write_not_yet_line<W: Sink>(place: Place, writer: &mut W) -> Result<(), RunFault>
-    ensures all { OnOk result (Appends (W.contents writer.old) (W.contents writer.new) (not_yet_line place)) }
-    ensures begun { OnErr result (Begins (W.contents writer.old) (W.contents writer.new) (not_yet_line place)) }
-    ensures write { OnErr result (W.failed writer.new ≢ W.failed writer.old) }
-{
-    write_all(b"singcheck: not yet at ", writer)?;
-    write_number(place.line, writer)?;
-    write_all(b":", writer)?;
-    write_number(place.col, writer)?;
-    write_all(b"\n", writer)
-}
-
-/// Writes a number in decimal. Its digits stand in no memory that could be refused.
-fn write_number<W: Sink>(number: u32, writer: &mut W) -> Result<(), RunFault>
-    ensures all { OnOk result (Appends (W.contents writer.old) (W.contents writer.new) (decimal number)) }
-    ensures same { OnOk result (W.failed writer.new ≡ W.failed writer.old) }
-    ensures begun { OnErr result (Begins (W.contents writer.old) (W.contents writer.new) (decimal number)) }
-    ensures write { OnErr result (W.failed writer.new ≢ W.failed writer.old) }
-{
-    let mut buffer = Buffer::new();
-    write_all(buffer.format(number).as_bytes(), writer)
 }

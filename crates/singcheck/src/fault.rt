@@ -1,6 +1,6 @@
 //! How a run ends.
 
-use source::{Memory, Place};
+use source::Memory;
 use std::alloc::{AllocError, AllocFailed};
 use thiserror::Error;
 
@@ -28,9 +28,6 @@ pub enum CheckFault {
     /// The slots are not 1 to 16,777,216. Looked at behind the workers, and before anything is read.
     #[error("slots not 1 to 16777216")]
     Slots,
-    /// Nothing is wrong with the text before its methods, but the first of what is not analysed yet stands there.
-    #[error("not yet")]
-    NotYet(Place),
     /// A growth of memory was refused.
     #[error("out of memory")]
     Memory,
@@ -51,9 +48,6 @@ pub enum RunFault {
     /// The slots are not 1 to 16,777,216. Nothing was read or written.
     #[error("slots not 1 to 16777216")]
     Slots,
-    /// The first of what is not analysed yet stands there. Nothing was written.
-    #[error("not yet")]
-    NotYet(Place),
     /// A growth of memory was refused. Nothing was written.
     #[error("out of memory")]
     Memory,
@@ -135,7 +129,6 @@ impl From<CheckFault> for RunFault {
         match fault {
             CheckFault::Workers => RunFault::Workers,
             CheckFault::Slots => RunFault::Slots,
-            CheckFault::NotYet(place) => RunFault::NotYet(place),
             CheckFault::Memory => RunFault::Memory,
         }
     }

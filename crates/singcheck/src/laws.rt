@@ -7,8 +7,11 @@ ghost use Rattle.singcheck.specs.declared.fault.Status.{Status};
 ghost use Rattle.singcheck.specs.declared.limits.TheConstants.{MOST_SLOTS, MOST_WORKERS};
 ghost use Rattle.singcheck.specs.declared.reading.TheConstants.{MAX_READ};
 
-use source::laws::{one_cutting, one_fault};
-use syntax::one_tree_a_spelling;
+use analyse::laws::each_method_has_a_verdict;
+use contracts::laws::each_contract_is_judged;
+use names::laws::clean_contracts_are_whole;
+use source::laws::{each_text_is_cut, one_cutting, one_fault};
+use syntax::{one_tree_a_spelling, tokens_are_parsed};
 
 /// A text has one answer of `bounds`, and one status.
 pub fn one_answer()
@@ -32,6 +35,20 @@ pub fn one_check()
     one_cutting();
     one_fault();
     one_tree_a_spelling();
+}
+
+/// Each text has an answer of `bounds` and one of `check`, so `Memory` is never the only one allowed.
+pub fn each_text_is_answered()
+    ensures bounds { (text : List ℕ)
+        → ((bytes : List ℕ) (status : Status) → Answers text bytes status → ⊥) → ⊥ }
+    ensures check { (text : List ℕ)
+        → ((bytes : List ℕ) (status : Status) → Checks text bytes status → ⊥) → ⊥ }
+{
+    each_text_is_cut();
+    tokens_are_parsed();
+    clean_contracts_are_whole();
+    each_contract_is_judged();
+    each_method_has_a_verdict();
 }
 
 /// The limits in digits.

@@ -40,7 +40,7 @@ pub fn run_check<R: Source, W: Sink, G: Gate>(
     ensures unwritten { OnErr result ((IsErrOf result RunFault.Write → ⊥) → Keeps (W.contents writer.old) (W.contents writer.new)) }
     ensures workers { OnOk result (workers_fit workers ≡ true) }
     ensures slots { OnOk result (slots_fit slots ≡ true) }
-    ensures fault { IfErr result (RunExplains (R.remaining reader.old) workers slots) }
+    ensures fault { IfErr result (RunExplains workers slots) }
     ensures unread { (workers_fit workers && slots_fit slots) ≡ false → R.remaining reader.new ≡ R.remaining reader.old }
 {
     judge_numbers(workers, slots)?;

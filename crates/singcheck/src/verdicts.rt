@@ -3,7 +3,7 @@
 ghost use Rattle.std.specs.Prelude.{◌<◌, ◌^◌, IfOk, OnOk, length, map};
 ghost use Rattle.source.specs.Findings.{finding_parts};
 ghost use Rattle.contracts.specs.Conditions.{AreExactly};
-ghost use Rattle.rules.specs.Programs.{methods_of};
+ghost use Rattle.rules.specs.Programs.{seen_of};
 ghost use Rattle.analyse.specs.Tasks.{number_of};
 ghost use Rattle.singcheck.specs.Checks.{IsWrong};
 ghost use Rattle.singcheck.specs.Verdicts.{AddsVerdict};
@@ -20,8 +20,8 @@ pub(crate) fn analyse_methods<G: Gate>(
     program: &Program,
     gate: &G,
 ) -> Result<Vec<Finding>, Memory>
-    requires few { length (methods_of program.now) < 2 ^ 32 }
-    ensures { IfOk result (λ found. AreExactly (IsWrong (methods_of program.now)) (map finding_parts found.items)) }
+    requires few { length (seen_of program.now).methods < 2 ^ 32 }
+    ensures { IfOk result (λ found. AreExactly (IsWrong (seen_of program.now)) (map finding_parts found.items)) }
 {
     let mut found = Vec::new(alloc);
     let mut left = tasks(alloc, program)?.into_iter();
@@ -46,8 +46,8 @@ fn add_verdict(
     task: Task,
     found: &mut Vec<Finding>,
 ) -> Result<(), Memory>
-    requires there { number_of task < length (methods_of program.now) }
-    ensures { OnOk result (AddsVerdict (methods_of program.now) (number_of task) found.old.items found.new.items) }
+    requires there { number_of task < length (seen_of program.now).methods }
+    ensures { OnOk result (AddsVerdict (seen_of program.now) (number_of task) found.old.items found.new.items) }
 {
     match analyse(alloc, task, program) {
         Ok(verdict) => {

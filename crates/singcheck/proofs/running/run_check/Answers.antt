@@ -1,23 +1,16 @@
 use Rattle.std.proofs.Common.{subst, rules}
 use Rattle.std.specs.Io.KnownBytes.{Appends}
-use Rattle.singcheck.specs.CheckFaults.{IsTextFault}
 use Rattle.singcheck.specs.Checks.{Checks}
 use Rattle.singcheck.specs.Devices.{Begins}
 use Rattle.singcheck.specs.declared.reading.TheConstants.{MAX_READ}
-use Rattle.singcheck.proofs.FaultLemmas.{read_explains, text_explains}
+use Rattle.singcheck.proofs.FaultLemmas.{read_explains}
 use Rattle.singcheck.proofs.LongLemmas.{checks_of_front}
 use Rattle.singcheck.proofs.Texts.{text_is, rest_is, writes_is, begins_is}
 use Rattle.singcheck.proofs.running.run_check.Goals as goal
 
 pub returns-in_err-text-clause-fault : goal.returns-in_err-text-clause-fault
 returns-in_err-text-clause-fault g c =
-    let told = read_explains (g.R.Source.remaining c.args.reader.now) c.args.workers c.args.slots c.in_err-text.field-0.0 c.in_ok-judge_numbers.ensures.workers c.in_ok-judge_numbers.ensures.slots c.in_err-text.ensures.only in
-    search rules
-
-pub returns-in_err-report-clause-fault : goal.returns-in_err-report-clause-fault
-returns-in_err-report-clause-fault g c =
-    let is = text_is (g.R.Source.remaining c.args.reader.now) (g.R.Source.remaining c.read_text.new.reader) c.in_ok-text.text.items MAX_READ c.in_ok-text.ensures.bytes c.in_ok-text.ensures.long c.in_ok-text.ensures.end in
-    let told = text_explains (g.R.Source.remaining c.args.reader.now) c.in_ok-text.text.items c.args.workers c.args.slots c.in_err-report.field-0.0 c.in_ok-judge_numbers.ensures.workers c.in_ok-judge_numbers.ensures.slots is (subst (λ t. IsTextFault t c.in_err-report.field-0.0) c.deref.ensures.value c.in_err-report.ensures.fault) in
+    let told = read_explains c.args.workers c.args.slots c.in_err-text.field-0.0 c.in_ok-judge_numbers.ensures.workers c.in_ok-judge_numbers.ensures.slots c.in_err-text.ensures.only in
     search rules
 
 pub returns-in_err-write_all-clause-begun : goal.returns-in_err-write_all-clause-begun
@@ -25,7 +18,7 @@ returns-in_err-write_all-clause-begun g c = λ told.
     let report = c.in_ok-report.report in
     let is = text_is (g.R.Source.remaining c.args.reader.now) (g.R.Source.remaining c.read_text.new.reader) c.in_ok-text.text.items MAX_READ c.in_ok-text.ensures.bytes c.in_ok-text.ensures.long c.in_ok-text.ensures.end in
     begins_is Checks (g.R.Source.remaining c.args.reader.now) (g.W.Sink.contents c.args.writer.now) (g.W.Sink.contents c.write_all.new.writer) c.in_ok-text.text.items report.bytes.items report.status MAX_READ checks_of_front is
-    (subst (λ t. Checks t report.bytes.items report.status) c.deref.ensures.value c.in_ok-report.ensures.report)
+    (subst (λ t. Checks t report.bytes.items report.status) c.deref.ensures.value c.in_ok-report.ensures)
     (subst (λ b. Begins (g.W.Sink.contents c.args.writer.now) (g.W.Sink.contents c.write_all.new.writer) b) c.deref-2.ensures.value c.in_err-write_all.ensures.begun)
 
 pub returns-clause-written : goal.returns-clause-written
@@ -33,7 +26,7 @@ returns-clause-written g c =
     let report = c.in_ok-report.report in
     let is = text_is (g.R.Source.remaining c.args.reader.now) (g.R.Source.remaining c.read_text.new.reader) c.in_ok-text.text.items MAX_READ c.in_ok-text.ensures.bytes c.in_ok-text.ensures.long c.in_ok-text.ensures.end in
     writes_is Checks (g.R.Source.remaining c.args.reader.now) (g.W.Sink.contents c.args.writer.now) (g.W.Sink.contents c.write_all.new.writer) c.in_ok-text.text.items report.bytes.items report.status MAX_READ checks_of_front is
-    (subst (λ t. Checks t report.bytes.items report.status) c.deref.ensures.value c.in_ok-report.ensures.report)
+    (subst (λ t. Checks t report.bytes.items report.status) c.deref.ensures.value c.in_ok-report.ensures)
     (subst (λ b. Appends (g.W.Sink.contents c.args.writer.now) (g.W.Sink.contents c.write_all.new.writer) b) c.deref-2.ensures.value c.in_ok-write_all.ensures.all)
 
 pub returns-clause-rest : goal.returns-clause-rest

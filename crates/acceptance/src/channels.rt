@@ -1,0 +1,68 @@
+//! A program with a contract, and a step of a method that sends.
+
+ghost use Rattle.std.specs.Prelude.{◌≡◌, IfOk, length};
+ghost use Rattle.rules.specs.Programs.{seen_of};
+
+use contracts::{Judged, Sound, edges};
+use names::resolve;
+use program::{ContractId, MessageId, MethodId, Side, StateId};
+use rules::{Leaf, Outcome, Program, entry, step};
+use source::lex;
+use std::alloc::Global;
+use std::test::Fail;
+use syntax::parse;
+use wellformed::well_formed_methods;
+
+/// A method that sends once and frees its end.
+const ASKS: &str =
+    "contract Ping { in message Req(); out message Rep(); state Start: Req? -> Pend; state Pend: Rep! -> Start; }
+class K { static void F([Claims] Ping.Imp i) { i.SendReq(); delete i; } }";
+
+/// The program of that method, with its contract.
+fn asks(alloc: Global) -> Result<Program, Fail>
+    ensures contracts { IfOk result (λ p. length (seen_of p).contracts ≡ 1) }
+    ensures methods { IfOk result (λ p. length (seen_of p).methods ≡ 1) }
+{
+    let tokens = lex(alloc, ASKS.as_bytes())?;
+    let tree = parse(alloc, &tokens)?;
+    let resolved = resolve(alloc, &tree, &tokens)?;
+    if resolved.contracts.len() != 1 {
+        return Err(Fail::from("not one contract"));
+    }
+    let parts = edges(alloc, &resolved, ContractId(0))?;
+    let Judged::Sound(sound) = Sound::judge(alloc, parts)? else {
+        return Err(Fail::from("not sound"));
+    };
+    let mut sounds = Vec::new(alloc);
+    sounds.push(sound)?;
+    let methods = well_formed_methods(alloc, &tree, &tokens, resolved)?;
+    let program = Program::new(alloc, methods, sounds)?;
+    if program.methods().len() != 1 {
+        return Err(Fail::from("not one method"));
+    }
+    Ok(program)
+}
+
+#[test]
+fn sends_by_the_contract(rt: HostRuntime) -> Result<(), Fail> {
+    let program = asks(rt.alloc())?;
+    let sound = program.sound(ContractId(0));
+    assert_eq!(rt;
+        sound.sent(Side::Imp, sound.first(), MessageId(0)),
+        Some(StateId(1))
+    );
+    let (point, row) = entry(rt.alloc(), &program, MethodId(0))?;
+    assert!(rt; point == 2);
+    assert!(rt; row.leaves() == [Leaf::State(0)].as_slice());
+    match step(rt.alloc(), &program, MethodId(0), point, &row)? {
+        Outcome::Next(pairs) => match pairs.get(0) {
+            Some((point, row)) => {
+                assert!(rt; *point == 1);
+                assert!(rt; row.leaves() == [Leaf::State(1)].as_slice());
+            }
+            None => assert!(rt; false),
+        },
+        Outcome::Found(_) => assert!(rt; false),
+    }
+    Ok(())
+}
