@@ -181,7 +181,61 @@ def returns(n):
     return 'rep struct D { int n; }\nclass K {\n' + ''.join(one % k for k in range(max(1, n // 5000))) + '}\n'
 
 
+def name_of(k):
+    """A short name for each number."""
+    signs = 'abcdefghijklmnopqrstuvwxyz0123456789ABCDEFGHIJKLMNOPQRSTUVWXYZ'
+    name = ''
+    while True:
+        k, sign = divmod(k, len(signs))
+        name += signs[sign]
+        if not k:
+            return 'M' + name
+
+
+def messages_with_cases(n):
+    """n messages that may come in one state, and a switch with a case for each."""
+    names = list(map(name_of, range(n)))
+    contract = 'contract B {' + ''.join('in message %s();' % it for it in names)
+    states = 'state S:one{' + ''.join('%s?->E;' % it for it in names) + '}state E:;}\n'
+    cases = ''.join('case e.%s():break;' % it for it in names) + 'case e.ChannelClosed():break;'
+    return contract + states + 'class K { static void F([Claims] B.Exp:S e) { switch receive {' + cases + '} delete e; } }'
+
+
+def sends(n):
+    """n sends on one endpoint, 19,000 to a method."""
+    contract = 'contract B { out message A(); state S: ' + 'A!->' * min(n, 19000) + 'T; state T: ; }\n'
+    one = 'static void F%d([Claims] B.Exp:S e) {' + 'e.SendA();' * min(n, 19000) + 'delete e; }\n'
+    return contract + 'class K {' + ''.join(one % k for k in range(max(1, n // 19000))) + '}'
+
+
+def endpoints_in_a_switch(n):
+    """Switches with a case for the close of each of 1,000 endpoints and for a message at half of them, n endpoints in all.
+    None of them is freed, which is one finding a method."""
+    each = min(n, 1000) // 2
+    contract = 'contract B { out message A(); state S: A!->T; state T: ; }\n'
+    made = ''.join('B.Imp i%d;B.Exp e%d;B.NewChannel(out i%d,out e%d);' % (k, k, k, k) for k in range(each))
+    one = 'case i%d.A():break;case i%d.ChannelClosed():break;case e%d.ChannelClosed():break;'
+    cases = ''.join(one % (k, k, k) for k in range(each))
+    body = made + 'switch receive {' + cases + '}'
+    return contract + 'class K {' + ''.join('static void F%d() {' % k + body + '}\n' for k in range(max(1, n // 1000))) + '}'
+
+
+def calls_with_endpoints(n):
+    """n calls of methods with 8 endpoints as parameters, 4,096 to a method."""
+    contract = 'contract B { out message A(); state S: A!->T; state T: ; }\n'
+    head = ','.join('B.Imp:S p%d' % k for k in range(8))
+    one = 'static void F%d(' + head + ') {' + 'G(p0,p1,p2,p3,p4,p5,p6,p7);\n' * min(n, 4096) + '}\n'
+    return contract + 'class K { static void G(' + head + ') { }\n' + ''.join(one % k for k in range(max(1, n // 4096))) + '}'
+
+
+def contracts_of_1900_states(n):
+    """Contracts of 1,900 states, 256 at most, with n states in all."""
+    one = 'contract C%d { in message A(); out message B(); state S: ' + 'A?->B!->' * 950 + 'S; }\n'
+    return ''.join(one % k for k in range(max(1, min(n // 1900, 256))))
+
+
 LOADS = [path, ring, named_states, messages, contracts_256, comment, declared_twice, long_names,
          statements, else_ifs, long_sum, deep_parentheses, deep_blocks, methods,
          unknown_names, variables_twice, variables, cases, blocks_of_variables, starts, long_types]
-CHECKED = [reads, small_methods, scalars, many_variables, ways, loops, returns]
+CHECKED = [reads, small_methods, scalars, many_variables, ways, loops, returns,
+           messages_with_cases, sends, endpoints_in_a_switch, calls_with_endpoints, contracts_of_1900_states]
