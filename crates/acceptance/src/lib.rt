@@ -14,6 +14,8 @@ mod conditions;
 #[cfg(test)]
 mod devices;
 #[cfg(test)]
+mod interning;
+#[cfg(test)]
 mod lexing;
 #[cfg(test)]
 mod numbers;

@@ -2,8 +2,10 @@
 
 ghost use Rattle.std.specs.Prelude.{◌≡◌, IfOk, length};
 ghost use Rattle.rules.specs.Programs.{seen_of};
+ghost use Rattle.analyse.specs.Workers.{IsWorkerOf};
 
-use analyse::{Task, Verdict, analyse, give_up_all, tasks};
+use analyse::{Task, Verdict, Worker, analyse, give_up_all, tasks};
+use intern::Rows;
 use names::{MOST_CONTRACTS, resolve};
 use program::{MethodId, Methods};
 use rules::Program;
@@ -55,15 +57,19 @@ fn add(
     alloc: Global,
     program: &Program,
     task: Task,
+    rows: &Rows,
+    worker: &mut Worker,
     verdicts: &mut Vec<Verdict>,
 ) -> Result<(), Fail>
-    requires { length (seen_of program.now).methods ≡ 3 }
+    requires three { length (seen_of program.now).methods ≡ 3 }
+    requires worker { IsWorkerOf rows.now worker.old }
+    ensures { IsWorkerOf rows.now worker.new }
 {
     if task.method().0 >= 3 {
         task.give_up();
         return Err(Fail::from("no such method"));
     }
-    match analyse(alloc, task, program) {
+    match analyse(alloc, task, program, rows, worker) {
         Ok(verdict) => {
             verdicts.push(verdict)?;
             Ok(())
@@ -80,10 +86,14 @@ fn verdicts_of(alloc: Global, program: &Program) -> Result<Vec<Verdict>, Fail>
     requires { length (seen_of program.now).methods ≡ 3 }
 {
     let mut verdicts = Vec::new(alloc);
+    let Ok((rows, seat)) = Rows::new(alloc, 8) else {
+        return Err(Fail::from("out of memory"));
+    };
+    let mut worker = Worker::new(alloc, seat);
     let mut left = tasks(alloc, program)?.into_iter();
     for _ in 0..3 {
         if let Some(task) = left.next()
-            && let Err(fault) = add(alloc, program, task, &mut verdicts)
+            && let Err(fault) = add(alloc, program, task, &rows, &mut worker, &mut verdicts)
         {
             give_up_all(left);
             return Err(fault);

@@ -1,7 +1,11 @@
 pub mod ListLemmas
 pub mod AddLemmas
-pub mod PairLemmas
+pub mod ZipLemmas
+pub mod EqualLemmas
+pub mod KeyLemmas
 pub mod VerdictLemmas
+pub mod NameLemmas
+pub mod WorkerLemmas
 pub mod WholeLemmas
 pub mod SearchLemmas
 pub mod EachLemmas

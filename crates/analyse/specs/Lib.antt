@@ -1,5 +1,6 @@
-pub mod Pairs
+pub mod Names
 pub mod Reach
 pub mod Searches
 pub mod Tasks
 pub mod Verdicts
+pub mod Workers

@@ -2,13 +2,17 @@
 
 ghost use Rattle.std.specs.Prelude.{◌≡◌, ◌<◌, IfOk, IfErr, length, map};
 ghost use Rattle.source.specs.Findings.{finding_parts};
+ghost use Rattle.intern.specs.View.{Grows};
 ghost use Rattle.rules.specs.Programs.{seen_of};
 ghost use Rattle.analyse.specs.Tasks.{findings_of, number_of, program_of, verdict_number};
 ghost use Rattle.analyse.specs.Verdicts.{IsMethodVerdict};
+ghost use Rattle.analyse.specs.Workers.{IsWorkerOf, view_of};
 
 use crate::searching::verdict_of;
 use crate::task::Task;
 use crate::verdict::Verdict;
+use crate::worker::Worker;
+use intern::Rows;
 use rules::Program;
 use source::Memory;
 use std::alloc::Global;
@@ -18,17 +22,27 @@ use std::snapshot::Snapshot;
 pub const MOST_PAIRS: usize = 20_000;
 
 /// The verdict of a task's method: what is found at the pairs that can be reached from its entry, or, where more than
-/// `MOST_PAIRS` can, that alone. All pairs are looked at, and no two rows are joined.
+/// `MOST_PAIRS` can, that alone. All pairs are looked at, and no two rows are joined. Rows are kept in the table of all, and where
+/// that is full, by the worker itself while it looks at this method; the verdict is the same.
 ///
-/// `Memory` is answered where a growth was refused, and gives the task back.
-pub fn analyse(alloc: Global, task: Task, program: &Program) -> Result<Verdict, (Task, Memory)>
+/// `Memory` is answered where a growth was refused, and gives the task back. The worker's seat knows all that it had seen, also then.
+pub fn analyse(
+    alloc: Global,
+    task: Task,
+    program: &Program,
+    rows: &Rows,
+    worker: &mut Worker,
+) -> Result<Verdict, (Task, Memory)>
     requires there { number_of task < length (seen_of program.now).methods }
+    requires worker { IsWorkerOf rows.now worker.old }
+    ensures worker { IsWorkerOf rows.now worker.new }
+    ensures grows { Grows (view_of worker.old) (view_of worker.new) }
     ensures program { IfOk result (λ v. program_of v ≡ program.now) }
     ensures method { IfOk result (λ v. verdict_number v ≡ number_of task) }
     ensures found { IfOk result (λ v. IsMethodVerdict (seen_of program.now) (number_of task) (map finding_parts (findings_of v))) }
     ensures kept { IfErr result (λ e. e.0 ≡ task) }
 {
-    match verdict_of(alloc, program, task.method) {
+    match verdict_of(alloc, program, task.method, rows, worker) {
         Ok(findings) => {
             let Task { method } = task;
             Ok(Verdict {

@@ -3,10 +3,15 @@
 
 mod analysing;
 pub mod laws;
+mod naming;
+mod pair;
 mod searching;
+mod seating;
 mod task;
 mod verdict;
+mod worker;
 
 pub use analysing::{MOST_PAIRS, analyse};
 pub use task::{Task, give_up_all, tasks};
 pub use verdict::Verdict;
+pub use worker::Worker;

@@ -45,7 +45,7 @@ pub fn check<G: Gate>(
     ensures fault { IfErr result (Explains workers slots) }
 {
     judge_numbers(workers, slots)?;
-    let report = check_text(alloc, text, gate)?;
+    let report = check_text(alloc, text, slots, gate)?;
     Ok(report)
 }
 
@@ -64,13 +64,18 @@ pub(crate) fn judge_numbers(workers: usize, slots: usize) -> Result<(), CheckFau
     Ok(())
 }
 
-/// The report of a text.
-pub(crate) fn check_text<G: Gate>(alloc: Global, text: &[u8], gate: &G) -> Result<Report, Memory>
+/// The report of a text. The rows of its methods are kept in a table of so many slots.
+pub(crate) fn check_text<G: Gate>(
+    alloc: Global,
+    text: &[u8],
+    slots: usize,
+    gate: &G,
+) -> Result<Report, Memory>
     ensures { IfOk result (λ r. Checks text.now r.bytes.items r.status) }
 {
     match parse_text(alloc, text)? {
         Parsed::Found(findings) => reported(alloc, findings),
-        Parsed::Program(tokens, tree) => check_program(alloc, &tokens, &tree, gate),
+        Parsed::Program(tokens, tree) => check_program(alloc, &tokens, &tree, slots, gate),
     }
 }
 
@@ -90,6 +95,7 @@ fn check_program<G: Gate>(
     alloc: Global,
     tokens: &Tokens,
     tree: &Tree,
+    slots: usize,
     gate: &G,
 ) -> Result<Report, Memory>
     requires lexed { AreTokens tokens.now.text.items tokens.now.list.items }
@@ -99,7 +105,7 @@ fn check_program<G: Gate>(
 {
     match named(alloc, tree, tokens)? {
         Staged::Found(findings) => reported(alloc, findings),
-        Staged::Clean(clean) => check_methods(alloc, tokens, tree, clean, gate),
+        Staged::Clean(clean) => check_methods(alloc, tokens, tree, clean, slots, gate),
     }
 }
 
@@ -109,6 +115,7 @@ fn check_methods<G: Gate>(
     tokens: &Tokens,
     tree: &Tree,
     clean: Clean,
+    slots: usize,
     gate: &G,
 ) -> Result<Report, Memory>
     requires sound { IsSoundProgram tokens.now.text.items (program_tree tree.now) (map contract_seen clean.resolved.contracts.items) }
@@ -121,7 +128,7 @@ fn check_methods<G: Gate>(
     let methods = well_formed_methods(alloc, tree, tokens, resolved)?;
     let count = methods.list().len();
     let program = Program::new(alloc, methods, sounds)?;
-    let findings = analyse_methods(alloc, &program, gate)?;
+    let findings = analyse_methods(alloc, &program, slots, gate)?;
     if !findings.is_empty() {
         return reported(alloc, findings);
     }

@@ -4,4 +4,4 @@
 pub const MOST_WORKERS: usize = 64;
 
 /// The most slots of the table of rows that the workers share.
-pub const MOST_SLOTS: usize = 16_777_216;
+pub const MOST_SLOTS: usize = intern::MOST_SLOTS;

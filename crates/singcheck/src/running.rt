@@ -45,7 +45,7 @@ pub fn run_check<R: Source, W: Sink, G: Gate>(
 {
     judge_numbers(workers, slots)?;
     let text = read_text(alloc, reader)?;
-    let report = check_text(alloc, &text, gate)?;
+    let report = check_text(alloc, &text, slots, gate)?;
     write_all(&report.bytes, writer)?;
     Ok(report.status)
 }

@@ -1,0 +1,191 @@
+//! Rows put into a table of words and read back, and threads that share one.
+
+ghost use Rattle.std.specs.Prelude.{◌≡◌, IfSome};
+ghost use Rattle.intern.specs.Seats.{IsSeatOf};
+
+use intern::laws::a_token_names_its_row_for_good;
+use intern::{InternFault, InternNew, Rows, Seat, Token, word_of};
+use rules::{Leaf, Row};
+use std::alloc::Global;
+use std::test::Fail;
+use std::thread;
+use std::thread::Threads;
+
+/// One of three leaves.
+fn leaf(number: usize) -> Leaf {
+    match number {
+        0 => Leaf::Nothing,
+        1 => Leaf::Block,
+        _ => Leaf::CutOff,
+    }
+}
+
+/// One of the 81 rows of four such leaves.
+fn row_of_four(alloc: Global, number: usize) -> Option<Row> {
+    let leaves = vec![in alloc;
+        leaf(number % 3),
+        leaf(number / 3 % 3),
+        leaf(number / 9 % 3),
+        leaf(number / 27 % 3),
+    ]
+    .ok()?;
+    Row::of(leaves)
+}
+
+/// A row of two leaves.
+fn row_of_two(alloc: Global, first: Leaf, second: Leaf) -> Result<Row, Fail> {
+    match Row::of(vec![in alloc; first, second]?) {
+        Some(row) => Ok(row),
+        None => Err(Fail::from("no row")),
+    }
+}
+
+/// Interns all 81 rows, in an order of its own: first the row 0, then each row that is `by` further, in a ring.
+fn intern_all(alloc: Global, rows: &Rows, mut seat: Seat, by: usize) -> Option<(Seat, Vec<Token>)>
+    requires { IsSeatOf rows.now seat }
+    ensures { IfSome result (λ r. IsSeatOf rows.now r.0) }
+{
+    let mut tokens = vec![in alloc; Token::Empty; 81].ok()?;
+    if by > 1000 || tokens.len() != 81 {
+        return None;
+    }
+    for k in 0..81 {
+        let number = k * by % 81;
+        let row = row_of_four(alloc, number)?;
+        let Ok(token) = rows.intern(&mut seat, &row) else {
+            return None;
+        };
+        if number < tokens.len() {
+            tokens[number] = token;
+        }
+    }
+    Some((seat, tokens))
+}
+
+/// A seat that knows what two threads know, and the tokens that each gave.
+type OfTwo = (Seat, Vec<Token>, Vec<Token>);
+
+/// Two threads intern all rows, each in an order of its own.
+fn in_two<R: Threads>(
+    rt: &R,
+    alloc: Global,
+    rows: &Rows,
+    seat: Seat,
+    by: [usize; 2],
+) -> Option<OfTwo>
+    requires { IsSeatOf rows.now seat }
+    ensures { IfSome result (λ r. IsSeatOf rows.now r.0) }
+{
+    let Ok((left, right)) = rows.split(seat) else {
+        return None;
+    };
+    let [a, b] = by;
+    let (left, right) = thread::join(
+        rt,
+        move || intern_all(alloc, rows, left, a),
+        move || intern_all(alloc, rows, right, b),
+    );
+    let (left, first) = left?;
+    let (right, second) = right?;
+    let Ok(whole) = rows.join(left, right) else {
+        return None;
+    };
+    Some((whole, first, second))
+}
+
+/// The tokens that four threads give.
+fn in_four<R: Threads + Sync>(
+    rt: &R,
+    alloc: Global,
+    rows: &Rows,
+    seat: Seat,
+) -> Option<[Vec<Token>; 4]>
+    requires { IsSeatOf rows.now seat }
+{
+    let Ok((left, right)) = rows.split(seat) else {
+        return None;
+    };
+    let (left, right) = thread::join(
+        rt,
+        move || in_two(rt, alloc, rows, left, [1, 2]),
+        move || in_two(rt, alloc, rows, right, [40, 80]),
+    );
+    let (_, first, second) = left?;
+    let (_, third, fourth) = right?;
+    Some([first, second, third, fourth])
+}
+
+#[test]
+fn words_are_as_written(rt: HostRuntime) {
+    assert_eq!(rt; word_of(2, Leaf::Block, 3), 3_221_226_498);
+    assert_eq!(rt; word_of(1, Leaf::State(499_999), 0), 512_002_049);
+}
+
+#[test]
+fn a_full_table_refuses_and_keeps(rt: HostRuntime) -> Result<(), Fail> {
+    let alloc = rt.alloc();
+    let first = row_of_two(alloc, Leaf::Block, Leaf::Nothing)?;
+    let second = row_of_two(alloc, Leaf::Nothing, Leaf::Nothing)?;
+    let Ok((rows, mut seat)) = Rows::new(alloc, 2) else {
+        return Err(Fail::from("no table"));
+    };
+    let Ok(token) = rows.intern(&mut seat, &first) else {
+        return Err(Fail::from("no room"));
+    };
+    assert!(rt; rows.intern(&mut seat, &second) == Err(InternFault::Full));
+    assert!(rt; rows.intern(&mut seat, &first) == Ok(token));
+    a_token_names_its_row_for_good();
+    let read = rows.row_of(alloc, &mut seat, token)?;
+    assert!(rt; read == first);
+    Ok(())
+}
+
+#[test]
+fn seats_that_are_joined_agree(rt: HostRuntime) -> Result<(), Fail> {
+    let alloc = rt.alloc();
+    let row = row_of_two(alloc, Leaf::Block, Leaf::Nothing)?;
+    let Ok((rows, seat)) = Rows::new(alloc, 4) else {
+        return Err(Fail::from("no table"));
+    };
+    let Ok((mut left, mut right)) = rows.split(seat) else {
+        return Err(Fail::from("not split"));
+    };
+    let (Ok(first), Ok(second)) = (rows.intern(&mut left, &row), rows.intern(&mut right, &row))
+    else {
+        return Err(Fail::from("no room"));
+    };
+    assert!(rt; first == second);
+    let Ok(mut whole) = rows.join(left, right) else {
+        return Err(Fail::from("not joined"));
+    };
+    a_token_names_its_row_for_good();
+    let read = rows.row_of(alloc, &mut whole, second)?;
+    assert!(rt; read == row);
+    Ok(())
+}
+
+#[test]
+fn a_table_has_its_limits(rt: HostRuntime) {
+    let alloc = rt.alloc();
+    assert!(rt; matches!(Rows::new(alloc, 0), Err(InternNew::Slots)));
+    assert!(rt; matches!(Rows::new(alloc, 16_777_217), Err(InternNew::Slots)));
+    assert!(rt; Rows::new(alloc, 1).is_ok());
+}
+
+#[test]
+fn four_threads_give_one_token_to_a_row(rt: HostRuntime) -> Result<(), Fail> {
+    let Ok((rows, seat)) = Rows::new(rt.alloc(), 4096) else {
+        return Err(Fail::from("no table"));
+    };
+    let Some([first, second, third, fourth]) = in_four(&rt, rt.alloc(), &rows, seat) else {
+        return Err(Fail::from("rows left out"));
+    };
+    assert!(rt; first == second && second == third && third == fourth);
+    assert_eq!(rt; first.len(), 81);
+    for i in 0..first.len() {
+        for j in 0..i {
+            assert!(rt; first.as_slice()[i] != first.as_slice()[j], "{i} and {j}");
+        }
+    }
+    Ok(())
+}

@@ -1,0 +1,29 @@
+//! A seat taken by a worker, and given back.
+
+ghost use Rattle.std.specs.Prelude.{◌≡◌};
+ghost use Rattle.analyse.specs.Workers.{seat_of};
+
+use crate::worker::Worker;
+use indexmap::IndexSet;
+use intern::Seat;
+use std::alloc::Global;
+
+impl Worker {
+    /// A worker with this seat. It takes no memory before it analyses something.
+    pub fn new(alloc: Global, seat: Seat) -> Worker
+        ensures { seat_of result ≡ seat }
+    {
+        Worker {
+            seat,
+            own: IndexSet::new(alloc),
+            seen: IndexSet::new(alloc),
+        }
+    }
+
+    /// Its seat, which knows all that the worker has seen.
+    pub fn into_seat(self) -> Seat
+        ensures { result ≡ seat_of self }
+    {
+        self.seat
+    }
+}

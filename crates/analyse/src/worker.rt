@@ -1,0 +1,15 @@
+//! What a worker keeps from method to method.
+
+use crate::pair::Pair;
+use indexmap::IndexSet;
+use intern::Seat;
+use rules::Row;
+
+/// What a worker keeps from method to method: its seat at the table of all rows, and tables of its own. These are emptied for each
+/// method, and keep their memory.
+#[derive(Drop)]
+pub struct Worker {
+    pub(crate) seat: Seat,
+    pub(crate) own: IndexSet<Row>,
+    pub(crate) seen: IndexSet<Pair>,
+}
