@@ -7,6 +7,7 @@ mod naming;
 mod pair;
 mod searching;
 mod seating;
+mod stopped;
 mod task;
 mod verdict;
 mod worker;

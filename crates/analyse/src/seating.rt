@@ -15,6 +15,7 @@ impl Worker {
     {
         Worker {
             seat,
+            alone: false,
             own: IndexSet::new(alloc),
             seen: IndexSet::new(alloc),
         }

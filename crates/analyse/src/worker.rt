@@ -10,6 +10,8 @@ use rules::Row;
 #[derive(Drop)]
 pub struct Worker {
     pub(crate) seat: Seat,
+    /// Whether it keeps all rows itself, since the table was full.
+    pub(crate) alone: bool,
     pub(crate) own: IndexSet<Row>,
     pub(crate) seen: IndexSet<Pair>,
 }
