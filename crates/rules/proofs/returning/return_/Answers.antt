@@ -17,6 +17,5 @@ returns-in-Some-3 c =
 
 pub returns-in-None : goal.returns-in-None
 returns-in-None c =
-    ap (λ ps. Goes (map pair_seen ps)) c.new.ensures.items
-    ∙ second_of _ _ c.in_ok-finding.field-0 c.in_ok-finding-3.field-0 None [] c.in_default.is c.in-None.is c.in_ok-finding.ensures
+    second_of _ _ c.in_ok-finding.field-0 c.in_ok-finding-3.field-0 None [] c.in_default.is c.in-None.is c.in_ok-finding.ensures
     (both_stand _ _ c.in_ok-finding-2.field-0 c.in_ok-finding-3.field-0 c.in_default-2.is c.in_ok-finding-2.ensures c.in_ok-finding-3.ensures)
