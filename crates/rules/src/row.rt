@@ -103,7 +103,7 @@ impl Row {
     pub fn copy_from(&mut self, other: &Row) -> Result<(), Memory>
         ensures { OnOk result (leaves_of self.new ≡ leaves_of other.now) }
     {
-        self.leaves.clear();
+        self.clear();
         self.leaves.extend_from_slice(&other.leaves)?;
         Ok(())
     }

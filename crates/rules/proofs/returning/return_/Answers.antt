@@ -1,8 +1,5 @@
-use Rattle.std.proofs.Common.{Some, None, [], ap, refl, ◌∙◌, map, sym}
-use Rattle.program.specs.Methods.{method_seen}
-use Rattle.rules.specs.Outcomes.{Goes}
-use Rattle.rules.specs.Steps.{pair_seen}
-use Rattle.rules.proofs.CallLemmas.{alone, both_stand, first_stands, second_of}
+use Rattle.std.proofs.Common.{Some, None, [], refl}
+use Rattle.rules.proofs.CallLemmas.{both_stand, first_stands, second_of}
 use Rattle.rules.proofs.returning.return_.Goals as goal
 
 pub returns-in-Some-2 : goal.returns-in-Some-2

@@ -1,4 +1,4 @@
-use Rattle.std.proofs.Common.{slice_get, map, ap, ◌∙◌, sym, refl, Some}
+use Rattle.std.proofs.Common.{slice_get, ap, ◌∙◌, sym, refl, Some}
 use Rattle.std.proofs.lemmas.Option.{slice_get_read, slice_get_past}
 use Rattle.std.proofs.lemmas.Result.{IfOk-weaker}
 use Rattle.rules.specs.Programs.{seen_of}

@@ -2,7 +2,7 @@ use Rattle.std.proofs.Common.{Some, None, [], ◌∷◌, ap, refl, ◌∙◌, su
 use Rattle.program.specs.Methods.{method_seen}
 use Rattle.rules.specs.Arguments.{all_arguments, claimed, given_leaf, target_checks}
 use Rattle.rules.specs.Checks.{StandsFor}
-use Rattle.rules.specs.Endpoints.{parameter_kinds, result_of}
+use Rattle.rules.specs.Endpoints.{parameter_kinds}
 use Rattle.rules.specs.Outcomes.{Goes}
 use Rattle.rules.specs.Programs.{seen_of}
 use Rattle.rules.specs.Rows.{leaves_of}

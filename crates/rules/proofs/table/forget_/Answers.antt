@@ -1,5 +1,4 @@
-use Rattle.std.proofs.Common.{◌∙◌, ap, [], ◌∷◌, None, Some}
-use Rattle.rules.specs.Outcomes.{Goes}
+use Rattle.std.proofs.Common.{[], ◌∷◌, None, Some}
 use Rattle.rules.specs.Rows.{leaves_of}
 use Rattle.rules.proofs.CallLemmas.{alone}
 use Rattle.rules.proofs.table.forget_.Goals as goal
