@@ -1,0 +1,69 @@
+-- What the code answers, in words of the definitions.
+use Rattle.std.specs.Prelude.{◌≡◌, ℕ, ◌==◌, List, [], ◌∷◌, ◌++◌, Option, Result, Ok, Err, Some, None, set, slice_get, if◌then◌else◌}
+use Rattle.std.specs.Option.{option_map_or}
+use Rattle.source.specs.declared.place.Place.{Place}
+use Rattle.program.specs.Methods.{MethodSeen, VariableSeen}
+use Rattle.program.specs.Programs.{ProgramSeen}
+use Rattle.flow.specs.Graphs.{Instruction}
+use Rattle.machine.specs.Machine.{event_of}
+use Rattle.machine.specs.Outcomes.{Test, tested, Bounds, Outcome, Moved, Faulty, Waits, NoProcess, NoChoice}
+use Rattle.machine.specs.World.{Block, Frame, MessageHeld, World}
+use Rattle.machine.specs.declared.halts.Halt.{Halt}
+use Rattle.machine.specs.declared.halts.Halt.TheVariants as halt
+use Rattle.machine.specs.declared.halts.Refusal.{Refusal}
+use Rattle.machine.specs.declared.halts.Refusal.TheVariants as refusal
+
+-- An answer of an instruction tells the outcome; want of memory tells nothing.
+abbrev pub Tells : {X : Type 0} → Result X Refusal → Outcome → World → Type 0
+Tells (Ok x) outcome after = outcome ≡ Moved after
+Tells (Err (refusal.Fault fault)) outcome after = outcome ≡ Faulty fault
+Tells (Err refusal.Waits) outcome after = outcome ≡ Waits
+Tells (Err refusal.Memory) outcome after = Unit {0}
+
+-- An answer of a step tells the outcome, and the place of a fault; want of memory tells nothing.
+abbrev pub TellsStep : {X : Type 0} → Result X Halt → Outcome → Option Place → World → Type 0
+TellsStep (Ok x) outcome place after = outcome ≡ Moved after
+TellsStep (Err (halt.Fault fault at)) outcome place after = (outcome ≡ Faulty fault) × (place ≡ Some at)
+TellsStep (Err halt.Waits) outcome place after = outcome ≡ Waits
+TellsStep (Err halt.NoSuchProcess) outcome place after = outcome ≡ NoProcess
+TellsStep (Err halt.NoSuchChoice) outcome place after = outcome ≡ NoChoice
+TellsStep (Err halt.Memory) outcome place after = Unit {0}
+
+-- a world in which a frame stands on top of a process
+abbrev pub on_top : List (List Frame) → ℕ → List Frame → Frame → List Block → World
+on_top processes self rest f blocks = record { processes = set processes self (f ∷ rest); blocks = blocks }
+
+-- a frame takes this into its variables
+abbrev pub with_variables : Frame → List (Option ℕ) → Frame
+with_variables f variables = record { method = f.method; point = f.point; variables = variables }
+
+-- the variables of a method
+abbrev pub variables_in : List MethodSeen → ℕ → List VariableSeen
+variables_in methods m = option_map_or (λ x. x.variables) (slice_get methods m) []
+
+-- what an instruction comes to on a stack
+abbrev pub on_stack : ProgramSeen → Bounds → World → ℕ → Instruction → ℕ → List Frame → Outcome
+on_stack p bound w self i choice [] = NoProcess
+on_stack p bound w self i choice (f ∷ rest) = event_of p bound w self f rest i choice
+
+-- a process's stack is another
+abbrev pub with_stack : World → ℕ → List Frame → List Block → World
+with_stack w self stack blocks = record { processes = set w.processes self stack; blocks = blocks }
+
+-- all these tests pass
+abbrev pub Pass : List Test → Type 0
+Pass tests = (more : List Test) (outcome : Outcome) → tested (tests ++ more) outcome ≡ tested more outcome
+
+-- the first of these tests that fails has this fault; want of memory tells nothing
+abbrev pub IsRefusal : Refusal → List Test → Type 0
+IsRefusal (refusal.Fault fault) tests = (more : List Test) (outcome : Outcome) → tested (tests ++ more) outcome ≡ Faulty fault
+IsRefusal refusal.Memory tests = Unit {0}
+IsRefusal refusal.Waits tests = ⊥
+
+-- the endpoint at an address goes on to a state
+abbrev pub in_state : (a state : ℕ) → ℕ → Block → Block
+in_state a state j b = record { kind = b.kind; owner = b.owner; peer = b.peer; state = if j == a then state else b.state; queue = b.queue }
+
+-- a message goes to the queue of the endpoint at an address
+abbrev pub queued : ℕ → MessageHeld → ℕ → Block → Block
+queued to m j b = record { kind = b.kind; owner = b.owner; peer = b.peer; state = b.state; queue = if j == to then b.queue ++ m ∷ [] else b.queue }

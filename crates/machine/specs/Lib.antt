@@ -1,0 +1,9 @@
+pub mod World
+pub mod Views
+pub mod Outcomes
+pub mod Frames
+pub mod Blocks
+pub mod Machine
+pub mod Runs
+pub mod Places
+pub mod Answers

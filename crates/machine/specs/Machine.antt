@@ -1,0 +1,150 @@
+-- The machine: one event is one instruction of one process.
+use Rattle.std.specs.Prelude.{ℕ, ◌+◌, ◌==◌, nat_lt, Bool, List, [], ◌∷◌, ◌++◌, map, length, Option, Some, None, unwrap_or, slice_get, set, if◌then◌else◌}
+use Rattle.program.specs.Programs.{ProgramSeen}
+use Rattle.program.specs.declared.call.Argument.{Argument}
+use Rattle.program.specs.declared.kind.Side.TheVariants.{Imp, Exp}
+use Rattle.program.specs.declared.statement.Mention.{Mention}
+use Rattle.flow.specs.Cases.{EntranceSeen, case_for, first_mentions}
+use Rattle.flow.specs.Graphs.{Instruction, Use, New, Move, Delete, NewChannel, Send, Switch, Branch, Forget, Call, Start, Return, Stop}
+use Rattle.flow.specs.declared.graph.Branches.{Branches}
+use Rattle.flow.specs.declared.graph.Branches.TheVariants.{Either, Only}
+use Rattle.rules.specs.Endpoints.{first_state}
+use Rattle.machine.specs.Blocks.{argument_tests_in, edge_in_in, edge_out_in, end_kind, freed_block, handed, has_room_in, is_imp, new_block, owns_none, received_block, send_tests_in, sent_block}
+use Rattle.machine.specs.Frames.{address, addresses, bound_to, call_next, call_target, choices, entered, forgotten, gone_with, instruction_at, kind_at, method_at, payloads_claimed, put, variables_of}
+use Rattle.machine.specs.Outcomes.{Bounds, Outcome, Moved, Faulty, Waits, NoProcess, NoChoice, Test, test, tested}
+use Rattle.machine.specs.World.{Block, Frame, MessageHeld, World, block_at, changed, cut_off, freed, is_own_in, let_go, read, stack_at}
+use Rattle.machine.specs.declared.halts.Event.{Event}
+use Rattle.machine.specs.declared.halts.Fault.TheVariants.{F1, F2, F3, F5, F7}
+use Rattle.machine.specs.declared.worlds.Owner.TheVariants.{Process}
+
+-- the way of a condition
+abbrev pub way : Branches → ℕ → ℕ
+way (Only point) choice = point
+way (Either inside past) choice = if choice == 0 then inside else past
+
+module _ (p : ProgramSeen) (bound : Bounds) (w : World) (self : ℕ) (f : Frame) (rest : List Frame) where
+  -- the process goes on with these frames and blocks
+  abbrev pub goes : List Frame → List Block → Outcome
+  goes frames blocks = Moved record { processes = set w.processes self frames; blocks = blocks }
+
+  -- its innermost frame goes on at a point
+  abbrev pub on : ℕ → List (Option ℕ) → List Block → Outcome
+  on next variables blocks = goes (record { method = f.method; point = next; variables = variables } ∷ rest) blocks
+
+  -- what a variable of that frame has
+  abbrev pub has : Mention → Option ℕ
+  has v = read f.variables v.variable.0
+
+  -- the process has the block in a variable
+  abbrev pub is_own : Option ℕ → Bool
+  is_own x = is_own_in w.blocks self x
+
+  -- the tests of arguments, in order
+  abbrev pub argument_tests : List ℕ → List Argument → List Test
+  argument_tests taken arguments = argument_tests_in w.blocks self f.variables taken arguments
+
+  -- the endpoint at an address sends
+  abbrev pub send_from : (at : ℕ) → MessageHeld → Option ℕ → List (Option ℕ) → ℕ → Outcome
+  send_from at message edge variables next =
+      on next variables
+      (changed (sent_block at (if cut_off w.blocks at then (block_at w.blocks at).state else unwrap_or edge (block_at w.blocks at).state)
+      (block_at w.blocks at).peer (freed w.blocks (block_at w.blocks at).peer) message) w.blocks)
+
+  -- whether a queue may take one more message
+  abbrev pub has_room : ℕ → Bool
+  has_room to = has_room_in bound w.blocks to
+
+  -- the tests of a send behind those of what it names
+  abbrev pub send_tests : ℕ → Option ℕ → List Test
+  send_tests at edge = send_tests_in bound w.blocks at edge
+
+  -- the state behind the edge of the endpoint at an address, out and in
+  abbrev pub edge_out : ℕ → ℕ → Option ℕ
+  edge_out at message = edge_out_in p w.blocks at message
+
+  abbrev pub edge_in : ℕ → ℕ → Option ℕ
+  edge_in at message = edge_in_in p w.blocks at message
+
+  -- a close comes to a case
+  abbrev pub closes_at : Option EntranceSeen → Outcome
+  closes_at None = Faulty F5
+  closes_at (Some c) = on c.next f.variables w.blocks
+
+  -- the front message comes to a case
+  abbrev pub receives_at : Option EntranceSeen → ℕ → MessageHeld → List MessageHeld → Outcome
+  receives_at None at m ms = Faulty F5
+  receives_at (Some c) at m ms =
+      on c.next (bound_to f.variables c.bound m.payload)
+      (changed (received_block self at (unwrap_or (edge_in at m.message) (block_at w.blocks at).state) m ms) w.blocks)
+
+  -- what comes at an endpoint with this queue
+  abbrev pub receives : List EntranceSeen → ℕ → ℕ → List MessageHeld → Outcome
+  receives cases v at [] = if freed w.blocks (block_at w.blocks at).peer then closes_at (case_for cases v None) else Waits
+  receives cases v at (m ∷ ms) = receives_at (case_for cases v (Some m.message)) at m ms
+
+  -- what comes at the chosen endpoint
+  abbrev pub receives_from : List EntranceSeen → Option Mention → Outcome
+  receives_from cases None = NoChoice
+  receives_from cases (Some v) = receives cases v.variable.0 (address (has v)) (block_at w.blocks (address (has v))).queue
+
+  -- A frame ends. The caller goes on, or the process ends, and then it is to have nothing.
+  abbrev pub returns : Option Mention → List Frame → Outcome
+  returns value [] = tested (test (owns_none w.blocks self) F7 ∷ []) (goes [] w.blocks)
+  returns None (g ∷ more) = goes (record { method = g.method; point = call_next (instruction_at p g); variables = g.variables } ∷ more) w.blocks
+  returns (Some v) (g ∷ more) =
+      goes (record { method = g.method; point = call_next (instruction_at p g); variables = put g.variables (call_target (instruction_at p g)) (has v) } ∷ more) w.blocks
+
+  -- the test of what a frame gives
+  abbrev pub value_tests : Option Mention → List Test
+  value_tests None = []
+  value_tests (Some v) = test (is_own (has v)) F3 ∷ []
+
+  -- a line for each instruction
+  abbrev pub event_of : Instruction → (choice : ℕ) → Outcome
+  event_of (Use v next) choice = tested (test (is_own (has v)) F1 ∷ []) (on next f.variables w.blocks)
+  event_of (New v arguments next) choice =
+      on next (set f.variables v.variable.0 (Some (length w.blocks))) (w.blocks ++ new_block (kind_at (variables_of p f.method) v.variable.0) self 0 0 ∷ [])
+  event_of (NewChannel c next) choice =
+      let first_is_imp = is_imp (kind_at (variables_of p f.method) c.first.variable.0) in
+      let a = length w.blocks in
+      on next (set (set f.variables c.first.variable.0 (Some (if first_is_imp then a else a + 1))) c.second.variable.0 (Some (if first_is_imp then a + 1 else a)))
+      (w.blocks ++ new_block (end_kind c Imp) self (a + 1) (first_state p c.contract.0) ∷ new_block (end_kind c Exp) self a (first_state p c.contract.0) ∷ [])
+  event_of (Move v u next) choice =
+      tested (test (is_own (has u)) F1 ∷ []) (on next (set (set f.variables v.variable.0 (has u)) u.variable.0 None) w.blocks)
+  event_of (Delete v next) choice =
+      tested (test (is_own (has v)) F2 ∷ []) (on next (set f.variables v.variable.0 None) (changed (freed_block (address (has v))) w.blocks))
+  event_of (Send place e message payloads next) choice =
+      tested
+      (test (is_own (has e)) F1 ∷ (argument_tests [] (payloads_claimed payloads) ++ send_tests (address (has e)) (edge_out (address (has e)) message.0)))
+      (send_from (address (has e)) record { message = message.0; payload = addresses f.variables (payloads_claimed payloads) } (edge_out (address (has e)) message.0)
+      (let_go f.variables (payloads_claimed payloads)) next)
+  event_of (Switch place cases) choice =
+      tested (map (λ e. test (is_own (has e)) F1) (first_mentions [] cases)) (receives_from cases (slice_get (first_mentions [] cases) choice))
+  event_of (Branch place branches) choice = on (way branches choice) f.variables w.blocks
+  event_of (Forget g next) choice = on next (forgotten f.variables (gone_with (method_at p f.method) g)) w.blocks
+  event_of (Call place method arguments target next) choice =
+      tested (argument_tests [] arguments)
+      (goes (entered p method.0 (map (λ a. has a.mention) arguments) ∷ record { method = f.method; point = f.point; variables = let_go f.variables arguments } ∷ rest) w.blocks)
+  event_of (Start place method arguments next) choice =
+      tested (argument_tests [] arguments)
+      (Moved record {
+        processes = set w.processes self (record { method = f.method; point = next; variables = let_go f.variables arguments } ∷ rest)
+            ++ (entered p method.0 (map (λ a. has a.mention) arguments) ∷ []) ∷ [];
+        blocks = changed (handed (Process (length w.processes)) (addresses f.variables arguments)) w.blocks;
+      })
+  event_of (Return place value scope) choice = tested (value_tests value) (returns value rest)
+  event_of (Stop place) choice = returns None rest
+
+-- an event at an instruction
+abbrev pub event_at : ProgramSeen → Bounds → World → Event → Frame → List Frame → Option Instruction → Outcome
+event_at p bound w e f rest None = NoChoice
+event_at p bound w e f rest (Some i) = if nat_lt e.choice (choices i) then event_of p bound w e.process f rest i e.choice else NoChoice
+
+-- an event of a process with these frames
+abbrev pub event_in : ProgramSeen → Bounds → World → Event → List Frame → Outcome
+event_in p bound w e [] = NoProcess
+event_in p bound w e (f ∷ rest) = event_at p bound w e f rest (instruction_at p f)
+
+-- what an event comes to
+abbrev pub event_outcome : ProgramSeen → Bounds → World → Event → Outcome
+event_outcome p bound w e = event_in p bound w e (stack_at w.processes e.process)
