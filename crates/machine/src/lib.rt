@@ -1,7 +1,14 @@
 //! Worlds of processes, and one event of a process.
 #![tactic(auto)]
 
+mod changing;
+mod giving;
 mod halts;
+mod owning;
+mod quiet;
+mod reading;
+mod sending;
+mod variables;
 mod worlds;
 
 pub use halts::{Event, Fault, Halt};

@@ -1,0 +1,5 @@
+pub mod ChangeLemmas
+pub mod FrameLemmas
+pub mod GiveLemmas
+pub mod ScopeLemmas
+pub mod StepLemmas
