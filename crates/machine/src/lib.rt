@@ -2,6 +2,7 @@
 #![tactic(auto)]
 
 mod changing;
+mod edges;
 mod giving;
 mod halts;
 mod owning;
