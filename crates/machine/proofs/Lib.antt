@@ -4,4 +4,5 @@ pub mod FrameLemmas
 pub mod GiveLemmas
 pub mod ScopeLemmas
 pub mod SendLemmas
+pub mod StandLemmas
 pub mod StepLemmas

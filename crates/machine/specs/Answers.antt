@@ -5,9 +5,11 @@ use Rattle.source.specs.declared.place.Place.{Place}
 use Rattle.program.specs.Methods.{MethodSeen, VariableSeen}
 use Rattle.program.specs.Programs.{ProgramSeen}
 use Rattle.flow.specs.Graphs.{Instruction}
-use Rattle.machine.specs.Machine.{event_of}
+use Rattle.program.specs.declared.statement.Mention.{Mention}
+use Rattle.machine.specs.Frames.{put}
+use Rattle.machine.specs.Machine.{event_of, returns}
 use Rattle.machine.specs.Outcomes.{Test, tested, Bounds, Outcome, Moved, Faulty, Waits, NoProcess, NoChoice}
-use Rattle.machine.specs.World.{Block, Frame, MessageHeld, World}
+use Rattle.machine.specs.World.{Block, Frame, MessageHeld, World, read}
 use Rattle.machine.specs.declared.halts.Halt.{Halt}
 use Rattle.machine.specs.declared.halts.Halt.TheVariants as halt
 use Rattle.machine.specs.declared.halts.Refusal.{Refusal}
@@ -45,6 +47,17 @@ variables_in methods m = option_map_or (λ x. x.variables) (slice_get methods m)
 abbrev pub on_stack : ProgramSeen → Bounds → World → ℕ → Instruction → ℕ → List Frame → Outcome
 on_stack p bound w self i choice [] = NoProcess
 on_stack p bound w self i choice (f ∷ rest) = event_of p bound w self f rest i choice
+
+-- what the end of the innermost frame of a stack comes to, where it gives what a variable has
+abbrev pub ended : ProgramSeen → Bounds → World → ℕ → Option Mention → List Frame → Outcome
+ended p bound w self value [] = NoProcess
+ended p bound w self value (f ∷ rest) = returns p bound w self f rest value rest
+
+-- the variables of a caller, of which the target takes what a variable of the innermost frame of a stack has
+abbrev pub given_back : (value target : Option Mention) → List Frame → List (Option ℕ) → List (Option ℕ)
+given_back None target stack variables = variables
+given_back (Some v) target [] variables = variables
+given_back (Some v) target (f ∷ rest) variables = put variables target (read f.variables v.variable.0)
 
 -- a process's stack is another
 abbrev pub with_stack : World → ℕ → List Frame → List Block → World

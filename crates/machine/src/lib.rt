@@ -8,7 +8,9 @@ mod halts;
 mod owning;
 mod quiet;
 mod reading;
+mod returning;
 mod sending;
+mod standing;
 mod variables;
 mod worlds;
 

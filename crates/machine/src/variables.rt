@@ -7,6 +7,7 @@ ghost use Rattle.rules.specs.Programs.{seen_of};
 ghost use Rattle.rules.specs.Scopes.{declared_between, is_this};
 ghost use Rattle.machine.specs.Answers.{with_variables};
 ghost use Rattle.machine.specs.Frames.{bound_to, forgotten, kind_at, variables_of};
+ghost use Rattle.machine.specs.Frames as told;
 ghost use Rattle.machine.specs.Views.{frame_seen};
 ghost use Rattle.machine.specs.World.{let_go, read};
 
@@ -39,6 +40,15 @@ impl Frame {
         ensures { frame_seen self.new ≡ with_variables (frame_seen self.old) (set (frame_seen self.old).variables v.variable.0 x) }
     {
         put(&mut self.variables, v.variable, x);
+    }
+
+    /// Gives a variable this in place of what it has, if there is such a variable.
+    pub(crate) fn take(&mut self, target: Option<Mention>, x: Option<usize>)
+        ensures { frame_seen self.new ≡ with_variables (frame_seen self.old) (told.put (frame_seen self.old).variables target x) }
+    {
+        if let Some(v) = target {
+            self.put(v, x);
+        }
     }
 }
 
