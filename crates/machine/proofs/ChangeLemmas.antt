@@ -1,13 +1,13 @@
 -- Blocks that are changed by their addresses.
-use Rattle.std.proofs.Common.{◌≡◌, ◌≢◌, ◌==◌, ℕ, zero, suc, ◌+◌, ◌<◌, ◌≤◌, Bool, true, false, List, [], ◌∷◌, length, refl, sym, ap, ◌∙◌, arith, ⊎_elim, set}
+use Rattle.std.proofs.Common.{◌≡◌, ◌≢◌, ◌==◌, ℕ, zero, suc, ◌+◌, ◌<◌, ◌≤◌, Bool, true, false, List, [], ◌∷◌, length, refl, sym, ap, ◌∙◌, arith, ⊎_elim, set, map, drop}
 use Rattle.std.specs.Prelude.{nat_lt, get_or, if◌then◌else◌, ◌||◌, ◌++◌, ◌&&◌, not}
 use Rattle.std.proofs.lemmas.Bool.{cases_Bool, cases_lt, ltb-true, ltb-false}
 use Rattle.std.proofs.lemmas.Bool.Decides.{eqb_tells}
 use Rattle.program.specs.Lists.{is_among}
-use Rattle.machine.specs.Blocks.{handed, sent_block}
-use Rattle.machine.specs.Answers.{in_state, queued}
-use Rattle.machine.specs.declared.worlds.Owner.TheVariants.{Queue, Channel}
-use Rattle.machine.specs.Views.{block_seen, blocks_seen}
+use Rattle.machine.specs.Blocks.{handed, received_block, sent_block}
+use Rattle.machine.specs.Answers.{in_state, left_in, queued}
+use Rattle.machine.specs.declared.worlds.Owner.TheVariants.{Process, Queue, Channel}
+use Rattle.machine.specs.Views.{block_seen, blocks_seen, held_seen}
 use Rattle.machine.specs.World.{Block, MessageHeld, block_at, changed}
 use Rattle.machine.specs.declared.worlds as made
 use Rattle.machine.specs.declared.worlds.Owner.{Owner}
@@ -252,3 +252,19 @@ queued_other to m j b apart = rw (eqb_apart j to apart) refl
 
 pub queued_at : (to : ℕ) (m : MessageHeld) (b : Block) → queued to m to b ≡ the_sent b b.owner b.state (b.queue ++ m ∷ [])
 queued_at to m b = ap (λ t. the_sent b b.owner b.state (if t then b.queue ++ m ∷ [] else b.queue)) (eqb_same to to refl)
+
+-- ---- a message that is received
+pub left_other : (a : ℕ) (ms : List MessageHeld) (j : ℕ) (b : Block) → j ≢ a → left_in a ms j b ≡ b
+left_other a ms j b apart = rw (eqb_apart j a apart) refl
+
+pub left_at : (a : ℕ) (ms : List MessageHeld) (b : Block) → left_in a ms a b ≡ the_sent b b.owner b.state ms
+left_at a ms b = ap (λ t. the_sent b b.owner b.state (if t then ms else b.queue)) (eqb_same a a refl)
+
+pub behind_front : (xs : List made.Held.Held) (m : MessageHeld) (ms : List MessageHeld) → map held_seen xs ≡ m ∷ ms → map held_seen (drop 1 xs) ≡ ms
+behind_front [] m ms is = absurd (cc)
+behind_front (x ∷ xs) m ms is = cc
+
+pub received_is : (self a state : ℕ) (m : MessageHeld) (ms : List MessageHeld) (bs : List Block) → changed (in_state a state) (changed (handed (Process self) m.payload) (changed (left_in a ms) bs)) ≡ changed (received_block self a state m ms) bs
+received_is self a state m ms bs =
+    ap (changed (in_state a state)) (changed_twice (left_in a ms) (handed (Process self) m.payload) bs)
+    ∙ changed_twice (λ j b. handed (Process self) m.payload j (left_in a ms j b)) (in_state a state) bs

@@ -1,4 +1,5 @@
 pub mod BoundLemmas
+pub mod CallLemmas
 pub mod ChangeLemmas
 pub mod FrameLemmas
 pub mod GiveLemmas

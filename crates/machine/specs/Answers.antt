@@ -5,11 +5,12 @@ use Rattle.source.specs.declared.place.Place.{Place}
 use Rattle.program.specs.Methods.{MethodSeen, VariableSeen}
 use Rattle.program.specs.Programs.{ProgramSeen}
 use Rattle.flow.specs.Graphs.{Instruction}
+use Rattle.program.specs.declared.call.Argument.{Argument}
 use Rattle.program.specs.declared.statement.Mention.{Mention}
 use Rattle.machine.specs.Frames.{put}
 use Rattle.machine.specs.Machine.{event_of, returns}
 use Rattle.machine.specs.Outcomes.{Test, tested, Bounds, Outcome, Moved, Faulty, Waits, NoProcess, NoChoice}
-use Rattle.machine.specs.World.{Block, Frame, MessageHeld, World, read}
+use Rattle.machine.specs.World.{Block, Frame, MessageHeld, World, let_go, read}
 use Rattle.machine.specs.declared.halts.Halt.{Halt}
 use Rattle.machine.specs.declared.halts.Halt.TheVariants as halt
 use Rattle.machine.specs.declared.halts.Refusal.{Refusal}
@@ -59,6 +60,16 @@ given_back None target stack variables = variables
 given_back (Some v) target [] variables = variables
 given_back (Some v) target (f ∷ rest) variables = put variables target (read f.variables v.variable.0)
 
+-- a frame is put on top of a stack, of which the innermost frame lets go what is claimed of arguments
+abbrev pub entered_on : Frame → List Argument → List Frame → List Frame
+entered_on begun arguments [] = []
+entered_on begun arguments (f ∷ rest) = begun ∷ with_variables f (let_go f.variables arguments) ∷ rest
+
+-- the innermost frame of a stack lets go what is claimed of arguments, and goes on at a point
+abbrev pub went_on : List Argument → ℕ → List Frame → List Frame
+went_on arguments next [] = []
+went_on arguments next (f ∷ rest) = record { method = f.method; point = next; variables = let_go f.variables arguments } ∷ rest
+
 -- a process's stack is another
 abbrev pub with_stack : World → ℕ → List Frame → List Block → World
 with_stack w self stack blocks = record { processes = set w.processes self stack; blocks = blocks }
@@ -80,3 +91,12 @@ in_state a state j b = record { kind = b.kind; owner = b.owner; peer = b.peer; s
 -- a message goes to the queue of the endpoint at an address
 abbrev pub queued : ℕ → MessageHeld → ℕ → Block → Block
 queued to m j b = record { kind = b.kind; owner = b.owner; peer = b.peer; state = b.state; queue = if j == to then b.queue ++ m ∷ [] else b.queue }
+
+-- the endpoint at an address has these messages left in its queue
+abbrev pub left_in : ℕ → List MessageHeld → ℕ → Block → Block
+left_in a messages j b = record { kind = b.kind; owner = b.owner; peer = b.peer; state = b.state; queue = if j == a then messages else b.queue }
+
+-- the message at the front of a queue
+abbrev pub front_of : List MessageHeld → Option ℕ
+front_of [] = None
+front_of (m ∷ ms) = Some m.message

@@ -1,10 +1,10 @@
 //! What becomes of blocks.
 
-ghost use Rattle.std.specs.Prelude.{◌≡◌, IsTrue, IsFalse, [], ◌∷◌};
-ghost use Rattle.machine.specs.Answers.{in_state, queued};
-ghost use Rattle.machine.specs.Blocks.{freed_block, handed};
+ghost use Rattle.std.specs.Prelude.{◌≡◌, IsFalse, IsTrue, List, Some, [], ◌∷◌, option_map};
+ghost use Rattle.machine.specs.Answers.{in_state, left_in, queued};
+ghost use Rattle.machine.specs.Blocks.{freed_block, handed, received_block};
 ghost use Rattle.machine.specs.Views.{block_seen, blocks_seen, held_seen};
-ghost use Rattle.machine.specs.World.{changed};
+ghost use Rattle.machine.specs.World.{MessageHeld, block_at, changed};
 
 use crate::worlds::{Block, Held, Owner};
 use program::StateId;
@@ -68,4 +68,36 @@ pub(crate) fn enqueue(blocks: &mut Vec<Block>, to: usize, held: Held) -> bool
         return blocks[to].queue.push_back(held).is_ok();
     }
     true
+}
+
+/// The front of the queue of an endpoint is taken.
+pub(crate) fn take_front(blocks: &mut Vec<Block>, at: usize) -> Option<Held>
+    ensures taken { (m : MessageHeld) (ms : List MessageHeld) → (block_at (blocks_seen blocks.old.items) at).queue ≡ m ∷ ms →
+        option_map held_seen result ≡ Some m }
+    ensures left { (m : MessageHeld) (ms : List MessageHeld) → (block_at (blocks_seen blocks.old.items) at).queue ≡ m ∷ ms →
+        blocks_seen blocks.new.items ≡ changed (left_in at ms) (blocks_seen blocks.old.items) }
+{
+    if at < blocks.len() {
+        return blocks[at].queue.pop_front();
+    }
+    None
+}
+
+/// The endpoint receives the front of its queue for a process, and is in a state then. What the message brings is answered.
+pub(crate) fn receive(
+    blocks: &mut Vec<Block>,
+    at: usize,
+    state: StateId,
+    process: usize,
+) -> Option<Vec<usize>>
+    ensures brings { (m : MessageHeld) (ms : List MessageHeld) → (block_at (blocks_seen blocks.old.items) at).queue ≡ m ∷ ms →
+        option_map (λ v. v.items) result ≡ Some m.payload }
+    ensures received { (m : MessageHeld) (ms : List MessageHeld) → (block_at (blocks_seen blocks.old.items) at).queue ≡ m ∷ ms →
+        blocks_seen blocks.new.items ≡ changed (received_block process at state.0 m ms) (blocks_seen blocks.old.items) }
+{
+    let held = take_front(blocks, at)?;
+    let Held { payload, .. } = held;
+    hand(blocks, &payload, Owner::Process(process));
+    set_state(blocks, at, state);
+    Some(payload)
 }

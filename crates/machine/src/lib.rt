@@ -1,6 +1,7 @@
 //! Worlds of processes, and one event of a process.
 #![tactic(auto)]
 
+mod calling;
 mod changing;
 mod edges;
 mod giving;
@@ -11,6 +12,7 @@ mod reading;
 mod returning;
 mod sending;
 mod standing;
+mod switching;
 mod variables;
 mod worlds;
 

@@ -1,11 +1,12 @@
 //! What blocks say.
 
-ghost use Rattle.std.specs.Prelude.{◌≡◌, ◌<◌, IfNone, IfSome, Some, false, length, true};
+ghost use Rattle.std.specs.Prelude.{◌≡◌, ◌<◌, IfNone, IfSome, Some, false, length, option_map, true};
+ghost use Rattle.machine.specs.Answers.{front_of};
 ghost use Rattle.machine.specs.Views.{blocks_seen};
 ghost use Rattle.machine.specs.World.{block_at, cut_off, freed, is_freed, is_own_in, is_process, is_queue};
 
 use crate::worlds::{Block, Owner};
-use program::{Kind, StateId, StructId};
+use program::{Kind, MessageId, StateId, StructId};
 
 impl Owner {
     /// Whether it is this process.
@@ -110,4 +111,12 @@ pub(crate) fn is_cut_off(blocks: &[Block], a: usize) -> bool
     ensures { result ≡ cut_off (blocks_seen blocks.now) a }
 {
     is_freed(blocks, peer_of(blocks, a)) && queued(blocks, a) == 0
+}
+
+/// The message at the front of the queue of an endpoint.
+pub(crate) fn front(blocks: &[Block], a: usize) -> Option<MessageId>
+    ensures { option_map (λ m. m.0) result ≡ front_of (block_at (blocks_seen blocks.now) a).queue }
+{
+    let held = blocks.get(a)?.queue.front()?;
+    Some(held.message)
 }
