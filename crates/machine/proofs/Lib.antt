@@ -7,3 +7,4 @@ pub mod ScopeLemmas
 pub mod SendLemmas
 pub mod StandLemmas
 pub mod StepLemmas
+pub mod SwitchLemmas

@@ -1,10 +1,10 @@
 -- What the code answers, in words of the definitions.
-use Rattle.std.specs.Prelude.{◌≡◌, ℕ, ◌==◌, List, [], ◌∷◌, ◌++◌, Option, Result, Ok, Err, Some, None, set, slice_get, if◌then◌else◌}
+use Rattle.std.specs.Prelude.{◌≡◌, ℕ, ◌==◌, Bool, true, false, List, [], ◌∷◌, ◌++◌, Option, Result, Ok, Err, Some, None, set, slice_get, if◌then◌else◌}
 use Rattle.std.specs.Option.{option_map_or}
 use Rattle.source.specs.declared.place.Place.{Place}
 use Rattle.program.specs.Methods.{MethodSeen, VariableSeen}
 use Rattle.program.specs.Programs.{ProgramSeen}
-use Rattle.flow.specs.Graphs.{Instruction}
+use Rattle.flow.specs.Graphs.{Instruction, Call, Start, Return, Stop}
 use Rattle.program.specs.declared.call.Argument.{Argument}
 use Rattle.program.specs.declared.statement.Mention.{Mention}
 use Rattle.machine.specs.Frames.{put}
@@ -69,6 +69,19 @@ entered_on begun arguments (f ∷ rest) = begun ∷ with_variables f (let_go f.v
 abbrev pub went_on : List Argument → ℕ → List Frame → List Frame
 went_on arguments next [] = []
 went_on arguments next (f ∷ rest) = record { method = f.method; point = next; variables = let_go f.variables arguments } ∷ rest
+
+-- instructions that change the innermost frame of a process and blocks, and nothing else
+abbrev pub is_of_frame : Instruction → Bool
+is_of_frame (Call place method arguments target next) = false
+is_of_frame (Start place method arguments next) = false
+is_of_frame (Return place value scope) = false
+is_of_frame (Stop place) = false
+is_of_frame _ = true
+
+-- and those that change no other process
+abbrev pub is_of_process : Instruction → Bool
+is_of_process (Start place method arguments next) = false
+is_of_process _ = true
 
 -- a process's stack is another
 abbrev pub with_stack : World → ℕ → List Frame → List Block → World

@@ -12,6 +12,8 @@ mod reading;
 mod returning;
 mod sending;
 mod standing;
+mod starting;
+mod stepping;
 mod switching;
 mod variables;
 mod worlds;
