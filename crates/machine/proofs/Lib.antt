@@ -6,5 +6,6 @@ pub mod GiveLemmas
 pub mod ScopeLemmas
 pub mod SendLemmas
 pub mod StandLemmas
+pub mod StartLemmas
 pub mod StepLemmas
 pub mod SwitchLemmas

@@ -1,15 +1,16 @@
 -- An instruction on a stack is one on its innermost frame.
-use Rattle.std.proofs.Common.{◌≡◌, ℕ, List, Some, ap, ◌∙◌, map, [], ◌<◌, length, set, sym, subst}
+use Rattle.std.proofs.Common.{◌≡◌, ℕ, List, ◌∷◌, None, Some, refl, ap, ◌∙◌, map, [], ◌<◌, length, set, sym, subst}
 use Rattle.std.specs.Prelude.{Option, Result, Ok, Err, OnErr, get_or, reverse}
 use Rattle.std.proofs.lemmas.List.{get_or-map, map-set}
 use Rattle.std.proofs.Math.Seq.{map-set_same}
 use Rattle.machine.specs.declared.halts.Refusal.{Refusal}
-use Rattle.flow.specs.Graphs.{Instruction}
+use Rattle.source.specs.declared.place.Place.{Place}
+use Rattle.flow.specs.Graphs.{Instruction, Stop}
 use Rattle.program.specs.Programs.{ProgramSeen}
-use Rattle.machine.specs.Answers.{Tells, on_stack, with_stack}
+use Rattle.machine.specs.Answers.{Tells, ended, on_stack, on_top, with_stack}
 use Rattle.machine.specs.Machine.{event_of}
 use Rattle.machine.specs.Outcomes.{Outcome, Bounds}
-use Rattle.machine.specs.Views.{frame_seen, stack_of, stack_seen}
+use Rattle.machine.specs.Views.{blocks_seen, frame_seen, stack_of, stack_seen}
 use Rattle.machine.specs.World.{Block, Frame, World, stack_at}
 use Rattle.machine.specs.declared.worlds as made
 
@@ -39,3 +40,18 @@ run_same (Ok x) ps q s t before after is same kept = tt
 run_same (Err h) ps q s t before after is same kept =
     let stacks : map stack_seen (set ps q t) ≡ map stack_seen ps = map-set_same stack_seen ps q t s (same ∙ ap stack_seen is) in
     ap (λ xs. the_world xs after) stacks ∙ ap (the_world (map stack_seen ps)) kept
+
+-- an instruction as it lies in memory
+pub frame_tells : (X : Type 0) (r : Result X Refusal) (p : ProgramSeen) (bound : Bounds) (w : World) (self : ℕ) (f : Frame) (rest : List Frame) (i j : Instruction) (choice : ℕ) (after : World)
+    → i ≡ j → Tells r (event_of p bound w self f rest j choice) after → Tells r (event_of p bound w self f rest i choice) after
+frame_tells X r p bound w self f rest i j choice after is told = subst (λ k. Tells r (event_of p bound w self f rest k choice) after) (sym is) told
+
+-- blocks that are read as a slice
+pub slice_tells : (X : Type 0) (r : Result X Refusal) (o : Outcome) (processes : List (List Frame)) (self : ℕ) (rest : List Frame) (f : Frame) (read blocks : List made.Block.Block)
+    → read ≡ blocks → Tells r o (on_top processes self rest f (blocks_seen read)) → Tells r o (on_top processes self rest f (blocks_seen blocks))
+slice_tells X r o processes self rest f read blocks is told = subst (λ l. Tells r o (on_top processes self rest f (blocks_seen l))) is told
+
+-- a Stop ends the innermost frame
+pub stop_is : (p : ProgramSeen) (bound : Bounds) (w : World) (self : ℕ) (i : Instruction) (place : Place) (choice : ℕ) (stack : List Frame) → i ≡ Stop place → on_stack p bound w self i choice stack ≡ ended p bound w self None stack
+stop_is p bound w self i place choice [] is = refl
+stop_is p bound w self i place choice (f ∷ rest) is = ap (λ k. event_of p bound w self f rest k choice) is

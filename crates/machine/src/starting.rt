@@ -8,7 +8,7 @@ ghost use Rattle.machine.specs.Answers.{Tells, on_stack, went_on};
 ghost use Rattle.machine.specs.Outcomes.{Bounds};
 ghost use Rattle.machine.specs.Views.{stack_seen, world_seen};
 ghost use Rattle.machine.specs.World.{stack_at};
-ghost use Rattle.machine.specs.declared.worlds as made;
+ghost use Rattle.machine.specs.declared.worlds.Process.{Process};
 
 use crate::calling::enter;
 use crate::changing::hand;
@@ -40,7 +40,7 @@ pub(crate) fn start(
     starting: &Starting,
 ) -> Result<(), Refusal>
     requires there { process < length world.old.processes.items }
-    requires top { (d : made.Process.Process) → IsSome (get_or world.old.processes.items process d).top }
+    requires top { (d : Process) → IsSome (get_or world.old.processes.items process d).top }
     ensures tells { (bound : Bounds) →
         Tells result (on_stack (seen_of program.now) bound (world_seen world.old) process (instruction_seen (Instr.Start starting.now)) 0
         (stack_at (world_seen world.old).processes process))

@@ -11,7 +11,7 @@ ghost use Rattle.machine.specs.Runs.{AreBounds};
 ghost use Rattle.machine.specs.Views.{blocks_seen, frame_seen, stack_seen, world_seen};
 ghost use Rattle.machine.specs.World as seen;
 ghost use Rattle.machine.specs.World.{stack_at};
-ghost use Rattle.machine.specs.declared.worlds as made;
+ghost use Rattle.machine.specs.declared.worlds.Process.{Process};
 
 use crate::calling::call;
 use crate::halts::Refusal;
@@ -137,7 +137,7 @@ impl World {
     ) -> Result<(), Refusal>
         requires there { chosen.process < length self.old.processes.items }
         requires choice { chosen.choice < told.choices (instruction_seen instr.now) }
-        requires top { (d : made.Process.Process) → IsSome (get_or self.old.processes.items chosen.process d).top }
+        requires top { (d : Process) → IsSome (get_or self.old.processes.items chosen.process d).top }
         ensures tells { (bound : Bounds) → AreBounds (seen_of program.now) bound →
             Tells result (on_stack (seen_of program.now) bound (world_seen self.old) chosen.process (instruction_seen instr.now) chosen.choice
             (stack_at (world_seen self.old).processes chosen.process))
