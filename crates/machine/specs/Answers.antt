@@ -32,6 +32,12 @@ TellsStep (Err halt.NoSuchProcess) outcome place after = outcome ≡ NoProcess
 TellsStep (Err halt.NoSuchChoice) outcome place after = outcome ≡ NoChoice
 TellsStep (Err halt.Memory) outcome place after = Unit {0}
 
+-- why no step was taken, where an instruction at a place was refused
+abbrev pub halt_of : Refusal → Place → Halt
+halt_of (refusal.Fault fault) place = halt.Fault fault place
+halt_of refusal.Waits place = halt.Waits
+halt_of refusal.Memory place = halt.Memory
+
 -- a world in which a frame stands on top of a process
 abbrev pub on_top : List (List Frame) → ℕ → List Frame → Frame → List Block → World
 on_top processes self rest f blocks = record { processes = set processes self (f ∷ rest); blocks = blocks }

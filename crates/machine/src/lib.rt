@@ -7,6 +7,7 @@ mod edges;
 mod giving;
 mod halts;
 mod owning;
+mod placing;
 mod quiet;
 mod reading;
 mod returning;
