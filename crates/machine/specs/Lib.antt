@@ -7,3 +7,4 @@ pub mod Machine
 pub mod Runs
 pub mod Places
 pub mod Answers
+pub mod Replays

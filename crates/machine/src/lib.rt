@@ -10,6 +10,7 @@ mod owning;
 mod placing;
 mod quiet;
 mod reading;
+mod replaying;
 mod returning;
 mod sending;
 mod standing;
@@ -20,4 +21,5 @@ mod variables;
 mod worlds;
 
 pub use halts::{Event, Fault, Halt};
+pub use replaying::{Replayed, replay};
 pub use worlds::{Block, Frame, Held, Owner, Process, World};
