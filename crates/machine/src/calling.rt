@@ -84,11 +84,7 @@ pub(crate) fn enter(
 }
 
 /// A frame is put on top of the one that calls, which lets go what is claimed of the arguments.
-fn push_frame(
-    stack: &mut Process,
-    begun: Frame,
-    arguments: &[Argument],
-) -> Result<(), Refusal>
+fn push_frame(stack: &mut Process, begun: Frame, arguments: &[Argument]) -> Result<(), Refusal>
     ensures pushed { OnOk result (stack_seen stack.new ≡ entered_on (frame_seen begun) arguments.now (stack_seen stack.old)) }
     ensures same { OnErr result (stack_seen stack.new ≡ stack_seen stack.old) }
     ensures memory { IfErr result (λ refusal. refusal ≡ Refusal.Memory) }

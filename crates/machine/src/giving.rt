@@ -21,7 +21,11 @@ use std::collections::BTreeSet;
 fn fault_of(argument: Argument) -> Fault
     ensures { result ≡ (if argument.claimed then F3 else F1) }
 {
-    if argument.claimed { Fault::F3 } else { Fault::F1 }
+    if argument.claimed {
+        Fault::F3
+    } else {
+        Fault::F1
+    }
 }
 
 /// The address, where the process has the block and it was not claimed before.
@@ -93,7 +97,10 @@ fn payload(mention: Mention) -> Argument
 }
 
 /// A message claims all that is given with it.
-pub(crate) fn payloads_claimed(alloc: Global, payloads: &[Mention]) -> Result<Vec<Argument>, Refusal>
+pub(crate) fn payloads_claimed(
+    alloc: Global,
+    payloads: &[Mention],
+) -> Result<Vec<Argument>, Refusal>
     ensures arguments { IfOk result (λ arguments. arguments.items ≡ told.payloads_claimed payloads.now) }
     ensures memory { IfErr result (λ refusal. refusal ≡ Refusal.Memory) }
 {

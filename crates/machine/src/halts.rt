@@ -5,7 +5,7 @@ use std::alloc::{AllocError, AllocFailed};
 
 /// One instruction of a process. The choice is 0, but for the false way of a condition, which is 1, and for a switch, where it is the
 /// number of one of its endpoints, in the order in which its cases name them first.
-#[derive(Clone, Copy)]
+#[derive(Clone, Copy, Debug, PartialEq, Eq)]
 pub struct Event {
     pub process: u64,
     pub choice: u64,
@@ -31,7 +31,7 @@ pub enum Fault {
 }
 
 /// Why no step was taken.
-#[derive(Clone, Copy)]
+#[derive(Clone, Copy, Debug, PartialEq, Eq)]
 pub enum Halt {
     /// There is no such process, or it has ended.
     NoSuchProcess,

@@ -6,6 +6,7 @@ mod changing;
 mod edges;
 mod giving;
 mod halts;
+mod instructing;
 mod owning;
 mod placing;
 mod quiet;

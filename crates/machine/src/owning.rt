@@ -34,21 +34,21 @@ pub(crate) struct Turn {
 /// The target takes a new block.
 pub(crate) fn new(
     alloc: Global,
+    program: &Program,
     frame: &mut Frame,
     blocks: &mut Vec<Block>,
     turn: Turn,
-    kind: Kind,
     target: Mention,
 ) -> Result<(), Refusal>
-    ensures tells { (p : ProgramSeen) (bound : Bounds) (w : seen.World) (rest : List seen.Frame) (arguments : List named.Mention) →
+    ensures tells { (bound : Bounds) (w : seen.World) (rest : List seen.Frame) (arguments : List named.Mention) →
         w.blocks ≡ blocks_seen blocks.old.items →
-        kind ≡ kind_at (variables_of p frame.old.method.0) target.variable.0 →
-        Tells result (event_of p bound w turn.process (frame_seen frame.old) rest (New target arguments turn.next) 0)
+        Tells result (event_of (seen_of program.now) bound w turn.process (frame_seen frame.old) rest (New target arguments turn.next) 0)
         (on_top w.processes turn.process rest (frame_seen frame.new) (blocks_seen blocks.new.items)) }
     ensures same { OnErr result (frame_seen frame.new ≡ frame_seen frame.old) }
     ensures same_blocks { OnErr result (blocks_seen blocks.new.items ≡ blocks_seen blocks.old.items) }
 {
     let address = blocks.len();
+    let kind = kind_at(program, frame.method, target.variable);
     let block = Block {
         kind,
         owner: Owner::Process(turn.process),
@@ -140,7 +140,13 @@ fn open(
 {
     blocks.reserve(2)?;
     let address = blocks.len();
-    let imp = new_end(alloc, process, end_kind(channel, Side::Imp), address + 1, state);
+    let imp = new_end(
+        alloc,
+        process,
+        end_kind(channel, Side::Imp),
+        address + 1,
+        state,
+    );
     let exp = new_end(alloc, process, end_kind(channel, Side::Exp), address, state);
     blocks.push(imp)?;
     blocks.push(exp)?;
@@ -166,7 +172,11 @@ pub(crate) fn new_channel(
     let state = program.first_state(channel.contract);
     open(alloc, blocks, turn.process, channel, state)?;
     let first_is_imp = is_imp(kind_at(program, frame.method, channel.first.variable));
-    let (first, second) = if first_is_imp { (address, address + 1) } else { (address + 1, address) };
+    let (first, second) = if first_is_imp {
+        (address, address + 1)
+    } else {
+        (address + 1, address)
+    };
     frame.put(channel.first, Some(first));
     frame.put(channel.second, Some(second));
     frame.point = turn.next;

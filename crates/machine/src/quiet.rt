@@ -83,7 +83,12 @@ pub(crate) fn forget_(frame: &mut Frame, program: &Program, forget: Forget, next
         ≡ Moved (on_top w.processes process rest (frame_seen frame.new) w.blocks) }
 {
     if let Some(method) = program.methods().get(frame.method.0 as usize) {
-        forgets(&mut frame.variables, method, forget.outer, Some(forget.last));
+        forgets(
+            &mut frame.variables,
+            method,
+            forget.outer,
+            Some(forget.last),
+        );
     }
     frame.point = next;
 }

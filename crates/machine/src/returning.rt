@@ -48,12 +48,7 @@ fn can_give(stack: &Process, blocks: &[Block], process: usize, value: Option<Men
 }
 
 /// The caller's target takes what the innermost frame gives, if it gives something.
-fn give_back(
-    stack: &Process,
-    value: Option<Mention>,
-    target: Option<Mention>,
-    caller: &mut Frame,
-)
+fn give_back(stack: &Process, value: Option<Mention>, target: Option<Mention>, caller: &mut Frame)
     ensures { frame_seen caller.new ≡ with_variables (frame_seen caller.old)
         (given_back value target (stack_seen stack.now) (frame_seen caller.old).variables) }
 {

@@ -58,6 +58,10 @@ pub(crate) fn start(
         waiting: Vec::new(alloc),
     })?;
     hand(&mut world.blocks, &owned, Owner::Process(number));
-    go_on(&mut world.processes[process], &starting.arguments, starting.next);
+    go_on(
+        &mut world.processes[process],
+        &starting.arguments,
+        starting.next,
+    );
     Ok(())
 }

@@ -53,12 +53,7 @@ struct Gate {
 }
 
 /// Nothing is in the queue of an endpoint: its close comes to a case, if its peer is gone.
-fn close(
-    frame: &mut Frame,
-    blocks: &[Block],
-    cases: &Cases,
-    gate: Gate,
-) -> Result<(), Refusal>
+fn close(frame: &mut Frame, blocks: &[Block], cases: &Cases, gate: Gate) -> Result<(), Refusal>
     ensures tells { (p : ProgramSeen) (bound : Bounds) (w : seen.World) (process : ℕ) (rest : List seen.Frame) →
         w.blocks ≡ blocks_seen blocks.now →
         Tells result (receives p bound w process (frame_seen frame.old) rest (cases_seen cases.now) gate.variable.0 gate.at [])
@@ -127,7 +122,10 @@ fn come(
     let Some(case) = cases.find(gate.variable, Some(message)) else {
         return Err(Refusal::Fault(Fault::F5));
     };
-    let arrival = Arrival { at: gate.at, message };
+    let arrival = Arrival {
+        at: gate.at,
+        message,
+    };
     receive_at(program, frame, blocks, process, case, arrival);
     Ok(())
 }

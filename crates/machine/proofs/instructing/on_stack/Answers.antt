@@ -4,7 +4,7 @@ use Rattle.rules.specs.Programs.{seen_of}
 use Rattle.machine.specs.Answers.{Tells, ended, with_stack}
 use Rattle.machine.specs.Views.{blocks_seen, stack_seen}
 use Rattle.machine.proofs.StepLemmas.{stop_is, tells_at}
-use Rattle.machine.proofs.stepping.on_stack.Goals as goal
+use Rattle.machine.proofs.instructing.on_stack.Goals as goal
 
 pub returns-in-Stop-clause-tells : goal.returns-in-Stop-clause-tells
 returns-in-Stop-clause-tells c = λ bound w are is.

@@ -6,7 +6,7 @@ use Rattle.machine.specs.Outcomes.{Moved}
 use Rattle.machine.specs.Answers.{on_top}
 use Rattle.machine.specs.Views.{blocks_seen, frame_seen}
 use Rattle.machine.proofs.StepLemmas.{frame_tells, slice_tells}
-use Rattle.machine.proofs.stepping.on_frame.Goals as goal
+use Rattle.machine.proofs.instructing.on_frame.Goals as goal
 
 pub returns-in-Use-clause-tells : goal.returns-in-Use-clause-tells
 returns-in-Use-clause-tells c = λ bound w rest are is.
@@ -33,7 +33,7 @@ returns-in-New-clause-tells c = λ bound w rest are is.
     let p = seen_of c.args.program.now in
     let f = frame_seen c.args.frame.now in
     frame_tells _ c.new.result p bound w c.args.chosen.process f rest (instruction_seen c.args.instr.now) (New c.in-New.target c.in-New.arguments.items c.in-New.next) c.args.chosen.choice _ (ap instruction_seen c.in-New.is)
-    (c.new.ensures.tells p bound w rest c.in-New.arguments.items is c.kind_at-kind.ensures)
+    (c.new.ensures.tells bound w rest c.in-New.arguments.items is)
 
 pub returns-in-NewChannel-clause-tells : goal.returns-in-NewChannel-clause-tells
 returns-in-NewChannel-clause-tells c = λ bound w rest are is.
