@@ -4,7 +4,7 @@ pub mod ChangeLemmas
 pub mod FrameLemmas
 pub mod GiveLemmas
 pub mod ScopeLemmas
-pub mod SendLemmas
+pub mod SmallRuns
 pub mod StandLemmas
 pub mod StartLemmas
 pub mod StepLemmas

@@ -1,5 +1,6 @@
 -- What the code answers, in words of the definitions.
-use Rattle.std.specs.Prelude.{◌≡◌, ℕ, ◌==◌, Bool, true, false, List, [], ◌∷◌, ◌++◌, Option, Result, Ok, Err, Some, None, set, slice_get, if◌then◌else◌}
+use Rattle.std.specs.Prelude.{◌≡◌, ℕ, ◌==◌, Bool, true, false, List, [], ◌∷◌, ◌++◌, set, slice_get, if◌then◌else◌}
+use Rattle.std.specs.Prelude.{Option, Result, Ok, Err, Some, None}
 use Rattle.std.specs.Option.{option_map_or}
 use Rattle.source.specs.declared.place.Place.{Place}
 use Rattle.program.specs.Methods.{MethodSeen, VariableSeen}
@@ -109,11 +110,23 @@ in_state a state j b = record { kind = b.kind; owner = b.owner; peer = b.peer; s
 
 -- a message goes to the queue of the endpoint at an address
 abbrev pub queued : ℕ → MessageHeld → ℕ → Block → Block
-queued to m j b = record { kind = b.kind; owner = b.owner; peer = b.peer; state = b.state; queue = if j == to then b.queue ++ m ∷ [] else b.queue }
+queued to m j b = record {
+  kind = b.kind;
+  owner = b.owner;
+  peer = b.peer;
+  state = b.state;
+  queue = if j == to then b.queue ++ m ∷ [] else b.queue;
+}
 
 -- the endpoint at an address has these messages left in its queue
 abbrev pub left_in : ℕ → List MessageHeld → ℕ → Block → Block
-left_in a messages j b = record { kind = b.kind; owner = b.owner; peer = b.peer; state = b.state; queue = if j == a then messages else b.queue }
+left_in a messages j b = record {
+  kind = b.kind;
+  owner = b.owner;
+  peer = b.peer;
+  state = b.state;
+  queue = if j == a then messages else b.queue;
+}
 
 -- the message at the front of a queue
 abbrev pub front_of : List MessageHeld → Option ℕ

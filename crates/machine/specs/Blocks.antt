@@ -1,5 +1,6 @@
 -- What becomes of blocks, each by its address, and what is asked of them.
-use Rattle.std.specs.Prelude.{ℕ, ◌==◌, nat_lt, Bool, true, false, not, ◌&&◌, ◌||◌, List, [], ◌∷◌, ◌++◌, length, Option, Some, None, is_some, if◌then◌else◌}
+use Rattle.std.specs.Prelude.{ℕ, ◌==◌, nat_lt, Bool, true, false, not, ◌&&◌, ◌||◌, if◌then◌else◌}
+use Rattle.std.specs.Prelude.{List, [], ◌∷◌, ◌++◌, length, Option, Some, None, is_some}
 use Rattle.program.specs.Lists.{is_among}
 use Rattle.program.specs.Programs.{ProgramSeen}
 use Rattle.program.specs.declared.call.Argument.{Argument}
@@ -19,7 +20,13 @@ use Rattle.machine.specs.declared.worlds.Owner.TheVariants.{Process, Queue, Chan
 
 -- these blocks go to an owner
 abbrev pub handed : Owner → List ℕ → ℕ → Block → Block
-handed to given j b = record { kind = b.kind; owner = if is_among given j then to else b.owner; peer = b.peer; state = b.state; queue = b.queue }
+handed to given j b = record {
+  kind = b.kind;
+  owner = if is_among given j then to else b.owner;
+  peer = b.peer;
+  state = b.state;
+  queue = b.queue;
+}
 
 -- A block is freed. Its queue is emptied, and what that had goes to the channel.
 abbrev pub freed_block : ℕ → ℕ → Block → Block

@@ -3,6 +3,7 @@ pub mod Views
 pub mod Outcomes
 pub mod Frames
 pub mod Blocks
+pub mod Instructions
 pub mod Machine
 pub mod Runs
 pub mod Places

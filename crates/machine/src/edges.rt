@@ -86,7 +86,8 @@ pub(crate) fn way_out(
     message: MessageId,
 ) -> Result<Way, Refusal>
     ensures pass { IfOk result (λ way. (bound : Bounds) → AreBounds (seen_of program.now) bound
-        → Pass (send_tests_in bound (blocks_seen blocks.now) at (edge_out_in (seen_of program.now) (blocks_seen blocks.now) at message.0))) }
+        → Pass (send_tests_in bound (blocks_seen blocks.now) at
+        (edge_out_in (seen_of program.now) (blocks_seen blocks.now) at message.0))) }
     ensures at { IfOk result (λ way. way.at ≡ at) }
     ensures peer { IfOk result (λ way. way.peer ≡ (block_at (blocks_seen blocks.now) at).peer) }
     ensures gone { IfOk result (λ way. way.gone ≡ freed (blocks_seen blocks.now) (block_at (blocks_seen blocks.now) at).peer) }

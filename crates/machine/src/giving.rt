@@ -1,6 +1,6 @@
 //! What is given with a message or a call.
 
-ghost use Rattle.std.specs.Prelude.{◌≡◌, List, MatchOption, OnErr, OnOk, IfErr, IfOk, IfSome, Some, [], ◌∷◌, false, if◌then◌else◌, map, true, ℕ};
+ghost use Rattle.std.specs.Prelude.{◌≡◌, ◌∷◌, [], IfErr, IfOk, IfSome, List, MatchOption, OnOk, Some, false, if◌then◌else◌, true, ℕ};
 ghost use Rattle.rules.specs.Arguments.{payload};
 ghost use Rattle.rules.specs.Checks.{AreIn};
 ghost use Rattle.machine.specs.Answers.{IsRefusal, Pass};

@@ -123,7 +123,8 @@ fn on_stack(
     requires there { chosen.choice < told.choices (instruction_seen instr.now) }
     requires top { IsSome stack.old.top }
     ensures tells { (bound : Bounds) (w : seen.World) → AreBounds (seen_of program.now) bound → w.blocks ≡ blocks_seen blocks.old.items →
-        Tells result (on_stack (seen_of program.now) bound w chosen.process (instruction_seen instr.now) chosen.choice (stack_seen stack.old))
+        Tells result (on_stack (seen_of program.now) bound w chosen.process (instruction_seen instr.now) chosen.choice
+        (stack_seen stack.old))
         (with_stack w chosen.process (stack_seen stack.new) (blocks_seen blocks.new.items)) }
     ensures same { OnErr result (stack_seen stack.new ≡ stack_seen stack.old) }
     ensures same_blocks { OnErr result (blocks_seen blocks.new.items ≡ blocks_seen blocks.old.items) }
@@ -160,8 +161,8 @@ impl World {
         requires choice { chosen.choice < told.choices (instruction_seen instr.now) }
         requires top { (d : Process) → IsSome (get_or self.old.processes.items chosen.process d).top }
         ensures tells { (bound : Bounds) → AreBounds (seen_of program.now) bound →
-            Tells result (on_stack (seen_of program.now) bound (world_seen self.old) chosen.process (instruction_seen instr.now) chosen.choice
-            (stack_at (world_seen self.old).processes chosen.process))
+            Tells result (on_stack (seen_of program.now) bound (world_seen self.old) chosen.process (instruction_seen instr.now)
+            chosen.choice (stack_at (world_seen self.old).processes chosen.process))
             (world_seen self.new) }
         ensures same { OnErr result (world_seen self.new ≡ world_seen self.old) }
     {

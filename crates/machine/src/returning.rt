@@ -36,7 +36,8 @@ fn owns_none(blocks: &[Block], process: usize) -> bool
 fn can_give(stack: &Process, blocks: &[Block], process: usize, value: Option<Mention>) -> bool
     ensures may { IsTrue result → (p : ProgramSeen) (bound : Bounds) (w : seen.World) (place : Place) (scope : Option VarId) →
         w.blocks ≡ blocks_seen blocks.now →
-        on_stack p bound w process (Return place value scope) 0 (stack_seen stack.now) ≡ ended p bound w process value (stack_seen stack.now) }
+        on_stack p bound w process (Return place value scope) 0 (stack_seen stack.now)
+        ≡ ended p bound w process value (stack_seen stack.now) }
     ensures fault { IsFalse result → (p : ProgramSeen) (bound : Bounds) (w : seen.World) (place : Place) (scope : Option VarId) →
         w.blocks ≡ blocks_seen blocks.now →
         on_stack p bound w process (Return place value scope) 0 (stack_seen stack.now) ≡ Faulty F3 }

@@ -66,7 +66,8 @@ pub(crate) fn send(
 ) -> Result<(), Refusal>
     ensures tells { (bound : Bounds) (w : seen.World) (rest : List seen.Frame) → AreBounds (seen_of program.now) bound →
         w.blocks ≡ blocks_seen blocks.old.items →
-        Tells result (event_of (seen_of program.now) bound w process (frame_seen frame.old) rest (instruction_seen (Instr.Send sending.now)) 0)
+        Tells result (event_of (seen_of program.now) bound w process (frame_seen frame.old) rest
+        (instruction_seen (Instr.Send sending.now)) 0)
         (on_top w.processes process rest (frame_seen frame.new) (blocks_seen blocks.new.items)) }
     ensures same { OnErr result (frame_seen frame.new ≡ frame_seen frame.old) }
     ensures same_blocks { OnErr result (blocks_seen blocks.new.items ≡ blocks_seen blocks.old.items) }

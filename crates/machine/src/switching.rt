@@ -33,9 +33,11 @@ fn are_own(
     endpoints: &[Mention],
 ) -> Result<(), Refusal>
     ensures pass { OnOk result (Pass
-        (map (λ e. test (is_own_in (blocks_seen blocks.now) process (read (frame_seen frame.now).variables e.variable.0)) F1) endpoints.now)) }
+        (map (λ e. test (is_own_in (blocks_seen blocks.now) process (read (frame_seen frame.now).variables e.variable.0)) F1)
+        endpoints.now)) }
     ensures refusal { IfErr result (λ refusal. IsRefusal refusal
-        (map (λ e. test (is_own_in (blocks_seen blocks.now) process (read (frame_seen frame.now).variables e.variable.0)) F1) endpoints.now)) }
+        (map (λ e. test (is_own_in (blocks_seen blocks.now) process (read (frame_seen frame.now).variables e.variable.0)) F1)
+        endpoints.now)) }
 {
     for endpoint in endpoints {
         if own(blocks, process, frame.has(*endpoint)).is_none() {
@@ -110,8 +112,8 @@ fn come(
     gate: Gate,
 ) -> Result<(), Refusal>
     ensures tells { (bound : Bounds) (w : seen.World) (rest : List seen.Frame) → w.blocks ≡ blocks_seen blocks.old.items →
-        Tells result (receives (seen_of program.now) bound w process (frame_seen frame.old) rest (cases_seen cases.now) gate.variable.0 gate.at
-        (block_at (blocks_seen blocks.old.items) gate.at).queue)
+        Tells result (receives (seen_of program.now) bound w process (frame_seen frame.old) rest (cases_seen cases.now)
+        gate.variable.0 gate.at (block_at (blocks_seen blocks.old.items) gate.at).queue)
         (on_top w.processes process rest (frame_seen frame.new) (blocks_seen blocks.new.items)) }
     ensures same { OnErr result (frame_seen frame.new ≡ frame_seen frame.old) }
     ensures same_blocks { OnErr result (blocks_seen blocks.new.items ≡ blocks_seen blocks.old.items) }
@@ -141,8 +143,8 @@ pub(crate) fn switch(
 ) -> Result<(), Refusal>
     requires there { choice < length (first_mentions [] (cases_seen cases.now)) }
     ensures tells { (bound : Bounds) (w : seen.World) (rest : List seen.Frame) (place : Place) → w.blocks ≡ blocks_seen blocks.old.items →
-        Tells result (event_of (seen_of program.now) bound w process (frame_seen frame.old) rest (graphs.Switch place (cases_seen cases.now))
-        choice)
+        Tells result (event_of (seen_of program.now) bound w process (frame_seen frame.old) rest
+        (graphs.Switch place (cases_seen cases.now)) choice)
         (on_top w.processes process rest (frame_seen frame.new) (blocks_seen blocks.new.items)) }
     ensures same { OnErr result (frame_seen frame.new ≡ frame_seen frame.old) }
     ensures same_blocks { OnErr result (blocks_seen blocks.new.items ≡ blocks_seen blocks.old.items) }

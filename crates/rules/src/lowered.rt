@@ -59,7 +59,7 @@ impl Program {
     pub fn sounds(&self) -> &[Sound]
         ensures { map sound_parts result.now ≡ map (λ c. c.parts) (seen_of self.now).contracts }
     {
-        &self.sounds
+        self.sounds.as_slice()
     }
 
     /// A contract of it.
