@@ -1,18 +1,17 @@
 -- Calls and starts: their tests, and the frame that begins.
-use Rattle.std.proofs.Common.{◌≡◌, ℕ, List, [], ◌∷◌, ◌++◌, Some, Ok, Err, refl, sym, ap, ◌∙◌, subst, map, reverse}
-use Rattle.std.specs.Prelude.{Option, Result, IsErrAnd, IfErr, OnOk, set}
+use Rattle.std.proofs.Common.{◌≡◌, ℕ, List, [], ◌∷◌, Some, Ok, Err, sym, ap, ◌∙◌, subst, map, reverse}
+use Rattle.std.specs.Prelude.{Option, Result, IsErrAnd, IfErr, OnOk}
 use Rattle.std.proofs.lemmas.List.{append-nil}
 use Rattle.source.specs.declared.place.Place.{Place}
 use Rattle.program.specs.Programs.{ProgramSeen}
 use Rattle.program.specs.declared.call.Argument.{Argument}
 use Rattle.program.specs.declared.number.MethodId.{MethodId}
 use Rattle.program.specs.declared.statement.Mention.{Mention}
-use Rattle.flow.specs.Graphs.{Call, Start}
+use Rattle.flow.specs.Graphs.{Call}
 use Rattle.machine.specs.Answers.{IsRefusal, Pass, Tells, entered_on, on_stack, with_stack, with_variables}
 use Rattle.machine.specs.Blocks.{argument_tests_in}
 use Rattle.machine.specs.Frames.{entered}
-use Rattle.machine.specs.Machine.{event_of}
-use Rattle.machine.specs.Outcomes.{Bounds, Outcome, Faulty, Moved, Test, tested}
+use Rattle.machine.specs.Outcomes.{Bounds, Outcome, Moved, Test, tested}
 use Rattle.machine.specs.Views.{frame_seen, stack_of}
 use Rattle.machine.specs.World.{Block, Frame, World, let_go}
 use Rattle.machine.proofs.FrameLemmas.{given_for}

@@ -1,9 +1,8 @@
 -- What is given, one argument after the other.
-use Rattle.std.proofs.Common.{◌≡◌, ℕ, ◌+◌, ◌<◌, ◌≤◌, Bool, true, false, List, [], ◌∷◌, ◌++◌, Some, None, refl, sym, ap, ◌∙◌, drop, length}
-use Rattle.std.specs.Prelude.{Option, not, ◌&&◌, ◌||◌, ◌==◌, if◌then◌else◌, get_or}
+use Rattle.std.proofs.Common.{◌≡◌, ℕ, ◌+◌, ◌<◌, ◌≤◌, Bool, true, false, List, [], ◌∷◌, ◌++◌, Some, refl, sym, ap, ◌∙◌, drop, length}
+use Rattle.std.specs.Prelude.{Option, if◌then◌else◌, get_or}
 use Rattle.std.proofs.lemmas.List.{append-nil, append_assoc, drop_all, drop_more}
 use Rattle.std.specs.BTreeSet.{BTreeSet, IsEmpty}
-use Rattle.program.specs.Lists.{is_among}
 use Rattle.program.specs.declared.call.Argument.{Argument}
 use Rattle.rules.specs.Checks.{AreIn}
 use Rattle.rules.proofs.ArgumentLemmas.{none_in}
@@ -13,7 +12,7 @@ use Rattle.machine.specs.declared.halts.Fault.TheVariants.{F1, F3}
 use Rattle.machine.specs.Blocks.{is_own_still, argument_tests_in}
 use Rattle.machine.specs.Frames.{address, addresses}
 use Rattle.machine.specs.Outcomes.{Test, Outcome, Faulty, test, tested}
-use Rattle.machine.specs.World.{Block, read, owns, is_own_in}
+use Rattle.machine.specs.World.{Block, read}
 
 pub passes : (b : Bool) (f : Fault) (ts : List Test) (o : Outcome) → b ≡ true → tested (test b f ∷ ts) o ≡ tested ts o
 passes b f ts o h = ap (λ t. tested (test t f ∷ ts) o) h

@@ -1,6 +1,6 @@
 -- Where a frame stands, and what stands behind a call.
-use Rattle.std.proofs.Common.{◌≡◌, ℕ, ◌≤◌, List, [], ◌∷◌, ◌++◌, length, map, Option, None, Some, IsSomeAnd, slice_get, refl, sym, ap, ◌∙◌, reverse}
-use Rattle.std.specs.Prelude.{IsSome, set}
+use Rattle.std.proofs.Common.{◌≡◌, ℕ, ◌≤◌, List, [], ◌∷◌, ◌++◌, length, map, Option, None, Some, IsSomeAnd, slice_get, sym, ap, ◌∙◌, reverse}
+use Rattle.std.specs.Prelude.{IsSome}
 use Rattle.std.specs.Option.{option_map}
 use Rattle.std.proofs.lemmas.List.{reverse-append}
 use Rattle.std.proofs.lemmas.Option.{slice_get-map, slice_get_past}
@@ -15,7 +15,7 @@ use Rattle.machine.specs.Answers.{ended, given_back, with_stack}
 use Rattle.machine.specs.Frames.{call_next, call_target, instruction_at, method_at, point_instruction}
 use Rattle.machine.specs.Outcomes.{Bounds, Moved}
 use Rattle.machine.specs.Views.{frame_seen, stack_of}
-use Rattle.machine.specs.World.{Block, Frame, World}
+use Rattle.machine.specs.World.{World}
 use Rattle.machine.specs.declared.worlds as made
 
 -- what stands at a point of a method

@@ -1,6 +1,6 @@
 -- Starts: the process that begins, and the one that starts it.
-use Rattle.std.proofs.Common.{◌≡◌, ℕ, zero, suc, ◌<◌, List, [], ◌∷◌, ◌++◌, Some, refl, sym, ap, ◌∙◌, map, length, reverse, set, arith}
-use Rattle.std.specs.Prelude.{Option, get_or}
+use Rattle.std.proofs.Common.{◌≡◌, ℕ, zero, suc, ◌<◌, List, [], ◌∷◌, ◌++◌, Some, sym, ap, ◌∙◌, map, length, reverse, set, arith}
+use Rattle.std.specs.Prelude.{get_or}
 use Rattle.std.proofs.lemmas.List.{length-map, map-append}
 use Rattle.source.specs.declared.place.Place.{Place}
 use Rattle.program.specs.Programs.{ProgramSeen}

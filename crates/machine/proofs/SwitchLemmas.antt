@@ -1,6 +1,5 @@
 -- A switch: what is at the front of a queue, and where it goes.
 use Rattle.std.proofs.Common.{◌≡◌, ℕ, List, [], ◌∷◌, Some, None, refl, sym, ap, ◌∙◌, slice_get}
-use Rattle.std.specs.Prelude.{Option}
 use Rattle.source.specs.declared.place.Place.{Place}
 use Rattle.program.specs.Programs.{ProgramSeen}
 use Rattle.program.specs.declared.statement.Mention.{Mention}

@@ -14,7 +14,7 @@ use Rattle.machine.specs.Blocks.{argument_tests_in, edge_in_in, edge_out_in, has
 use Rattle.machine.specs.Blocks.{end_kind, freed_block, handed, is_imp, new_block, received_block, sent_block}
 use Rattle.machine.specs.Frames.{call_next, call_target, entered, instruction_at, kind_at, method_at, variables_of}
 use Rattle.machine.specs.Frames.{address, addresses, bound_to, forgotten, gone_with, payloads_claimed, put}
-use Rattle.machine.specs.Outcomes.{Bounds, Outcome, Moved, Faulty, Waits, NoProcess, NoChoice, Test, test, tested}
+use Rattle.machine.specs.Outcomes.{Bounds, Outcome, Moved, Faulty, Waits, NoChoice, Test, test, tested}
 use Rattle.machine.specs.World.{Block, Frame, MessageHeld, World, block_at, changed, cut_off, freed, is_own_in, let_go, read}
 use Rattle.machine.specs.declared.halts.Fault.TheVariants.{F1, F2, F3, F5, F7}
 use Rattle.machine.specs.declared.worlds.Owner.TheVariants.{Process}

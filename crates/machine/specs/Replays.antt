@@ -1,5 +1,5 @@
 -- What a replay of events comes to.
-use Rattle.std.specs.Prelude.{◌≡◌, ℕ, List, length, take, Option, None, Some, Result, Err, slice_get}
+use Rattle.std.specs.Prelude.{◌≡◌, ℕ, List, length, take, Option, None, Some, Err, slice_get}
 use Rattle.program.specs.Programs.{ProgramSeen}
 use Rattle.machine.specs.Answers.{TellsStep}
 use Rattle.machine.specs.Machine.{event_outcome}

@@ -1,4 +1,4 @@
-use Rattle.std.proofs.Common.{[], ap, ◌≡◌, ◌∙◌, List, ℕ}
+use Rattle.std.proofs.Common.{[], ap, ◌≡◌, ◌∙◌}
 use Rattle.std.specs.Option.{option_map_or}
 use Rattle.machine.specs.Answers.{in_state, left_in}
 use Rattle.machine.specs.Blocks.{handed}

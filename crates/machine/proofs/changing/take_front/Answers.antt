@@ -1,5 +1,4 @@
-use Rattle.std.proofs.Common.{arith, ap, sym, ◌∷◌, ◌≡◌, ◌∙◌, length, map, drop}
-use Rattle.std.specs.Prelude.{get_or}
+use Rattle.std.proofs.Common.{arith, ap, sym, ◌∷◌, ◌≡◌, ◌∙◌, length, map}
 use Rattle.machine.specs.Answers.{left_in}
 use Rattle.machine.specs.Views.{block_seen, blocks_seen, held_seen}
 use Rattle.machine.specs.World.{Block, block_at}

@@ -1,5 +1,5 @@
 use Rattle.std.proofs.Common.{ap, sym, ◌∙◌}
-use Rattle.flow.specs.Graphs.{Use, New, Move, Delete, NewChannel, Switch, Branch, Forget, cases_seen, instruction_seen}
+use Rattle.flow.specs.Graphs.{Use, New, Move, Delete, NewChannel, Switch, cases_seen, instruction_seen}
 use Rattle.rules.specs.Programs.{seen_of}
 use Rattle.machine.specs.Machine.{event_of}
 use Rattle.machine.specs.Outcomes.{Moved}

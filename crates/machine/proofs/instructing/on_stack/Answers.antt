@@ -1,7 +1,7 @@
-use Rattle.std.proofs.Common.{ap, sym, ◌∙◌, None, subst}
+use Rattle.std.proofs.Common.{ap, sym, ◌∙◌, None}
 use Rattle.flow.specs.Graphs.{instruction_seen}
 use Rattle.rules.specs.Programs.{seen_of}
-use Rattle.machine.specs.Answers.{Tells, ended, with_stack}
+use Rattle.machine.specs.Answers.{ended}
 use Rattle.machine.specs.Views.{blocks_seen, stack_seen}
 use Rattle.machine.proofs.StepLemmas.{stop_is, tells_at}
 use Rattle.machine.proofs.instructing.on_stack.Goals as goal
