@@ -29,3 +29,5 @@ mod shelves;
 mod sounds;
 #[cfg(test)]
 mod steps;
+#[cfg(test)]
+mod worlds;

@@ -78,7 +78,7 @@ impl Program {
     }
 
     /// The state in which a channel of the contract begins.
-    pub(crate) fn first_state(&self, contract: ContractId) -> StateId
+    pub fn first_state(&self, contract: ContractId) -> StateId
         ensures state { result.0 ≡ table.first_state (seen_of self.now) contract.0 }
         ensures numbered { result.0 < MOST_STATES }
     {
@@ -99,7 +99,7 @@ impl Program {
     }
 
     /// Where an endpoint of this kind is behind a send of the message, if it sends it in that state.
-    pub(crate) fn sent(&self, kind: Option<Kind>, state: u32, message: MessageId) -> Option<StateId>
+    pub fn sent(&self, kind: Option<Kind>, state: u32, message: MessageId) -> Option<StateId>
         ensures end { option_map (λ q. q.0) result ≡ end_on (table.edges_out (seen_of self.now) kind state) message.0 }
         ensures numbered { IfSome result (λ q. q.0 < MOST_STATES) }
     {

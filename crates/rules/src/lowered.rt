@@ -55,6 +55,13 @@ impl Program {
         self.methods.list()
     }
 
+    /// Its contracts, in order of the text. Each meets the four conditions.
+    pub fn sounds(&self) -> &[Sound]
+        ensures { map sound_parts result.now ≡ map (λ c. c.parts) (seen_of self.now).contracts }
+    {
+        self.sounds.as_slice()
+    }
+
     /// A contract of it.
     pub fn sound(&self, contract: ContractId) -> &Sound
         requires there { contract.0 < length (seen_of self.now).contracts }

@@ -1,0 +1,71 @@
+-- Calls and starts: their tests, and the frame that begins.
+use Rattle.std.proofs.Common.{◌≡◌, ℕ, List, [], ◌∷◌, Some, Ok, Err, sym, ap, ◌∙◌, subst, map, reverse}
+use Rattle.std.specs.Prelude.{Option, Result, IsErrAnd, IfErr, OnOk}
+use Rattle.std.proofs.lemmas.List.{append-nil}
+use Rattle.source.specs.declared.place.Place.{Place}
+use Rattle.program.specs.Programs.{ProgramSeen}
+use Rattle.program.specs.declared.call.Argument.{Argument}
+use Rattle.program.specs.declared.number.MethodId.{MethodId}
+use Rattle.program.specs.declared.statement.Mention.{Mention}
+use Rattle.flow.specs.Graphs.{Call}
+use Rattle.machine.specs.Answers.{IsRefusal, Pass, Tells, entered_on, on_stack, with_stack, with_variables}
+use Rattle.machine.specs.Blocks.{argument_tests_in}
+use Rattle.machine.specs.Frames.{entered}
+use Rattle.machine.specs.Outcomes.{Bounds, Outcome, Moved, Test, tested}
+use Rattle.machine.specs.Views.{frame_seen, stack_of}
+use Rattle.machine.specs.World.{Block, Frame, World, let_go}
+use Rattle.machine.proofs.FrameLemmas.{given_for}
+use Rattle.machine.specs.declared.worlds as made
+use Rattle.machine.specs.declared.halts.Refusal.{Refusal}
+use Rattle.machine.specs.declared.halts.Refusal.TheVariants as refusal
+
+-- the same refusal is passed on
+pub passed_on : (X : Type 0) (r : Result X Refusal) (x : Refusal) → IsErrAnd r (λ e. e ≡ x) → r ≡ Err x
+passed_on X (Ok y) x is = absurd is
+passed_on X (Err e) x is = ap (λ t. Err t) is
+
+-- tests that pass, and nothing behind them
+pub pass_alone : (tests : List Test) (outcome : Outcome) → Pass tests → tested tests outcome ≡ outcome
+pass_alone tests outcome pass = ap (λ l. tested l outcome) (sym (append-nil tests)) ∙ pass [] outcome
+
+-- an outcome that is one of these tests tells their refusal
+pub told_alone : (X : Type 0) (r : Result X Refusal) (x : Refusal) (tests : List Test) (outcome o : Outcome) (after : World) → r ≡ Err x → IsRefusal x tests → o ≡ tested tests outcome → Tells r o after
+told_alone X r x tests outcome o after e h is = subst (λ t. Tells t o after) (sym e) (at x h)
+  where
+    at : (y : Refusal) → IsRefusal y tests → Tells {X = X} (Err y) o after
+    at (refusal.Fault fault) h = is ∙ (ap (λ l. tested l outcome) (sym (append-nil tests)) ∙ h [] outcome)
+    at refusal.Waits h = absurd h
+    at refusal.Memory h = tt
+
+-- what a call comes to behind its tests
+abbrev pub called_to : ProgramSeen → World → ℕ → made.Frame.Frame → List made.Frame.Frame → MethodId → List Argument → Outcome
+called_to p w self f waiting method arguments =
+    Moved (with_stack w self (entered p method.0 (given_for (frame_seen f).variables arguments) ∷ with_variables (frame_seen f) (let_go (frame_seen f).variables arguments) ∷ map frame_seen (reverse waiting)) w.blocks)
+
+-- a call: its tests, and then that
+pub call_is : (p : ProgramSeen) (bound : Bounds) (w : World) (self : ℕ) (place : Place) (method : MethodId) (arguments given : List Argument) (target : Option Mention) (next : ℕ) (top : Option made.Frame.Frame) (waiting : List made.Frame.Frame) (f : made.Frame.Frame) (bs : List Block)
+    → top ≡ Some f → w.blocks ≡ bs → given ≡ arguments
+    → on_stack p bound w self (Call place method arguments target next) 0 (stack_of top waiting) ≡ tested (argument_tests_in bs self (frame_seen f).variables [] given) (called_to p w self f waiting method arguments)
+call_is p bound w self place method arguments given target next top waiting f bs e is args =
+    ap (λ t. on_stack p bound w self (Call place method arguments target next) 0 (stack_of t waiting)) e
+    ∙ (ap (λ b. tested (argument_tests_in b self (frame_seen f).variables [] arguments) (called_to p w self f waiting method arguments)) is
+    ∙ ap (λ l. tested (argument_tests_in bs self (frame_seen f).variables [] l) (called_to p w self f waiting method arguments)) (sym args))
+
+-- the frame that begins stands on top
+pub entered_is : (p : ProgramSeen) (w : World) (self : ℕ) (method : MethodId) (arguments b d : List Argument) (top : Option made.Frame.Frame) (waiting : List made.Frame.Frame) (f begun : made.Frame.Frame) (stack : List Frame)
+    → top ≡ Some f → b ≡ arguments → d ≡ arguments → frame_seen begun ≡ entered p method.0 (given_for (frame_seen f).variables b) → stack ≡ entered_on (frame_seen begun) d (stack_of top waiting)
+    → called_to p w self f waiting method arguments ≡ Moved (with_stack w self stack w.blocks)
+entered_is p w self method arguments b d top waiting f begun stack e same others begins is =
+    let rest = map frame_seen (reverse waiting) in
+    let started : frame_seen begun ≡ entered p method.0 (given_for (frame_seen f).variables arguments) = begins ∙ ap (λ l. entered p method.0 (given_for (frame_seen f).variables l)) same in
+    let stands : stack ≡ entered p method.0 (given_for (frame_seen f).variables arguments) ∷ with_variables (frame_seen f) (let_go (frame_seen f).variables arguments) ∷ rest =
+    is ∙ (ap (λ t. entered_on (frame_seen begun) d (stack_of t waiting)) e
+    ∙ (ap (λ g. g ∷ with_variables (frame_seen f) (let_go (frame_seen f).variables d) ∷ rest) started
+    ∙ ap (λ l. entered p method.0 (given_for (frame_seen f).variables arguments) ∷ with_variables (frame_seen f) (let_go (frame_seen f).variables l) ∷ rest) others)) in
+    ap (λ s. Moved (with_stack w self s w.blocks)) (sym stands)
+
+-- a call whose tests pass
+pub call_tells : (X : Type 0) (r : Result X Refusal) (o : Outcome) (w : World) (self : ℕ) (stack : List Frame) (bs : List Block) (Stands : Type 0)
+    → w.blocks ≡ bs → OnOk r Stands → IfErr r (λ x. x ≡ refusal.Memory) → (Stands → o ≡ Moved (with_stack w self stack w.blocks)) → Tells r o (with_stack w self stack bs)
+call_tells X (Ok y) o w self stack bs Stands is stands memory then_is = then_is stands ∙ ap (λ b. Moved (with_stack w self stack b)) is
+call_tells X (Err x) o w self stack bs Stands is stands memory then_is = subst (λ y. Tells {X = X} (Err y) o (with_stack w self stack bs)) (sym memory) tt

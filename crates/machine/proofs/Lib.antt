@@ -1,0 +1,11 @@
+pub mod BoundLemmas
+pub mod CallLemmas
+pub mod ChangeLemmas
+pub mod FrameLemmas
+pub mod GiveLemmas
+pub mod ScopeLemmas
+pub mod SmallRuns
+pub mod StandLemmas
+pub mod StartLemmas
+pub mod StepLemmas
+pub mod SwitchLemmas

@@ -1,0 +1,138 @@
+-- Small runs, computed by the definitions.
+use Rattle.std.proofs.Common.{◌≡◌, ℕ, false, List, [], ◌∷◌, Some, None, refl}
+use Rattle.std.specs.Prelude.{Option}
+use Rattle.source.specs.declared.place.Place.{Place}
+use Rattle.program.specs.Methods.{MethodSeen, VariableSeen}
+use Rattle.program.specs.Parts.{ContractSeen}
+use Rattle.program.specs.Programs.{ProgramSeen}
+use Rattle.program.specs.Statements.{StatementSeen, StatementsSeen, Simple, Send, MoreStatements, NoStatement}
+use Rattle.program.specs.declared.contract.Sign.TheVariants as sign
+use Rattle.program.specs.declared.kind.Kind.{Kind}
+use Rattle.program.specs.declared.kind.Kind.TheVariants.{Struct, Endpoint}
+use Rattle.program.specs.declared.kind.Side.TheVariants.{Imp, Exp}
+use Rattle.program.specs.declared.method.Role.TheVariants.{Local}
+use Rattle.program.specs.declared.statement.Action.TheVariants as does
+use Rattle.program.specs.declared.statement.Mention.{Mention}
+use Rattle.machine.specs.Machine.{event_outcome}
+use Rattle.machine.specs.Outcomes.{Bounds, Outcome, Moved, Faulty}
+use Rattle.machine.specs.Runs.{start_of}
+use Rattle.machine.specs.World.{Block}
+use Rattle.machine.specs.declared.halts.Event.{Event}
+use Rattle.machine.specs.declared.halts.Fault.TheVariants.{F1, F4, F7}
+use Rattle.machine.specs.declared.worlds.Owner.{Owner}
+use Rattle.machine.specs.declared.worlds.Owner.TheVariants.{Process, Queue, Channel, Freed}
+
+abbrev at : Place
+at = record { line = 1; col = 1 }
+
+abbrev variable : Kind → Option ℕ → VariableSeen
+variable k None = record { name = []; kind = k; role = Local; outer = None }
+variable k (Some n) = record { name = []; kind = k; role = Local; outer = Some record { 0 = n } }
+
+abbrev mention : ℕ → Mention
+mention n = record { variable = record { 0 = n }; place = at }
+
+-- a contract whose exporting end sends a message once
+abbrev once : ContractSeen
+once = record {
+  name = [];
+  parts = record {
+    first = record { 0 = 0 };
+    states = [];
+    messages = [];
+    edges = record { from = record { 0 = 0 }; message = record { 0 = 0 }; sign = sign.Send; to = record { 0 = 1 }; place = at } ∷ [];
+  };
+}
+
+-- a method with the two ends of a channel and a struct
+abbrev method : StatementsSeen → MethodSeen
+method statements = record {
+  name = at;
+  gives = false;
+  result = None;
+  variables = variable (Endpoint record { 0 = 0 } Imp record { 0 = 0 }) None ∷ variable (Endpoint record { 0 = 0 } Exp record { 0 = 0 }) (Some 0) ∷ variable (Struct record { 0 = 0 }) (Some 1) ∷ [];
+  statements = statements;
+  scope = Some record { 0 = 2 };
+  close = at;
+}
+
+abbrev row : List StatementSeen → StatementsSeen
+row [] = NoStatement
+row (s ∷ ss) = MoreStatements s (row ss)
+
+-- it opens the channel, and then does this
+abbrev opens : List StatementSeen → ProgramSeen
+opens statements = record {
+  contracts = once ∷ [];
+  messages = (Struct record { 0 = 0 } ∷ []) ∷ [];
+  methods = method (MoreStatements (Simple [] (does.NewChannel record { place = at; contract = record { 0 = 0 }; first = mention 0; second = mention 1 })) (row statements)) ∷ [];
+}
+
+abbrev sends : ℕ → StatementSeen
+sends n = Send record { reads = []; place = at; endpoint = mention 1; message = record { 0 = 0 }; payloads = mention n ∷ [] }
+
+abbrev bound : Bounds
+bound c s = 1
+
+abbrev event : Event
+event = record { process = 0; choice = 0 }
+
+abbrev next : ProgramSeen → Outcome → Outcome
+next p (Moved w) = event_outcome p bound w event
+next p o = o
+
+-- so many events of the first process
+abbrev four : ProgramSeen → Outcome
+four p = next p (next p (next p (next p (Moved (start_of p 0)))))
+
+abbrev three : ProgramSeen → Outcome
+three p = next p (next p (next p (Moved (start_of p 0))))
+
+abbrev blocks_of : Outcome → List Block
+blocks_of (Moved w) = w.blocks
+blocks_of _ = []
+
+abbrev owners : List Block → List Owner
+owners [] = []
+owners (b ∷ bs) = b.owner ∷ owners bs
+
+-- a struct is sent, and read then
+abbrev reads_what_it_sent : ProgramSeen
+reads_what_it_sent = opens (Simple [] (does.New (mention 2)) ∷ sends 2 ∷ Simple (mention 2 ∷ []) does.Nothing ∷ [])
+
+pub sent_then : blocks_of (three reads_what_it_sent) ≡
+    record { kind = Endpoint record { 0 = 0 } Imp record { 0 = 0 }; owner = Process 0; peer = 1; state = 0; queue = record { message = 0; payload = 2 ∷ [] } ∷ [] }
+    ∷ record { kind = Endpoint record { 0 = 0 } Exp record { 0 = 0 }; owner = Process 0; peer = 0; state = 1; queue = [] }
+    ∷ record { kind = Struct record { 0 = 0 }; owner = Queue 0; peer = 0; state = 0; queue = [] } ∷ []
+sent_then = refl
+
+pub read_then : four reads_what_it_sent ≡ Faulty F1
+read_then = refl
+
+-- an end is sent along the other one, to itself, and the other one is freed: the process has nothing where it ends
+abbrev sends_an_end : ProgramSeen
+sends_an_end = opens (sends 0 ∷ Simple [] (does.Delete (mention 1)) ∷ [])
+
+pub end_sent : owners (blocks_of (three sends_an_end)) ≡ Queue 0 ∷ Freed ∷ []
+end_sent = refl
+
+-- the importing end is freed, a struct is sent all the same, and goes to the channel
+abbrev sends_to_nobody : ProgramSeen
+sends_to_nobody = opens (Simple [] (does.Delete (mention 0)) ∷ Simple [] (does.New (mention 2)) ∷ sends 2 ∷ [])
+
+pub lost_then : owners (blocks_of (four sends_to_nobody)) ≡ Freed ∷ Process 0 ∷ Channel ∷ []
+lost_then = refl
+
+-- a message is sent twice where its contract has it once
+abbrev sends_twice : ProgramSeen
+sends_twice = opens (sends 0 ∷ Simple [] (does.New (mention 2)) ∷ sends 2 ∷ [])
+
+pub sent_twice : four sends_twice ≡ Faulty F4
+sent_twice = refl
+
+-- the process ends, and still has the ends of its channel
+abbrev keeps : ProgramSeen
+keeps = opens []
+
+pub kept_then : next keeps (next keeps (next keeps (Moved (start_of keeps 0)))) ≡ Faulty F7
+kept_then = refl

@@ -1,0 +1,73 @@
+use Rattle.std.proofs.Common.{ap, sym, ◌∙◌}
+use Rattle.flow.specs.Graphs.{Use, New, Move, Delete, NewChannel, Switch, cases_seen, instruction_seen}
+use Rattle.rules.specs.Programs.{seen_of}
+use Rattle.machine.specs.Machine.{event_of}
+use Rattle.machine.specs.Outcomes.{Moved}
+use Rattle.machine.specs.Answers.{on_top}
+use Rattle.machine.specs.Views.{blocks_seen, frame_seen}
+use Rattle.machine.proofs.StepLemmas.{frame_tells, slice_tells}
+use Rattle.machine.proofs.instructing.on_frame.Goals as goal
+
+pub returns-in-Use-clause-tells : goal.returns-in-Use-clause-tells
+returns-in-Use-clause-tells c = λ bound w rest are is.
+    let p = seen_of c.args.program.now in
+    let f = frame_seen c.args.frame.now in
+    let i = Use c.in-Use.at c.in-Use.next in
+    let self = c.args.chosen.process in
+    frame_tells _ c.use_.result p bound w self f rest (instruction_seen c.args.instr.now) i c.args.chosen.choice _ (ap instruction_seen c.in-Use.is)
+    (slice_tells _ c.use_.result (event_of p bound w self f rest i 0) w.processes self rest (frame_seen c.use_.new.frame) c.deref.result.now c.args.blocks.now.items c.deref.ensures.value
+    (c.use_.ensures.tells p bound w rest (is ∙ ap blocks_seen (sym c.deref.ensures.value))))
+
+pub returns-in-Move-clause-tells : goal.returns-in-Move-clause-tells
+returns-in-Move-clause-tells c = λ bound w rest are is.
+    let p = seen_of c.args.program.now in
+    let f = frame_seen c.args.frame.now in
+    let i = Move c.in-Move.target c.in-Move.source c.in-Move.next in
+    let self = c.args.chosen.process in
+    frame_tells _ c.move_.result p bound w self f rest (instruction_seen c.args.instr.now) i c.args.chosen.choice _ (ap instruction_seen c.in-Move.is)
+    (slice_tells _ c.move_.result (event_of p bound w self f rest i 0) w.processes self rest (frame_seen c.move_.new.frame) c.deref-in-Move.result.now c.args.blocks.now.items c.deref-in-Move.ensures.value
+    (c.move_.ensures.tells p bound w rest (is ∙ ap blocks_seen (sym c.deref-in-Move.ensures.value))))
+
+pub returns-in-New-clause-tells : goal.returns-in-New-clause-tells
+returns-in-New-clause-tells c = λ bound w rest are is.
+    let p = seen_of c.args.program.now in
+    let f = frame_seen c.args.frame.now in
+    frame_tells _ c.new.result p bound w c.args.chosen.process f rest (instruction_seen c.args.instr.now) (New c.in-New.target c.in-New.arguments.items c.in-New.next) c.args.chosen.choice _ (ap instruction_seen c.in-New.is)
+    (c.new.ensures.tells bound w rest c.in-New.arguments.items is)
+
+pub returns-in-NewChannel-clause-tells : goal.returns-in-NewChannel-clause-tells
+returns-in-NewChannel-clause-tells c = λ bound w rest are is.
+    let p = seen_of c.args.program.now in
+    let f = frame_seen c.args.frame.now in
+    frame_tells _ c.new_channel.result p bound w c.args.chosen.process f rest (instruction_seen c.args.instr.now) (NewChannel c.in-NewChannel.channel c.in-NewChannel.next) c.args.chosen.choice _ (ap instruction_seen c.in-NewChannel.is)
+    (c.new_channel.ensures.tells bound w rest is)
+
+pub returns-in-Delete-clause-tells : goal.returns-in-Delete-clause-tells
+returns-in-Delete-clause-tells c = λ bound w rest are is.
+    let p = seen_of c.args.program.now in
+    let f = frame_seen c.args.frame.now in
+    frame_tells _ c.delete.result p bound w c.args.chosen.process f rest (instruction_seen c.args.instr.now) (Delete c.in-Delete.at c.in-Delete.next) c.args.chosen.choice _ (ap instruction_seen c.in-Delete.is)
+    (c.delete.ensures.tells p bound w rest is)
+
+pub returns-in-Switch-clause-tells : goal.returns-in-Switch-clause-tells
+returns-in-Switch-clause-tells c = λ bound w rest are is.
+    let p = seen_of c.args.program.now in
+    let f = frame_seen c.args.frame.now in
+    frame_tells _ c.switch.result p bound w c.args.chosen.process f rest (instruction_seen c.args.instr.now) (Switch c.in-Switch.place (cases_seen c.in-Switch.cases)) c.args.chosen.choice _ (ap instruction_seen c.in-Switch.is)
+    (c.switch.ensures.tells bound w rest c.in-Switch.place is)
+
+pub returns-in-Branch-clause-tells : goal.returns-in-Branch-clause-tells
+returns-in-Branch-clause-tells c = λ bound w rest are is.
+    let p = seen_of c.args.program.now in
+    let f = frame_seen c.args.frame.now in
+    let self = c.args.chosen.process in
+    ap (λ k. event_of p bound w self f rest k c.args.chosen.choice) (ap instruction_seen c.in-Branch.is)
+    ∙ (c.branch-frame.ensures p bound w rest self c.in-Branch.place ∙ ap (λ bs. Moved (on_top w.processes self rest (frame_seen c.branch-frame.new.frame) bs)) is)
+
+pub returns-in-Forget-clause-tells : goal.returns-in-Forget-clause-tells
+returns-in-Forget-clause-tells c = λ bound w rest are is.
+    let p = seen_of c.args.program.now in
+    let f = frame_seen c.args.frame.now in
+    let self = c.args.chosen.process in
+    ap (λ k. event_of p bound w self f rest k c.args.chosen.choice) (ap instruction_seen c.in-Forget.is)
+    ∙ (c.forget_.ensures bound w rest self ∙ ap (λ bs. Moved (on_top w.processes self rest (frame_seen c.forget_.new.frame) bs)) is)

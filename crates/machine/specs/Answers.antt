@@ -1,0 +1,134 @@
+-- What the code answers, in words of the definitions.
+use Rattle.std.specs.Prelude.{◌≡◌, ℕ, ◌==◌, Bool, true, false, List, [], ◌∷◌, ◌++◌, set, slice_get, if◌then◌else◌}
+use Rattle.std.specs.Prelude.{Option, Result, Ok, Err, Some, None}
+use Rattle.std.specs.Option.{option_map_or}
+use Rattle.source.specs.declared.place.Place.{Place}
+use Rattle.program.specs.Methods.{MethodSeen, VariableSeen}
+use Rattle.program.specs.Programs.{ProgramSeen}
+use Rattle.flow.specs.Graphs.{Instruction, Call, Start, Return, Stop}
+use Rattle.program.specs.declared.call.Argument.{Argument}
+use Rattle.program.specs.declared.statement.Mention.{Mention}
+use Rattle.machine.specs.Frames.{put}
+use Rattle.machine.specs.Machine.{event_of, returns}
+use Rattle.machine.specs.Outcomes.{Test, tested, Bounds, Outcome, Moved, Faulty, Waits, NoProcess, NoChoice}
+use Rattle.machine.specs.World.{Block, Frame, MessageHeld, World, let_go, read}
+use Rattle.machine.specs.declared.halts.Halt.{Halt}
+use Rattle.machine.specs.declared.halts.Halt.TheVariants as halt
+use Rattle.machine.specs.declared.halts.Refusal.{Refusal}
+use Rattle.machine.specs.declared.halts.Refusal.TheVariants as refusal
+
+-- An answer of an instruction tells the outcome; want of memory tells nothing.
+abbrev pub Tells : {X : Type 0} → Result X Refusal → Outcome → World → Type 0
+Tells (Ok x) outcome after = outcome ≡ Moved after
+Tells (Err (refusal.Fault fault)) outcome after = outcome ≡ Faulty fault
+Tells (Err refusal.Waits) outcome after = outcome ≡ Waits
+Tells (Err refusal.Memory) outcome after = Unit {0}
+
+-- An answer of a step tells the outcome, and the place of a fault; want of memory tells nothing.
+abbrev pub TellsStep : {X : Type 0} → Result X Halt → Outcome → Option Place → World → Type 0
+TellsStep (Ok x) outcome place after = outcome ≡ Moved after
+TellsStep (Err (halt.Fault fault at)) outcome place after = (outcome ≡ Faulty fault) × (place ≡ Some at)
+TellsStep (Err halt.Waits) outcome place after = outcome ≡ Waits
+TellsStep (Err halt.NoSuchProcess) outcome place after = outcome ≡ NoProcess
+TellsStep (Err halt.NoSuchChoice) outcome place after = outcome ≡ NoChoice
+TellsStep (Err halt.Memory) outcome place after = Unit {0}
+
+-- why no step was taken, where an instruction at a place was refused
+abbrev pub halt_of : Refusal → Place → Halt
+halt_of (refusal.Fault fault) place = halt.Fault fault place
+halt_of refusal.Waits place = halt.Waits
+halt_of refusal.Memory place = halt.Memory
+
+-- a world in which a frame stands on top of a process
+abbrev pub on_top : List (List Frame) → ℕ → List Frame → Frame → List Block → World
+on_top processes self rest f blocks = record { processes = set processes self (f ∷ rest); blocks = blocks }
+
+-- a frame takes this into its variables
+abbrev pub with_variables : Frame → List (Option ℕ) → Frame
+with_variables f variables = record { method = f.method; point = f.point; variables = variables }
+
+-- the variables of a method
+abbrev pub variables_in : List MethodSeen → ℕ → List VariableSeen
+variables_in methods m = option_map_or (λ x. x.variables) (slice_get methods m) []
+
+-- what an instruction comes to on a stack
+abbrev pub on_stack : ProgramSeen → Bounds → World → ℕ → Instruction → ℕ → List Frame → Outcome
+on_stack p bound w self i choice [] = NoProcess
+on_stack p bound w self i choice (f ∷ rest) = event_of p bound w self f rest i choice
+
+-- what the end of the innermost frame of a stack comes to, where it gives what a variable has
+abbrev pub ended : ProgramSeen → Bounds → World → ℕ → Option Mention → List Frame → Outcome
+ended p bound w self value [] = NoProcess
+ended p bound w self value (f ∷ rest) = returns p bound w self f rest value rest
+
+-- the variables of a caller, of which the target takes what a variable of the innermost frame of a stack has
+abbrev pub given_back : (value target : Option Mention) → List Frame → List (Option ℕ) → List (Option ℕ)
+given_back None target stack variables = variables
+given_back (Some v) target [] variables = variables
+given_back (Some v) target (f ∷ rest) variables = put variables target (read f.variables v.variable.0)
+
+-- a frame is put on top of a stack, of which the innermost frame lets go what is claimed of arguments
+abbrev pub entered_on : Frame → List Argument → List Frame → List Frame
+entered_on begun arguments [] = []
+entered_on begun arguments (f ∷ rest) = begun ∷ with_variables f (let_go f.variables arguments) ∷ rest
+
+-- the innermost frame of a stack lets go what is claimed of arguments, and goes on at a point
+abbrev pub went_on : List Argument → ℕ → List Frame → List Frame
+went_on arguments next [] = []
+went_on arguments next (f ∷ rest) = record { method = f.method; point = next; variables = let_go f.variables arguments } ∷ rest
+
+-- instructions that change the innermost frame of a process and blocks, and nothing else
+abbrev pub is_of_frame : Instruction → Bool
+is_of_frame (Call place method arguments target next) = false
+is_of_frame (Start place method arguments next) = false
+is_of_frame (Return place value scope) = false
+is_of_frame (Stop place) = false
+is_of_frame _ = true
+
+-- and those that change no other process
+abbrev pub is_of_process : Instruction → Bool
+is_of_process (Start place method arguments next) = false
+is_of_process _ = true
+
+-- a process's stack is another
+abbrev pub with_stack : World → ℕ → List Frame → List Block → World
+with_stack w self stack blocks = record { processes = set w.processes self stack; blocks = blocks }
+
+-- all these tests pass
+abbrev pub Pass : List Test → Type 0
+Pass tests = (more : List Test) (outcome : Outcome) → tested (tests ++ more) outcome ≡ tested more outcome
+
+-- the first of these tests that fails has this fault; want of memory tells nothing
+abbrev pub IsRefusal : Refusal → List Test → Type 0
+IsRefusal (refusal.Fault fault) tests = (more : List Test) (outcome : Outcome) → tested (tests ++ more) outcome ≡ Faulty fault
+IsRefusal refusal.Memory tests = Unit {0}
+IsRefusal refusal.Waits tests = ⊥
+
+-- the endpoint at an address goes on to a state
+abbrev pub in_state : (a state : ℕ) → ℕ → Block → Block
+in_state a state j b = record { kind = b.kind; owner = b.owner; peer = b.peer; state = if j == a then state else b.state; queue = b.queue }
+
+-- a message goes to the queue of the endpoint at an address
+abbrev pub queued : ℕ → MessageHeld → ℕ → Block → Block
+queued to m j b = record {
+  kind = b.kind;
+  owner = b.owner;
+  peer = b.peer;
+  state = b.state;
+  queue = if j == to then b.queue ++ m ∷ [] else b.queue;
+}
+
+-- the endpoint at an address has these messages left in its queue
+abbrev pub left_in : ℕ → List MessageHeld → ℕ → Block → Block
+left_in a messages j b = record {
+  kind = b.kind;
+  owner = b.owner;
+  peer = b.peer;
+  state = b.state;
+  queue = if j == a then messages else b.queue;
+}
+
+-- the message at the front of a queue
+abbrev pub front_of : List MessageHeld → Option ℕ
+front_of [] = None
+front_of (m ∷ ms) = Some m.message

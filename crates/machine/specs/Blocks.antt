@@ -1,0 +1,112 @@
+-- What becomes of blocks, each by its address, and what is asked of them.
+use Rattle.std.specs.Prelude.{ℕ, ◌==◌, nat_lt, Bool, true, false, not, ◌&&◌, ◌||◌, if◌then◌else◌}
+use Rattle.std.specs.Prelude.{List, [], ◌∷◌, ◌++◌, length, Option, Some, None, is_some}
+use Rattle.program.specs.Lists.{is_among}
+use Rattle.program.specs.Programs.{ProgramSeen}
+use Rattle.program.specs.declared.call.Argument.{Argument}
+use Rattle.program.specs.declared.kind.Kind.{Kind}
+use Rattle.program.specs.declared.kind.Kind.TheVariants.{Endpoint}
+use Rattle.program.specs.declared.kind.Side.{Side}
+use Rattle.program.specs.declared.kind.Side.TheVariants.{Imp}
+use Rattle.program.specs.declared.statement.Channel as made
+use Rattle.contracts.specs.Leaving.{end_on}
+use Rattle.rules.specs.Endpoints.{edges_in, edges_out}
+use Rattle.machine.specs.Frames.{address}
+use Rattle.machine.specs.Outcomes.{Bounds, Test, test}
+use Rattle.machine.specs.World.{MessageHeld, Block, block_at, cut_off, freed, is_process, is_queue, owns, read}
+use Rattle.machine.specs.declared.halts.Fault.TheVariants.{F1, F3, F4, F6}
+use Rattle.machine.specs.declared.worlds.Owner.{Owner}
+use Rattle.machine.specs.declared.worlds.Owner.TheVariants.{Process, Queue, Channel, Freed}
+
+-- these blocks go to an owner
+abbrev pub handed : Owner → List ℕ → ℕ → Block → Block
+handed to given j b = record {
+  kind = b.kind;
+  owner = if is_among given j then to else b.owner;
+  peer = b.peer;
+  state = b.state;
+  queue = b.queue;
+}
+
+-- A block is freed. Its queue is emptied, and what that had goes to the channel.
+abbrev pub freed_block : ℕ → ℕ → Block → Block
+freed_block a j b = record {
+  kind = b.kind;
+  owner = if j == a then Freed else (if is_queue b.owner a then Channel else b.owner);
+  peer = b.peer;
+  state = b.state;
+  queue = if j == a then [] else b.queue;
+}
+
+-- The endpoint at a sends: it goes on to a state, what is given goes to an owner, and the message goes to the queue of the endpoint
+-- at the address to, unless that is gone.
+abbrev pub sent_block : (a state to : ℕ) (gone : Bool) → MessageHeld → ℕ → Block → Block
+sent_block a state to gone m j b = record {
+  kind = b.kind;
+  owner = if is_among m.payload j then (if gone then Channel else Queue to) else b.owner;
+  peer = b.peer;
+  state = if j == a then state else b.state;
+  queue = if (j == to) && not gone then b.queue ++ m ∷ [] else b.queue;
+}
+
+-- the endpoint at a receives the front of its queue for a process
+abbrev pub received_block : (self a state : ℕ) → MessageHeld → List MessageHeld → ℕ → Block → Block
+received_block self a state m rest j b = record {
+  kind = b.kind;
+  owner = if is_among m.payload j then Process self else b.owner;
+  peer = b.peer;
+  state = if j == a then state else b.state;
+  queue = if j == a then rest else b.queue;
+}
+
+-- a new block of a process
+abbrev pub new_block : Kind → ℕ → ℕ → ℕ → Block
+new_block kind self peer state = record { kind = kind; owner = Process self; peer = peer; state = state; queue = [] }
+
+-- whether it is an importing end
+abbrev pub is_imp : Kind → Bool
+is_imp (Endpoint contract Imp state) = true
+is_imp _ = false
+
+-- an end of a channel of a contract
+abbrev pub end_kind : made.Channel → Side → Kind
+end_kind c side = Endpoint c.contract side record { 0 = 0 }
+
+-- how many messages the queue to it may hold
+abbrev pub bound_of : Bounds → Kind → ℕ
+bound_of bound (Endpoint contract side state) = bound contract.0 side
+bound_of bound _ = 0
+
+-- no block is the process's
+abbrev pub owns_none : List Block → ℕ → Bool
+owns_none [] q = true
+owns_none (b ∷ blocks) q = not (is_process b.owner q) && owns_none blocks q
+
+-- the process has the block in a variable, and it was not claimed before
+abbrev pub is_own_still : List Block → ℕ → List ℕ → Option ℕ → Bool
+is_own_still blocks self taken None = false
+is_own_still blocks self taken (Some a) = owns blocks self a && not (is_among taken a)
+
+-- the tests of arguments, in order: what is lent, and what is claimed
+abbrev pub argument_tests_in : List Block → ℕ → List (Option ℕ) → List ℕ → List Argument → List Test
+argument_tests_in blocks self variables taken [] = []
+argument_tests_in blocks self variables taken (a ∷ arguments) =
+    test (is_own_still blocks self taken (read variables a.mention.variable.0)) (if a.claimed then F3 else F1)
+    ∷ argument_tests_in blocks self variables (if a.claimed then address (read variables a.mention.variable.0) ∷ taken else taken) arguments
+
+-- the state behind the edge along which the endpoint at an address sends a message
+abbrev pub edge_out_in : ProgramSeen → List Block → (at message : ℕ) → Option ℕ
+edge_out_in p blocks at message = end_on (edges_out p (Some (block_at blocks at).kind) (block_at blocks at).state) message
+
+-- and behind the edge along which it receives one
+abbrev pub edge_in_in : ProgramSeen → List Block → (at message : ℕ) → Option ℕ
+edge_in_in p blocks at message = end_on (edges_in p (Some (block_at blocks at).kind) (block_at blocks at).state) message
+
+-- whether the endpoint at an address may take one more message, unless it is freed
+abbrev pub has_room_in : Bounds → List Block → ℕ → Bool
+has_room_in bound blocks to = freed blocks to || nat_lt (length (block_at blocks to).queue) (bound_of bound (block_at blocks to).kind)
+
+-- the tests of a send behind those of what it names
+abbrev pub send_tests_in : Bounds → List Block → ℕ → Option ℕ → List Test
+send_tests_in bound blocks at edge =
+    test (cut_off blocks at || is_some edge) F4 ∷ test (has_room_in bound blocks (block_at blocks at).peer) F6 ∷ []

@@ -1,0 +1,149 @@
+-- What each instruction of a process tests and changes.
+use Rattle.std.specs.Prelude.{ℕ, ◌+◌, ◌==◌, Bool, if◌then◌else◌, Option, Some, None, unwrap_or}
+use Rattle.std.specs.Prelude.{List, [], ◌∷◌, ◌++◌, map, length, slice_get, set}
+use Rattle.program.specs.Programs.{ProgramSeen}
+use Rattle.program.specs.declared.call.Argument.{Argument}
+use Rattle.program.specs.declared.kind.Side.TheVariants.{Imp, Exp}
+use Rattle.program.specs.declared.statement.Mention.{Mention}
+use Rattle.flow.specs.Cases.{EntranceSeen, case_for, first_mentions}
+use Rattle.flow.specs.Graphs.{Instruction, Use, New, Move, Delete, NewChannel, Send, Switch, Branch, Forget, Call, Start, Return, Stop}
+use Rattle.flow.specs.declared.graph.Branches.{Branches}
+use Rattle.flow.specs.declared.graph.Branches.TheVariants.{Either, Only}
+use Rattle.rules.specs.Endpoints.{first_state}
+use Rattle.machine.specs.Blocks.{argument_tests_in, edge_in_in, edge_out_in, has_room_in, owns_none, send_tests_in}
+use Rattle.machine.specs.Blocks.{end_kind, freed_block, handed, is_imp, new_block, received_block, sent_block}
+use Rattle.machine.specs.Frames.{call_next, call_target, entered, instruction_at, kind_at, method_at, variables_of}
+use Rattle.machine.specs.Frames.{address, addresses, bound_to, forgotten, gone_with, payloads_claimed, put}
+use Rattle.machine.specs.Outcomes.{Bounds, Outcome, Moved, Faulty, Waits, NoChoice, Test, test, tested}
+use Rattle.machine.specs.World.{Block, Frame, MessageHeld, World, block_at, changed, cut_off, freed, is_own_in, let_go, read}
+use Rattle.machine.specs.declared.halts.Fault.TheVariants.{F1, F2, F3, F5, F7}
+use Rattle.machine.specs.declared.worlds.Owner.TheVariants.{Process}
+
+-- the way of a condition
+abbrev pub way : Branches → ℕ → ℕ
+way (Only point) choice = point
+way (Either inside past) choice = if choice == 0 then inside else past
+
+module _ (p : ProgramSeen) (bound : Bounds) (w : World) (self : ℕ) (f : Frame) (rest : List Frame) where
+  -- the process goes on with these frames and blocks
+  abbrev pub goes : List Frame → List Block → Outcome
+  goes frames blocks = Moved record { processes = set w.processes self frames; blocks = blocks }
+
+  -- its innermost frame goes on at a point
+  abbrev pub on : ℕ → List (Option ℕ) → List Block → Outcome
+  on next variables blocks = goes (record { method = f.method; point = next; variables = variables } ∷ rest) blocks
+
+  -- what a variable of that frame has
+  abbrev pub has : Mention → Option ℕ
+  has v = read f.variables v.variable.0
+
+  -- the process has the block in a variable
+  abbrev pub is_own : Option ℕ → Bool
+  is_own x = is_own_in w.blocks self x
+
+  -- the tests of arguments, in order
+  abbrev pub argument_tests : List ℕ → List Argument → List Test
+  argument_tests taken arguments = argument_tests_in w.blocks self f.variables taken arguments
+
+  -- the endpoint at an address sends
+  abbrev pub send_from : (at : ℕ) → MessageHeld → Option ℕ → List (Option ℕ) → ℕ → Outcome
+  send_from at message edge variables next =
+      on next variables
+      (changed (sent_block at (if cut_off w.blocks at then (block_at w.blocks at).state else unwrap_or edge (block_at w.blocks at).state)
+      (block_at w.blocks at).peer (freed w.blocks (block_at w.blocks at).peer) message) w.blocks)
+
+  -- whether a queue may take one more message
+  abbrev pub has_room : ℕ → Bool
+  has_room to = has_room_in bound w.blocks to
+
+  -- the tests of a send behind those of what it names
+  abbrev pub send_tests : ℕ → Option ℕ → List Test
+  send_tests at edge = send_tests_in bound w.blocks at edge
+
+  -- the state behind the edge of the endpoint at an address, out and in
+  abbrev pub edge_out : ℕ → ℕ → Option ℕ
+  edge_out at message = edge_out_in p w.blocks at message
+
+  abbrev pub edge_in : ℕ → ℕ → Option ℕ
+  edge_in at message = edge_in_in p w.blocks at message
+
+  -- a close comes to a case
+  abbrev pub closes_at : Option EntranceSeen → Outcome
+  closes_at None = Faulty F5
+  closes_at (Some c) = on c.next f.variables w.blocks
+
+  -- the front message comes to a case
+  abbrev pub receives_at : Option EntranceSeen → ℕ → MessageHeld → List MessageHeld → Outcome
+  receives_at None at m ms = Faulty F5
+  receives_at (Some c) at m ms =
+      on c.next (bound_to f.variables c.bound m.payload)
+      (changed (received_block self at (unwrap_or (edge_in at m.message) (block_at w.blocks at).state) m ms) w.blocks)
+
+  -- what comes at an endpoint with this queue
+  abbrev pub receives : List EntranceSeen → ℕ → ℕ → List MessageHeld → Outcome
+  receives cases v at [] = if freed w.blocks (block_at w.blocks at).peer then closes_at (case_for cases v None) else Waits
+  receives cases v at (m ∷ ms) = receives_at (case_for cases v (Some m.message)) at m ms
+
+  -- what comes at the chosen endpoint
+  abbrev pub receives_from : List EntranceSeen → Option Mention → Outcome
+  receives_from cases None = NoChoice
+  receives_from cases (Some v) = receives cases v.variable.0 (address (has v)) (block_at w.blocks (address (has v))).queue
+
+  -- A frame ends. The caller goes on, or the process ends, and then it is to have nothing.
+  abbrev pub returns : Option Mention → List Frame → Outcome
+  returns value [] = tested (test (owns_none w.blocks self) F7 ∷ []) (goes [] w.blocks)
+  returns None (g ∷ more) =
+      goes (record { method = g.method; point = call_next (instruction_at p g); variables = g.variables } ∷ more) w.blocks
+  returns (Some v) (g ∷ more) =
+      let call = instruction_at p g in
+      goes (record { method = g.method; point = call_next call; variables = put g.variables (call_target call) (has v) } ∷ more) w.blocks
+
+  -- the test of what a frame gives
+  abbrev pub value_tests : Option Mention → List Test
+  value_tests None = []
+  value_tests (Some v) = test (is_own (has v)) F3 ∷ []
+
+  -- a line for each instruction
+  abbrev pub event_of : Instruction → (choice : ℕ) → Outcome
+  event_of (Use v next) choice = tested (test (is_own (has v)) F1 ∷ []) (on next f.variables w.blocks)
+  event_of (New v arguments next) choice =
+      on next (set f.variables v.variable.0 (Some (length w.blocks)))
+      (w.blocks ++ new_block (kind_at (variables_of p f.method) v.variable.0) self 0 0 ∷ [])
+  event_of (NewChannel c next) choice =
+      let first_is_imp = is_imp (kind_at (variables_of p f.method) c.first.variable.0) in
+      let a = length w.blocks in
+      let begins = first_state p c.contract.0 in
+      on next
+      (set (set f.variables c.first.variable.0 (Some (if first_is_imp then a else a + 1))) c.second.variable.0
+      (Some (if first_is_imp then a + 1 else a)))
+      (w.blocks ++ new_block (end_kind c Imp) self (a + 1) begins ∷ new_block (end_kind c Exp) self a begins ∷ [])
+  event_of (Move v u next) choice =
+      tested (test (is_own (has u)) F1 ∷ []) (on next (set (set f.variables v.variable.0 (has u)) u.variable.0 None) w.blocks)
+  event_of (Delete v next) choice =
+      tested (test (is_own (has v)) F2 ∷ [])
+      (on next (set f.variables v.variable.0 None) (changed (freed_block (address (has v))) w.blocks))
+  event_of (Send place e message payloads next) choice =
+      let at = address (has e) in
+      let given = payloads_claimed payloads in
+      tested (test (is_own (has e)) F1 ∷ (argument_tests [] given ++ send_tests at (edge_out at message.0)))
+      (send_from at record { message = message.0; payload = addresses f.variables given } (edge_out at message.0)
+      (let_go f.variables given) next)
+  event_of (Switch place cases) choice =
+      tested (map (λ e. test (is_own (has e)) F1) (first_mentions [] cases))
+      (receives_from cases (slice_get (first_mentions [] cases) choice))
+  event_of (Branch place branches) choice = on (way branches choice) f.variables w.blocks
+  event_of (Forget g next) choice = on next (forgotten f.variables (gone_with (method_at p f.method) g)) w.blocks
+  event_of (Call place method arguments target next) choice =
+      tested (argument_tests [] arguments)
+      (goes
+      (entered p method.0 (map (λ a. has a.mention) arguments)
+      ∷ record { method = f.method; point = f.point; variables = let_go f.variables arguments } ∷ rest) w.blocks)
+  event_of (Start place method arguments next) choice =
+      tested (argument_tests [] arguments)
+      (Moved record {
+        processes = set w.processes self (record { method = f.method; point = next; variables = let_go f.variables arguments } ∷ rest)
+            ++ (entered p method.0 (map (λ a. has a.mention) arguments) ∷ []) ∷ [];
+        blocks = changed (handed (Process (length w.processes)) (addresses f.variables arguments)) w.blocks;
+      })
+  event_of (Return place value scope) choice = tested (value_tests value) (returns value rest)
+  event_of (Stop place) choice = returns None rest

@@ -1,0 +1,11 @@
+pub mod World
+pub mod Views
+pub mod Outcomes
+pub mod Frames
+pub mod Blocks
+pub mod Instructions
+pub mod Machine
+pub mod Runs
+pub mod Places
+pub mod Answers
+pub mod Replays

@@ -1,0 +1,37 @@
+-- Where a process stands in the text.
+use Rattle.std.specs.Prelude.{ℕ, List, [], ◌∷◌, Option, None}
+use Rattle.std.specs.Option.{option_map}
+use Rattle.source.specs.declared.place.Place.{Place}
+use Rattle.program.specs.Programs.{ProgramSeen}
+use Rattle.flow.specs.Graphs.{Instruction, Use, New, Move, Delete, NewChannel, Send, Switch, Branch, Forget, Call, Start, Return, Stop}
+use Rattle.machine.specs.Frames.{instruction_at}
+use Rattle.machine.specs.World.{Frame, World, stack_at}
+
+-- the place of an instruction: of what it names first, or of its own word
+abbrev pub place_of : Instruction → Place
+place_of (Use v next) = v.place
+place_of (New v arguments next) = v.place
+place_of (Move v u next) = v.place
+place_of (Delete v next) = v.place
+place_of (NewChannel c next) = c.place
+place_of (Send place e message payloads next) = place
+place_of (Switch place cases) = place
+place_of (Branch place branches) = place
+place_of (Forget f next) = f.place
+place_of (Call place method arguments target next) = place
+place_of (Start place method arguments next) = place
+place_of (Return place value scope) = place
+place_of (Stop place) = place
+
+-- the place where a frame stands
+abbrev pub frame_place : ProgramSeen → Frame → Option Place
+frame_place p f = option_map place_of (instruction_at p f)
+
+-- the place where a process with these frames stands: where its innermost frame does
+abbrev pub stack_place : ProgramSeen → List Frame → Option Place
+stack_place p [] = None
+stack_place p (f ∷ rest) = frame_place p f
+
+-- the place where a process of a world stands
+abbrev pub process_place : ProgramSeen → World → ℕ → Option Place
+process_place p w q = stack_place p (stack_at w.processes q)

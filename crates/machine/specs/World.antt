@@ -1,0 +1,98 @@
+-- The world of the machine: processes as stacks of frames, the innermost first, and blocks by their addresses.
+use Rattle.std.specs.Prelude.{ℕ, suc, ◌==◌, Bool, true, false, ◌&&◌, List, [], ◌∷◌, Option, Some, None, get_or, set, if◌then◌else◌}
+use Rattle.program.specs.declared.call.Argument.{Argument}
+use Rattle.program.specs.declared.kind.Kind.{Kind}
+use Rattle.program.specs.declared.kind.Kind.TheVariants.{Struct}
+use Rattle.machine.specs.declared.worlds.Owner.{Owner}
+use Rattle.machine.specs.declared.worlds.Owner.TheVariants.{Process, Queue, Channel, Freed}
+
+-- a message in a queue: its number, and the addresses that it brings
+pub record MessageHeld : Type 0 where
+  pub message : ℕ
+  pub payload : List ℕ
+
+-- a block; its peer, state and queue mean something where it is an endpoint
+pub record Block : Type 0 where
+  pub kind : Kind
+  pub owner : Owner
+  pub peer : ℕ
+  pub state : ℕ
+  pub queue : List MessageHeld
+
+-- a method at a point, and what each of its variables has
+pub record Frame : Type 0 where
+  pub method : ℕ
+  pub point : ℕ
+  pub variables : List (Option ℕ)
+
+-- the frames of each process, none where it has ended, and the blocks
+pub record World : Type 0 where
+  pub processes : List (List Frame)
+  pub blocks : List Block
+
+-- what a variable holds that is not there
+abbrev pub no_kind : Kind
+no_kind = Struct record { 0 = 0 }
+
+-- Where no block is, nobody has one.
+abbrev pub no_block : Block
+no_block = record { kind = no_kind; owner = Channel; peer = 0; state = 0; queue = [] }
+
+-- the block at an address
+abbrev pub block_at : List Block → ℕ → Block
+block_at blocks a = get_or blocks a no_block
+
+-- the frames of a process
+abbrev pub stack_at : List (List Frame) → ℕ → List Frame
+stack_at processes q = get_or processes q []
+
+-- the address that a variable has
+abbrev pub read : List (Option ℕ) → ℕ → Option ℕ
+read variables v = get_or variables v None
+
+-- whether it is this process
+abbrev pub is_process : Owner → ℕ → Bool
+is_process (Process q) p = q == p
+is_process _ p = false
+
+-- whether it is the queue of the endpoint at this address
+abbrev pub is_queue : Owner → ℕ → Bool
+is_queue (Queue b) a = b == a
+is_queue _ a = false
+
+-- whether nobody has it any more
+abbrev pub is_freed : Owner → Bool
+is_freed Freed = true
+is_freed _ = false
+
+-- whether a list has nothing
+abbrev pub is_empty : {X : Type 0} → List X → Bool
+is_empty [] = true
+is_empty (x ∷ xs) = false
+
+-- the process has the block
+abbrev pub owns : List Block → ℕ → ℕ → Bool
+owns blocks q a = is_process (block_at blocks a).owner q
+
+-- the process has the block in a variable
+abbrev pub is_own_in : List Block → ℕ → Option ℕ → Bool
+is_own_in blocks self None = false
+is_own_in blocks self (Some a) = owns blocks self a
+
+-- the block is freed
+abbrev pub freed : List Block → ℕ → Bool
+freed blocks a = is_freed (block_at blocks a).owner
+
+-- An endpoint is cut off where its peer is freed and its own queue is empty.
+abbrev pub cut_off : List Block → ℕ → Bool
+cut_off blocks a = freed blocks (block_at blocks a).peer && is_empty (block_at blocks a).queue
+
+-- each block is changed by its address
+abbrev pub changed : (ℕ → Block → Block) → List Block → List Block
+changed f [] = []
+changed f (b ∷ blocks) = f 0 b ∷ changed (λ a. f (suc a)) blocks
+
+-- variables that are claimed have nothing any more
+abbrev pub let_go : List (Option ℕ) → List Argument → List (Option ℕ)
+let_go variables [] = variables
+let_go variables (a ∷ arguments) = let_go (if a.claimed then set variables a.mention.variable.0 None else variables) arguments

@@ -1,0 +1,123 @@
+//! Calls.
+
+ghost use Rattle.std.specs.Prelude.{◌≡◌, IfErr, IfOk, IsSome, OnErr, OnOk, map};
+ghost use Rattle.flow.specs.Graphs.{instruction_seen};
+ghost use Rattle.flow.specs.declared.graph.Instr.{Instr};
+ghost use Rattle.program.specs.Methods.{variable_seen};
+ghost use Rattle.program.specs.WellFormed as formed;
+ghost use Rattle.rules.specs.Programs.{seen_of};
+ghost use Rattle.machine.specs.Answers.{Tells, entered_on, on_stack, with_stack};
+ghost use Rattle.machine.specs.Frames.{entered, filled};
+ghost use Rattle.machine.specs.Outcomes.{Bounds};
+ghost use Rattle.machine.specs.Views.{blocks_seen, frame_seen, stack_seen};
+ghost use Rattle.machine.specs.World as seen;
+ghost use Rattle.machine.specs.World.{read};
+
+use crate::giving::given;
+use crate::halts::Refusal;
+use crate::variables::lets_go;
+use crate::worlds::{Block, Frame, Process};
+use flow::Calling;
+use program::{Argument, MethodId, Role, Variable};
+use rules::Program;
+use std::alloc::Global;
+
+/// Whether a method gets the variable from its caller.
+fn is_parameter(role: Role) -> bool
+    ensures { result ≡ formed.is_parameter role }
+{
+    match role {
+        Role::Lent | Role::Claimed => true,
+        Role::Local => false,
+    }
+}
+
+/// What the variables of a method have where it begins: its parameters, in order, what is given for them, and the others nothing.
+fn fill(
+    alloc: Global,
+    frame: &Frame,
+    variables: &[Variable],
+    arguments: &[Argument],
+) -> Result<Vec<Option<usize>>, Refusal>
+    ensures filled { IfOk result (λ has. has.items ≡ filled (map variable_seen variables.now)
+        (map (λ a. read (frame_seen frame.now).variables a.mention.variable.0) arguments.now)) }
+    ensures memory { IfErr result (λ refusal. refusal ≡ Refusal.Memory) }
+{
+    let mut has = Vec::new(alloc);
+    let mut given = 0;
+    for variable in variables {
+        if is_parameter(variable.role) && given < arguments.len() {
+            has.push(frame.has(arguments[given].mention))?;
+            given += 1;
+        } else {
+            has.push(None)?;
+        }
+    }
+    Ok(has)
+}
+
+/// The frame with which a method begins, given what these variables of the caller have.
+pub(crate) fn enter(
+    alloc: Global,
+    program: &Program,
+    frame: &Frame,
+    method: MethodId,
+    arguments: &[Argument],
+) -> Result<Frame, Refusal>
+    ensures entered { IfOk result (λ begun. frame_seen begun ≡ entered (seen_of program.now) method.0
+        (map (λ a. read (frame_seen frame.now).variables a.mention.variable.0) arguments.now)) }
+    ensures memory { IfErr result (λ refusal. refusal ≡ Refusal.Memory) }
+{
+    let Some(called) = program.methods().get(method.0 as usize) else {
+        return Ok(Frame {
+            method,
+            point: 0,
+            variables: Vec::new(alloc),
+        });
+    };
+    let variables = fill(alloc, frame, &called.variables, arguments)?;
+    Ok(Frame {
+        method,
+        point: program.graph(method).first,
+        variables,
+    })
+}
+
+/// A frame is put on top of the one that calls, which lets go what is claimed of the arguments.
+fn push_frame(stack: &mut Process, begun: Frame, arguments: &[Argument]) -> Result<(), Refusal>
+    ensures pushed { OnOk result (stack_seen stack.new ≡ entered_on (frame_seen begun) arguments.now (stack_seen stack.old)) }
+    ensures same { OnErr result (stack_seen stack.new ≡ stack_seen stack.old) }
+    ensures memory { IfErr result (λ refusal. refusal ≡ Refusal.Memory) }
+{
+    stack.waiting.reserve(1)?;
+    let Some(mut caller) = stack.top.take() else {
+        return Ok(());
+    };
+    lets_go(&mut caller.variables, arguments);
+    stack.waiting.push(caller)?;
+    stack.top = Some(begun);
+    Ok(())
+}
+
+/// A method is called.
+pub(crate) fn call(
+    alloc: Global,
+    program: &Program,
+    stack: &mut Process,
+    blocks: &[Block],
+    process: usize,
+    calling: &Calling,
+) -> Result<(), Refusal>
+    requires top { IsSome stack.old.top }
+    ensures tells { (bound : Bounds) (w : seen.World) → w.blocks ≡ blocks_seen blocks.now →
+        Tells result (on_stack (seen_of program.now) bound w process (instruction_seen (Instr.Call calling.now)) 0 (stack_seen stack.old))
+        (with_stack w process (stack_seen stack.new) (blocks_seen blocks.now)) }
+    ensures same { OnErr result (stack_seen stack.new ≡ stack_seen stack.old) }
+{
+    let Some(frame) = &stack.top else {
+        unreachable!()
+    };
+    given(alloc, frame, blocks, process, &calling.arguments)?;
+    let begun = enter(alloc, program, frame, calling.method, &calling.arguments)?;
+    push_frame(stack, begun, &calling.arguments)
+}

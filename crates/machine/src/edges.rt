@@ -1,0 +1,159 @@
+//! What the contract of an endpoint says of its channel.
+
+ghost use Rattle.std.specs.Prelude.{◌≡◌, ◌||◌, IfErr, IfOk, MatchOption, Some, false, if◌then◌else◌, is_some, true, unwrap_or, ℕ};
+ghost use Rattle.program.specs.Programs.{ProgramSeen};
+ghost use Rattle.contracts.specs.Bounds.{sign_to};
+ghost use Rattle.contracts.specs.Leaving.{sign_from};
+ghost use Rattle.rules.specs.Endpoints.{edges_in, edges_out};
+ghost use Rattle.rules.specs.Programs.{seen_of};
+ghost use Rattle.machine.specs.Answers.{IsRefusal, Pass};
+ghost use Rattle.machine.specs.Blocks as told;
+ghost use Rattle.machine.specs.Blocks.{edge_in_in, edge_out_in, has_room_in, send_tests_in};
+ghost use Rattle.machine.specs.Outcomes.{Bounds};
+ghost use Rattle.machine.specs.Runs.{AreBounds};
+ghost use Rattle.machine.specs.Views.{blocks_seen};
+ghost use Rattle.machine.specs.World.{block_at, cut_off, freed};
+
+use crate::halts::{Fault, Refusal};
+use crate::reading::{is_cut_off, is_freed, kind_of, peer_of, queued, state_of};
+use crate::worlds::Block;
+use program::{ContractId, Kind, MessageId, Side, StateId};
+use rules::Program;
+
+/// What an endpoint sends along: its address, its peer and whether that is gone, and the state behind it.
+#[derive(Clone, Copy)]
+pub(crate) struct Way {
+    pub(crate) at: usize,
+    pub(crate) peer: usize,
+    pub(crate) gone: bool,
+    pub(crate) state: StateId,
+}
+
+/// How many messages the queue to an end of a contract may hold; none, where there is no such contract.
+fn bound_at(program: &Program, contract: ContractId, side: Side) -> u32
+    ensures { (bound : Bounds) → AreBounds (seen_of program.now) bound → result ≡ bound contract.0 side }
+{
+    match program.sounds().get(contract.0 as usize) {
+        Some(sound) => sound.bound(side),
+        None => 0,
+    }
+}
+
+/// How many messages the queue to an endpoint of this kind may hold.
+fn bound_of(program: &Program, kind: Kind) -> u32
+    ensures { (bound : Bounds) → AreBounds (seen_of program.now) bound → result ≡ told.bound_of bound kind }
+{
+    match kind {
+        Kind::Endpoint { contract, side, .. } => bound_at(program, contract, side),
+        Kind::Struct(_) | Kind::Array(_) => 0,
+    }
+}
+
+/// Whether the queue of an endpoint may take one more message, unless it is freed.
+fn has_room(program: &Program, blocks: &[Block], to: usize) -> bool
+    ensures { (bound : Bounds) → AreBounds (seen_of program.now) bound → result ≡ has_room_in bound (blocks_seen blocks.now) to }
+{
+    is_freed(blocks, to) || queued(blocks, to) < bound_of(program, kind_of(blocks, to)) as usize
+}
+
+/// The state of an endpoint behind a send of the message. None, where it sends no such message in its state; where it is cut off, the
+/// state stays.
+fn state_behind(
+    program: &Program,
+    blocks: &[Block],
+    at: usize,
+    message: MessageId,
+) -> Option<StateId>
+    ensures { MatchOption result
+        ((cut_off (blocks_seen blocks.now) at || is_some (edge_out_in (seen_of program.now) (blocks_seen blocks.now) at message.0)) ≡ false)
+        (λ q. ((cut_off (blocks_seen blocks.now) at || is_some (edge_out_in (seen_of program.now) (blocks_seen blocks.now) at message.0))
+        ≡ true) × (q.0 ≡ (if cut_off (blocks_seen blocks.now) at then (block_at (blocks_seen blocks.now) at).state
+        else unwrap_or (edge_out_in (seen_of program.now) (blocks_seen blocks.now) at message.0)
+        (block_at (blocks_seen blocks.now) at).state))) }
+{
+    let state = state_of(blocks, at);
+    if is_cut_off(blocks, at) {
+        return Some(state);
+    }
+    program.sent(Some(kind_of(blocks, at)), state.0, message)
+}
+
+/// What an endpoint sends a message along, if its state sends it and the queue to its peer may take it.
+pub(crate) fn way_out(
+    program: &Program,
+    blocks: &[Block],
+    at: usize,
+    message: MessageId,
+) -> Result<Way, Refusal>
+    ensures pass { IfOk result (λ way. (bound : Bounds) → AreBounds (seen_of program.now) bound
+        → Pass (send_tests_in bound (blocks_seen blocks.now) at
+        (edge_out_in (seen_of program.now) (blocks_seen blocks.now) at message.0))) }
+    ensures at { IfOk result (λ way. way.at ≡ at) }
+    ensures peer { IfOk result (λ way. way.peer ≡ (block_at (blocks_seen blocks.now) at).peer) }
+    ensures gone { IfOk result (λ way. way.gone ≡ freed (blocks_seen blocks.now) (block_at (blocks_seen blocks.now) at).peer) }
+    ensures state { IfOk result (λ way. way.state.0 ≡ (if cut_off (blocks_seen blocks.now) at then
+        (block_at (blocks_seen blocks.now) at).state
+        else unwrap_or (edge_out_in (seen_of program.now) (blocks_seen blocks.now) at message.0)
+        (block_at (blocks_seen blocks.now) at).state)) }
+    ensures refusal { IfErr result (λ refusal. (bound : Bounds) → AreBounds (seen_of program.now) bound → IsRefusal refusal
+        (send_tests_in bound (blocks_seen blocks.now) at (edge_out_in (seen_of program.now) (blocks_seen blocks.now) at message.0))) }
+{
+    let Some(state) = state_behind(program, blocks, at, message) else {
+        return Err(Refusal::Fault(Fault::F4));
+    };
+    let peer = peer_of(blocks, at);
+    if !has_room(program, blocks, peer) {
+        return Err(Refusal::Fault(Fault::F6));
+    }
+    Ok(Way {
+        at,
+        peer,
+        gone: is_freed(blocks, peer),
+        state,
+    })
+}
+
+/// The other side of a contract.
+fn other(side: Side) -> Side
+    ensures { sign_from result ≡ sign_to side }
+{
+    match side {
+        Side::Imp => Side::Exp,
+        Side::Exp => Side::Imp,
+    }
+}
+
+/// What stands at the other end of a channel.
+fn other_end(kind: Kind) -> Kind
+    ensures { (p : ProgramSeen) (q : ℕ) → edges_out p (Some result) q ≡ edges_in p (Some kind) q }
+{
+    match kind {
+        Kind::Endpoint {
+            contract,
+            side,
+            state,
+        } => Kind::Endpoint {
+            contract,
+            side: other(side),
+            state,
+        },
+        Kind::Struct(_) | Kind::Array(_) => kind,
+    }
+}
+
+/// The state of an endpoint behind a receive of the message: where its state has no such edge, it stays.
+pub(crate) fn state_received(
+    program: &Program,
+    blocks: &[Block],
+    at: usize,
+    message: MessageId,
+) -> StateId
+    ensures { result.0 ≡ unwrap_or (edge_in_in (seen_of program.now) (blocks_seen blocks.now) at message.0)
+        (block_at (blocks_seen blocks.now) at).state }
+{
+    let state = state_of(blocks, at);
+    match program.sent(Some(other_end(kind_of(blocks, at))), state.0, message) {
+        Some(next) => next,
+        None => state,
+    }
+}

@@ -1,0 +1,177 @@
+//! One instruction of a process.
+
+ghost use Rattle.std.specs.Prelude.{◌≡◌, ◌<◌, IsSome, List, OnErr, get_or, length, true};
+ghost use Rattle.flow.specs.Graphs.{instruction_seen};
+ghost use Rattle.rules.specs.Programs.{seen_of};
+ghost use Rattle.machine.specs.Answers.{Tells, is_of_frame, is_of_process, on_stack, on_top, with_stack};
+ghost use Rattle.machine.specs.Frames as told;
+ghost use Rattle.machine.specs.Machine.{event_of};
+ghost use Rattle.machine.specs.Outcomes.{Bounds};
+ghost use Rattle.machine.specs.Runs.{AreBounds};
+ghost use Rattle.machine.specs.Views.{blocks_seen, frame_seen, stack_seen, world_seen};
+ghost use Rattle.machine.specs.World as seen;
+ghost use Rattle.machine.specs.World.{stack_at};
+ghost use Rattle.machine.specs.declared.worlds.Process.{Process};
+
+use crate::calling::call;
+use crate::halts::Refusal;
+use crate::owning::{Turn, delete, new, new_channel};
+use crate::quiet::{branch, forget_, move_, use_};
+use crate::returning::{end, return_};
+use crate::sending::send;
+use crate::starting::start;
+use crate::switching::switch;
+use crate::worlds::{Block, Frame, Process, World};
+use flow::{Branches, Instr};
+use rules::Program;
+use std::alloc::Global;
+
+/// How many choices there are at an instruction.
+pub(crate) fn choices(instr: &Instr) -> usize
+    ensures { result ≡ told.choices (instruction_seen instr.now) }
+{
+    match instr {
+        Instr::Switch { cases, .. } => cases.endpoints().len(),
+        Instr::Branch { branches, .. } => match branches {
+            Branches::Either { .. } => 2,
+            Branches::Only(_) => 1,
+        },
+        _ => 1,
+    }
+}
+
+/// Who runs an instruction, and which way it goes.
+#[derive(Clone, Copy)]
+pub(crate) struct Chosen {
+    pub(crate) process: usize,
+    pub(crate) choice: usize,
+}
+
+/// An instruction that changes the innermost frame and blocks alone.
+fn on_frame(
+    alloc: Global,
+    program: &Program,
+    frame: &mut Frame,
+    blocks: &mut Vec<Block>,
+    chosen: Chosen,
+    instr: &Instr,
+) -> Result<(), Refusal>
+    requires of { is_of_frame (instruction_seen instr.now) ≡ true }
+    requires there { chosen.choice < told.choices (instruction_seen instr.now) }
+    ensures tells { (bound : Bounds) (w : seen.World) (rest : List seen.Frame) → AreBounds (seen_of program.now) bound →
+        w.blocks ≡ blocks_seen blocks.old.items →
+        Tells result (event_of (seen_of program.now) bound w chosen.process (frame_seen frame.old) rest (instruction_seen instr.now)
+        chosen.choice)
+        (on_top w.processes chosen.process rest (frame_seen frame.new) (blocks_seen blocks.new.items)) }
+    ensures same { OnErr result (frame_seen frame.new ≡ frame_seen frame.old) }
+    ensures same_blocks { OnErr result (blocks_seen blocks.new.items ≡ blocks_seen blocks.old.items) }
+{
+    let process = chosen.process;
+    match instr {
+        Instr::Use { at, next } => use_(frame, blocks, process, *at, *next),
+        Instr::New { target, next, .. } => {
+            let turn = Turn {
+                process,
+                next: *next,
+            };
+            new(alloc, program, frame, blocks, turn, *target)
+        }
+        Instr::NewChannel { channel, next } => {
+            let turn = Turn {
+                process,
+                next: *next,
+            };
+            new_channel(alloc, program, frame, blocks, turn, *channel)
+        }
+        Instr::Move {
+            target,
+            source,
+            next,
+        } => move_(frame, blocks, process, *target, *source, *next),
+        Instr::Delete { at, next } => delete(frame, blocks, process, *at, *next),
+        Instr::Send(sending) => send(alloc, program, frame, blocks, process, sending),
+        Instr::Switch { cases, .. } => switch(
+            program,
+            frame,
+            blocks,
+            process,
+            cases,
+            chosen.choice,
+        ),
+        Instr::Branch { branches, .. } => {
+            branch(frame, *branches, chosen.choice);
+            Ok(())
+        }
+        Instr::Forget { forget, next } => {
+            forget_(frame, program, *forget, *next);
+            Ok(())
+        }
+        _ => unreachable!(),
+    }
+}
+
+/// An instruction that changes no other process.
+fn on_stack(
+    alloc: Global,
+    program: &Program,
+    stack: &mut Process,
+    blocks: &mut Vec<Block>,
+    chosen: Chosen,
+    instr: &Instr,
+) -> Result<(), Refusal>
+    requires of { is_of_process (instruction_seen instr.now) ≡ true }
+    requires there { chosen.choice < told.choices (instruction_seen instr.now) }
+    requires top { IsSome stack.old.top }
+    ensures tells { (bound : Bounds) (w : seen.World) → AreBounds (seen_of program.now) bound → w.blocks ≡ blocks_seen blocks.old.items →
+        Tells result (on_stack (seen_of program.now) bound w chosen.process (instruction_seen instr.now) chosen.choice
+        (stack_seen stack.old))
+        (with_stack w chosen.process (stack_seen stack.new) (blocks_seen blocks.new.items)) }
+    ensures same { OnErr result (stack_seen stack.new ≡ stack_seen stack.old) }
+    ensures same_blocks { OnErr result (blocks_seen blocks.new.items ≡ blocks_seen blocks.old.items) }
+{
+    match instr {
+        Instr::Call(calling) => call(alloc, program, stack, blocks, chosen.process, calling),
+        Instr::Return(returning) => return_(
+            program,
+            stack,
+            blocks,
+            chosen.process,
+            returning.value,
+        ),
+        Instr::Stop { .. } => end(program, stack, blocks, chosen.process, None),
+        _ => {
+            let Some(frame) = &mut stack.top else {
+                unreachable!()
+            };
+            on_frame(alloc, program, frame, blocks, chosen, instr)
+        }
+    }
+}
+
+impl World {
+    /// An instruction of a process, which has not ended.
+    pub(crate) fn run(
+        &mut self,
+        alloc: Global,
+        program: &Program,
+        chosen: Chosen,
+        instr: &Instr,
+    ) -> Result<(), Refusal>
+        requires there { chosen.process < length self.old.processes.items }
+        requires choice { chosen.choice < told.choices (instruction_seen instr.now) }
+        requires top { (d : Process) → IsSome (get_or self.old.processes.items chosen.process d).top }
+        ensures tells { (bound : Bounds) → AreBounds (seen_of program.now) bound →
+            Tells result (on_stack (seen_of program.now) bound (world_seen self.old) chosen.process (instruction_seen instr.now)
+            chosen.choice (stack_at (world_seen self.old).processes chosen.process))
+            (world_seen self.new) }
+        ensures same { OnErr result (world_seen self.new ≡ world_seen self.old) }
+    {
+        match instr {
+            Instr::Start(starting) => start(alloc, program, self, chosen.process, starting),
+            _ => {
+                let stack = &mut self.processes[chosen.process];
+                on_stack(alloc, program, stack, &mut self.blocks, chosen, instr)
+            }
+        }
+    }
+}

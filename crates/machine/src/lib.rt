@@ -1,0 +1,26 @@
+//! Worlds of processes, and one event of a process.
+#![tactic(auto)]
+
+mod calling;
+mod changing;
+mod edges;
+mod giving;
+mod halts;
+mod instructing;
+mod owning;
+mod placing;
+mod quiet;
+mod reading;
+mod replaying;
+mod returning;
+mod sending;
+mod standing;
+mod starting;
+mod stepping;
+mod switching;
+mod variables;
+mod worlds;
+
+pub use halts::{Event, Fault, Halt};
+pub use replaying::{Replayed, replay};
+pub use worlds::{Block, Frame, Held, Owner, Process, World};

@@ -1,0 +1,184 @@
+//! Instructions that make and free blocks.
+
+ghost use Rattle.std.specs.Prelude.{◌≡◌, ◌+◌, ◌++◌, ◌∷◌, [], IfErr, List, OnErr, OnOk, length};
+ghost use Rattle.program.specs.Programs.{ProgramSeen};
+ghost use Rattle.flow.specs.Graphs.{New, NewChannel, Delete};
+ghost use Rattle.program.specs.declared.statement.Mention as named;
+ghost use Rattle.program.specs.declared.kind.Side.TheVariants.{Imp, Exp};
+ghost use Rattle.rules.specs.Programs.{seen_of};
+ghost use Rattle.machine.specs.Answers.{Tells, on_top};
+ghost use Rattle.machine.specs.Blocks.{end_kind, is_imp, new_block};
+ghost use Rattle.machine.specs.Frames.{kind_at, variables_of};
+ghost use Rattle.machine.specs.Machine.{event_of};
+ghost use Rattle.machine.specs.Outcomes.{Bounds};
+ghost use Rattle.machine.specs.Views.{block_seen, blocks_seen, frame_seen};
+ghost use Rattle.machine.specs.World as seen;
+
+use crate::changing::free;
+use crate::halts::{Fault, Refusal};
+use crate::reading::own;
+use crate::variables::kind_at;
+use crate::worlds::{Block, Frame, Owner};
+use program::{Channel, Kind, Mention, Side, StateId};
+use rules::Program;
+use std::alloc::Global;
+use std::collections::VecDeque;
+
+/// Who runs an instruction, and the point at which it goes on.
+#[derive(Clone, Copy)]
+pub(crate) struct Turn {
+    pub(crate) process: usize,
+    pub(crate) next: usize,
+}
+
+/// The target takes a new block.
+pub(crate) fn new(
+    alloc: Global,
+    program: &Program,
+    frame: &mut Frame,
+    blocks: &mut Vec<Block>,
+    turn: Turn,
+    target: Mention,
+) -> Result<(), Refusal>
+    ensures tells { (bound : Bounds) (w : seen.World) (rest : List seen.Frame) (arguments : List named.Mention) →
+        w.blocks ≡ blocks_seen blocks.old.items →
+        Tells result (event_of (seen_of program.now) bound w turn.process (frame_seen frame.old) rest (New target arguments turn.next) 0)
+        (on_top w.processes turn.process rest (frame_seen frame.new) (blocks_seen blocks.new.items)) }
+    ensures same { OnErr result (frame_seen frame.new ≡ frame_seen frame.old) }
+    ensures same_blocks { OnErr result (blocks_seen blocks.new.items ≡ blocks_seen blocks.old.items) }
+{
+    let address = blocks.len();
+    let kind = kind_at(program, frame.method, target.variable);
+    let block = Block {
+        kind,
+        owner: Owner::Process(turn.process),
+        peer: 0,
+        state: StateId(0),
+        queue: VecDeque::new(alloc),
+    };
+    if blocks.push(block).is_err() {
+        return Err(Refusal::Memory);
+    }
+    frame.put(target, Some(address));
+    frame.point = turn.next;
+    Ok(())
+}
+
+/// Frees a block.
+pub(crate) fn delete(
+    frame: &mut Frame,
+    blocks: &mut Vec<Block>,
+    process: usize,
+    at: Mention,
+    next: usize,
+) -> Result<(), Refusal>
+    ensures tells { (p : ProgramSeen) (bound : Bounds) (w : seen.World) (rest : List seen.Frame) → w.blocks ≡ blocks_seen blocks.old.items →
+        Tells result (event_of p bound w process (frame_seen frame.old) rest (Delete at next) 0)
+        (on_top w.processes process rest (frame_seen frame.new) (blocks_seen blocks.new.items)) }
+    ensures same { OnErr result (frame_seen frame.new ≡ frame_seen frame.old) }
+    ensures same_blocks { OnErr result (blocks_seen blocks.new.items ≡ blocks_seen blocks.old.items) }
+{
+    let Some(a) = own(blocks, process, frame.has(at)) else {
+        return Err(Refusal::Fault(Fault::F2));
+    };
+    free(blocks, a);
+    frame.put(at, None);
+    frame.point = next;
+    Ok(())
+}
+
+/// Whether it is an importing end.
+fn is_imp(kind: Kind) -> bool
+    ensures { result ≡ is_imp kind }
+{
+    match kind {
+        Kind::Endpoint { side, .. } => match side {
+            Side::Imp => true,
+            Side::Exp => false,
+        },
+        Kind::Struct(_) | Kind::Array(_) => false,
+    }
+}
+
+/// An end of a new channel.
+fn new_end(alloc: Global, process: usize, kind: Kind, peer: usize, state: StateId) -> Block
+    ensures { block_seen result ≡ new_block kind process peer state.0 }
+{
+    Block {
+        kind,
+        owner: Owner::Process(process),
+        peer,
+        state,
+        queue: VecDeque::new(alloc),
+    }
+}
+
+/// The kind of an end of a channel.
+fn end_kind(channel: Channel, side: Side) -> Kind
+    ensures { result ≡ end_kind channel side }
+{
+    Kind::Endpoint {
+        contract: channel.contract,
+        side,
+        state: StateId(0),
+    }
+}
+
+/// Two new ends in a state, the importing one first.
+fn open(
+    alloc: Global,
+    blocks: &mut Vec<Block>,
+    process: usize,
+    channel: Channel,
+    state: StateId,
+) -> Result<(), Refusal>
+    ensures opened { OnOk result (blocks_seen blocks.new.items ≡ blocks_seen blocks.old.items
+        ++ new_block (end_kind channel Imp) process (length (blocks_seen blocks.old.items) + 1) state.0
+        ∷ new_block (end_kind channel Exp) process (length (blocks_seen blocks.old.items)) state.0 ∷ []) }
+    ensures same { OnErr result (blocks_seen blocks.new.items ≡ blocks_seen blocks.old.items) }
+    ensures memory { IfErr result (λ refusal. refusal ≡ Refusal.Memory) }
+{
+    blocks.reserve(2)?;
+    let address = blocks.len();
+    let imp = new_end(
+        alloc,
+        process,
+        end_kind(channel, Side::Imp),
+        address + 1,
+        state,
+    );
+    let exp = new_end(alloc, process, end_kind(channel, Side::Exp), address, state);
+    blocks.push(imp)?;
+    blocks.push(exp)?;
+    Ok(())
+}
+
+/// Two variables take the two ends of a new channel.
+pub(crate) fn new_channel(
+    alloc: Global,
+    program: &Program,
+    frame: &mut Frame,
+    blocks: &mut Vec<Block>,
+    turn: Turn,
+    channel: Channel,
+) -> Result<(), Refusal>
+    ensures tells { (bound : Bounds) (w : seen.World) (rest : List seen.Frame) → w.blocks ≡ blocks_seen blocks.old.items →
+        Tells result (event_of (seen_of program.now) bound w turn.process (frame_seen frame.old) rest (NewChannel channel turn.next) 0)
+        (on_top w.processes turn.process rest (frame_seen frame.new) (blocks_seen blocks.new.items)) }
+    ensures same { OnErr result (frame_seen frame.new ≡ frame_seen frame.old) }
+    ensures same_blocks { OnErr result (blocks_seen blocks.new.items ≡ blocks_seen blocks.old.items) }
+{
+    let address = blocks.len();
+    let state = program.first_state(channel.contract);
+    open(alloc, blocks, turn.process, channel, state)?;
+    let first_is_imp = is_imp(kind_at(program, frame.method, channel.first.variable));
+    let (first, second) = if first_is_imp {
+        (address, address + 1)
+    } else {
+        (address + 1, address)
+    };
+    frame.put(channel.first, Some(first));
+    frame.put(channel.second, Some(second));
+    frame.point = turn.next;
+    Ok(())
+}

@@ -1,0 +1,78 @@
+//! Where a process stands.
+
+ghost use Rattle.std.specs.Prelude.{◌≡◌, length, map, option_map, slice_get};
+ghost use Rattle.flow.specs.Graphs.{instruction_seen};
+ghost use Rattle.rules.specs.Programs.{seen_of};
+ghost use Rattle.machine.specs.Places as told;
+ghost use Rattle.machine.specs.Places.{stack_place};
+ghost use Rattle.machine.specs.Views.{blocks_seen, frame_seen, stack_seen, world_seen};
+
+use crate::standing::instruction_at;
+use crate::worlds::{Block, Frame, Process, World};
+use flow::Instr;
+use rules::Program;
+use source::Place;
+
+/// The place of an instruction.
+pub(crate) fn place_of(instr: &Instr) -> Place
+    ensures { result ≡ told.place_of (instruction_seen instr.now) }
+{
+    match instr {
+        Instr::Use { at, .. } | Instr::Delete { at, .. } => at.place,
+        Instr::New { target, .. } | Instr::Move { target, .. } => target.place,
+        Instr::NewChannel { channel, .. } => channel.place,
+        Instr::Send(sending) => sending.place,
+        Instr::Forget { forget, .. } => forget.place,
+        Instr::Call(calling) => calling.place,
+        Instr::Start(starting) => starting.place,
+        Instr::Return(returning) => returning.place,
+        Instr::Switch { place, .. } | Instr::Branch { place, .. } | Instr::Stop { place } => *place,
+    }
+}
+
+impl Process {
+    /// The frame in which it stands. None, where it has ended.
+    pub fn innermost(&self) -> Option<&Frame>
+        ensures { option_map (λ f. frame_seen f.now) result ≡ slice_get (stack_seen self.now) 0 }
+    {
+        match &self.top {
+            Some(frame) => Some(frame),
+            None => None,
+        }
+    }
+
+    /// How many frames it has: none, where it has ended.
+    pub fn frames(&self) -> usize
+        ensures { result ≡ length (stack_seen self.now) }
+    {
+        match &self.top {
+            Some(_) => self.waiting.len() + 1,
+            None => 0,
+        }
+    }
+
+    /// The place of the instruction at which it stands. None, where it has ended.
+    pub fn place(&self, program: &Program) -> Option<Place>
+        ensures { result ≡ stack_place (seen_of program.now) (stack_seen self.now) }
+    {
+        let frame = self.innermost()?;
+        let instr = instruction_at(program, frame)?;
+        Some(place_of(instr))
+    }
+}
+
+impl World {
+    /// Its processes, by their numbers.
+    pub fn processes(&self) -> &[Process]
+        ensures { map stack_seen result.now ≡ (world_seen self.now).processes }
+    {
+        &self.processes
+    }
+
+    /// Its blocks, by their addresses.
+    pub fn blocks(&self) -> &[Block]
+        ensures { blocks_seen result.now ≡ (world_seen self.now).blocks }
+    {
+        &self.blocks
+    }
+}

@@ -1,0 +1,94 @@
+//! Instructions on one frame that change no block.
+
+ghost use Rattle.std.specs.Prelude.{◌≡◌, List, OnErr, ℕ};
+ghost use Rattle.program.specs.Programs.{ProgramSeen};
+ghost use Rattle.source.specs.declared.place.Place.{Place};
+ghost use Rattle.flow.specs.Graphs as instruction;
+ghost use Rattle.flow.specs.Graphs.{Use, Move, Branch};
+ghost use Rattle.rules.specs.Programs.{seen_of};
+ghost use Rattle.machine.specs.Answers.{Tells, on_top};
+ghost use Rattle.machine.specs.Machine.{event_of};
+ghost use Rattle.machine.specs.Outcomes.{Bounds, Moved};
+ghost use Rattle.machine.specs.Views.{blocks_seen, frame_seen};
+ghost use Rattle.machine.specs.World as seen;
+
+use crate::halts::{Fault, Refusal};
+use crate::reading::own;
+use crate::variables::forgets;
+use crate::worlds::{Block, Frame};
+use flow::Branches;
+use program::{Forget, Mention};
+use rules::Program;
+
+/// Reads or writes a block.
+pub(crate) fn use_(
+    frame: &mut Frame,
+    blocks: &[Block],
+    process: usize,
+    at: Mention,
+    next: usize,
+) -> Result<(), Refusal>
+    ensures tells { (p : ProgramSeen) (bound : Bounds) (w : seen.World) (rest : List seen.Frame) → w.blocks ≡ blocks_seen blocks.now →
+        Tells result (event_of p bound w process (frame_seen frame.old) rest (Use at next) 0)
+        (on_top w.processes process rest (frame_seen frame.new) (blocks_seen blocks.now)) }
+    ensures same { OnErr result (frame_seen frame.new ≡ frame_seen frame.old) }
+{
+    if own(blocks, process, frame.has(at)).is_none() {
+        return Err(Refusal::Fault(Fault::F1));
+    }
+    frame.point = next;
+    Ok(())
+}
+
+/// The target takes what the source has.
+pub(crate) fn move_(
+    frame: &mut Frame,
+    blocks: &[Block],
+    process: usize,
+    target: Mention,
+    source: Mention,
+    next: usize,
+) -> Result<(), Refusal>
+    ensures tells { (p : ProgramSeen) (bound : Bounds) (w : seen.World) (rest : List seen.Frame) → w.blocks ≡ blocks_seen blocks.now →
+        Tells result (event_of p bound w process (frame_seen frame.old) rest (Move target source next) 0)
+        (on_top w.processes process rest (frame_seen frame.new) (blocks_seen blocks.now)) }
+    ensures same { OnErr result (frame_seen frame.new ≡ frame_seen frame.old) }
+{
+    let given = frame.has(source);
+    if own(blocks, process, given).is_none() {
+        return Err(Refusal::Fault(Fault::F1));
+    }
+    frame.put(target, given);
+    frame.put(source, None);
+    frame.point = next;
+    Ok(())
+}
+
+/// A condition goes the way of the choice.
+pub(crate) fn branch(frame: &mut Frame, branches: Branches, choice: usize)
+    ensures { (p : ProgramSeen) (bound : Bounds) (w : seen.World) (rest : List seen.Frame) (process : ℕ) (place : Place) →
+        event_of p bound w process (frame_seen frame.old) rest (Branch place branches) choice
+        ≡ Moved (on_top w.processes process rest (frame_seen frame.new) w.blocks) }
+{
+    frame.point = match branches {
+        Branches::Only(point) => point,
+        Branches::Either { inside, past } => { if choice == 0 { inside } else { past } }
+    };
+}
+
+/// Variables go out of scope.
+pub(crate) fn forget_(frame: &mut Frame, program: &Program, forget: Forget, next: usize)
+    ensures { (bound : Bounds) (w : seen.World) (rest : List seen.Frame) (process : ℕ) →
+        event_of (seen_of program.now) bound w process (frame_seen frame.old) rest (instruction.Forget forget next) 0
+        ≡ Moved (on_top w.processes process rest (frame_seen frame.new) w.blocks) }
+{
+    if let Some(method) = program.methods().get(frame.method.0 as usize) {
+        forgets(
+            &mut frame.variables,
+            method,
+            forget.outer,
+            Some(forget.last),
+        );
+    }
+    frame.point = next;
+}

@@ -1,0 +1,122 @@
+//! What blocks say.
+
+ghost use Rattle.std.specs.Prelude.{◌≡◌, ◌<◌, IfNone, IfSome, Some, false, length, option_map, true};
+ghost use Rattle.machine.specs.Answers.{front_of};
+ghost use Rattle.machine.specs.Views.{blocks_seen};
+ghost use Rattle.machine.specs.World.{block_at, cut_off, freed, is_freed, is_own_in, is_process, is_queue};
+
+use crate::worlds::{Block, Owner};
+use program::{Kind, MessageId, StateId, StructId};
+
+impl Owner {
+    /// Whether it is this process.
+    pub(crate) fn is_process(self, process: usize) -> bool
+        ensures { result ≡ is_process self process }
+    {
+        match self {
+            Owner::Process(of) => of == process,
+            Owner::Queue(_) | Owner::Channel | Owner::Freed => false,
+        }
+    }
+
+    /// Whether it is the queue of this endpoint.
+    pub(crate) fn is_queue(self, end: usize) -> bool
+        ensures { result ≡ is_queue self end }
+    {
+        match self {
+            Owner::Queue(of) => of == end,
+            Owner::Process(_) | Owner::Channel | Owner::Freed => false,
+        }
+    }
+
+    /// Whether nobody has the block any more.
+    fn is_freed(self) -> bool
+        ensures { result ≡ is_freed self }
+    {
+        match self {
+            Owner::Freed => true,
+            Owner::Process(_) | Owner::Queue(_) | Owner::Channel => false,
+        }
+    }
+}
+
+/// The address, where the process has the block.
+pub(crate) fn own(blocks: &[Block], process: usize, address: Option<usize>) -> Option<usize>
+    ensures some { IfSome result (λ a. address ≡ Some a) }
+    ensures here { IfSome result (λ a. a < length blocks.now) }
+    ensures own { IfSome result (λ a. is_own_in (blocks_seen blocks.now) process address ≡ true) }
+    ensures none { IfNone result (is_own_in (blocks_seen blocks.now) process address ≡ false) }
+{
+    let a = address?;
+    let block = blocks.get(a)?;
+    if block.owner.is_process(process) {
+        Some(a)
+    } else {
+        None
+    }
+}
+
+/// Whether the block at an address is freed.
+pub(crate) fn is_freed(blocks: &[Block], a: usize) -> bool
+    ensures { result ≡ freed (blocks_seen blocks.now) a }
+{
+    match blocks.get(a) {
+        Some(block) => block.owner.is_freed(),
+        None => false,
+    }
+}
+
+/// The peer of an endpoint; 0 where no block is.
+pub(crate) fn peer_of(blocks: &[Block], a: usize) -> usize
+    ensures { result ≡ (block_at (blocks_seen blocks.now) a).peer }
+{
+    match blocks.get(a) {
+        Some(block) => block.peer,
+        None => 0,
+    }
+}
+
+/// What the block at an address is.
+pub(crate) fn kind_of(blocks: &[Block], a: usize) -> Kind
+    ensures { result ≡ (block_at (blocks_seen blocks.now) a).kind }
+{
+    match blocks.get(a) {
+        Some(block) => block.kind,
+        None => Kind::Struct(StructId(0)),
+    }
+}
+
+/// The state of an endpoint.
+pub(crate) fn state_of(blocks: &[Block], a: usize) -> StateId
+    ensures { result.0 ≡ (block_at (blocks_seen blocks.now) a).state }
+{
+    match blocks.get(a) {
+        Some(block) => block.state,
+        None => StateId(0),
+    }
+}
+
+/// How many messages are in the queue of an endpoint.
+pub(crate) fn queued(blocks: &[Block], a: usize) -> usize
+    ensures { result ≡ length (block_at (blocks_seen blocks.now) a).queue }
+{
+    match blocks.get(a) {
+        Some(block) => block.queue.len(),
+        None => 0,
+    }
+}
+
+/// Whether an endpoint is cut off.
+pub(crate) fn is_cut_off(blocks: &[Block], a: usize) -> bool
+    ensures { result ≡ cut_off (blocks_seen blocks.now) a }
+{
+    is_freed(blocks, peer_of(blocks, a)) && queued(blocks, a) == 0
+}
+
+/// The message at the front of the queue of an endpoint.
+pub(crate) fn front(blocks: &[Block], a: usize) -> Option<MessageId>
+    ensures { option_map (λ m. m.0) result ≡ front_of (block_at (blocks_seen blocks.now) a).queue }
+{
+    let held = blocks.get(a)?.queue.front()?;
+    Some(held.message)
+}

@@ -1,0 +1,57 @@
+//! Runs.
+
+ghost use Rattle.std.specs.Prelude.{◌≡◌, ◌<◌, IfOk, length};
+ghost use Rattle.rules.specs.Programs.{seen_of};
+ghost use Rattle.machine.specs.Outcomes.{Bounds};
+ghost use Rattle.machine.specs.Runs.{AreBounds};
+ghost use Rattle.machine.specs.Replays.{IsReplay};
+
+use crate::halts::{Event, Halt};
+use crate::worlds::World;
+use program::MethodId;
+use rules::Program;
+use source::Memory;
+use std::alloc::Global;
+
+/// What events came to, one after the other: the world behind the last step, how many steps were taken, and why the event behind them
+/// was none. There is no reason where every event was a step.
+#[derive(Drop)]
+pub struct Replayed {
+    pub world: World,
+    pub steps: usize,
+    pub halt: Option<Halt>,
+}
+
+/// Takes these events, one after the other, from the beginning of a method until one is no step.
+///
+/// `Memory` is answered where a growth was refused, also in a step.
+pub fn replay(
+    alloc: Global,
+    program: &Program,
+    method: MethodId,
+    events: &[Event],
+) -> Result<Replayed, Memory>
+    requires there { method.0 < length (seen_of program.now).methods }
+    ensures { IfOk result (λ replayed. (bound : Bounds) → AreBounds (seen_of program.now) bound
+        → IsReplay (seen_of program.now) bound method.0 events.now replayed) }
+{
+    let mut world = World::start(alloc, program, method)?;
+    for steps in 0..events.len() {
+        match world.step(alloc, program, events[steps]) {
+            Ok(()) => {}
+            Err(Halt::Memory) => return Err(Memory),
+            Err(halt) => {
+                return Ok(Replayed {
+                    world,
+                    steps,
+                    halt: Some(halt),
+                });
+            }
+        }
+    }
+    Ok(Replayed {
+        world,
+        steps: events.len(),
+        halt: None,
+    })
+}

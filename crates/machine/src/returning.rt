@@ -1,0 +1,108 @@
+//! The end of a frame.
+
+ghost use Rattle.std.specs.Prelude.{◌≡◌, IsFalse, IsSome, IsTrue, OnErr, Option};
+ghost use Rattle.program.specs.Programs.{ProgramSeen};
+ghost use Rattle.program.specs.declared.number.VarId.{VarId};
+ghost use Rattle.source.specs.declared.place.Place.{Place};
+ghost use Rattle.flow.specs.Graphs.{Return};
+ghost use Rattle.rules.specs.Programs.{seen_of};
+ghost use Rattle.machine.specs.Answers.{Tells, ended, given_back, on_stack, with_stack, with_variables};
+ghost use Rattle.machine.specs.Blocks as told;
+ghost use Rattle.machine.specs.Outcomes.{Bounds, Faulty};
+ghost use Rattle.machine.specs.Views.{blocks_seen, frame_seen, stack_seen};
+ghost use Rattle.machine.specs.World as seen;
+ghost use Rattle.machine.specs.declared.halts.Fault.TheVariants.{F3};
+
+use crate::halts::{Fault, Refusal};
+use crate::reading::own;
+use crate::standing::behind_call;
+use crate::worlds::{Block, Frame, Process};
+use program::Mention;
+use rules::Program;
+
+/// Whether a process owns nothing.
+fn owns_none(blocks: &[Block], process: usize) -> bool
+    ensures { result ≡ told.owns_none (blocks_seen blocks.now) process }
+{
+    for block in blocks {
+        if block.owner.is_process(process) {
+            return false;
+        }
+    }
+    true
+}
+
+/// Whether the innermost frame may give what a variable has, if there is one.
+fn can_give(stack: &Process, blocks: &[Block], process: usize, value: Option<Mention>) -> bool
+    ensures may { IsTrue result → (p : ProgramSeen) (bound : Bounds) (w : seen.World) (place : Place) (scope : Option VarId) →
+        w.blocks ≡ blocks_seen blocks.now →
+        on_stack p bound w process (Return place value scope) 0 (stack_seen stack.now)
+        ≡ ended p bound w process value (stack_seen stack.now) }
+    ensures fault { IsFalse result → (p : ProgramSeen) (bound : Bounds) (w : seen.World) (place : Place) (scope : Option VarId) →
+        w.blocks ≡ blocks_seen blocks.now →
+        on_stack p bound w process (Return place value scope) 0 (stack_seen stack.now) ≡ Faulty F3 }
+{
+    match (&stack.top, value) {
+        (Some(frame), Some(value)) => own(blocks, process, frame.has(value)).is_some(),
+        _ => true,
+    }
+}
+
+/// The caller's target takes what the innermost frame gives, if it gives something.
+fn give_back(stack: &Process, value: Option<Mention>, target: Option<Mention>, caller: &mut Frame)
+    ensures { frame_seen caller.new ≡ with_variables (frame_seen caller.old)
+        (given_back value target (stack_seen stack.now) (frame_seen caller.old).variables) }
+{
+    if let (Some(frame), Some(value)) = (&stack.top, value) {
+        caller.take(target, frame.has(value));
+    }
+}
+
+/// The innermost frame ends, and gives what this variable has, if there is one. The frame that waits for it goes on; where none waits,
+/// the process ends, and then it is to own nothing.
+pub(crate) fn end(
+    program: &Program,
+    stack: &mut Process,
+    blocks: &[Block],
+    process: usize,
+    value: Option<Mention>,
+) -> Result<(), Refusal>
+    requires top { IsSome stack.old.top }
+    ensures tells { (bound : Bounds) (w : seen.World) → w.blocks ≡ blocks_seen blocks.now →
+        Tells result (ended (seen_of program.now) bound w process value (stack_seen stack.old))
+        (with_stack w process (stack_seen stack.new) (blocks_seen blocks.now)) }
+    ensures same { OnErr result (stack_seen stack.new ≡ stack_seen stack.old) }
+{
+    let Some(mut caller) = stack.waiting.pop() else {
+        if !owns_none(blocks, process) {
+            return Err(Refusal::Fault(Fault::F7));
+        }
+        stack.top = None;
+        return Ok(());
+    };
+    let behind = behind_call(program, &caller);
+    give_back(stack, value, behind.target, &mut caller);
+    caller.point = behind.next;
+    stack.top = Some(caller);
+    Ok(())
+}
+
+/// A method ends.
+pub(crate) fn return_(
+    program: &Program,
+    stack: &mut Process,
+    blocks: &[Block],
+    process: usize,
+    value: Option<Mention>,
+) -> Result<(), Refusal>
+    requires top { IsSome stack.old.top }
+    ensures tells { (bound : Bounds) (w : seen.World) (place : Place) (scope : Option VarId) → w.blocks ≡ blocks_seen blocks.now →
+        Tells result (on_stack (seen_of program.now) bound w process (Return place value scope) 0 (stack_seen stack.old))
+        (with_stack w process (stack_seen stack.new) (blocks_seen blocks.now)) }
+    ensures same { OnErr result (stack_seen stack.new ≡ stack_seen stack.old) }
+{
+    if !can_give(stack, blocks, process, value) {
+        return Err(Refusal::Fault(Fault::F3));
+    }
+    end(program, stack, blocks, process, value)
+}

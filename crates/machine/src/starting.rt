@@ -1,0 +1,67 @@
+//! Starts of processes.
+
+ghost use Rattle.std.specs.Prelude.{◌≡◌, ◌<◌, IsSome, OnErr, get_or, length};
+ghost use Rattle.flow.specs.Graphs.{instruction_seen};
+ghost use Rattle.flow.specs.declared.graph.Instr.{Instr};
+ghost use Rattle.rules.specs.Programs.{seen_of};
+ghost use Rattle.machine.specs.Answers.{Tells, on_stack, went_on};
+ghost use Rattle.machine.specs.Outcomes.{Bounds};
+ghost use Rattle.machine.specs.Views.{stack_seen, world_seen};
+ghost use Rattle.machine.specs.World.{stack_at};
+ghost use Rattle.machine.specs.declared.worlds.Process.{Process};
+
+use crate::calling::enter;
+use crate::changing::hand;
+use crate::giving::given;
+use crate::halts::Refusal;
+use crate::variables::lets_go;
+use crate::worlds::{Owner, Process, World};
+use flow::Starting;
+use program::Argument;
+use rules::Program;
+use std::alloc::Global;
+
+/// The innermost frame lets go what is claimed of arguments, and goes on at a point.
+fn go_on(stack: &mut Process, arguments: &[Argument], next: usize)
+    ensures { stack_seen stack.new ≡ went_on arguments.now next (stack_seen stack.old) }
+{
+    if let Some(frame) = &mut stack.top {
+        lets_go(&mut frame.variables, arguments);
+        frame.point = next;
+    }
+}
+
+/// A method is started as a process of its own, which owns what is given.
+pub(crate) fn start(
+    alloc: Global,
+    program: &Program,
+    world: &mut World,
+    process: usize,
+    starting: &Starting,
+) -> Result<(), Refusal>
+    requires there { process < length world.old.processes.items }
+    requires top { (d : Process) → IsSome (get_or world.old.processes.items process d).top }
+    ensures tells { (bound : Bounds) →
+        Tells result (on_stack (seen_of program.now) bound (world_seen world.old) process (instruction_seen (Instr.Start starting.now)) 0
+        (stack_at (world_seen world.old).processes process))
+        (world_seen world.new) }
+    ensures same { OnErr result (world_seen world.new ≡ world_seen world.old) }
+{
+    let Some(frame) = &world.processes[process].top else {
+        unreachable!()
+    };
+    let owned = given(alloc, frame, &world.blocks, process, &starting.arguments)?;
+    let begun = enter(alloc, program, frame, starting.method, &starting.arguments)?;
+    let number = world.processes.len();
+    world.processes.push(Process {
+        top: Some(begun),
+        waiting: Vec::new(alloc),
+    })?;
+    hand(&mut world.blocks, &owned, Owner::Process(number));
+    go_on(
+        &mut world.processes[process],
+        &starting.arguments,
+        starting.next,
+    );
+    Ok(())
+}

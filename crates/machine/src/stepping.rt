@@ -1,0 +1,107 @@
+//! One event of a world.
+
+ghost use Rattle.std.specs.Prelude.{◌≡◌, ◌<◌, ◌∷◌, [], IfNone, IfOk, IfSome, IsSome, OnErr, drop, get_or, length};
+ghost use Rattle.rules.specs.Programs.{seen_of};
+ghost use Rattle.machine.specs.Answers as answers;
+ghost use Rattle.machine.specs.Answers.{TellsStep};
+ghost use Rattle.machine.specs.Machine.{event_outcome};
+ghost use Rattle.machine.specs.Outcomes.{Bounds};
+ghost use Rattle.machine.specs.Places.{process_place};
+ghost use Rattle.machine.specs.Runs.{AreBounds, start_of};
+ghost use Rattle.machine.specs.Views.{frame_seen, world_seen};
+ghost use Rattle.machine.specs.World.{stack_at};
+ghost use Rattle.machine.specs.declared.worlds.Process.{Process};
+
+use crate::calling::enter;
+use crate::halts::{Event, Halt, Refusal};
+use crate::instructing::{Chosen, choices};
+use crate::placing::place_of;
+use crate::standing::instruction_at;
+use crate::worlds::{Frame, Process, World};
+use program::MethodId;
+use rules::Program;
+use source::{Memory, Place};
+use std::alloc::Global;
+
+/// Why no step was taken, where an instruction at a place was refused.
+fn halt_of(refusal: Refusal, place: Place) -> Halt
+    ensures { result ≡ answers.halt_of refusal place }
+{
+    match refusal {
+        Refusal::Fault(fault) => Halt::Fault(fault, place),
+        Refusal::Waits => Halt::Waits,
+        Refusal::Memory => Halt::Memory,
+    }
+}
+
+impl World {
+    /// The frame in which a process stands, if there is such a process and it has not ended.
+    fn innermost(&self, process: usize) -> Option<&Frame>
+        ensures there { IfSome result (λ f. process < length self.now.processes.items) }
+        ensures top { IfSome result (λ f. (d : Process) → IsSome (get_or self.now.processes.items process d).top) }
+        ensures stands { IfSome result (λ f. stack_at (world_seen self.now).processes process
+            ≡ frame_seen f.now ∷ drop 1 (stack_at (world_seen self.now).processes process)) }
+        ensures ended { IfNone result (stack_at (world_seen self.now).processes process ≡ []) }
+    {
+        let stack = self.processes.get(process)?;
+        match &stack.top {
+            Some(frame) => Some(frame),
+            None => None,
+        }
+    }
+
+    /// A world in which one process begins with a method, which has no parameters of the exchange heap.
+    ///
+    /// `Memory` is answered where a growth was refused.
+    pub fn start(alloc: Global, program: &Program, method: MethodId) -> Result<World, Memory>
+        requires there { method.0 < length (seen_of program.now).methods }
+        ensures { IfOk result (λ w. world_seen w ≡ start_of (seen_of program.now) method.0) }
+    {
+        let nobody = Frame {
+            method,
+            point: 0,
+            variables: Vec::new(alloc),
+        };
+        let Ok(begun) = enter(alloc, program, &nobody, method, &[]) else {
+            return Err(Memory);
+        };
+        let mut processes = Vec::new(alloc);
+        processes.push(Process {
+            top: Some(begun),
+            waiting: Vec::new(alloc),
+        })?;
+        Ok(World {
+            processes,
+            blocks: Vec::new(alloc),
+        })
+    }
+
+    /// One event: the instruction at which the process stands, done the way of the choice. An answer that is refused leaves the world
+    /// as it was. It is, by the first of these that holds: `NoSuchProcess` where there is no such process or it has ended;
+    /// `NoSuchChoice` where the instruction has no such choice; `Fault` where the process does something wrong; `Waits` where it waits
+    /// for a message and none is there; `Memory` where a growth was refused.
+    pub fn step(&mut self, alloc: Global, program: &Program, event: Event) -> Result<(), Halt>
+        ensures tells { (bound : Bounds) → AreBounds (seen_of program.now) bound →
+            TellsStep result (event_outcome (seen_of program.now) bound (world_seen self.old) event)
+            (process_place (seen_of program.now) (world_seen self.old) event.process) (world_seen self.new) }
+        ensures same { OnErr result (world_seen self.new ≡ world_seen self.old) }
+    {
+        let chosen = Chosen {
+            process: event.process as usize,
+            choice: event.choice as usize,
+        };
+        let Some(frame) = self.innermost(chosen.process) else {
+            return Err(Halt::NoSuchProcess);
+        };
+        let Some(instr) = instruction_at(program, frame) else {
+            return Err(Halt::NoSuchChoice);
+        };
+        if chosen.choice >= choices(instr) {
+            return Err(Halt::NoSuchChoice);
+        }
+        match self.run(alloc, program, chosen, instr) {
+            Ok(()) => Ok(()),
+            Err(refusal) => Err(halt_of(refusal, place_of(instr))),
+        }
+    }
+}

@@ -1,0 +1,161 @@
+//! A switch.
+
+ghost use Rattle.std.specs.Prelude.{◌≡◌, ◌<◌, ◌∷◌, [], IfErr, List, OnErr, OnOk, Some, length, map, ℕ};
+ghost use Rattle.flow.specs.Cases.{entrance_seen, first_mentions};
+ghost use Rattle.flow.specs.Graphs as graphs;
+ghost use Rattle.flow.specs.Graphs.{cases_seen};
+ghost use Rattle.source.specs.declared.place.Place.{Place};
+ghost use Rattle.program.specs.Programs.{ProgramSeen};
+ghost use Rattle.rules.specs.Programs.{seen_of};
+ghost use Rattle.machine.specs.Answers.{IsRefusal, Pass, Tells, on_top};
+ghost use Rattle.machine.specs.Machine.{event_of, receives, receives_at};
+ghost use Rattle.machine.specs.Outcomes.{Bounds, Moved, test};
+ghost use Rattle.machine.specs.Views.{blocks_seen, frame_seen};
+ghost use Rattle.machine.specs.World as seen;
+ghost use Rattle.machine.specs.World.{MessageHeld, block_at, is_own_in, read};
+ghost use Rattle.machine.specs.declared.halts.Fault.TheVariants.{F1};
+
+use crate::changing::receive;
+use crate::edges::state_received;
+use crate::halts::{Fault, Refusal};
+use crate::reading::{front, is_freed, own, peer_of};
+use crate::variables::bind;
+use crate::worlds::{Block, Frame};
+use flow::{Cases, Entrance};
+use program::{Mention, MessageId, VarId};
+use rules::Program;
+
+/// That the process has the block in each of these variables.
+fn are_own(
+    frame: &Frame,
+    blocks: &[Block],
+    process: usize,
+    endpoints: &[Mention],
+) -> Result<(), Refusal>
+    ensures pass { OnOk result (Pass
+        (map (λ e. test (is_own_in (blocks_seen blocks.now) process (read (frame_seen frame.now).variables e.variable.0)) F1)
+        endpoints.now)) }
+    ensures refusal { IfErr result (λ refusal. IsRefusal refusal
+        (map (λ e. test (is_own_in (blocks_seen blocks.now) process (read (frame_seen frame.now).variables e.variable.0)) F1)
+        endpoints.now)) }
+{
+    for endpoint in endpoints {
+        if own(blocks, process, frame.has(*endpoint)).is_none() {
+            return Err(Refusal::Fault(Fault::F1));
+        }
+    }
+    Ok(())
+}
+
+/// Where an endpoint stands in a switch: the variable that names it, and its address.
+#[derive(Clone, Copy)]
+struct Gate {
+    variable: VarId,
+    at: usize,
+}
+
+/// Nothing is in the queue of an endpoint: its close comes to a case, if its peer is gone.
+fn close(frame: &mut Frame, blocks: &[Block], cases: &Cases, gate: Gate) -> Result<(), Refusal>
+    ensures tells { (p : ProgramSeen) (bound : Bounds) (w : seen.World) (process : ℕ) (rest : List seen.Frame) →
+        w.blocks ≡ blocks_seen blocks.now →
+        Tells result (receives p bound w process (frame_seen frame.old) rest (cases_seen cases.now) gate.variable.0 gate.at [])
+        (on_top w.processes process rest (frame_seen frame.new) (blocks_seen blocks.now)) }
+    ensures same { OnErr result (frame_seen frame.new ≡ frame_seen frame.old) }
+{
+    if !is_freed(blocks, peer_of(blocks, gate.at)) {
+        return Err(Refusal::Waits);
+    }
+    let Some(case) = cases.find(gate.variable, None) else {
+        return Err(Refusal::Fault(Fault::F5));
+    };
+    frame.point = case.next;
+    Ok(())
+}
+
+/// A message at the front of the queue of an endpoint.
+#[derive(Clone, Copy)]
+struct Arrival {
+    at: usize,
+    message: MessageId,
+}
+
+/// The message at the front of a queue is received at a case.
+fn receive_at(
+    program: &Program,
+    frame: &mut Frame,
+    blocks: &mut Vec<Block>,
+    process: usize,
+    case: &Entrance,
+    arrival: Arrival,
+)
+    ensures { (bound : Bounds) (w : seen.World) (rest : List seen.Frame) (m : MessageHeld) (ms : List MessageHeld) →
+        w.blocks ≡ blocks_seen blocks.old.items →
+        (block_at (blocks_seen blocks.old.items) arrival.at).queue ≡ m ∷ ms → arrival.message.0 ≡ m.message →
+        receives_at (seen_of program.now) bound w process (frame_seen frame.old) rest (Some (entrance_seen case.now)) arrival.at m ms
+        ≡ Moved (on_top w.processes process rest (frame_seen frame.new) (blocks_seen blocks.new.items)) }
+{
+    let state = state_received(program, blocks, arrival.at, arrival.message);
+    let Some(payload) = receive(blocks, arrival.at, state, process) else {
+        return;
+    };
+    bind(&mut frame.variables, &case.bound, &payload);
+    frame.point = case.next;
+}
+
+/// What is at the front of the queue of an endpoint, or its close, comes to a case.
+fn come(
+    program: &Program,
+    frame: &mut Frame,
+    blocks: &mut Vec<Block>,
+    process: usize,
+    cases: &Cases,
+    gate: Gate,
+) -> Result<(), Refusal>
+    ensures tells { (bound : Bounds) (w : seen.World) (rest : List seen.Frame) → w.blocks ≡ blocks_seen blocks.old.items →
+        Tells result (receives (seen_of program.now) bound w process (frame_seen frame.old) rest (cases_seen cases.now)
+        gate.variable.0 gate.at (block_at (blocks_seen blocks.old.items) gate.at).queue)
+        (on_top w.processes process rest (frame_seen frame.new) (blocks_seen blocks.new.items)) }
+    ensures same { OnErr result (frame_seen frame.new ≡ frame_seen frame.old) }
+    ensures same_blocks { OnErr result (blocks_seen blocks.new.items ≡ blocks_seen blocks.old.items) }
+{
+    let Some(message) = front(blocks, gate.at) else {
+        return close(frame, blocks, cases, gate);
+    };
+    let Some(case) = cases.find(gate.variable, Some(message)) else {
+        return Err(Refusal::Fault(Fault::F5));
+    };
+    let arrival = Arrival {
+        at: gate.at,
+        message,
+    };
+    receive_at(program, frame, blocks, process, case, arrival);
+    Ok(())
+}
+
+/// A switch receives at the endpoint of this number among those that it names.
+pub(crate) fn switch(
+    program: &Program,
+    frame: &mut Frame,
+    blocks: &mut Vec<Block>,
+    process: usize,
+    cases: &Cases,
+    choice: usize,
+) -> Result<(), Refusal>
+    requires there { choice < length (first_mentions [] (cases_seen cases.now)) }
+    ensures tells { (bound : Bounds) (w : seen.World) (rest : List seen.Frame) (place : Place) → w.blocks ≡ blocks_seen blocks.old.items →
+        Tells result (event_of (seen_of program.now) bound w process (frame_seen frame.old) rest
+        (graphs.Switch place (cases_seen cases.now)) choice)
+        (on_top w.processes process rest (frame_seen frame.new) (blocks_seen blocks.new.items)) }
+    ensures same { OnErr result (frame_seen frame.new ≡ frame_seen frame.old) }
+    ensures same_blocks { OnErr result (blocks_seen blocks.new.items ≡ blocks_seen blocks.old.items) }
+{
+    let endpoints = cases.endpoints();
+    are_own(frame, blocks, process, endpoints)?;
+    let endpoint = endpoints[choice];
+    let at = frame.has(endpoint).unwrap_or(0);
+    let gate = Gate {
+        variable: endpoint.variable,
+        at,
+    };
+    come(program, frame, blocks, process, cases, gate)
+}

@@ -1,0 +1,56 @@
+//! Worlds as they lie in memory.
+
+use program::{Kind, MessageId, MethodId, StateId};
+use std::collections::VecDeque;
+
+/// Who has a block.
+#[derive(Clone, Copy, Debug, PartialEq, Eq)]
+pub enum Owner {
+    /// The process of this number.
+    Process(usize),
+    /// The queue of the endpoint at this address.
+    Queue(usize),
+    /// The channel: it was sent to an endpoint that is gone, or was left in the queue of one.
+    Channel,
+    /// Nobody any more.
+    Freed,
+}
+
+/// A message in a queue, and the addresses of the blocks that it brings.
+#[derive(Drop)]
+pub struct Held {
+    pub message: MessageId,
+    pub payload: Vec<usize>,
+}
+
+/// A block. Its peer, its state and its queue mean something where it is an endpoint. The front of the queue comes first.
+#[derive(Drop)]
+pub struct Block {
+    pub kind: Kind,
+    pub owner: Owner,
+    pub peer: usize,
+    pub state: StateId,
+    pub queue: VecDeque<Held>,
+}
+
+/// A method at a point, and for each of its variables of the exchange heap the address of the block that it has, if it has one.
+#[derive(Drop)]
+pub struct Frame {
+    pub method: MethodId,
+    pub point: usize,
+    pub variables: Vec<Option<usize>>,
+}
+
+/// A process: its innermost frame, none where it has ended, and those that wait for it, the innermost last.
+#[derive(Drop)]
+pub struct Process {
+    pub(crate) top: Option<Frame>,
+    pub(crate) waiting: Vec<Frame>,
+}
+
+/// Processes by their numbers, and blocks by their addresses. Neither a number nor an address is used again.
+#[derive(Drop)]
+pub struct World {
+    pub(crate) processes: Vec<Process>,
+    pub(crate) blocks: Vec<Block>,
+}
