@@ -1,0 +1,9 @@
+pub mod Binding
+pub mod Branching
+pub mod Endpoints
+pub mod Laying
+pub mod Lists
+pub mod Operands
+pub mod Scopes
+pub mod Simple
+pub mod Trees

@@ -1,0 +1,2 @@
+pub mod GraphFit
+pub mod Operands
