@@ -1,0 +1,270 @@
+-- New: one block more.
+use Rattle.std.proofs.Common.{◌≡◌, ◌≢◌, ◌==◌, ◌&&◌, ℕ, zero, suc, ◌+◌, ◌<◌, ◌≤◌, true, false, List, [], ◌∷◌, ◌++◌, Some, length, map}
+use Rattle.std.proofs.Common.{refl, sym, ap, ◌∙◌, subst, arith, inl, ⊎_elim, set}
+use Rattle.std.proofs.lemmas.Bool.{cases_lt}
+use Rattle.std.proofs.lemmas.List.{length-append}
+use Rattle.std.proofs.lemmas.Option.{slice_get_within}
+use Rattle.std.specs.Option.{option_map_or}
+use Rattle.std.specs.Prelude.{Option, slice_get}
+use Rattle.program.specs.Methods.{MethodSeen, VariableSeen}
+use Rattle.program.specs.Programs.{ProgramSeen}
+use Rattle.program.specs.WellFormed.{is_end}
+use Rattle.program.specs.declared.kind.Kind.TheVariants.{Endpoint}
+use Rattle.program.specs.declared.kind.Kind.{Kind}
+use Rattle.program.specs.declared.kind.Side.TheVariants.{Imp, Exp}
+use Rattle.program.specs.declared.kind.Side.{Side}
+use Rattle.program.specs.declared.statement.Mention.{Mention}
+use Rattle.flow.specs.Graphs.{New}
+use Rattle.contracts.specs.TwoEnds.{Ends}
+use Rattle.rules.specs.Mentions.{is_lent, has_nothing, is_not_lent}
+use Rattle.rules.specs.Rows.{leaf_at, is_owned}
+use Rattle.rules.specs.declared.row.Leaf.TheVariants as leaf
+use Rattle.machine.specs.Blocks.{new_block}
+use Rattle.machine.specs.Frames.{method_at, kind_at, variables_of}
+use Rattle.machine.specs.Outcomes.{Bounds}
+use Rattle.machine.specs.World.{no_kind, MessageHeld, Block, Frame, World, block_at, read, owns, freed, is_process, is_queue, is_freed}
+use Rattle.machine.specs.World.{is_empty}
+use Rattle.machine.specs.declared.worlds.Owner.TheVariants.{Process}
+use Rattle.machine.specs.declared.worlds.Owner.{Owner}
+use Rattle.sound.specs.GraphFit.{IsGraphFit, IsNewFit}
+use Rattle.sound.specs.Operands.{stateless}
+use Rattle.sound.proofs.Basics.{standing_set, block_append, block_appended}
+use Rattle.sound.proofs.Checks.{all_pass, passed_goes, not_refused, something_is}
+use Rattle.sound.proofs.Invariant.{one_if, one_at, standing, StaysCutOff, in_queue, AreBrought, IsEndOf, ChannelFits, IsPeer, ChannelsFit}
+use Rattle.sound.proofs.Kept.{lent_stays_set, goes_on, AreKept, row_kept, brought_kept, some_same}
+use Rattle.sound.proofs.Lists.{true≢false, eqb_same, eqb_apart, eqb_suc, add_zero, and_true, both_true}
+use Rattle.sound.proofs.Quiet.{contains_first, end_stateless}
+use Rattle.sound.proofs.Here.{IsGood, row_set, nothing_none, Here}
+use Rattle.machine.specs.Instructions.{event_of}
+
+-- ---- channels where ends stay
+-- an end that lives now lived before, and is as it was
+pub record SameEnd (b b' : Block) : Type 0 where
+  pub kind : b'.kind ≡ b.kind
+  pub peer : b'.peer ≡ b.peer
+  pub lives : is_freed b'.owner ≡ false → is_freed b.owner ≡ false
+  pub state : is_freed b'.owner ≡ false → b'.state ≡ b.state
+  pub queue : is_freed b'.owner ≡ false → b'.queue ≡ b.queue
+
+end_same : (ends : Ends) (side : Side) (b b' : Block) → SameEnd b b' → is_freed b'.owner ≡ false → IsEndOf ends side b
+    → IsEndOf ends side b'
+end_same ends side b b' same lives h = record {
+  state = h.state ∙ ap (λ (n : ℕ). record { 0 = n }) (sym (same.state lives));
+  queue = h.queue ∙ ap (λ (q : List MessageHeld). map (λ x. x.message) q) (sym (same.queue lives));
+}
+
+pub channels_same : (p : ProgramSeen) (bs bs' : List Block) → length bs ≤ length bs'
+    → ((a : ℕ) → a < length bs → SameEnd (block_at bs a) (block_at bs' a))
+    → ((a : ℕ) → length bs ≤ a → is_end (block_at bs' a).kind ≡ false) → ChannelsFit p bs → ChannelsFit p bs'
+channels_same p bs bs' more same fresh h = record {
+  imp = λ a c within is. ⊎_elim (λ old. imp a c old is) (λ new. absurd (not_new a c Imp new is)) (cases_lt a (length bs));
+  exp = λ a c within is. ⊎_elim (λ old. exp a c old is) (λ new. absurd (not_new a c Exp new is)) (cases_lt a (length bs));
+}
+  where
+    not_new : (a c : ℕ) (side : Side) → length bs ≤ a → stateless (block_at bs' a).kind ≡ Endpoint record { 0 = c } side record { 0 = 0 }
+        → ⊥
+    not_new a c side new is = true≢false (ap is_end is) (sym (end_stateless (block_at bs' a).kind) ∙ fresh a new)
+
+    imp : (a c : ℕ) → a < length bs → stateless (block_at bs' a).kind ≡ Endpoint record { 0 = c } Imp record { 0 = 0 }
+        → ChannelFits p bs' a c
+    imp a c old is =
+        let k = h.imp a c old (sym (ap stateless (same a old).kind) ∙ is) in
+        record {
+          peer = k.peer;
+          peer_is = (same a old).peer ∙ k.peer_is;
+          peer_there = let t = k.peer_there in omega arith;
+          peer_kind = ap stateless (same k.peer k.peer_there).kind ∙ k.peer_kind;
+          back = (same k.peer k.peer_there).peer ∙ k.back;
+          contract = k.contract;
+          contract_there = k.contract_there;
+          n = k.n;
+          ends = k.ends;
+          moves = k.moves;
+          mine = λ lives. end_same k.ends Imp (block_at bs a) (block_at bs' a) (same a old) lives (k.mine ((same a old).lives lives));
+          theirs = λ lives. end_same k.ends Exp (block_at bs k.peer) (block_at bs' k.peer) (same k.peer k.peer_there) lives
+              (k.theirs ((same k.peer k.peer_there).lives lives));
+        }
+
+    exp : (a c : ℕ) → a < length bs → stateless (block_at bs' a).kind ≡ Endpoint record { 0 = c } Exp record { 0 = 0 } → IsPeer bs' a c
+    exp a c old is =
+        let k = h.exp a c old (sym (ap stateless (same a old).kind) ∙ is) in
+        record {
+          peer = k.peer;
+          peer_is = (same a old).peer ∙ k.peer_is;
+          peer_there = let t = k.peer_there in omega arith;
+          peer_kind = ap stateless (same k.peer k.peer_there).kind ∙ k.peer_kind;
+          back = (same k.peer k.peer_there).peer ∙ k.back;
+        }
+
+pub same_end : (b b' : Block) → b' ≡ b → SameEnd b b'
+same_end b b' e = record {
+  kind = ap (λ (x : Block). x.kind) e;
+  peer = ap (λ (x : Block). x.peer) e;
+  lives =
+      λ l. sym (ap (λ (x : Block). is_freed x.owner) e)
+      ∙ l;
+  state = λ l. ap (λ (x : Block). x.state) e;
+  queue = λ l. ap (λ (x : Block). x.queue) e;
+}
+
+-- ---- blocks behind the others
+-- blocks of a process, with nothing in their queues
+pub record AreFresh (self : ℕ) (more : List Block) : Type 0 where
+  pub queue : (k : ℕ) → (block_at more k).queue ≡ []
+  pub no_queue : (k a : ℕ) → is_queue (block_at more k).owner a ≡ false
+  pub theirs : (k q : ℕ) → q ≢ self → is_process (block_at more k).owner q ≡ false
+
+pub queue_append : (self : ℕ) (bs more : List Block) (a : ℕ) → AreFresh self more → (block_at (bs ++ more) a).queue ≡ (block_at bs a).queue
+queue_append self [] more a fresh = fresh.queue a
+queue_append self (b ∷ bs) more zero fresh = refl
+queue_append self (b ∷ bs) more (suc a) fresh = queue_append self bs more a fresh
+
+pub owner_append : (self : ℕ) (bs more : List Block) (x a : ℕ) → AreFresh self more
+    → is_queue (block_at (bs ++ more) x).owner a ≡ is_queue (block_at bs x).owner a
+owner_append self [] more x a fresh = fresh.no_queue x a
+owner_append self (b ∷ bs) more zero a fresh = refl
+owner_append self (b ∷ bs) more (suc x) a fresh = owner_append self bs more x a fresh
+
+-- what stands in queues stays
+pub queues_append : (self : ℕ) (bs more : List Block) → AreFresh self more
+    → ((a x : ℕ) → in_queue x (block_at bs a).queue ≡ one_if (is_queue (block_at bs x).owner a)) → (a x : ℕ)
+    → in_queue x (block_at (bs ++ more) a).queue ≡ one_if (is_queue (block_at (bs ++ more) x).owner a)
+queues_append self bs more fresh h a x =
+    ap (in_queue x) (queue_append self bs more a fresh) ∙ (h a x ∙ ap one_if (sym (owner_append self bs more x a fresh)))
+
+pub others_append : (self : ℕ) (bs more : List Block) (q a : ℕ) → AreFresh self more → q ≢ self → owns (bs ++ more) q a ≡ owns bs q a
+others_append self [] more q a fresh n = fresh.theirs a q n
+others_append self (b ∷ bs) more q zero fresh n = refl
+others_append self (b ∷ bs) more q (suc a) fresh n = others_append self bs more q a fresh n
+
+pub freed_append : (bs more : List Block) (a : ℕ) → freed bs a ≡ true → freed (bs ++ more) a ≡ true
+freed_append [] more a h = absurd (cc)
+freed_append (b ∷ bs) more zero h = h
+freed_append (b ∷ bs) more (suc a) h = freed_append bs more a h
+
+pub cut_append : (bs more : List Block) → StaysCutOff bs (bs ++ more)
+cut_append bs more = record {
+  long = simp length-append (omega arith);
+  each = λ a within cut.
+      let k = and_true (freed bs (block_at bs a).peer) (is_empty (block_at bs a).queue) cut in
+      subst (λ (b : Block). freed (bs ++ more) b.peer && is_empty b.queue ≡ true) (sym (block_append bs more a within))
+      (both_true (freed (bs ++ more) (block_at bs a).peer) (is_empty (block_at bs a).queue)
+      (freed_append bs more (block_at bs a).peer k.0) k.1);
+}
+
+pub kept_append : (bs more : List Block) (P : ℕ → Type 0) → AreKept bs (bs ++ more) P
+kept_append bs more P a some within = record {
+  there = simp length-append (omega arith);
+  kind = ap (λ (b : Block). b.kind) (block_append bs more a within);
+  state = inl (ap (λ (b : Block). b.state) (block_append bs more a within));
+}
+
+pub brought_append : (p : ProgramSeen) (self : ℕ) (bs more : List Block) (a : ℕ) → AreFresh self more
+    → AreBrought p bs (block_at bs a).queue → AreBrought p (bs ++ more) (block_at (bs ++ more) a).queue
+brought_append p self bs more a fresh h =
+    subst (λ (q : List MessageHeld). AreBrought p (bs ++ more) q) (sym (queue_append self bs more a fresh))
+    (brought_kept p bs (bs ++ more) (block_at bs a).queue (cut_append bs more)
+    (kept_append bs more (λ x. 0 < in_queue x (block_at bs a).queue)) h)
+
+-- a block of the process behind the others
+pub new_counts : (self : ℕ) (bs : List Block) (b : Block) (a : ℕ) → b.owner ≡ Process self
+    → one_at a (Some (length bs)) + one_if (owns bs self a) ≡ one_if (owns (bs ++ b ∷ []) self a)
+new_counts self [] b zero own =
+    let e : one_if (is_process b.owner self) ≡ 1 =
+    ap (λ (o : Owner). one_if (is_process o self)) own ∙ ap one_if (eqb_same self self refl) in
+    let z : one_if (0 == 0) ≡ 1 = ap one_if (eqb_same 0 0 refl) in
+    omega arith
+new_counts self [] b (suc a) own =
+    let z : one_if (0 == suc a) ≡ 0 = ap one_if (eqb_apart 0 (suc a) (λ e. omega arith)) in
+    omega arith
+new_counts self (x ∷ bs) b zero own =
+    let z : one_if (suc (length bs) == 0) ≡ 0 = ap one_if (eqb_apart (suc (length bs)) 0 (λ e. omega arith)) in
+    omega arith
+new_counts self (x ∷ bs) b (suc a) own =
+    let e : one_if (suc (length bs) == suc a) ≡ one_if (length bs == a) = ap one_if (eqb_suc (length bs) a) in
+    let k = new_counts self bs b a own in
+    omega arith
+
+pub fresh_one : (self : ℕ) (k : Kind) → AreFresh self (new_block k self 0 0 ∷ [])
+fresh_one self k = record { queue = queue; no_queue = no_queue; theirs = theirs }
+  where
+    queue : (n : ℕ) → (block_at (new_block k self 0 0 ∷ []) n).queue ≡ []
+    queue zero = refl
+    queue (suc n) = refl
+
+    no_queue : (n a : ℕ) → is_queue (block_at (new_block k self 0 0 ∷ []) n).owner a ≡ false
+    no_queue zero a = refl
+    no_queue (suc n) a = refl
+
+    theirs : (n q : ℕ) → q ≢ self → is_process (block_at (new_block k self 0 0 ∷ []) n).owner q ≡ false
+    theirs zero q n = eqb_apart self q (λ e. n (sym e))
+    theirs (suc m) q n = refl
+
+new_kind : (bs : List Block) (b : Block) (a : ℕ) → length bs ≤ a → is_end b.kind ≡ false → is_end (block_at (bs ++ b ∷ []) a).kind ≡ false
+new_kind [] b zero past e = e
+new_kind [] b (suc a) past e = refl
+new_kind (x ∷ bs) b zero past e = absurd (omega arith)
+new_kind (x ∷ bs) b (suc a) past e = let short : length bs ≤ a = omega arith in new_kind bs b a short e
+
+-- a block behind the others that is no end
+pub channels_new : (p : ProgramSeen) (bs : List Block) (b : Block) → is_end b.kind ≡ false → ChannelsFit p bs → ChannelsFit p (bs ++ b ∷ [])
+channels_new p bs b plain h =
+    channels_same p bs (bs ++ b ∷ []) (simp length-append (omega arith))
+    (λ a within. same_end (block_at bs a) (block_at (bs ++ b ∷ []) a) (block_append bs (b ∷ []) a within))
+    (λ a past. new_kind bs b a past plain) h
+
+pub kind_of_variable : (p : ProgramSeen) (n : ℕ) (m : MethodSeen) (v : ℕ) (x : VariableSeen) → method_at p n ≡ Some m
+    → slice_get m.variables v ≡ Some x → kind_at (variables_of p n) v ≡ x.kind
+kind_of_variable p n m v x there at =
+    ap (λ (o : Option MethodSeen). kind_at (option_map_or (λ y. y.variables) o []) v) there
+    ∙ ap (λ (o : Option VariableSeen). option_map_or (λ y. y.kind) o no_kind) at
+
+pub good_new : (p : ProgramSeen) (bound : Bounds) (w : World) (self choice : ℕ) (f : Frame) (rest : List Frame) (m : MethodSeen)
+    (v : Mention) (arguments : List Mention) (next : ℕ)
+    → Here p w self f rest m (New v arguments next) → ((h : IsGraphFit p m) → IsNewFit p m h.scope f.point v.variable.0 next)
+    → IsGood p w (event_of p bound w self f rest (New v arguments next) choice)
+good_new p bound w self choice f rest m v arguments next h fit =
+    let n = length w.blocks in
+    let k = kind_at (variables_of p f.method) v.variable.0 in
+    let b = new_block k self 0 0 in
+    let bs' = w.blocks ++ b ∷ [] in
+    let vs' = set f.variables v.variable.0 (Some n) in
+    let row' = set h.row v.variable.0 leaf.Block in
+    let checks = is_not_lent m v ∷ has_nothing m h.row v ∷ [] in
+    let passed = all_pass checks ((next, row') ∷ []) h.passes in
+    let own = not_refused (is_lent m v.variable.0) _ passed.0 in
+    let none = nothing_none w.blocks m.variables f.variables h.row v.variable.0 h.fits
+    (something_is (leaf_at h.row v.variable.0) (not_refused (is_owned h.row v.variable.0) _ passed.1.0)) in
+    let g = fit h.graph in
+    let fresh = fresh_one self k in
+    let is_kind : k ≡ g.variable.kind = kind_of_variable p f.method m v.variable.0 g.variable h.there g.there in
+    let last : block_at bs' n ≡ b = ap (block_at bs') (sym (add_zero n)) ∙ block_appended w.blocks (b ∷ []) 0 in
+    let reached = h.onward ((next, row') ∷ []) (next, row') (passed_goes checks ((next, row') ∷ []) passed)
+    (contains_first (next, row') []) in
+    let fits = row_set bs' m.variables f.variables h.row v.variable.0 (Some n) leaf.Block
+    (row_kept w.blocks bs' m.variables f.variables h.row (cut_append w.blocks (b ∷ []))
+    (kept_append w.blocks (b ∷ []) (λ a. 0 < standing a f.variables)) h.fits)
+    (λ y at. record {
+      there = simp length-append (omega arith);
+      kind = ap (λ (x : Block). stateless x.kind) last
+          ∙ (ap stateless is_kind ∙ ap (λ (x : VariableSeen). stateless x.kind) (some_same g.variable y (sym g.there ∙ at)));
+      state = ap (λ (x : VariableSeen). is_end x.kind) (some_same y g.variable (sym at ∙ g.there)) ∙ g.block;
+    }) in (
+      goes_on p w self f rest m next vs' row' bs' h.holds h.is h.there h.below reached fits (record {
+        lent = lent_stays_set m.variables f.variables v.variable.0 (Some n) own;
+        cut = cut_append w.blocks (b ∷ []);
+        kept = kept_append w.blocks (b ∷ []) (λ a. standing a f.variables ≡ 0);
+        counted = λ a.
+            let short : v.variable.0 < length f.variables = let i =
+            slice_get_within m.variables v.variable.0 g.variable g.there in let l = h.fits.long in omega arith in
+            let one = standing_set f.variables v.variable.0 a (Some n) short in
+            let was : one_at a (read f.variables v.variable.0) ≡ 0 = ap (one_at a) none in
+            let two = new_counts self w.blocks b a refl in
+            omega arith;
+        others = λ q a apart. others_append self w.blocks (b ∷ []) q a fresh apart;
+        channels = channels_new p w.blocks b (ap is_end is_kind ∙ g.block) h.holds.channels;
+        queues = queues_append self w.blocks (b ∷ []) fresh h.holds.queues;
+        brought = λ a. brought_append p self w.blocks (b ∷ []) a fresh (h.holds.brought a);
+      }),
+      cut_append w.blocks (b ∷ []),
+    )

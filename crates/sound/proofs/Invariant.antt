@@ -1,0 +1,240 @@
+-- The invariant of every run.
+use Rattle.std.proofs.Common.{◌≡◌, ◌==◌, ℕ, ◌+◌, ◌<◌, ◌≤◌, Bool, true, false, List, [], ◌∷◌, Some, None, length, map}
+use Rattle.std.specs.Prelude.{Option, ◌⊎◌, slice_get}
+use Rattle.source.specs.declared.place.Place.{Place}
+use Rattle.program.specs.Lists.{Each}
+use Rattle.program.specs.Methods.{MethodSeen, VariableSeen}
+use Rattle.program.specs.Parts.{ContractSeen}
+use Rattle.program.specs.Programs.{ProgramSeen}
+use Rattle.program.specs.WellFormed.{is_end}
+use Rattle.program.specs.declared.call.Argument.{Argument}
+use Rattle.program.specs.declared.kind.Kind.TheVariants.{Endpoint}
+use Rattle.program.specs.declared.kind.Kind.{Kind}
+use Rattle.program.specs.declared.kind.Side.TheVariants.{Imp, Exp}
+use Rattle.program.specs.declared.kind.Side.{Side}
+use Rattle.program.specs.declared.method.Role.TheVariants as role
+use Rattle.program.specs.declared.method.Role.{Role}
+use Rattle.program.specs.declared.statement.Mention.{Mention}
+use Rattle.flow.specs.Graphs.{Instruction, Call}
+use Rattle.contracts.specs.Bounds.{sign_to}
+use Rattle.contracts.specs.Leaving.{sign_from}
+use Rattle.contracts.specs.Bounds.{IsBound}
+use Rattle.contracts.specs.Conditions.{IsSound}
+use Rattle.program.specs.Parts.{IsWhole}
+use Rattle.machine.specs.Outcomes.{Bounds}
+use Rattle.contracts.specs.TwoEnds.{Ends, Moves, begun}
+use Rattle.rules.specs.Arguments.{claimed}
+use Rattle.rules.specs.Endpoints.{brought, declared_leaf}
+use Rattle.rules.specs.Mentions.{is_lent_role}
+use Rattle.rules.specs.Rows.{leaf_at}
+use Rattle.rules.specs.Steps.{outcome, entry_of}
+use Rattle.rules.specs.declared.row.Leaf.TheVariants as leaf
+use Rattle.rules.specs.declared.row.Leaf.{Leaf}
+use Rattle.analyse.specs.Reach.{Reached}
+use Rattle.machine.specs.Frames.{method_at, instruction_at}
+use Rattle.machine.specs.World.{MessageHeld, Block, Frame, World, block_at, stack_at, read, is_queue, owns, freed, cut_off, let_go}
+use Rattle.sound.specs.Operands.{stateless}
+
+-- ---- what a leaf says of an address
+abbrev pub IsOn : List Block → Kind → ℕ → Leaf → Type 0
+IsOn bs k a leaf.Nothing = ⊥
+IsOn bs k a leaf.Block = is_end k ≡ false
+IsOn bs k a leaf.CutOff = (is_end k ≡ true) × (cut_off bs a ≡ true)
+IsOn bs k a (leaf.State q) = (is_end k ≡ true) × (((block_at bs a).state ≡ q) ⊎ (cut_off bs a ≡ true))
+
+pub record HasLeaf (bs : List Block) (k : Kind) (a : ℕ) (l : Leaf) : Type 0 where
+  pub there : a < length bs
+  pub kind : stateless (block_at bs a).kind ≡ stateless k
+  pub state : IsOn bs k a l
+
+-- none, and nothing; or an address of which the leaf holds
+abbrev pub LeafFits : List Block → Kind → Option ℕ → Leaf → Type 0
+LeafFits bs k None l = l ≡ leaf.Nothing
+LeafFits bs k (Some a) l = HasLeaf bs k a l
+
+pub record RowFits (bs : List Block) (variables : List VariableSeen) (vs : List (Option ℕ)) (row : List Leaf) : Type 0 where
+  pub long : length vs ≡ length variables
+  pub row_long : length row ≡ length variables
+  pub each : (v : ℕ) (x : VariableSeen) → slice_get variables v ≡ Some x → LeafFits bs x.kind (read vs v) (leaf_at row v)
+
+-- ---- who has what; an address that is lent counts where it was lent to
+abbrev pub one_if : Bool → ℕ
+one_if true = 1
+one_if false = 0
+
+abbrev pub one_at : ℕ → Option ℕ → ℕ
+one_at a None = 0
+one_at a (Some b) = one_if (b == a)
+
+-- in how many of these variables an address stands
+abbrev pub standing : ℕ → List (Option ℕ) → ℕ
+standing a [] = 0
+standing a (x ∷ xs) = one_at a x + standing a xs
+
+abbrev pub as_claimed : List Argument → List Argument
+as_claimed [] = []
+as_claimed (a ∷ arguments) = record { mention = a.mention; claimed = true } ∷ as_claimed arguments
+
+abbrev pub call_arguments : Option Instruction → List Argument
+call_arguments (Some (Call place method arguments target next)) = arguments
+call_arguments _ = []
+
+-- what a waiting frame has, without what it has given to the one above
+abbrev pub kept_back : ProgramSeen → Frame → List (Option ℕ)
+kept_back p g = let_go g.variables (as_claimed (call_arguments (instruction_at p g)))
+
+abbrev pub waiting : ProgramSeen → ℕ → List Frame → ℕ
+waiting p a [] = 0
+waiting p a (g ∷ rest) = standing a (kept_back p g) + waiting p a rest
+
+abbrev pub held : ProgramSeen → ℕ → List Frame → ℕ
+held p a [] = 0
+held p a (f ∷ rest) = standing a f.variables + waiting p a rest
+
+-- ---- stacks
+pub record TopFits (p : ProgramSeen) (bs : List Block) (f : Frame) : Type 0 where
+  pub m : MethodSeen
+  pub there : method_at p f.method ≡ Some m
+  pub row : List Leaf
+  pub reached : Reached (outcome p f.method) (entry_of p f.method) (f.point, row)
+  pub fits : RowFits bs m.variables f.variables row
+
+-- a variable that was lent: the address that the parameter has, and its leaf before the call, the declared one or cut off
+pub record IsLent (bs : List Block) (k : Kind) (mine theirs : Option ℕ) (l : Leaf) : Type 0 where
+  pub at : ℕ
+  pub within : at < length bs
+  pub mine_is : mine ≡ Some at
+  pub theirs_is : theirs ≡ Some at
+  pub leaf : (l ≡ declared_leaf k) ⊎ ((l ≡ leaf.CutOff) × (is_end k ≡ true) × (cut_off bs at ≡ true))
+
+abbrev pub with_first : (Argument → Type 0) → (List Argument → Type 0) → List Argument → Type 0
+with_first P Q [] = ⊥
+with_first P Q (a ∷ arguments) = P a × Q arguments
+
+-- the arguments of a call, by the variables of the callee and what they have
+abbrev pub by_role : Role → Type 0 → Type 0 → Type 0 → Type 0
+by_role role.Local P Q R = P
+by_role role.Lent P Q R = Q
+by_role role.Claimed P Q R = R
+
+abbrev pub AreLent : List Block → List (Option ℕ) → List Leaf → List VariableSeen → List (Option ℕ) → List Argument → Type 0
+AreLent bs mine before [] ys arguments = arguments ≡ []
+AreLent bs mine before (x ∷ xs) [] arguments = ⊥
+AreLent bs mine before (x ∷ xs) (y ∷ ys) arguments =
+    by_role x.role (AreLent bs mine before xs ys arguments)
+    (with_first (λ a. (a.claimed ≡ false) × IsLent bs x.kind (read mine a.mention.variable.0) y (leaf_at before a.mention.variable.0))
+    (AreLent bs mine before xs ys) arguments)
+    (with_first (λ a. (a.claimed ≡ true) × (read mine a.mention.variable.0 ≡ None)) (AreLent bs mine before xs ys) arguments)
+
+-- a frame that waits for the one above it, at its call
+pub record WaitsFor (p : ProgramSeen) (bs : List Block) (g above : Frame) : Type 0 where
+  pub m : MethodSeen
+  pub there : method_at p g.method ≡ Some m
+  pub callee : MethodSeen
+  pub callee_there : method_at p above.method ≡ Some callee
+  pub place : Place
+  pub arguments : List Argument
+  pub target : Option Mention
+  pub next : ℕ
+  pub call : instruction_at p g ≡ Some (Call place record { 0 = above.method } arguments target next)
+  pub before : List Leaf
+  pub reached : Reached (outcome p g.method) (entry_of p g.method) (g.point, before)
+  pub fits : RowFits bs m.variables (kept_back p g) (claimed (claimed before arguments) (as_claimed arguments))
+  pub lent : AreLent bs g.variables before callee.variables above.variables arguments
+  pub long : length g.variables ≡ length m.variables
+
+-- the last frame has nothing lent, and gives nothing
+pub record IsLast (p : ProgramSeen) (f : Frame) : Type 0 where
+  pub m : MethodSeen
+  pub there : method_at p f.method ≡ Some m
+  pub void : m.result ≡ None
+  pub alone : (v : ℕ) (x : VariableSeen) → slice_get m.variables v ≡ Some x → is_lent_role x.role ≡ false
+
+abbrev pub RestFits : ProgramSeen → List Block → Frame → List Frame → Type 0
+RestFits p bs above [] = IsLast p above
+RestFits p bs above (g ∷ rest) = WaitsFor p bs g above × RestFits p bs g rest
+
+abbrev pub StackFits : ProgramSeen → List Block → List Frame → Type 0
+StackFits p bs [] = Unit {0}
+StackFits p bs (f ∷ rest) = TopFits p bs f × RestFits p bs f rest
+
+-- ---- queues
+abbrev pub standing_in : ℕ → List ℕ → ℕ
+standing_in x [] = 0
+standing_in x (y ∷ ys) = one_if (y == x) + standing_in x ys
+
+abbrev pub in_queue : ℕ → List MessageHeld → ℕ
+in_queue x [] = 0
+in_queue x (m ∷ ms) = standing_in x m.payload + in_queue x ms
+
+-- addresses of these kinds, each as it is declared
+abbrev pub AreDeclared : List Block → List Kind → List ℕ → Type 0
+AreDeclared bs [] [] = Unit {0}
+AreDeclared bs (k ∷ kinds) (a ∷ given) = HasLeaf bs k a (declared_leaf k) × AreDeclared bs kinds given
+AreDeclared bs _ _ = ⊥
+
+abbrev pub AreBrought : ProgramSeen → List Block → List MessageHeld → Type 0
+AreBrought p bs queue = Each (λ m. AreDeclared bs (brought p m.message) m.payload) queue
+
+-- ---- channels
+-- an end that lives is as two ends say
+pub record IsEndOf (ends : Ends) (side : Side) (b : Block) : Type 0 where
+  pub state : ends.state (sign_from side) ≡ record { 0 = b.state }
+  pub queue : map (λ n. n.0) (ends.queue (sign_to side)) ≡ map (λ m. m.message) b.queue
+
+-- an importing end, its peer, and moves of two ends that lead to their states and queues
+pub record ChannelFits (p : ProgramSeen) (bs : List Block) (a c : ℕ) : Type 0 where
+  pub peer : ℕ
+  pub peer_is : (block_at bs a).peer ≡ peer
+  pub peer_there : peer < length bs
+  pub peer_kind : stateless (block_at bs peer).kind ≡ Endpoint record { 0 = c } Exp record { 0 = 0 }
+  pub back : (block_at bs peer).peer ≡ a
+  pub contract : ContractSeen
+  pub contract_there : slice_get p.contracts c ≡ Some contract
+  pub n : ℕ
+  pub ends : Ends
+  pub moves : Moves contract.parts.edges n (begun contract.parts.first) ends
+  pub mine : freed bs a ≡ false → IsEndOf ends Imp (block_at bs a)
+  pub theirs : freed bs peer ≡ false → IsEndOf ends Exp (block_at bs peer)
+
+-- an exporting end is the peer of its peer
+pub record IsPeer (bs : List Block) (a c : ℕ) : Type 0 where
+  pub peer : ℕ
+  pub peer_is : (block_at bs a).peer ≡ peer
+  pub peer_there : peer < length bs
+  pub peer_kind : stateless (block_at bs peer).kind ≡ Endpoint record { 0 = c } Imp record { 0 = 0 }
+  pub back : (block_at bs peer).peer ≡ a
+
+pub record ChannelsFit (p : ProgramSeen) (bs : List Block) : Type 0 where
+  pub imp : (a c : ℕ) → a < length bs → stateless (block_at bs a).kind ≡ Endpoint record { 0 = c } Imp record { 0 = 0 }
+      → ChannelFits p bs a c
+  pub exp : (a c : ℕ) → a < length bs → stateless (block_at bs a).kind ≡ Endpoint record { 0 = c } Exp record { 0 = 0 } → IsPeer bs a c
+
+-- what holds of the blocks of every run, whatever its verdicts
+pub record BlocksFit (p : ProgramSeen) (bs : List Block) : Type 0 where
+  pub channels : ChannelsFit p bs
+  pub queues : (a x : ℕ) → in_queue x (block_at bs a).queue ≡ one_if (is_queue (block_at bs x).owner a)
+
+-- ---- what is asked of contracts
+-- contracts that are sound, and bounds that no walk passes
+pub record IsSoundProgram (p : ProgramSeen) (bound : Bounds) : Type 0 where
+  pub whole : (c : ℕ) (x : ContractSeen) → slice_get p.contracts c ≡ Some x → IsWhole x.parts
+  pub sound : (c : ℕ) (x : ContractSeen) → slice_get p.contracts c ≡ Some x → IsSound x.parts
+  pub bounds : (c : ℕ) (x : ContractSeen) (side : Side) → slice_get p.contracts c ≡ Some x
+      → IsBound x.parts.edges x.parts.first (sign_to side) (bound c side)
+
+-- ---- the invariant
+pub record Holds (p : ProgramSeen) (w : World) : Type 0 where
+  pub channels : ChannelsFit p w.blocks
+  pub stacks : (q : ℕ) → StackFits p w.blocks (stack_at w.processes q)
+  pub own : (q a : ℕ) → held p a (stack_at w.processes q) ≡ one_if (owns w.blocks q a)
+  pub queues : (a x : ℕ) → in_queue x (block_at w.blocks a).queue ≡ one_if (is_queue (block_at w.blocks x).owner a)
+  pub brought : (a : ℕ) → AreBrought p w.blocks (block_at w.blocks a).queue
+
+pub blocks_fit : (p : ProgramSeen) (w : World) → Holds p w → BlocksFit p w.blocks
+blocks_fit p w h = record { channels = h.channels; queues = h.queues }
+
+-- what is cut off stays so
+pub record StaysCutOff (bs bs' : List Block) : Type 0 where
+  pub long : length bs ≤ length bs'
+  pub each : (a : ℕ) → a < length bs → cut_off bs a ≡ true → cut_off bs' a ≡ true

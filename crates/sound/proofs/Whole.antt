@@ -1,0 +1,155 @@
+-- Where nothing is found every run is safe, from what each instruction keeps.
+use Rattle.std.proofs.Common.{◌≡◌, ℕ, Bool, true, false, List, [], ◌∷◌, Some, None, refl, sym, ap, ◌∙◌, subst, arith, inr}
+use Rattle.std.proofs.lemmas.Option.{slice_get_within}
+use Rattle.std.specs.Prelude.{Option, slice_get, if◌then◌else◌, nat_lt}
+use Rattle.program.specs.Methods.{MethodSeen}
+use Rattle.program.specs.Programs.{ProgramSeen}
+use Rattle.flow.specs.Graphs.{Instruction, Use, New, Move, Delete, NewChannel, Send, Switch, Branch, Forget, Call, Start, Return, Stop}
+use Rattle.flow.specs.Lowering.{graph_of}
+use Rattle.contracts.specs.TwoEnds.{HeldAlways, NeverLonger}
+use Rattle.rules.specs.Steps.{outcome, entry_of}
+use Rattle.analyse.specs.Verdicts.{IsMethodVerdict}
+use Rattle.machine.specs.Frames.{method_at, instruction_at, point_instruction, choices}
+use Rattle.machine.specs.Machine.{event_at, event_in, event_outcome}
+use Rattle.machine.specs.Outcomes.{Outcome, NoChoice, Bounds}
+use Rattle.machine.specs.Runs.{AreBounds, Run, begins, goes_on}
+use Rattle.machine.specs.World.{Frame, World, stack_at, owns}
+use Rattle.machine.specs.declared.halts.Event.{Event}
+use Rattle.sound.specs.GraphFit.{IsGraphFit, AreGraphsFit, IsFit}
+use Rattle.sound.specs.Premises.{AreSound, IsEntry, NothingIsFound}
+use Rattle.program.specs.WellFormed.{AreWellFormed}
+use Rattle.sound.proofs.Contracts.{sound_program}
+use Rattle.sound.proofs.Trees.{graphs_fit}
+use Rattle.sound.specs.Safe.{IsSafe}
+use Rattle.sound.proofs.Beginning.{start_holds}
+use Rattle.sound.proofs.Blocks.{good_new}
+use Rattle.sound.proofs.Calling.{good_call}
+use Rattle.sound.proofs.Checks.{reached_more, IsClean}
+use Rattle.sound.proofs.Deleting.{good_delete}
+use Rattle.sound.proofs.Invariant.{TopFits, RestFits, StackFits, Holds, held, one_if, IsSoundProgram}
+use Rattle.sound.proofs.Opening.{good_channel}
+use Rattle.sound.proofs.Owning.{owns_what}
+use Rattle.sound.proofs.Queues.{queues_are_walks}
+use Rattle.sound.proofs.Quiet.{good_use, good_branch, good_forget, good_move}
+use Rattle.sound.proofs.Returning.{good_return}
+use Rattle.sound.proofs.Sending.{good_send}
+use Rattle.sound.proofs.Starting.{good_start}
+use Rattle.sound.proofs.Switching.{good_switch}
+use Rattle.sound.proofs.Reaching.{reached_none}
+use Rattle.sound.proofs.Here.{IsGood, Here, outcome_at}
+use Rattle.machine.specs.Instructions.{event_of}
+
+-- a process that has ended owns nothing
+ended_has_nothing : (p : ProgramSeen) (w : World) → Holds p w → (q a : ℕ) → stack_at w.processes q ≡ [] → owns w.blocks q a ≡ false
+ended_has_nothing p w h q a is = by (owns w.blocks q a) (sym (ap (held p a) is) ∙ h.own q a)
+  where
+    by : (b : Bool) → 0 ≡ one_if b → b ≡ false
+    by true e = absurd (omega arith)
+    by false e = refl
+
+-- a verdict without findings: no step at a reached pair has one
+clean : (p : ProgramSeen) (n : ℕ) → IsMethodVerdict p n [] → IsClean p n
+clean p n h f finds =
+    let none = (h.exactly f).1 (inr ((λ many. let one = h.once many in absurd (omega arith)), finds)) in
+    absurd (let short = none.1 in omega arith)
+
+here : (p : ProgramSeen) (w : World) (self : ℕ) (f : Frame) (rest : List Frame) (i : Instruction) → AreGraphsFit p → IsClean p f.method
+    → Holds p w → stack_at w.processes self ≡ f ∷ rest → (t : TopFits p w.blocks f)
+    → RestFits p w.blocks f rest → instruction_at p f ≡ Some i → Here p w self f rest t.m i
+here p w self f rest i graphs none h is t below at =
+    let point : slice_get (graph_of t.m).instructions f.point ≡ Some i = sym (ap (λ x. point_instruction x f.point) t.there) ∙ at in
+    let same = outcome_at p f t.m i t.row t.there point in
+    let graph = graphs.each f.method t.m t.there in
+    record {
+      holds = h;
+      is = is;
+      there = t.there;
+      at = point;
+      row = t.row;
+      reached = t.reached;
+      fits = t.fits;
+      below = below;
+      graph = graph;
+      none = λ v out. reached_none p f.method t.m graph t.there (f.point, t.row) t.reached v out;
+      passes = λ finding e. none finding (record { at = (f.point, t.row); reached = t.reached; fails = same ∙ e });
+      onward = λ all y e has. reached_more (outcome p f.method) (entry_of p f.method) (f.point, t.row) y all t.reached (same ∙ e) has;
+    }
+
+good_instruction : HeldAlways → NeverLonger → (p : ProgramSeen) (bound : Bounds) → IsSoundProgram p bound → AreGraphsFit p
+    → ((n : ℕ) (x : MethodSeen) → method_at p n ≡ Some x → IsClean p n)
+    → (w : World) (self choice : ℕ) (f : Frame) (rest : List Frame) (m : MethodSeen) (i : Instruction)
+    → Here p w self f rest m i → ((h : IsGraphFit p m) → IsFit p m h.scope f.point i) → IsGood p w (event_of p bound w self f rest i choice)
+good_instruction always longer p bound sound graphs none w self choice f rest m (Use v next) h fit =
+    good_use p bound w self choice f rest m v next h
+good_instruction always longer p bound sound graphs none w self choice f rest m (New v arguments next) h fit =
+    good_new p bound w self choice f rest m v arguments next h fit
+good_instruction always longer p bound sound graphs none w self choice f rest m (Move v u next) h fit =
+    good_move p bound w self choice f rest m v u next h fit
+good_instruction always longer p bound sound graphs none w self choice f rest m (Delete v next) h fit =
+    good_delete p bound w self choice f rest m v next h
+good_instruction always longer p bound sound graphs none w self choice f rest m (NewChannel c next) h fit =
+    good_channel p bound w self choice f rest m c next h (fit h.graph)
+good_instruction always longer p bound sound graphs none w self choice f rest m (Send place e message payloads next) h fit =
+    good_send p bound w self choice f rest m longer sound place e message payloads next h (fit h.graph)
+good_instruction always longer p bound sound graphs none w self choice f rest m (Switch place cases) h fit =
+    good_switch p bound w self choice f rest m always sound place cases h (fit h.graph)
+good_instruction always longer p bound sound graphs none w self choice f rest m (Branch place branches) h fit =
+    good_branch p bound w self choice f rest m place branches h
+good_instruction always longer p bound sound graphs none w self choice f rest m (Forget g next) h fit =
+    good_forget p bound w self choice f rest m g next h fit
+good_instruction always longer p bound sound graphs none w self choice f rest m (Call place method arguments target next) h fit =
+    good_call p bound w self choice f rest m place method arguments target next h fit
+good_instruction always longer p bound sound graphs none w self choice f rest m (Start place method arguments next) h fit =
+    good_start p bound w self choice f rest m place method arguments next h (fit h.graph)
+good_instruction always longer p bound sound graphs none w self choice f rest m (Return place value last) h fit =
+    good_return p bound w self choice f rest m place value last graphs none h (fit h.graph)
+good_instruction always longer p bound sound graphs none w self choice f rest m (Stop place) h fit = absurd (h.passes _ refl)
+
+-- every event of a world of which the invariant holds is good
+module _ (always : HeldAlways) (longer : NeverLonger) (p : ProgramSeen) (bound : Bounds) (sound : IsSoundProgram p bound)
+    (graphs : AreGraphsFit p) (none : (n : ℕ) (m : MethodSeen) → method_at p n ≡ Some m → IsClean p n) where
+  good_at : (w : World) (e : Event) (f : Frame) (rest : List Frame) → Holds p w → stack_at w.processes e.process ≡ f ∷ rest
+      → (t : TopFits p w.blocks f) → RestFits p w.blocks f rest → (x : Option Instruction) → instruction_at p f ≡ x
+      → IsGood p w (event_at p bound w e f rest x)
+  good_at w e f rest h is t below None at = tt
+  good_at w e f rest h is t below (Some i) at = by (nat_lt e.choice (choices i))
+    where
+      by : (b : Bool) → IsGood p w (if b then event_of p bound w e.process f rest i e.choice else NoChoice)
+      by true =
+          let point : slice_get (graph_of t.m).instructions f.point ≡ Some i = sym (ap (λ x. point_instruction x f.point) t.there) ∙ at in
+          good_instruction always longer p bound sound graphs none w e.process e.choice f rest t.m i
+          (here p w e.process f rest i graphs (none f.method t.m t.there) h is t below at) (λ g. g.fits f.point i point)
+      by false = tt
+
+  good_in : (w : World) (e : Event) (fs : List Frame) → Holds p w → stack_at w.processes e.process ≡ fs → StackFits p w.blocks fs
+      → IsGood p w (event_in p bound w e fs)
+  good_in w e [] h is fits = tt
+  good_in w e (f ∷ rest) h is fits = good_at w e f rest h is fits.0 fits.1 (instruction_at p f) refl
+
+  good : (w : World) (e : Event) → Holds p w → IsGood p w (event_outcome p bound w e)
+  good w e h = good_in w e (stack_at w.processes e.process) h refl (h.stacks e.process)
+
+  run_holds : (m : ℕ) (w : World) → IsEntry p m → Run p bound m w → Holds p w
+  run_holds m w entry begins = start_holds p m graphs entry
+  run_holds m x entry (goes_on w v e run moved) = (subst (λ (o : Outcome). IsGood p w o) moved (good w e (run_holds m w entry run))).0
+
+  safe : (w : World) → Holds p w → IsSafe p bound w
+  safe w h = record {
+    no_fault = λ e f faulty. subst (λ (o : Outcome). IsGood p w o) faulty (good w e h);
+    queues = queues_are_walks always p bound sound w h.channels;
+    holds = λ q v a. (owns_what p none w h q).holds v a;
+    once = λ q a owned. (owns_what p none w h q).once a owned;
+    stays_cut_off = λ e v a moved within cut. (subst (λ (o : Outcome). IsGood p w o) moved (good w e h)).1.each a within cut;
+    ended = λ q a is. ended_has_nothing p w h q a is;
+  }
+
+-- where nothing is found, every run is safe
+pub clean_report_is_safe : HeldAlways → NeverLonger → (p : ProgramSeen) (bound : Bounds) → AreWellFormed p.contracts p.messages p.methods
+    → AreSound p → AreBounds p bound → NothingIsFound p → (n : ℕ) (w : World) → IsEntry p n → Run p bound n w → IsSafe p bound w
+clean_report_is_safe always longer p bound well sound bounds nothing n w entry run =
+    let graphs = graphs_fit p well in
+    let program = sound_program p bound sound bounds in
+    let none : (k : ℕ) (x : MethodSeen) → method_at p k ≡ Some x → IsClean p k =
+    λ k x there. clean p k (nothing k (slice_get_within p.methods k x there))
+    in
+    safe always longer p bound program graphs none w (run_holds always longer p bound program graphs none n w entry run)

@@ -1,0 +1,145 @@
+-- A lowered method fits: the operands of each instruction are there and of the right kind, and each point has a scope. What is in
+-- scope before an instruction is in scope behind it, but for what its Forget names; what an instruction assigns is in scope behind it.
+use Rattle.std.specs.Prelude.{◌≡◌, ◌≢◌, ℕ, ◌⊎◌, Bool, true, false, List, [], map, Option, Some, None, IfSome, slice_get}
+use Rattle.program.specs.Lists.{Each, is_among}
+use Rattle.program.specs.Methods.{MethodSeen, VariableSeen}
+use Rattle.program.specs.Parts.{ContractSeen}
+use Rattle.program.specs.Programs.{ProgramSeen}
+use Rattle.program.specs.WellFormed.{are_ends, is_end, is_parameter, parameters}
+use Rattle.program.specs.declared.call.Argument.{Argument}
+use Rattle.program.specs.declared.number.VarId.{VarId}
+use Rattle.program.specs.declared.statement.Awaited.{Awaited}
+use Rattle.program.specs.declared.statement.Awaited.TheVariants.{Message, Closed}
+use Rattle.program.specs.declared.statement.Channel.{Channel}
+use Rattle.program.specs.declared.statement.Mention.{Mention}
+use Rattle.flow.specs.Cases.{EntranceSeen, case_for, first_mentions}
+use Rattle.flow.specs.Graphs.{Instruction, Use, New, Move, Delete, NewChannel, Send, Switch, Branch, Forget, Call, Start, Return, Stop}
+use Rattle.flow.specs.Lowering.{graph_of}
+use Rattle.flow.specs.Within.{goes_on}
+use Rattle.rules.specs.Endpoints.{brought}
+use Rattle.rules.specs.Mentions.{is_lent}
+use Rattle.rules.specs.Scopes.{declared_between}
+use Rattle.sound.specs.Operands.{AreApart, AreArguments, AreClaims, AreOfKinds, IsEndVariable, IsOfKind, IsTakenBy}
+
+-- which variables are in scope at a point
+abbrev pub Scope : Type 0
+Scope = (point variable : ℕ) → Bool
+
+-- what is in scope at a point is in scope at another, or is among those that go
+pub record Keeps (scope : Scope) (from to : ℕ) (gone : List ℕ) : Type 0 where
+  pub each : (v : ℕ) → scope from v ≡ true → (scope to v ≡ true) ⊎ (is_among gone v ≡ true)
+
+module _ (p : ProgramSeen) (m : MethodSeen) (scope : Scope) where
+  -- a variable that a case binds comes into scope there, and is not lent
+  pub record IsBoundAt (from to v : ℕ) : Type 0 where
+    pub before : scope from v ≡ false
+    pub after : scope to v ≡ true
+    pub own : is_lent m v ≡ false
+
+  -- a case binds variables for what its message brings, no two of them the same
+  abbrev pub AreBrought : ℕ → Awaited → List VarId → ℕ → Type 0
+  AreBrought from Closed bound to = Unit {0}
+  AreBrought from (Message id) bound to =
+      AreOfKinds m.variables (brought p id.0) (map (λ v. v.0) bound)
+      × (AreApart (map (λ v. v.0) bound) × Each (λ v. IsBoundAt from to v.0) bound)
+
+  -- a case of a switch at a point
+  pub record IsEntrance (point : ℕ) (c : EntranceSeen) : Type 0 where
+    pub binds : AreBrought point c.awaited c.bound c.next
+    pub keeps : Keeps scope point c.next []
+
+  -- A switch: each of its endpoints is one, and has a case for its close.
+  pub record IsSwitch (point : ℕ) (cases : List EntranceSeen) : Type 0 where
+    pub each : Each (IsEntrance point) cases
+    pub ends : Each (λ e. IsEndVariable m.variables e.variable.0) (first_mentions [] cases)
+    pub closes : Each (λ e. case_for cases e.variable.0 None ≢ None) (first_mentions [] cases)
+
+  -- a call: what it gives and takes is what the method that it calls asks and gives
+  pub record IsCallFit (point method : ℕ) (arguments : List Argument) (target : Option Mention) (next : ℕ) : Type 0 where
+    pub callee : MethodSeen
+    pub there : slice_get p.methods method ≡ Some callee
+    pub arguments_fit : AreArguments m.variables (parameters callee) arguments
+    pub taken : IsTakenBy m.variables callee.result target
+    pub in_scope : IfSome target (λ v. scope next v.variable.0 ≡ true)
+    pub keeps : Keeps scope point next []
+
+  -- A start: what is started gives nothing, and claims what it is given.
+  pub record IsStartFit (point method : ℕ) (arguments : List Argument) (next : ℕ) : Type 0 where
+    pub callee : MethodSeen
+    pub there : slice_get p.methods method ≡ Some callee
+    pub arguments_fit : AreArguments m.variables (parameters callee) arguments
+    pub void : callee.result ≡ None
+    pub claims : AreClaims arguments
+    pub keeps : Keeps scope point next []
+
+  -- A Return: it gives what the method gives, and its scope names all that is in scope there.
+  pub record IsReturnFit (point : ℕ) (value : Option Mention) (last : Option VarId) : Type 0 where
+    pub given : IsTakenBy m.variables m.result value
+    pub covers : (v : ℕ) → scope point v ≡ true → is_among (declared_between m None last) v ≡ true
+
+  -- New: the variable is of no endpoint.
+  pub record IsNewFit (point v next : ℕ) : Type 0 where
+    pub variable : VariableSeen
+    pub there : slice_get m.variables v ≡ Some variable
+    pub block : is_end variable.kind ≡ false
+    pub in_scope : scope next v ≡ true
+    pub keeps : Keeps scope point next []
+
+  -- NewChannel: the contract is there, and the two variables are for its two ends.
+  pub record IsChannelFit (point : ℕ) (c : Channel) (next : ℕ) : Type 0 where
+    pub contract : ContractSeen
+    pub contract_there : slice_get p.contracts c.contract.0 ≡ Some contract
+    pub first : VariableSeen
+    pub second : VariableSeen
+    pub first_there : slice_get m.variables c.first.variable.0 ≡ Some first
+    pub second_there : slice_get m.variables c.second.variable.0 ≡ Some second
+    pub ends : are_ends c.contract.0 first.kind second.kind ≡ true
+    pub first_scope : scope next c.first.variable.0 ≡ true
+    pub second_scope : scope next c.second.variable.0 ≡ true
+    pub keeps : Keeps scope point next []
+
+  -- a Move: both variables are of one kind
+  pub record IsMoveFit (point target source next : ℕ) : Type 0 where
+    pub variable : VariableSeen
+    pub there : slice_get m.variables source ≡ Some variable
+    pub kind : IsOfKind m.variables variable.kind target
+    pub in_scope : scope next target ≡ true
+    pub keeps : Keeps scope point next []
+
+  -- a Send: along an endpoint, of what the message brings
+  pub record IsSendFit (point e message : ℕ) (payloads : List Mention) (next : ℕ) : Type 0 where
+    pub endpoint : IsEndVariable m.variables e
+    pub kinds : AreOfKinds m.variables (brought p message) (map (λ x. x.variable.0) payloads)
+    pub keeps : Keeps scope point next []
+
+  -- A Forget: it names what leaves the scope, and nothing of it is lent.
+  pub record IsForgetFit (point : ℕ) (gone : List ℕ) (next : ℕ) : Type 0 where
+    pub keeps : Keeps scope point next gone
+    pub own : Each (λ v. is_lent m v ≡ false) gone
+
+  -- an instruction at a point
+  abbrev pub IsFit : ℕ → Instruction → Type 0
+  IsFit point (Use v next) = Keeps scope point next []
+  IsFit point (New v arguments next) = IsNewFit point v.variable.0 next
+  IsFit point (NewChannel c next) = IsChannelFit point c next
+  IsFit point (Move v w next) = IsMoveFit point v.variable.0 w.variable.0 next
+  IsFit point (Delete v next) = Keeps scope point next []
+  IsFit point (Send place e message payloads next) = IsSendFit point e.variable.0 message.0 payloads next
+  IsFit point (Switch place cases) = IsSwitch point cases
+  IsFit point (Branch place branches) = Each (λ to. Keeps scope point to []) (goes_on (Branch place branches))
+  IsFit point (Forget f next) = IsForgetFit point (declared_between m f.outer (Some f.last)) next
+  IsFit point (Call place method arguments target next) = IsCallFit point method.0 arguments target next
+  IsFit point (Start place method arguments next) = IsStartFit point method.0 arguments next
+  IsFit point (Return place value last) = IsReturnFit point value last
+  IsFit point (Stop place) = Unit {0}
+
+-- a method's graph under some scopes; its parameters are in scope where it begins
+pub record IsGraphFit (p : ProgramSeen) (m : MethodSeen) : Type 0 where
+  pub scope : Scope
+  pub begins : (v : ℕ) (x : VariableSeen) → slice_get m.variables v ≡ Some x → is_parameter x.role ≡ true
+      → scope (graph_of m).first v ≡ true
+  pub fits : (point : ℕ) (i : Instruction) → slice_get (graph_of m).instructions point ≡ Some i → IsFit p m scope point i
+
+-- all methods of a program
+pub record AreGraphsFit (p : ProgramSeen) : Type 0 where
+  pub each : (n : ℕ) (m : MethodSeen) → slice_get p.methods n ≡ Some m → IsGraphFit p m

@@ -1,0 +1,41 @@
+-- What holds in every run of a program in which nothing is found.
+use Rattle.std.specs.Prelude.{◌≡◌, ◌≢◌, ◌+◌, ◌==◌, ◌<◌, ◌&&◌, ℕ, true, false, not, List, [], ◌∷◌, length, Option, Some, None, if◌then◌else◌}
+use Rattle.program.specs.Lists.{Each}
+use Rattle.program.specs.Methods.{VariableSeen}
+use Rattle.program.specs.Programs.{ProgramSeen}
+use Rattle.program.specs.declared.kind.Side.{Side}
+use Rattle.rules.specs.Mentions.{is_lent_role}
+use Rattle.machine.specs.Frames.{variables_of}
+use Rattle.machine.specs.Machine.{event_outcome}
+use Rattle.machine.specs.Outcomes.{Bounds, Faulty, Moved}
+use Rattle.machine.specs.World.{Frame, World, cut_off, owns, read, stack_at}
+use Rattle.machine.specs.declared.halts.Event.{Event}
+use Rattle.machine.specs.declared.halts.Fault.{Fault}
+use Rattle.sound.specs.Queues.{IsLiveEnd, QueueIsWalk}
+
+-- In how many variables of a frame an address stands. What stands in a lent parameter is a copy: the caller has the address too.
+abbrev pub stands_in : List VariableSeen → List (Option ℕ) → ℕ → ℕ
+stands_in (v ∷ variables) (Some b ∷ xs) a = (if (b == a) && not (is_lent_role v.role) then 1 else 0) + stands_in variables xs a
+stands_in (v ∷ variables) (None ∷ xs) a = stands_in variables xs a
+stands_in _ _ a = 0
+
+-- in how many variables of the frames of a process
+abbrev pub stands_in_frames : ProgramSeen → List Frame → ℕ → ℕ
+stands_in_frames p [] a = 0
+stands_in_frames p (f ∷ frames) a = stands_in (variables_of p f.method) f.variables a + stands_in_frames p frames a
+
+-- What holds of a world, and of each event that may come next in it.
+pub record IsSafe (p : ProgramSeen) (bound : Bounds) (w : World) : Type 0 where
+  -- no event is a fault
+  pub no_fault : (e : Event) (fault : Fault) → event_outcome p bound w e ≢ Faulty fault
+  -- the queue to each end that lives is a walk of its contract
+  pub queues : (a contract : ℕ) (side : Side) → IsLiveEnd w.blocks a contract side → QueueIsWalk p w.blocks a contract side
+  -- what a variable of a process has, the process owns
+  pub holds : (q v a : ℕ) → Each (λ f. read f.variables v ≡ Some a → owns w.blocks q a ≡ true) (stack_at w.processes q)
+  -- what a process owns stands in exactly one of its variables, lent copies not counted
+  pub once : (q a : ℕ) → owns w.blocks q a ≡ true → stands_in_frames p (stack_at w.processes q) a ≡ 1
+  -- what is cut off stays so
+  pub stays_cut_off : (e : Event) (v : World) (a : ℕ) → event_outcome p bound w e ≡ Moved v → a < length w.blocks
+      → cut_off w.blocks a ≡ true → cut_off v.blocks a ≡ true
+  -- a process that has ended owns nothing
+  pub ended : (q a : ℕ) → stack_at w.processes q ≡ [] → owns w.blocks q a ≡ false
