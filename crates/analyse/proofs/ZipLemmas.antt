@@ -1,5 +1,5 @@
 -- Two lists whose items belong together place by place.
-use Rattle.std.proofs.Common.{◌≡◌, ℕ, zero, suc, List, [], ◌∷◌, ◌++◌, length, Some, None, slice_get, refl, sym, ap, subst, ◌∙◌}
+use Rattle.std.proofs.Common.{◌≡◌, ℕ, zero, suc, List, [], ◌∷◌, ◌++◌, length, Some, None, slice_get, refl, ap, subst}
 use Rattle.std.specs.List.{AllZip}
 
 module _ {A B : Type 0} where

@@ -1,3 +1,4 @@
+pub mod Hashes
 pub mod Names
 pub mod Reach
 pub mod Searches

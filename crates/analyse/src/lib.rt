@@ -4,9 +4,11 @@
 mod analysing;
 pub mod laws;
 mod naming;
+mod noting;
 mod pair;
 mod searching;
 mod seating;
+mod site;
 mod stopped;
 mod task;
 mod verdict;

@@ -1,17 +1,21 @@
 -- Methods and their graphs, by number.
-use Rattle.std.proofs.Common.{◌≡◌, ℕ, zero, suc, ◌<◌, List, [], ◌∷◌, length, map, get_or, refl, sym, ap, ◌∙◌, arith, Option, Some, None, IsSomeAnd, slice_get}
+use Rattle.std.proofs.Common.{◌≡◌, ℕ, zero, suc, ◌<◌, List, [], ◌∷◌, length, map, get_or, refl, sym, ap, ◌∙◌, arith, Option, Some, None, IfSome, IsSomeAnd, slice_get}
 use Rattle.std.specs.Option.{option_map}
 use Rattle.std.proofs.lemmas.Option.{slice_get-map}
 use Rattle.std.proofs.lemmas.Simd.{map-map}
 use Rattle.flow.specs.declared.graph.Graph.{Graph}
 use Rattle.flow.specs.declared.graph.Instr.{Instr}
-use Rattle.flow.specs.Graphs.{GraphSeen, graph_seen, instruction_seen}
+use Rattle.flow.specs.Graphs.{GraphSeen, Instruction, graph_seen, instruction_seen}
+use Rattle.flow.specs.Graphs.{Use, New, Move, Delete, NewChannel, Send, Switch, Branch, Forget, Call, Start, Return, Stop}
+use Rattle.flow.specs.declared.graph.Branches.{Branches}
 use Rattle.flow.specs.Lowering.{graph_of}
 use Rattle.program.specs.declared.method.Method.{Method}
 use Rattle.program.specs.Methods.{MethodSeen, method_seen, variable_seen}
 use Rattle.program.specs.Programs.{ProgramSeen}
 use Rattle.rules.specs.declared.row.Leaf.{Leaf}
+use Rattle.rules.specs.Onwards.{condition_at}
 use Rattle.rules.specs.Outcomes.{Goes, Pair}
+use Rattle.rules.specs.RuleTable.{ways}
 use Rattle.rules.specs.Steps.{entry_leaf, method_entry, method_outcome, outcome, point_outcome}
 
 -- what stands at one place in two rows that are the same
@@ -51,3 +55,34 @@ outcome_past p (Some s) g point row graph is = λ j. point_outcome p s row (at_p
 pub outcome_is : (p : ProgramSeen) (n : ℕ) (pair : Pair) → outcome p n pair ≡ method_outcome p (slice_get p.methods n) pair
 unfolding outcome
 outcome_is p n pair = refl
+
+-- a condition goes on with whatever row comes to it
+condition_goes : (p : ProgramSeen) (m : MethodSeen) (row : List Leaf) (branches : Branches) (i : Option Instruction) → Path (Option Branches) (Some branches) (condition_at i) → point_outcome p m row i ≡ Goes (ways branches row)
+condition_goes p m row branches None e = cc
+condition_goes p m row branches (Some (Use at next)) e = cc
+condition_goes p m row branches (Some (New target arguments next)) e = cc
+condition_goes p m row branches (Some (Move target source next)) e = cc
+condition_goes p m row branches (Some (Delete at next)) e = cc
+condition_goes p m row branches (Some (NewChannel channel next)) e = cc
+condition_goes p m row branches (Some (Send place endpoint message payloads next)) e = cc
+condition_goes p m row branches (Some (Switch place cases)) e = cc
+condition_goes p m row branches (Some (Branch place other)) e = let same : branches ≡ other = cc in ap (λ b. Goes (ways b row)) (sym same)
+condition_goes p m row branches (Some (Forget forget next)) e = cc
+condition_goes p m row branches (Some (Call place method arguments target next)) e = cc
+condition_goes p m row branches (Some (Start place method arguments next)) e = cc
+condition_goes p m row branches (Some (Return place value scope)) e = cc
+condition_goes p m row branches (Some (Stop place)) e = cc
+
+pub condition_on : (p : ProgramSeen) (n point : ℕ) (found : Option Branches) → IsSomeAnd (slice_get p.methods n) (λ m. found ≡ condition_at (slice_get (graph_of m).instructions point))
+    → IfSome found (λ branches. (row : List Leaf) → outcome p n (point, row) ≡ Goes (ways branches row))
+condition_on p n point None h = tt
+condition_on p n point (Some branches) h = λ row. outcome_is p n (point, row) ∙ go (slice_get p.methods n) row h
+  where
+    go : (o : Option MethodSeen) (row : List Leaf) → IsSomeAnd o (λ m. Path (Option Branches) (Some branches) (condition_at (slice_get (graph_of m).instructions point))) → method_outcome p o (point, row) ≡ Goes (ways branches row)
+    go None row h = absurd h
+    go (Some m) row h = condition_goes p m row branches (slice_get (graph_of m).instructions point) h
+
+pub condition_is : (o : Option MethodSeen) (g : Graph) (point : ℕ) (i : Option Instr) (found : Option Branches) → IsSomeAnd o (λ m. graph_seen g ≡ graph_of m) → slice_get g.instructions.items point ≡ i
+    → found ≡ condition_at (option_map instruction_seen i) → IsSomeAnd o (λ m. found ≡ condition_at (slice_get (graph_of m).instructions point))
+condition_is None g point i found graph is e = absurd graph
+condition_is (Some m) g point i found graph is e = e ∙ ap condition_at (sym (at_point m g point i graph is))

@@ -4,6 +4,7 @@ pub mod Endpoints
 pub mod Ends
 pub mod Leaves
 pub mod Mentions
+pub mod Onwards
 pub mod Outcomes
 pub mod Programs
 pub mod RuleTable

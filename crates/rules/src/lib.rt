@@ -7,6 +7,7 @@ mod endpoints;
 mod here;
 pub mod laws;
 mod lowered;
+mod onward;
 mod outcome;
 mod returning;
 mod row;
@@ -16,6 +17,7 @@ mod switching;
 mod table;
 
 pub use lowered::Program;
+pub use onward::Onward;
 pub use outcome::Outcome;
 pub use row::{Leaf, Row};
-pub use stepping::{entry, step};
+pub use stepping::{condition, entry, step, step_in_place};

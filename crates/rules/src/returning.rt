@@ -7,6 +7,7 @@ ghost use Rattle.program.specs.Methods.{method_seen};
 ghost use Rattle.rules.specs.Checks.{StandsFor, check_seen};
 ghost use Rattle.rules.specs.Endpoints as endpoints;
 ghost use Rattle.rules.specs.Mentions as mentions;
+ghost use Rattle.rules.specs.Onwards.{onward_seen};
 ghost use Rattle.rules.specs.Outcomes.{refused};
 ghost use Rattle.rules.specs.Texts.{not_back, wrong_for_result};
 ghost use Rattle.source.specs.Findings.{finding_parts};
@@ -14,12 +15,11 @@ ghost use Rattle.rules.specs.Programs.{seen_of};
 ghost use Rattle.rules.specs.Rows.{leaf_at, leaves_of};
 ghost use Rattle.rules.specs.RuleTable as table;
 ghost use Rattle.rules.specs.RuleTable.{back_checks, instruction_outcome, value_checks};
-ghost use Rattle.rules.specs.Steps.{outcome_seen};
 
 use crate::checks::{has_something, is_given_back, is_not_lent, lends, name_of};
 use crate::endpoints::{is_wrong, kind_of};
 use crate::here::Here;
-use crate::outcome::Outcome;
+use crate::onward::Onward;
 use flow::Returning;
 use program::{Mention, Method, VarId};
 use source::texts::{in_a_wrong_state_for_the_result, not_back_in_its_state};
@@ -32,8 +32,8 @@ pub(crate) fn return_(
     alloc: Global,
     here: &Here<'_>,
     returning: Returning,
-) -> Result<Outcome, Memory>
-    ensures { IfOk result (λ o. outcome_seen o
+) -> Result<Onward, Memory>
+    ensures { IfOk result (λ o. onward_seen o (leaves_of here.now.row.now)
         ≡ instruction_outcome (seen_of here.now.program.now) (method_seen here.now.method.now)
         (graphs.Return returning.place returning.value returning.scope) (leaves_of here.now.row.now)) }
 {
@@ -43,14 +43,14 @@ pub(crate) fn return_(
         scope,
     } = returning;
     if let Some(finding) = can_return(alloc, here, value)? {
-        return Ok(Outcome::Found(finding));
+        return Ok(Onward::Found(finding));
     }
     if let Some(finding) = is_given_back(alloc, here, place, value, None, scope)? {
-        return Ok(Outcome::Found(finding));
+        return Ok(Onward::Found(finding));
     }
     match are_back(alloc, here, place)? {
-        Some(finding) => Ok(Outcome::Found(finding)),
-        None => Ok(Outcome::Next(Vec::new(alloc))),
+        Some(finding) => Ok(Onward::Found(finding)),
+        None => Ok(Onward::Ends),
     }
 }
 

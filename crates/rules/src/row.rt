@@ -1,6 +1,6 @@
 //! What the variables of a method have.
 
-ghost use Rattle.std.specs.Prelude.{◌≡◌, ◌≤◌, ◌↔◌, All, IfOk, IfSome, IsSome, IsTrue, length, set};
+ghost use Rattle.std.specs.Prelude.{◌≡◌, ◌<◌, ◌≤◌, ◌↔◌, ◌∷◌, ◌++◌, [], All, IfOk, IfSome, IsSome, IsTrue, OnErr, OnOk, length, set};
 ghost use Rattle.program.specs.declared.limits.TheConstants.{MOST_VARIABLES};
 ghost use Rattle.rules.specs.Leaves.{AreLeaves, IsNumbered, all_numbered_once, is_something};
 
@@ -66,6 +66,46 @@ impl Row {
             return Some(Row { leaves });
         }
         None
+    }
+
+    /// The row of no leaves. It takes no memory.
+    pub fn empty(alloc: Global) -> Row
+        ensures { leaves_of result ≡ [] }
+    {
+        Row {
+            leaves: Vec::new(alloc),
+        }
+    }
+
+    /// Takes all leaves away, and keeps their memory.
+    pub fn clear(&mut self)
+        ensures { leaves_of self.new ≡ [] }
+    {
+        self.leaves.clear();
+    }
+
+    /// Puts a leaf behind the others.
+    ///
+    /// `Memory` is answered where a growth was refused. The row is as it was then.
+    pub fn push(&mut self, leaf: Leaf) -> Result<(), Memory>
+        requires room { length (leaves_of self.old) < MOST_VARIABLES }
+        requires numbered { IsNumbered leaf }
+        ensures ok { OnOk result (leaves_of self.new ≡ leaves_of self.old ++ leaf ∷ []) }
+        ensures err { OnErr result (leaves_of self.new ≡ leaves_of self.old) }
+    {
+        self.leaves.push(leaf)?;
+        Ok(())
+    }
+
+    /// Becomes a row of the same leaves as the other.
+    ///
+    /// `Memory` is answered where a growth was refused. The row may have any leaves then.
+    pub fn copy_from(&mut self, other: &Row) -> Result<(), Memory>
+        ensures { OnOk result (leaves_of self.new ≡ leaves_of other.now) }
+    {
+        self.clear();
+        self.leaves.extend_from_slice(&other.leaves)?;
+        Ok(())
     }
 
     /// Its leaves.

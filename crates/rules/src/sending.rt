@@ -9,21 +9,20 @@ ghost use Rattle.rules.specs.Arguments.{lacks_edge};
 ghost use Rattle.rules.specs.Checks.{check_seen};
 ghost use Rattle.rules.specs.Endpoints.{message_name};
 ghost use Rattle.rules.specs.Leaves.{IsNumbered};
+ghost use Rattle.rules.specs.Onwards.{IsKept, onward_seen};
 ghost use Rattle.rules.specs.Outcomes.{refused};
 ghost use Rattle.rules.specs.Programs.{seen_of};
 ghost use Rattle.rules.specs.Rows.{leaves_of};
 ghost use Rattle.rules.specs.RuleTable.{instruction_outcome};
-ghost use Rattle.rules.specs.Steps.{outcome_seen};
 ghost use Rattle.rules.specs.Texts as texts;
 
 use crate::arguments::{can_send_all, claim_all, payloads_of};
 use crate::checks::has_something;
 use crate::endpoints::kind_of;
-use crate::here::Here;
+use crate::here::{Here, Site};
 use crate::lowered::Program;
-use crate::outcome::Outcome;
-use crate::row::Leaf;
-use crate::table::goes;
+use crate::onward::Onward;
+use crate::row::{Leaf, Row};
 use flow::Sending;
 use program::{Kind, MessageId};
 use source::texts::not_sent_here;
@@ -31,32 +30,42 @@ use source::{Finding, Memory, Place};
 use std::alloc::Global;
 
 /// A message is sent. What it takes with it is gone, and its endpoint is in the next state, or still cut off.
-pub(crate) fn send(alloc: Global, here: &Here<'_>, sending: &Sending) -> Result<Outcome, Memory>
-    ensures { IfOk result (λ o. outcome_seen o
-        ≡ instruction_outcome (seen_of here.now.program.now) (method_seen here.now.method.now) (instruction_seen (Instr.Send sending.now))
-        (leaves_of here.now.row.now)) }
+pub(crate) fn send(
+    alloc: Global,
+    site: &Site<'_>,
+    row: &mut Row,
+    sending: &Sending,
+) -> Result<Onward, Memory>
+    ensures outcome { IfOk result (λ o. onward_seen o (leaves_of row.new)
+        ≡ instruction_outcome (seen_of site.now.program.now) (method_seen site.now.method.now) (instruction_seen (Instr.Send sending.now))
+        (leaves_of row.old)) }
+    ensures kept { IfOk result (λ o. IsKept o (leaves_of row.old) (leaves_of row.new)) }
 {
+    let here = Here {
+        program: site.program,
+        method: site.method,
+        row,
+    };
     let (endpoint, message) = (sending.endpoint, sending.message);
-    if let Some(finding) = has_something(alloc, here, endpoint)? {
-        return Ok(Outcome::Found(finding));
+    if let Some(finding) = has_something(alloc, &here, endpoint)? {
+        return Ok(Onward::Found(finding));
     }
-    let kind = kind_of(here.method, endpoint.variable);
-    let name = here.program.message_name(kind, message);
+    let kind = kind_of(site.method, endpoint.variable);
+    let name = site.program.message_name(kind, message);
     let payloads = payloads_of(alloc, &sending.payloads)?;
-    let kinds = here.program.brought(message);
-    if let Some(finding) = can_send_all(alloc, here, endpoint, name, kinds, &payloads)? {
-        return Ok(Outcome::Found(finding));
+    let kinds = site.program.brought(message);
+    if let Some(finding) = can_send_all(alloc, &here, endpoint, name, kinds, &payloads)? {
+        return Ok(Onward::Found(finding));
     }
-    let leaf = here.row.leaf(endpoint.variable);
-    let sent = sent_leaf(here.program, kind, message, leaf);
+    let leaf = row.leaf(endpoint.variable);
+    let sent = sent_leaf(site.program, kind, message, leaf);
     let Some(after) = sent else {
         let finding = not_sent_here(alloc, sending.place, name)?;
-        return Ok(Outcome::Found(finding));
+        return Ok(Onward::Found(finding));
     };
-    let mut row = here.row.copied(alloc)?;
-    claim_all(&mut row, &payloads);
+    claim_all(row, &payloads);
     row.set(endpoint.variable, after);
-    goes(alloc, sending.next, row)
+    Ok(Onward::Changed(sending.next))
 }
 
 /// What an endpoint has behind a send of the message: nothing is answered where it is in a state that does not send it.

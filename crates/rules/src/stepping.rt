@@ -1,19 +1,27 @@
 //! Steps: from a point and a row to what comes of them.
 
-ghost use Rattle.std.specs.Prelude.{◌≡◌, ◌<◌, ◌≤◌, All, IfOk, length, map};
+ghost use Rattle.std.specs.Prelude.{◌≡◌, ◌<◌, ◌≤◌, ◌∷◌, [], All, IfOk, IfSome, IsSomeAnd, List, length, map, slice_get};
+ghost use Rattle.flow.specs.Graphs.{instruction_seen};
+ghost use Rattle.flow.specs.Lowering.{graph_of};
 ghost use Rattle.program.specs.declared.limits.TheConstants.{MOST_VARIABLES};
 ghost use Rattle.rules.specs.Endpoints.{declared_leaf};
 ghost use Rattle.rules.specs.Leaves.{IsNumbered};
+ghost use Rattle.rules.specs.Onwards.{IsKept, condition_at, onward_seen};
+ghost use Rattle.rules.specs.Outcomes.{Goes};
 ghost use Rattle.rules.specs.Programs.{seen_of};
 ghost use Rattle.rules.specs.Rows.{leaves_of};
+ghost use Rattle.rules.specs.RuleTable.{ways};
 ghost use Rattle.rules.specs.Steps.{entry_leaf, entry_of, outcome, outcome_seen, pair_seen};
+ghost use Rattle.rules.specs.declared.row.Leaf.{Leaf as LeafSeen};
 
 use crate::endpoints::declared_leaf;
-use crate::here::Here;
+use crate::here::Site;
 use crate::lowered::Program;
+use crate::onward::Onward;
 use crate::outcome::Outcome;
 use crate::row::{Leaf, Row};
 use crate::table::applied;
+use flow::{Branches, Instr};
 use program::{Kind, MethodId, Role, Variable};
 use source::Memory;
 use std::alloc::Global;
@@ -67,13 +75,93 @@ pub fn step(
     requires there { method.0 < length (seen_of program.now).methods }
     ensures { IfOk result (λ o. outcome_seen o ≡ outcome (seen_of program.now) method.0 (point, leaves_of row.now)) }
 {
-    let here = Here {
+    let mut after = row.copied(alloc)?;
+    let onward = step_in_place(alloc, program, method, point, &mut after)?;
+    apart(alloc, onward, after)
+}
+
+/// What the instruction at a point of a method does to a row, by the rule table, as `step` has it. It works on the row in place: that
+/// is the row where the answer is `Changed`, and as it was where it is `Same` or `Both`. A condition, a use, a move and whatever else
+/// has one or two pairs behind it takes no memory for them.
+///
+/// `Memory` is answered where a growth was refused. The row may have any leaves then, and also where something is wrong.
+pub fn step_in_place(
+    alloc: Global,
+    program: &Program,
+    method: MethodId,
+    point: usize,
+    row: &mut Row,
+) -> Result<Onward, Memory>
+    requires there { method.0 < length (seen_of program.now).methods }
+    ensures outcome { IfOk result (λ o. onward_seen o (leaves_of row.new)
+        ≡ outcome (seen_of program.now) method.0 (point, leaves_of row.old)) }
+    ensures kept { IfOk result (λ o. IsKept o (leaves_of row.old) (leaves_of row.new)) }
+{
+    let site = Site {
         program,
         method: program.method(method),
-        row,
     };
     match program.graph(method).instructions.get(point) {
-        Some(instruction) => applied(alloc, &here, instruction),
-        None => Ok(Outcome::Next(Vec::new(alloc))),
+        Some(instruction) => applied(alloc, &site, row, instruction),
+        None => Ok(Onward::Ends),
     }
+}
+
+/// Where a method goes on from a point, whatever row comes there, if a condition stands there.
+pub fn condition(program: &Program, method: MethodId, point: usize) -> Option<Branches>
+    requires there { method.0 < length (seen_of program.now).methods }
+    ensures goes { IfSome result (λ branches. (row : List LeafSeen)
+        → outcome (seen_of program.now) method.0 (point, row) ≡ Goes (ways branches row)) }
+    ensures which { IsSomeAnd (slice_get (seen_of program.now).methods method.0)
+        (λ m. result ≡ condition_at (slice_get (graph_of m).instructions point)) }
+{
+    match program.graph(method).instructions.get(point) {
+        Some(instruction) => branches_of(instruction),
+        None => None,
+    }
+}
+
+/// Where a condition goes on, if this is one.
+fn branches_of(instruction: &Instr) -> Option<Branches>
+    ensures { result ≡ condition_at (Some (instruction_seen instruction.now)) }
+{
+    match instruction {
+        Instr::Branch { branches, .. } => Some(*branches),
+        Instr::Use { .. } | Instr::New { .. } | Instr::NewChannel { .. } => None,
+        Instr::Move { .. } | Instr::Delete { .. } | Instr::Forget { .. } => None,
+        Instr::Send(_) | Instr::Switch { .. } | Instr::Call(_) | Instr::Start(_) => None,
+        Instr::Return(_) | Instr::Stop { .. } => None,
+    }
+}
+
+/// An answer of a step in place as an outcome with rows of its own.
+fn apart(alloc: Global, onward: Onward, row: Row) -> Result<Outcome, Memory>
+    ensures { IfOk result (λ o. outcome_seen o ≡ onward_seen onward (leaves_of row)) }
+{
+    match onward {
+        Onward::Ends => Ok(Outcome::Next(Vec::new(alloc))),
+        Onward::Same(point) | Onward::Changed(point) => goes(alloc, point, row),
+        Onward::Both(first, second) => goes_both(alloc, first, second, row),
+        Onward::Ways(pairs) => Ok(Outcome::Next(pairs)),
+        Onward::Found(finding) => Ok(Outcome::Found(finding)),
+    }
+}
+
+/// The method goes on at one point, with this row.
+fn goes(alloc: Global, point: usize, row: Row) -> Result<Outcome, Memory>
+    ensures { IfOk result (λ o. outcome_seen o ≡ Goes ((point, leaves_of row) ∷ [])) }
+{
+    let mut pairs = Vec::new(alloc);
+    pairs.push((point, row))?;
+    Ok(Outcome::Next(pairs))
+}
+
+/// The method goes on at one of two points, with this row.
+fn goes_both(alloc: Global, first: usize, second: usize, row: Row) -> Result<Outcome, Memory>
+    ensures { IfOk result (λ o. outcome_seen o ≡ Goes ((first, leaves_of row) ∷ (second, leaves_of row) ∷ [])) }
+{
+    let mut pairs = Vec::new(alloc);
+    pairs.push((first, row.copied(alloc)?))?;
+    pairs.push((second, row))?;
+    Ok(Outcome::Next(pairs))
 }

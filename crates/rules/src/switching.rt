@@ -11,17 +11,18 @@ ghost use Rattle.rules.specs.Checks.{StandsFor, check_seen};
 ghost use Rattle.rules.specs.Endpoints.{declared_leaf};
 ghost use Rattle.rules.specs.Leaves.{IsNumbered};
 ghost use Rattle.rules.specs.Mentions.{has_something};
+ghost use Rattle.rules.specs.Onwards.{onward_seen};
 ghost use Rattle.rules.specs.Programs.{seen_of};
 ghost use Rattle.rules.specs.Rows.{leaves_of};
 ghost use Rattle.rules.specs.RuleTable.{instruction_outcome};
-ghost use Rattle.rules.specs.Steps.{outcome_seen, pair_seen};
+ghost use Rattle.rules.specs.Steps.{pair_seen};
 ghost use Rattle.rules.specs.Switches as table;
 ghost use Rattle.rules.specs.Switches.{bound_leaves};
 
 use crate::checks::{has_something, name_of};
 use crate::endpoints::{declared_leaf, kind_of};
 use crate::here::Here;
-use crate::outcome::Outcome;
+use crate::onward::Onward;
 use crate::row::{Leaf, Row};
 use flow::Cases;
 use program::{Edge, Kind, Mention, VarId};
@@ -35,26 +36,26 @@ pub(crate) fn switch(
     here: &Here<'_>,
     place: Place,
     cases: &Cases,
-) -> Result<Outcome, Memory>
-    ensures { IfOk result (λ o. outcome_seen o
+) -> Result<Onward, Memory>
+    ensures { IfOk result (λ o. onward_seen o (leaves_of here.now.row.now)
         ≡ instruction_outcome (seen_of here.now.program.now) (method_seen here.now.method.now)
         (graphs.Switch place (cases_seen cases.now)) (leaves_of here.now.row.now)) }
 {
     if let Some(finding) = are_there(alloc, here, cases.endpoints())? {
-        return Ok(Outcome::Found(finding));
+        return Ok(Onward::Found(finding));
     }
     if are_to_send(here, cases.endpoints()) {
-        return Ok(Outcome::Found(nothing_to_receive(alloc, place)?));
+        return Ok(Onward::Found(nothing_to_receive(alloc, place)?));
     }
     if let Some(finding) = are_covered(alloc, here, cases)? {
-        return Ok(Outcome::Found(finding));
+        return Ok(Onward::Found(finding));
     }
     let mut pairs = Vec::new(alloc);
     let endpoints = cases.endpoints();
     for endpoint in endpoints {
         come_at(alloc, here, cases, *endpoint, &mut pairs)?;
     }
-    Ok(Outcome::Next(pairs))
+    Ok(Onward::Ways(pairs))
 }
 
 /// That each endpoint has something.

@@ -1,8 +1,5 @@
-use Rattle.std.proofs.Common.{Some, None, [], ap, refl, ◌∙◌, map, sym}
-use Rattle.program.specs.Methods.{method_seen}
-use Rattle.rules.specs.Outcomes.{Goes}
-use Rattle.rules.specs.Steps.{pair_seen}
-use Rattle.rules.proofs.CallLemmas.{alone, both_stand, first_stands, second_of}
+use Rattle.std.proofs.Common.{Some, None, [], refl}
+use Rattle.rules.proofs.CallLemmas.{both_stand, first_stands, second_of}
 use Rattle.rules.proofs.returning.return_.Goals as goal
 
 pub returns-in-Some-2 : goal.returns-in-Some-2
@@ -17,6 +14,5 @@ returns-in-Some-3 c =
 
 pub returns-in-None : goal.returns-in-None
 returns-in-None c =
-    ap (λ ps. Goes (map pair_seen ps)) c.new.ensures.items
-    ∙ second_of _ _ c.in_ok-finding.field-0 c.in_ok-finding-3.field-0 None [] c.in_default.is c.in-None.is c.in_ok-finding.ensures
+    second_of _ _ c.in_ok-finding.field-0 c.in_ok-finding-3.field-0 None [] c.in_default.is c.in-None.is c.in_ok-finding.ensures
     (both_stand _ _ c.in_ok-finding-2.field-0 c.in_ok-finding-3.field-0 c.in_default-2.is c.in_ok-finding-2.ensures c.in_ok-finding-3.ensures)

@@ -1,9 +1,8 @@
-use Rattle.std.proofs.Common.{refl}
 use Rattle.analyse.proofs.WorkerLemmas.{notes_one}
 use Rattle.analyse.proofs.worker.Worker.note.Goals as goal
 
 pub returns-clause-notes : goal.returns-clause-notes
 returns-clause-notes c = λ pairs row seen calls.
     let old = c.args.self.now in
-    notes_one (record { seat = old.seat; alone = old.alone; own = old.own; seen = c.insert.new.self }) old.seen.keys pairs c.args.pair (c.args.pair.point, row)
-    (c.what_a_seat_knows_is_sound.ensures.faithful old.seat) c.requires.differ seen (refl, calls) c.in_ok-insert.ensures.keys
+    notes_one (record { seat = old.seat; alone = old.alone; own = old.own; seen = c.insert.new.self }) old.seen.keys pairs (record { point = c.in-Ok.point; name = c.args.name }) (c.args.point, row)
+    (c.what_a_seat_knows_is_sound.ensures.faithful old.seat) c.requires.differ seen (c.in-Ok.ensures.1, calls) c.in_ok-insert.ensures.keys

@@ -1,0 +1,30 @@
+-- What a step in place comes to: the answer, and the row that stands in place behind it.
+use Rattle.std.specs.Prelude.{◌≡◌, List, [], ◌∷◌, Option, None, Some, map}
+use Rattle.flow.specs.Graphs.{Instruction, Branch}
+use Rattle.flow.specs.declared.graph.Branches.{Branches}
+use Rattle.source.specs.Findings.{FindingParts, finding_parts}
+use Rattle.rules.specs.Outcomes.{Step, Goes, Fails, Pair}
+use Rattle.rules.specs.Steps.{pair_seen}
+use Rattle.rules.specs.declared.onward.Onward.{Onward}
+use Rattle.rules.specs.declared.onward.Onward.TheVariants.{Ends, Same, Both, Changed, Ways, Found}
+use Rattle.rules.specs.declared.row.Leaf.{Leaf}
+
+-- what this answer means where that row stands in place
+abbrev pub onward_seen : Onward → List Leaf → Step Pair FindingParts
+onward_seen Ends row = Goes []
+onward_seen (Same point) row = Goes ((point, row) ∷ [])
+onward_seen (Both first second) row = Goes ((first, row) ∷ (second, row) ∷ [])
+onward_seen (Changed point) row = Goes ((point, row) ∷ [])
+onward_seen (Ways pairs) row = Goes (map pair_seen pairs.items)
+onward_seen (Found finding) row = Fails (finding_parts finding)
+
+-- the row is as it was, where the answer says so
+abbrev pub IsKept : Onward → (before after : List Leaf) → Type 0
+IsKept (Same point) before after = after ≡ before
+IsKept (Both first second) before after = after ≡ before
+IsKept _ before after = Unit {0}
+
+-- where a condition goes on, if one stands there
+abbrev pub condition_at : Option Instruction → Option Branches
+condition_at (Some (Branch place branches)) = Some branches
+condition_at _ = None
