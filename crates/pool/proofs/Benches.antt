@@ -1,0 +1,23 @@
+-- What a worker has done grows with what it takes.
+use Rattle.std.proofs.Common.{◌≡◌, ℕ, ◌+◌, List, [], ◌∷◌, ◌++◌, All, ap, ◌∙◌, sym, subst, arith}
+use Rattle.crossbeam_deque.specs.Handles.{worker_view}
+use Rattle.pool.specs.declared.bench.Bench.{Bench}
+use Rattle.pool.specs.declared.held.Hand.{Hand}
+use Rattle.pool.specs.declared.held.Held.{Held}
+use Rattle.pool.specs.Rule.{IsPart, copies, hand}
+use Rattle.pool.specs.Counts.{Does, Owner}
+use Rattle.pool.specs.Owners.{Keeps, Took}
+use Rattle.pool.proofs.Shares.{copies-append}
+
+module _ {S X : Type 0} (gives : ℕ → X → Type 0) where
+  -- one task more was taken, and done
+  pub does_more : (before mid more after : ℕ → ℕ) (first old new : Bench S X) → ((n : ℕ) → after n ≡ mid n + more n) → Does gives before mid first old
+      → Does gives (λ n. 0) more old new → Does gives before after first new
+  does_more before mid more after first old new sum so_far one = record {
+    counted = λ n. let a = so_far.counted n in let b = one.counted n in let s = sum n in omega arith;
+    given = λ g. one.given (so_far.given g);
+  }
+
+-- what a task more in the owner's hand comes to
+pub took_more : (v w : Hand) (xs : List Held) → w ≡ hand v.parts v.put (v.taken ++ xs) → (n : ℕ) → copies n w.taken ≡ copies n v.taken + copies n xs
+took_more v w xs is n = ap (λ (u : Hand). copies n u.taken) is ∙ copies-append n v.taken xs

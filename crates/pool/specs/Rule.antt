@@ -1,0 +1,47 @@
+-- The rule of a deque: the tasks that were put are those that all passes have taken and those inside, each as often.
+use Rattle.std.specs.Prelude.{◌≡◌, ◌==◌, ℕ, ◌<◌, List, [], ◌++◌, count_by, sum_by}
+use mathlib.Core.Option.{some}
+use lib.ListN.{get_elem?}
+use Rattle.analyse.specs.Tasks.{number_of}
+use Rattle.analyse.specs.declared.task.Task.{Task}
+use Rattle.pool.specs.declared.held.Hand.{Hand}
+use Rattle.pool.specs.declared.held.Held.{Held}
+
+abbrev pub hand : ℕ → List Held → List Held → Hand
+hand parts put taken = record { parts = parts; put = put; taken = taken }
+
+abbrev pub task_of : Held → Task
+task_of x = x.task
+
+-- the number of a task in a deque
+abbrev pub held_number : Held → ℕ
+held_number x = number_of x.task
+
+abbrev pub parts_of : Hand → ℕ
+parts_of v = v.parts
+
+-- how often these tasks have the number
+abbrev pub copies : ℕ → List Held → ℕ
+copies n xs = count_by (λ x. held_number x == n) xs
+
+-- how often the pass has taken a task of the number
+abbrev pub took : ℕ → Hand → ℕ
+took n v = copies n v.taken
+
+-- a pass with no part has taken nothing, and one with a part knows what was put
+abbrev pub Fits : List Held → Hand → Type 0
+Fits put v = (v.parts ≡ 0 → v.taken ≡ []) × (0 < v.parts → v.put ≡ put)
+
+abbrev pub EachFits : List Held → List Hand → Type 0
+EachFits put views = (port : ℕ) (v : Hand) → get_elem? views port ≡ some v → Fits put v
+
+-- These tasks are inside, and these are the views of all passes. There are 1024 parts in all; what was put is what is gone, and behind
+-- it what is inside; and the passes have taken what is gone.
+abbrev pub Shares : List Held → List Hand → Type 0
+Shares items views = (put : List Held) × (gone : List Held) × (put ≡ gone ++ items) × (sum_by parts_of views ≡ 1024)
+    × ((n : ℕ) → sum_by (took n) views ≡ copies n gone)
+    × EachFits put views
+
+-- these tasks stand in the list, side by side
+abbrev pub IsPart : List Held → List Held → Type 0
+IsPart put xs = (front : List Held) × (rest : List Held) × (put ≡ (front ++ xs) ++ rest)

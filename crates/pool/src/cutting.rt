@@ -1,0 +1,55 @@
+//! Passes cut off for the workers, one of each deque for each of them.
+
+ghost use Rattle.std.specs.Prelude.{◌≡◌, ◌<◌, ◌+◌, All, IfOk, OnOk, length, slice_index_or, vec_len};
+ghost use Rattle.pool.specs.Counts.{Owner as OwnerSeen};
+ghost use Rattle.pool.specs.Owners.{CutOff, EachChanges, IsWhole, LostParts, OneChanges, owner_parts};
+ghost use Rattle.pool.specs.Rounds.{AreCutOff, AreNew};
+
+use crate::deque::{Cut, Owner, Ticket};
+use source::Memory;
+use std::alloc::Global;
+
+/// A pass of the deque at a place.
+fn cut_at(owners: &mut Vec<Owner>, place: usize) -> Ticket
+    requires place { place < length owners.old.items }
+    requires part { (o : OwnerSeen) → 1 < owner_parts (slice_index_or owners.old.items place o) }
+    ensures { OneChanges place (λ old new. CutOff old new result) owners.old.items owners.new.items }
+{
+    let owner = &mut owners[place];
+    owner.another::<Cut>()
+}
+
+/// A pass of each deque.
+///
+/// `Memory` is answered where a growth was refused.
+fn cut_round(alloc: Global, owners: &mut Vec<Owner>) -> Result<Vec<Ticket>, Memory>
+    requires parts { All (λ o. 1 < owner_parts o) owners.old.items }
+    ensures { IfOk result (λ passes. AreCutOff owners.old.items owners.new.items passes.items) }
+{
+    let mut passes = Vec::new(alloc);
+    for place in 0..owners.len() {
+        passes.push(cut_at(owners, place))?;
+    }
+    Ok(passes)
+}
+
+/// For each of so many workers a pass of each deque.
+///
+/// `Memory` is answered where a growth was refused.
+pub(crate) fn cut_all(
+    alloc: Global,
+    owners: &mut Vec<Owner>,
+    count: usize,
+) -> Result<Vec<Vec<Ticket>>, Memory>
+    requires whole { All IsWhole owners.old.items }
+    requires few { count < 1000 }
+    ensures owners { OnOk result (EachChanges (LostParts count) owners.old.items owners.new.items) }
+    ensures count { IfOk result (λ v. vec_len v ≡ count) }
+    ensures rounds { IfOk result (λ v. All (λ passes. AreNew owners.old.items passes.items) v.items) }
+{
+    let mut rounds = Vec::new(alloc);
+    for _ in 0..count {
+        rounds.push(cut_round(alloc, owners)?)?;
+    }
+    Ok(rounds)
+}

@@ -1,0 +1,16 @@
+//! Why tasks were not shared out.
+
+use source::Memory;
+use std::alloc::{AllocError, AllocFailed};
+use thiserror::Error;
+
+/// Why tasks were not shared out. Those that were not done are given up.
+#[derive(Clone, Copy, Debug, PartialEq, Eq, Error)]
+pub enum PoolFault {
+    /// The seats are not 1 to 64. Looked at first.
+    #[error("workers not 1 to 64")]
+    Workers,
+    /// A growth of memory, or a thread, was refused.
+    #[error("out of memory")]
+    Memory,
+}

@@ -1,0 +1,119 @@
+//! Deques, one for each worker, and the tasks put into them before any worker begins.
+
+ghost use Rattle.std.specs.Prelude.{◌≡◌, ◌<◌, ◌+◌, ℕ, [], ◌∷◌, All, IfOk, OnOk, length, map, vec_len};
+ghost use Rattle.crossbeam_deque.specs.Handles.{worker_flavor};
+ghost use Rattle.analyse.specs.Tasks.{number_of};
+ghost use Rattle.pool.specs.Counts.{all_put, times};
+ghost use Rattle.pool.specs.Owners.{AreFilled, AreThieves};
+
+use crate::deque::{Owner, Puts, Thief};
+use crate::held::Held;
+use crate::job::Job;
+use analyse::{Task, give_up_all};
+use source::Memory;
+use std::alloc::Global;
+
+/// So many deques with nothing in them, each with room for so many tasks at first.
+///
+/// `Memory` is answered where a growth was refused.
+fn empty_deques<J: Job>(
+    alloc: Global,
+    job: &J,
+    count: usize,
+    room: usize,
+) -> Result<Vec<Owner>, Memory>
+    ensures count { IfOk result (λ v. vec_len v ≡ count) }
+    ensures filled { IfOk result (λ v. AreFilled (J.takes job.now) v.items) }
+    ensures empty { IfOk result (λ v. (n : ℕ) → all_put n v.items ≡ 0) }
+{
+    let _ = job;
+    let mut owners = Vec::new(alloc);
+    for _ in 0..count {
+        owners.push(Owner::fifo_as(alloc, room)?)?;
+    }
+    Ok(owners)
+}
+
+/// Puts a task into the deque at a place.
+///
+/// `Memory` is answered where a growth was refused, and the task is given up.
+fn put_at<J: Job>(job: &J, owners: &mut Vec<Owner>, place: usize, task: Task) -> Result<(), Memory>
+    requires place { place < length owners.old.items }
+    requires task { J.takes job.now task }
+    requires filled { AreFilled (J.takes job.now) owners.old.items }
+    ensures filled { OnOk result (AreFilled (J.takes job.now) owners.new.items) }
+    ensures len { OnOk result (length owners.new.items ≡ length owners.old.items) }
+    ensures put { OnOk result ((n : ℕ) → all_put n owners.new.items ≡ all_put n owners.old.items + times n (number_of task ∷ [])) }
+{
+    let _ = job;
+    let owner = &mut owners[place];
+    match owner.push_as::<Puts>(Held { task }) {
+        Ok(()) => Ok(()),
+        Err(_) => Err(Memory),
+    }
+}
+
+/// Puts the tasks into the deques in turn: task k into the deque of worker k modulo the number of workers.
+///
+/// `Memory` is answered where a growth was refused, and all tasks are given up.
+fn put_all<J: Job>(job: &J, mut owners: Vec<Owner>, tasks: Vec<Task>) -> Result<Vec<Owner>, Memory>
+    requires some { 0 < vec_len owners }
+    requires filled { AreFilled (J.takes job.now) owners.items }
+    requires empty { (n : ℕ) → all_put n owners.items ≡ 0 }
+    requires tasks { All (J.takes job.now) tasks.items }
+    ensures count { IfOk result (λ v. vec_len v ≡ vec_len owners) }
+    ensures filled { IfOk result (λ v. AreFilled (J.takes job.now) v.items) }
+    ensures put { IfOk result (λ v. (n : ℕ) → all_put n v.items ≡ times n (map number_of tasks.items)) }
+{
+    let count = owners.len();
+    let mut rest = tasks.into_iter();
+    let mut place = 0;
+    while let Some(task) = rest.next() {
+        if let Err(memory) = put_at(job, &mut owners, place, task) {
+            give_up_all(rest);
+            return Err(memory);
+        }
+        place = (place + 1) % count;
+    }
+    rest.destroy_empty();
+    Ok(owners)
+}
+
+/// A deque for each of so many workers, and the tasks in them.
+///
+/// `Memory` is answered where a growth was refused, and all tasks are given up.
+pub(crate) fn filled<J: Job>(
+    alloc: Global,
+    job: &J,
+    count: usize,
+    tasks: Vec<Task>,
+) -> Result<Vec<Owner>, Memory>
+    requires some { 0 < count }
+    requires tasks { All (J.takes job.now) tasks.items }
+    ensures count { IfOk result (λ v. vec_len v ≡ count) }
+    ensures filled { IfOk result (λ v. AreFilled (J.takes job.now) v.items) }
+    ensures put { IfOk result (λ v. (n : ℕ) → all_put n v.items ≡ times n (map number_of tasks.items)) }
+{
+    let room = tasks.len().div_ceil(count);
+    match empty_deques(alloc, job, count, room) {
+        Ok(owners) => put_all(job, owners, tasks),
+        Err(memory) => {
+            give_up_all(tasks.into_iter());
+            Err(memory)
+        }
+    }
+}
+
+/// A stealer of each deque, in order.
+///
+/// `Memory` is answered where a growth was refused.
+pub(crate) fn stealers(alloc: Global, owners: &[Owner]) -> Result<Vec<Thief>, Memory>
+    requires fifo { All (λ o. worker_flavor o ≡ 0) owners.now }
+    ensures { IfOk result (λ v. AreThieves owners.now v.items) }
+{
+    let mut thieves = Vec::new(alloc);
+    for owner in owners {
+        thieves.push(owner.stealer()?)?;
+    }
+    Ok(thieves)
+}

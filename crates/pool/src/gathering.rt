@@ -1,0 +1,91 @@
+//! What all workers have done, put together.
+
+ghost use Rattle.std.specs.Prelude.{◌++◌, [], ◌∷◌, List, IfOk};
+ghost use Rattle.pool.specs.Counts.{Owner as OwnerSeen};
+ghost use Rattle.pool.specs.Stints.{AreGathered, AreWork, IsWork};
+
+use crate::bench::Bench;
+use crate::deque::{Owner, Ticket};
+use crate::done::Done;
+use crate::job::Job;
+use crate::stints::{Common, Shift};
+use source::Memory;
+use std::alloc::Global;
+
+/// What all workers so far have done.
+#[derive(Drop)]
+pub struct Gathered<S, X> {
+    pub(crate) owners: Vec<Owner>,
+    pub(crate) rounds: Vec<Vec<Ticket>>,
+    pub(crate) seats: Vec<S>,
+    pub(crate) done: Vec<Done<X>>,
+}
+
+/// Adds what one worker has done.
+///
+/// `Memory` is answered where a growth was refused, or where the worker answers it.
+fn gather_one<J: Job, G>(
+    common: &Common<'_, J, G>,
+    all: Gathered<J::Seat, J::Out>,
+    shift: Shift<J::Seat, J::Out>,
+) -> Result<Gathered<J::Seat, J::Out>, Memory>
+    ensures { (begun : List OwnerSeen) (owner : OwnerSeen)
+        → AreGathered (J.takes common.now.job.now) (J.seats common.now.job.now) (J.gives common.now.job.now) common.now.thieves.now begun all
+        → IfOk shift (IsWork (J.takes common.now.job.now) (J.seats common.now.job.now) (J.gives common.now.job.now) common.now.thieves.now
+        owner)
+        → IfOk result (AreGathered (J.takes common.now.job.now) (J.seats common.now.job.now) (J.gives common.now.job.now)
+        common.now.thieves.now (begun ++ owner ∷ [])) }
+{
+    let _ = common;
+    let Gathered {
+        mut owners,
+        mut rounds,
+        mut seats,
+        mut done,
+    } = all;
+    let (owner, passes, bench) = shift?;
+    let Bench {
+        seat,
+        done: mut more,
+    } = bench;
+    owners.push(owner)?;
+    rounds.push(passes)?;
+    seats.push(seat)?;
+    done.append(&mut more)?;
+    Ok(Gathered {
+        owners,
+        rounds,
+        seats,
+        done,
+    })
+}
+
+/// What the workers have done that ended so, the first of them and the others.
+///
+/// `Memory` is answered where a growth was refused, or where one of the workers answers it.
+pub(crate) fn gather<J: Job, G>(
+    alloc: Global,
+    common: &Common<'_, J, G>,
+    first: Shift<J::Seat, J::Out>,
+    others: Vec<Shift<J::Seat, J::Out>>,
+) -> Result<Gathered<J::Seat, J::Out>, Memory>
+    ensures { (one : OwnerSeen) (rest : List OwnerSeen)
+        → IfOk first (IsWork (J.takes common.now.job.now) (J.seats common.now.job.now) (J.gives common.now.job.now) common.now.thieves.now one)
+        → AreWork (J.takes common.now.job.now) (J.seats common.now.job.now) (J.gives common.now.job.now) common.now.thieves.now
+        rest others.items
+        → IfOk result (AreGathered (J.takes common.now.job.now) (J.seats common.now.job.now) (J.gives common.now.job.now)
+        common.now.thieves.now (one ∷ rest)) }
+{
+    let none = Gathered {
+        owners: Vec::new(alloc),
+        rounds: Vec::new(alloc),
+        seats: Vec::new(alloc),
+        done: Vec::new(alloc),
+    };
+    let mut all = gather_one(common, none, first)?;
+    let mut rest = others.into_iter();
+    while let Some(shift) = rest.next() {
+        all = gather_one(common, all, shift)?;
+    }
+    Ok(all)
+}

@@ -1,0 +1,35 @@
+//! What lies in a deque, and what a pass of it knows.
+
+ghost use Rattle.std.specs.Prelude.{◌≡◌};
+
+use analyse::Task;
+use std::collections::LinkedList;
+
+/// A task in a deque. It gives the task up where it is dropped, so a deque that is dropped gives up all that is left in it.
+pub struct Held {
+    pub(crate) task: Task,
+}
+
+impl Held {
+    /// The task, which is no longer given up then.
+    pub(crate) fn into_task(self) -> Task
+        ensures { result ≡ self.task }
+    {
+        let Held { task } = self;
+        task
+    }
+}
+
+impl Drop for Held {
+    fn drop(self) {
+        let Held { task } = self;
+        task.give_up();
+    }
+}
+
+/// What a pass knows: its parts of the right to know the whole, the tasks that were put, and those that it has taken.
+pub struct Hand {
+    pub(crate) parts: u64,
+    pub(crate) put: LinkedList<Held>,
+    pub(crate) taken: LinkedList<Held>,
+}

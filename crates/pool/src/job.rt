@@ -1,0 +1,36 @@
+//! What workers do with a task.
+
+ghost use Rattle.std.specs.Prelude.{◌≡◌, ℕ, IfErr, IfOk};
+ghost use Rattle.analyse.specs.Tasks.{number_of};
+ghost use Rattle.analyse.specs.declared.task.Task.{Task};
+
+use analyse::Task;
+use source::Memory;
+
+/// What workers do with a task. It holds what it needs, and says which tasks and seats it accepts and what its result promises.
+pub trait Job: Sync {
+    /// What a worker keeps from task to task.
+    type Seat: Send + Drop;
+
+    /// What comes of a task.
+    type Out: Send + Drop;
+
+    /// The tasks that may be run.
+    ghost takes: { Self → Task → Type 0 };
+
+    /// The seats in which a task may be run.
+    ghost seats: { Self → Self.Seat → Type 0 };
+
+    /// What the result for the task of a number promises.
+    ghost gives: { Self → ℕ → Self.Out → Type 0 };
+
+    /// Runs a task in a seat, which stays one in which tasks may be run.
+    ///
+    /// `Memory` is answered where a growth was refused, and gives the task back.
+    fn run(&self, task: Task, seat: &mut Self::Seat) -> Result<Self::Out, (Task, Memory)>
+        requires task { takes self.now task }
+        requires seat { seats self.now seat.old }
+        ensures seat { seats self.now seat.new }
+        ensures done { IfOk result (λ out. gives self.now (number_of task) out) }
+        ensures back { IfErr result (λ refused. refused.0 ≡ task) };
+}
