@@ -1,12 +1,10 @@
 -- What a worker has done grows with what it takes.
-use Rattle.std.proofs.Common.{◌≡◌, ℕ, ◌+◌, List, [], ◌∷◌, ◌++◌, All, ap, ◌∙◌, sym, subst, arith}
-use Rattle.crossbeam_deque.specs.Handles.{worker_view}
+use Rattle.std.proofs.Common.{◌≡◌, ℕ, ◌+◌, List, ◌++◌, ap, ◌∙◌, arith}
 use Rattle.pool.specs.declared.bench.Bench.{Bench}
 use Rattle.pool.specs.declared.held.Hand.{Hand}
 use Rattle.pool.specs.declared.held.Held.{Held}
-use Rattle.pool.specs.Rule.{IsPart, copies, hand}
-use Rattle.pool.specs.Counts.{Does, Owner}
-use Rattle.pool.specs.Owners.{Keeps, Took}
+use Rattle.pool.specs.Rule.{copies, hand}
+use Rattle.pool.specs.Counts.{Does}
 use Rattle.pool.proofs.Shares.{copies-append}
 
 module _ {S X : Type 0} (gives : ℕ → X → Type 0) where

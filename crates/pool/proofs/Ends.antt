@@ -1,15 +1,13 @@
 -- The deques from the beginning to the end of the work.
-use Rattle.std.proofs.Common.{◌≡◌, ℕ, ◌+◌, ◌<◌, ◌≤◌, List, [], All, ap, ◌∙◌, sym, subst, arith, length, get_or, sum_by, vec_len}
+use Rattle.std.proofs.Common.{◌≡◌, ℕ, ◌+◌, ◌<◌, ◌≤◌, List, All, ap, ◌∙◌, sym, subst, arith, length, get_or, vec_len}
 use Rattle.std.specs.Global.{Vec}
 use Rattle.crossbeam_deque.specs.Handles.{IsPassOf, stealer_deque, worker_deque, worker_flavor, worker_view}
 use Rattle.analyse.specs.declared.task.Task.{Task}
-use Rattle.pool.specs.declared.held.Held.{Held}
 use Rattle.pool.specs.Rule.{copies}
-use Rattle.pool.specs.Counts.{Owner, Ticket, all_put, all_taken}
-use Rattle.pool.specs.Owners.{AreFilled, AreThieves, EachChanges, GotParts, IsWhole, Keeps, LostParts, Thief, Took, owner_parts}
-use Rattle.pool.specs.Rounds.{AreNew, AreOf, AreRound, IsFresh, all_by}
-use Rattle.pool.proofs.Places.{all_after, each_twice, keeps_twice, some_of, sum_kept}
-use Rattle.pool.proofs.Rounds.{fresh_round}
+use Rattle.pool.specs.Counts.{Owner, Ticket, all_put}
+use Rattle.pool.specs.Owners.{AreThieves, EachChanges, GotParts, IsWhole, Keeps, LostParts, Thief, Took, owner_parts}
+use Rattle.pool.specs.Rounds.{AreOf, AreRound}
+use Rattle.pool.proofs.Places.{all_after, each_twice, keeps_twice, sum_kept}
 
 module _ (count : ℕ) (full cut done : List Owner) (begins : EachChanges (LostParts count) full cut) (works : EachChanges Took cut done) (whole : All IsWhole full) (few : count ≤ 64) where
   -- from the beginning to the work's end

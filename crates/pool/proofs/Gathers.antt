@@ -1,5 +1,5 @@
 -- What the workers have done, put together.
-use Rattle.std.proofs.Common.{◌≡◌, ℕ, suc, zero, ◌+◌, ◌<◌, List, [], ◌∷◌, ◌++◌, All, IfOk, Result, ap, ◌∙◌, sym, subst, refl, arith, map, length, length-append, get_or, drop, take, inl, inr, ⊎_elim}
+use Rattle.std.proofs.Common.{◌≡◌, ℕ, ◌+◌, ◌<◌, List, [], ◌∷◌, ◌++◌, All, ap, ◌∙◌, sym, subst, arith, map, length, length-append, get_or, ⊎_elim}
 use Rattle.std.specs.Global.{Vec}
 use Rattle.std.proofs.Math.Nat.{eq-or-lt_of_le}
 use Rattle.std.proofs.lemmas.List.{get_or_append_left, get_or_push, map-append}
@@ -7,12 +7,11 @@ use Rattle.std.proofs.lemmas.List.Elements.{All-append, All-nil, All-push}
 use Rattle.std.proofs.lemmas.List.Sums.{sum_by_push}
 use Rattle.crossbeam_deque.specs.Handles.{worker_view}
 use Rattle.analyse.specs.declared.task.Task.{Task}
-use Rattle.source.specs.declared.fault.Memory.{Memory}
 use Rattle.pool.specs.Rule.{copies}
 use Rattle.pool.specs.Counts.{Owner, Ticket, all_taken, method_of, taken_by, times, times_done}
 use Rattle.pool.specs.Owners.{EachChanges, Thief, Took}
 use Rattle.pool.specs.Rounds.{AreRound, all_by}
-use Rattle.pool.specs.Stints.{AreGathered, AreWork, IsWork}
+use Rattle.pool.specs.Stints.{AreGathered, IsWork}
 use Rattle.pool.specs.declared.bench.Bench.{Bench}
 use Rattle.pool.specs.declared.done.Done.{Done}
 use Rattle.pool.specs.declared.gathering.Gathered.{Gathered}

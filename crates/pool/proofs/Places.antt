@@ -1,11 +1,11 @@
 -- Lists of owners in which one has changed, and each one after another.
-use Rattle.std.proofs.Common.{zero, suc, drop, ◌≤◌, ◌≡◌, ◌≢◌, ℕ, ◌+◌, ◌<◌, List, [], ◌∷◌, ◌++◌, length, set, get_or, All, refl, sym, ap, ◌∙◌, subst, arith, length-set, get_or-set_same, get_or-set_other, sum_by, take, ⊎_elim}
+use Rattle.std.proofs.Common.{zero, suc, drop, ◌≤◌, ◌≡◌, ℕ, ◌+◌, ◌<◌, List, [], ◌∷◌, ◌++◌, length, set, get_or, All, refl, sym, ap, ◌∙◌, subst, arith, length-set, get_or-set_same, get_or-set_other, sum_by, take, ⊎_elim}
 use Rattle.std.specs.List.{remove}
 use Rattle.std.proofs.lemmas.List.Sums.{sum_by-cons, sum_by-set}
 use Rattle.std.proofs.Math.Nat.{eq-or-lt_of_le}
 use Rattle.std.proofs.lemmas.List.{get_or_append_left, get_or_push}
 use native.Mathlib.Decide.{ℕ_discrete}
-use Rattle.crossbeam_deque.specs.Handles.{IsPassOf, worker_deque}
+use Rattle.crossbeam_deque.specs.Handles.{IsPassOf}
 use Rattle.pool.specs.Counts.{Owner, Ticket}
 use Rattle.pool.specs.Owners.{EachChanges, GotParts, Keeps, LostParts, OneChanges}
 use Rattle.pool.specs.Rounds.{AreCutOff, AreNew, AreOf}

@@ -1,8 +1,7 @@
 -- Each step keeps the rule of a deque.
-use Rattle.std.proofs.Common.{◌≡◌, ◌≢◌, ◌==◌, ℕ, zero, suc, ◌+◌, ◌-◌, ◌<◌, ◌≤◌, List, [], ◌∷◌, ◌++◌, length, set, sym, refl, ap, ◌∙◌, subst, ⊎_elim, append_assoc, arith, cond, sum_by, All, map}
+use Rattle.std.proofs.Common.{◌≡◌, ◌≢◌, ◌==◌, ℕ, zero, suc, ◌+◌, ◌-◌, ◌<◌, ◌≤◌, List, [], ◌∷◌, ◌++◌, length, set, sym, refl, ap, ◌∙◌, subst, ⊎_elim, append_assoc, arith, cond, sum_by, All}
 use Rattle.std.proofs.lemmas.List.Sums.{sum_by-cons, sum_by-append}
 use Rattle.std.proofs.lemmas.List.Elements.{All-take, All-drop, All-head}
-use Rattle.std.proofs.lemmas.List.{map-append}
 use lib.Seq.{take-append_seam, drop-append_seam}
 use mathlib.Core.Option.{some, some-ne-none, some-injective}
 use lib.ListN.{get_elem?}
@@ -155,7 +154,3 @@ pub taken_one : (P : Held → Type 0) (put : List Held) (x : Held) → IsPart pu
 taken_one P put x part all =
     let whole : All P ((part.0 ++ x ∷ []) ++ part.1) = subst (All P) part.2 all in
     All-head P x [] (right P part.0 (x ∷ []) (left P (part.0 ++ x ∷ []) part.1 whole))
-
--- what was taken so far and one more
-pub took_one : (v w : Hand) (x : Held) (before after : List ℕ) → w ≡ hand v.parts v.put (v.taken ++ x ∷ []) → map held_number v.taken ≡ before → after ≡ before ++ held_number x ∷ [] → map held_number w.taken ≡ after
-took_one v w x before after is so_far one = ap (λ (u : Hand). map held_number u.taken) is ∙ map-append held_number v.taken (x ∷ []) ∙ ap (λ l. l ++ held_number x ∷ []) so_far ∙ sym one

@@ -1,5 +1,5 @@
 -- Owners of deques, one for each worker, and how they change.
-use Rattle.std.specs.Prelude.{◌≡◌, ℕ, zero, suc, ◌+◌, ◌<◌, List, [], ◌++◌, All, length, slice_index_or, slice_set}
+use Rattle.std.specs.Prelude.{◌≡◌, ℕ, ◌+◌, ◌<◌, List, [], ◌++◌, All, length, slice_index_or, slice_set}
 use Rattle.crossbeam_deque.specs.Handles.{IsPassOf, stealer_deque, stealer_flavor, view, worker_deque, worker_flavor, worker_view}
 use Rattle.crossbeam_deque.specs.declared.handles.Stealer.{Stealer}
 use Rattle.std.specs.declared.alloc.Global.{Global}
@@ -96,5 +96,6 @@ pub record EachChanges (change : Owner → Owner → Type 0) (owners owners' : L
 -- there is a stealer of each deque, in order
 pub record AreThieves (owners : List Owner) (thieves : List Thief) : Type 0 where
   pub lengths : length thieves ≡ length owners
-  pub each : (d : ℕ) (o : Owner) (t : Thief) → d < length owners → stealer_deque (slice_index_or thieves d t) ≡ worker_deque (slice_index_or owners d o)
+  pub each : (d : ℕ) (o : Owner) (t : Thief) → d < length owners
+      → stealer_deque (slice_index_or thieves d t) ≡ worker_deque (slice_index_or owners d o)
   pub fifo : All (λ (t : Thief). stealer_flavor t ≡ 0) thieves

@@ -1,5 +1,5 @@
 -- Passes of all deques, one for each, in order: what a worker steals by.
-use Rattle.std.specs.Prelude.{◌≡◌, ℕ, ◌+◌, ◌<◌, List, [], All, length, slice_index_or, sum_by}
+use Rattle.std.specs.Prelude.{◌≡◌, ℕ, ◌<◌, List, [], All, length, slice_index_or, sum_by}
 use Rattle.std.specs.Global.{Vec}
 use Rattle.crossbeam_deque.specs.Handles.{IsPassOf, stealer_deque, stealer_flavor, view, worker_deque, worker_view}
 use Rattle.analyse.specs.declared.task.Task.{Task}
@@ -10,7 +10,8 @@ use Rattle.pool.specs.declared.held.Held.{Held}
 -- there is a pass of each deque, with one part, and all of its tasks may be run
 pub record AreRound (takes : Task → Type 0) (thieves : List Thief) (ps : List Ticket) : Type 0 where
   pub lengths : length ps ≡ length thieves
-  pub passes : (d : ℕ) (t : Thief) (p : Ticket) → d < length thieves → IsPassOf (stealer_deque (slice_index_or thieves d t)) (slice_index_or ps d p)
+  pub passes : (d : ℕ) (t : Thief) (p : Ticket) → d < length thieves
+      → IsPassOf (stealer_deque (slice_index_or thieves d t)) (slice_index_or ps d p)
   pub parts : All (λ (p : Ticket). (view p).parts ≡ 1) ps
   pub tasks : All (λ (p : Ticket). All (λ (x : Held). takes x.task) (view p).put) ps
   pub fifo : All (λ (t : Thief). stealer_flavor t ≡ 0) thieves
@@ -42,7 +43,8 @@ pub record AreNew (owners : List Owner) (ps : List Ticket) : Type 0 where
 -- a pass of each deque, with one part
 pub record AreOf (owners : List Owner) (ps : List Ticket) : Type 0 where
   pub lengths : length ps ≡ length owners
-  pub passes : (d : ℕ) (o : Owner) (p : Ticket) → d < length owners → IsPassOf (worker_deque (slice_index_or owners d o)) (slice_index_or ps d p)
+  pub passes : (d : ℕ) (o : Owner) (p : Ticket) → d < length owners
+      → IsPassOf (worker_deque (slice_index_or owners d o)) (slice_index_or ps d p)
   pub parts : All (λ (p : Ticket). (view p).parts ≡ 1) ps
 
 -- how often the passes of all workers have taken a task of the number

@@ -3,15 +3,11 @@ use Rattle.std.specs.Prelude.{◌≡◌, ◌==◌, ℕ, ◌<◌, List, [], ◌++
 use mathlib.Core.Option.{some}
 use lib.ListN.{get_elem?}
 use Rattle.analyse.specs.Tasks.{number_of}
-use Rattle.analyse.specs.declared.task.Task.{Task}
 use Rattle.pool.specs.declared.held.Hand.{Hand}
 use Rattle.pool.specs.declared.held.Held.{Held}
 
 abbrev pub hand : ℕ → List Held → List Held → Hand
 hand parts put taken = record { parts = parts; put = put; taken = taken }
-
-abbrev pub task_of : Held → Task
-task_of x = x.task
 
 -- the number of a task in a deque
 abbrev pub held_number : Held → ℕ

@@ -1,5 +1,5 @@
 -- Where a worker begins and ends.
-use Rattle.std.specs.Prelude.{◌≡◌, ℕ, ◌+◌, ◌<◌, List, [], ◌∷◌, All, IfOk, Result, length, slice_index_or}
+use Rattle.std.specs.Prelude.{◌≡◌, ℕ, ◌+◌, ◌<◌, List, [], All, IfOk, Result, length, slice_index_or}
 use Rattle.std.specs.Global.{Vec}
 use Rattle.crossbeam_deque.specs.Handles.{worker_view}
 use Rattle.analyse.specs.declared.task.Task.{Task}

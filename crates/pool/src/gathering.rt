@@ -30,7 +30,8 @@ fn gather_one<J: Job, G>(
     shift: Shift<J::Seat, J::Out>,
 ) -> Result<Gathered<J::Seat, J::Out>, Memory>
     ensures { (begun : List OwnerSeen) (owner : OwnerSeen)
-        → AreGathered (J.takes common.now.job.now) (J.seats common.now.job.now) (J.gives common.now.job.now) common.now.thieves.now begun all
+        → AreGathered (J.takes common.now.job.now) (J.seats common.now.job.now) (J.gives common.now.job.now) common.now.thieves.now
+        begun all
         → IfOk shift (IsWork (J.takes common.now.job.now) (J.seats common.now.job.now) (J.gives common.now.job.now) common.now.thieves.now
         owner)
         → IfOk result (AreGathered (J.takes common.now.job.now) (J.seats common.now.job.now) (J.gives common.now.job.now)
@@ -70,7 +71,8 @@ pub(crate) fn gather<J: Job, G>(
     others: Vec<Shift<J::Seat, J::Out>>,
 ) -> Result<Gathered<J::Seat, J::Out>, Memory>
     ensures { (one : OwnerSeen) (rest : List OwnerSeen)
-        → IfOk first (IsWork (J.takes common.now.job.now) (J.seats common.now.job.now) (J.gives common.now.job.now) common.now.thieves.now one)
+        → IfOk first (IsWork (J.takes common.now.job.now) (J.seats common.now.job.now) (J.gives common.now.job.now)
+        common.now.thieves.now one)
         → AreWork (J.takes common.now.job.now) (J.seats common.now.job.now) (J.gives common.now.job.now) common.now.thieves.now
         rest others.items
         → IfOk result (AreGathered (J.takes common.now.job.now) (J.seats common.now.job.now) (J.gives common.now.job.now)

@@ -92,8 +92,8 @@ fn share_all<J: Job, G: Gate, R: Threads + Wait + Sync>(
 /// it. The seats come back in their order, and each result with its method.
 ///
 /// `Workers` is answered where there are not 1 to `MOST_WORKERS` seats, before anything is done. `Memory` is answered where a growth or a
-/// thread was refused: a worker to which that happens takes no more tasks, and the others go on to the end. The tasks that were not done are
-/// given up then, and seats and results are dropped.
+/// thread was refused: a worker to which that happens takes no more tasks, and the others go on to the end. The tasks that were not done
+/// are given up then, and seats and results are dropped.
 pub fn share_out<J: Job, G: Gate, R: Threads + Wait + Sync>(
     rt: &R,
     alloc: Global,

@@ -43,7 +43,8 @@ pub(crate) fn stints<J: Job, G>(
     requires fresh { All (λ o. owner_taken o ≡ []) owners.items }
     requires passes { All (λ ps. IsFresh (J.takes common.now.job.now) common.now.thieves.now ps.items) rounds.items }
     requires each_seat { All (J.seats common.now.job.now) seats.items }
-    ensures each { IfOk result (λ v. All (IsStint (J.takes common.now.job.now) (J.seats common.now.job.now) common.now.thieves.now) v.items) }
+    ensures each { IfOk result (λ v. All (IsStint (J.takes common.now.job.now) (J.seats common.now.job.now) common.now.thieves.now)
+        v.items) }
     ensures owners { IfOk result (λ v. map owner_of v.items ≡ owners.items) }
 {
     let _ = common;

@@ -1,10 +1,10 @@
-use Rattle.std.proofs.Common.{rules, arith, ◌≡◌, ◌<◌, ℕ, ◌+◌, [], subst, sym, ap, ◌∙◌, refl, All, length, vec_len}
+use Rattle.std.proofs.Common.{arith, ◌≡◌, ◌<◌, ◌+◌, subst, sym, ap, All, vec_len}
 use Rattle.std.specs.Global.{Vec}
-use Rattle.std.specs.Vec.Iter.{into_iter_items, into_iter_len}
+use Rattle.std.specs.Vec.Iter.{into_iter_items}
 use Rattle.std.proofs.lemmas.List.Sums.{sum_by-cons}
 use Rattle.std.proofs.lemmas.List.Elements.{All-head, All-tail}
 use Rattle.pool.specs.Counts.{Owner, Ticket, taken_by}
-use Rattle.pool.specs.Owners.{EachChanges, GotParts, Keeps, owner_parts}
+use Rattle.pool.specs.Owners.{EachChanges, GotParts, owner_parts}
 use Rattle.pool.specs.Rounds.{AreOf, all_by}
 use Rattle.pool.proofs.Places.{each_twice, all_after, got_more, got_none, no_items, of_kept}
 use Rattle.pool.proofs.absorbing.absorb_all.Goals as goal

@@ -1,7 +1,7 @@
 use Rattle.std.proofs.Common.{◌≡◌, ℕ, ◌+◌, All, vec_len}
 use Rattle.std.specs.Global.{Vec}
 use Rattle.std.specs.Vec.Iter.{into_iter_len, into_iter_items}
-use Rattle.pool.specs.Counts.{Owner, Ticket, all_taken}
+use Rattle.pool.specs.Counts.{Ticket, all_taken}
 use Rattle.pool.specs.Owners.{EachChanges, GotParts}
 use Rattle.pool.specs.Rounds.{AreOf, all_by}
 use Rattle.pool.proofs.absorbing.absorb_all.Given as goal

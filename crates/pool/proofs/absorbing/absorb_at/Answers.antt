@@ -4,7 +4,7 @@ use Rattle.crossbeam_deque.specs.Handles.{view, worker_view}
 use Rattle.pool.specs.declared.held.Hand.{Hand}
 use Rattle.pool.specs.Rule.{copies}
 use Rattle.pool.specs.Counts.{Owner}
-use Rattle.pool.specs.Owners.{OneChanges, TookIn, owner_parts}
+use Rattle.pool.specs.Owners.{TookIn, owner_parts}
 use Rattle.pool.proofs.Shares.{copies-append, merges}
 use Rattle.pool.proofs.Places.{sum_one}
 use Rattle.pool.proofs.absorbing.absorb_at.Goals as goal

@@ -1,9 +1,9 @@
-use Rattle.std.proofs.Common.{rules, arith, add-one, ◌≡◌, ◌<◌, ℕ, ◌+◌, subst, sym, ap, ◌∙◌, length, get_or, length-set}
+use Rattle.std.proofs.Common.{arith, add-one, ◌≡◌, ◌<◌, subst, sym, ap, ◌∙◌, length, get_or}
 use Rattle.std.proofs.lemmas.List.Sums.{sum_by-cons}
 use Rattle.std.specs.Vec.Iter.{into_iter_items}
 use Rattle.crossbeam_deque.specs.Handles.{view, worker_deque, IsPassOf}
 use Rattle.pool.specs.Counts.{Owner, Ticket, taken_by}
-use Rattle.pool.specs.Owners.{GotParts, TookIn, owner_parts}
+use Rattle.pool.specs.Owners.{GotParts, owner_parts}
 use Rattle.pool.specs.Rule.{copies}
 use Rattle.pool.proofs.Places.{next_is, done_more, left_more, length_one}
 use Rattle.pool.proofs.absorbing.absorb_round.Goals as goal

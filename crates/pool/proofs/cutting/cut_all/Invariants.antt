@@ -1,6 +1,6 @@
 use Rattle.std.proofs.Common.{◌≡◌, All, vec_len}
 use Rattle.std.specs.Global.{Vec}
-use Rattle.pool.specs.Counts.{Owner, Ticket}
+use Rattle.pool.specs.Counts.{Ticket}
 use Rattle.pool.specs.Owners.{EachChanges, LostParts}
 use Rattle.pool.specs.Rounds.{AreNew}
 use Rattle.pool.proofs.cutting.cut_all.Given as goal

@@ -1,4 +1,4 @@
-use Rattle.std.proofs.Common.{◌<◌, ◌≡◌, ◌+◌, subst, sym, ap, refl, arith, ◌∙◌}
+use Rattle.std.proofs.Common.{◌<◌, subst, sym, ap, refl, arith, ◌∙◌}
 use Rattle.std.proofs.lemmas.List.{get_or_default}
 use Rattle.pool.specs.declared.held.Hand.{Hand}
 use Rattle.pool.specs.Counts.{Owner}

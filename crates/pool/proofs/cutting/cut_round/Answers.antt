@@ -1,4 +1,4 @@
-use Rattle.std.proofs.Common.{rules, arith, ◌≡◌, ◌≢◌, ◌<◌, ◌≤◌, ◌++◌, [], ◌∷◌, ℕ, ◌+◌, List, subst, sym, ap, ◌∙◌, length, get_or, length-append, All}
+use Rattle.std.proofs.Common.{arith, ◌≡◌, ◌<◌, ◌++◌, [], ◌∷◌, ℕ, List, subst, sym, ap, ◌∙◌, length, get_or, length-append}
 use Rattle.std.proofs.lemmas.List.{get_or_append_left, get_or_push}
 use Rattle.pool.specs.Counts.{Owner, Ticket}
 use Rattle.pool.specs.Owners.{CutOff, owner_parts}

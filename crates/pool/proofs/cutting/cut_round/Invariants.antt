@@ -1,4 +1,4 @@
-use Rattle.std.proofs.Common.{◌≡◌, ℕ, ◌<◌, ◌≤◌, length, vec_len, slice_index_or}
+use Rattle.std.proofs.Common.{◌≡◌, ℕ, ◌<◌, ◌≤◌, length, slice_index_or}
 use Rattle.pool.specs.Counts.{Owner, Ticket}
 use Rattle.pool.specs.Owners.{CutOff}
 use Rattle.pool.proofs.cutting.cut_round.Given as goal

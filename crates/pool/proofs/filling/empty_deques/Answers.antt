@@ -1,4 +1,4 @@
-use Rattle.std.proofs.Common.{rules, arith, ◌≡◌, ◌<◌, ◌++◌, [], ◌∷◌, ℕ, ◌+◌, List, subst, sym, ap, ◌∙◌, length, All, refl, vec_len}
+use Rattle.std.proofs.Common.{arith, ◌≡◌, [], subst, sym, ap, All}
 use Rattle.std.proofs.lemmas.List.Elements.{All-nil, All-push}
 use Rattle.std.proofs.lemmas.List.Sums.{sum_by_push}
 use Rattle.crossbeam_deque.specs.Handles.{worker_view}

@@ -1,10 +1,9 @@
-use Rattle.std.proofs.Common.{rules, arith, ◌≡◌, ◌<◌, ◌++◌, [], ◌∷◌, ℕ, ◌+◌, List, subst, sym, ap, ◌∙◌, length, map, All}
+use Rattle.std.proofs.Common.{arith, ◌≡◌, ◌+◌, subst, ap, ◌∙◌, length, map, All}
 use Rattle.std.proofs.lemmas.List.Elements.{All-tail}
 use Rattle.std.proofs.lemmas.Nat.{mod_below}
 use Rattle.std.specs.Vec.Iter.{into_iter_items}
 use Rattle.analyse.specs.Tasks.{number_of}
-use Rattle.analyse.specs.declared.task.Task.{Task}
-use Rattle.pool.specs.Counts.{all_put, times}
+use Rattle.pool.specs.Counts.{times}
 use Rattle.pool.proofs.Puts.{times-cons}
 use Rattle.pool.proofs.filling.put_all.Goals as goal
 

@@ -1,5 +1,4 @@
-use Rattle.std.proofs.Common.{subst, sym, ◌≡◌}
-use Rattle.pool.specs.Counts.{Owner}
+use Rattle.std.proofs.Common.{subst, sym}
 use Rattle.pool.specs.Owners.{IsWhole}
 use Rattle.pool.proofs.Shares.{pushes}
 use Rattle.pool.proofs.filling.put_at.Goals as goal

@@ -1,8 +1,7 @@
-use Rattle.std.proofs.Common.{subst, sym, ap, ◌∙◌, ◌≡◌, IfOk, suc, List, [], ◌∷◌, take, get_or, length, arith}
+use Rattle.std.proofs.Common.{subst, sym, ◌∙◌, IfOk, suc, List, [], ◌∷◌, take, get_or, arith}
 use Rattle.std.specs.Vec.Iter.{into_iter_items}
 use Rattle.pool.specs.Counts.{Owner}
 use Rattle.pool.specs.Stints.{AreGathered, IsWork}
-use Rattle.pool.specs.declared.gathering.Gathered.{Gathered}
 use Rattle.pool.proofs.Gathers.{gathered_none}
 use Rattle.pool.proofs.Places.{below_of_next, next_is, no_items, take_all, take_next}
 use Rattle.pool.proofs.gathering.gather.Goals as goal

@@ -1,9 +1,5 @@
-use Rattle.std.proofs.Common.{subst, sym, ap, ◌∙◌, ◌≡◌, ◌<◌, ◌≤◌, ℕ, List, All, arith, map, length, vec_len}
-use Rattle.std.specs.Global.{Vec}
-use Rattle.pool.specs.Counts.{Owner, Ticket}
+use Rattle.std.proofs.Common.{subst, sym, ◌≡◌, ◌<◌, arith, length, vec_len}
 use Rattle.pool.specs.Owners.{AreThieves, EachChanges, GotParts, Took}
-use Rattle.pool.specs.Rounds.{AreNew}
-use Rattle.pool.specs.Stints.{AreGathered}
 use Rattle.pool.proofs.Ends.{fifo_end, parts_done, parts_end, put_end, round_done, rounds_many}
 use Rattle.pool.proofs.Places.{some_of}
 use Rattle.pool.proofs.Rounds.{fresh_round}

@@ -1,4 +1,4 @@
-use Rattle.std.proofs.Common.{rules, subst, sym, ap, ◌∙◌, ◌≡◌, ℕ, List, [], ◌∷◌, ◌++◌, All, map, length, arith, append_assoc}
+use Rattle.std.proofs.Common.{subst, sym, ap, ◌∙◌, ◌≡◌, [], ◌∷◌, ◌++◌, All, map, arith, append_assoc}
 use Rattle.std.specs.Global.{Vec}
 use Rattle.std.specs.Vec.Iter.{into_iter_items}
 use Rattle.std.proofs.lemmas.List.{map-append}

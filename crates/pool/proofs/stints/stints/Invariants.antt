@@ -1,4 +1,4 @@
-use Rattle.std.proofs.Common.{◌≡◌, ◌+◌, [], ◌++◌, All, map, length, vec_len}
+use Rattle.std.proofs.Common.{◌≡◌, ◌+◌, [], ◌++◌, All, map, vec_len}
 use Rattle.std.specs.Global.{Vec}
 use Rattle.std.specs.Vec.Iter.{into_iter_len, into_iter_items}
 use Rattle.pool.specs.Counts.{Owner, Ticket}

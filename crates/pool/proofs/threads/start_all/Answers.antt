@@ -1,4 +1,4 @@
-use Rattle.std.proofs.Common.{rules, subst, sym, ap, refl, ◌∙◌, ◌≡◌, ℕ, All, [], ◌∷◌, arith, drop, get_or, suc, vec_len}
+use Rattle.std.proofs.Common.{subst, sym, ap, ◌∙◌, ◌≡◌, ℕ, All, arith, drop, suc, vec_len}
 use Rattle.std.proofs.lemmas.List.Elements.{All-head, All-tail}
 use Rattle.pool.specs.Stints.{IsStint, owner_of}
 use Rattle.pool.proofs.Places.{next_is, pairs_more}

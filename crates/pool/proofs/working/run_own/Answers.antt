@@ -1,4 +1,4 @@
-use Rattle.std.proofs.Common.{rules, arith, subst, sym, ap, ◌≡◌, ◌∙◌, All, ◌∷◌, []}
+use Rattle.std.proofs.Common.{arith, subst, sym, ap, ◌∙◌, All, ◌∷◌, []}
 use Rattle.crossbeam_deque.specs.Handles.{worker_view}
 use Rattle.pool.specs.declared.held.Hand.{Hand}
 use Rattle.pool.specs.declared.held.Held.{Held}

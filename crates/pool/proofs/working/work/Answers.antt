@@ -1,4 +1,4 @@
-use Rattle.std.proofs.Common.{subst, sym, ap, ◌∙◌, ◌≡◌, All, [], arith}
+use Rattle.std.proofs.Common.{subst, sym, ap, All, arith}
 use Rattle.std.proofs.lemmas.List.Elements.{All-nil}
 use Rattle.pool.specs.Rule.{copies}
 use Rattle.pool.specs.Counts.{method_of, times_done}

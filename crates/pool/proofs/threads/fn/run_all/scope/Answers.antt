@@ -1,5 +1,5 @@
 use Rattle.std.proofs.Common.{arith, ap, subst, ◌∙◌, get_or, IfOk}
-use Rattle.pool.specs.Stints.{IsWork, owner_of}
+use Rattle.pool.specs.Stints.{IsWork}
 use Rattle.pool.proofs.threads.fn.run_all.scope.Goals as goal
 
 pub returns-in-Ok : goal.returns-in-Ok
