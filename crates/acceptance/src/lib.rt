@@ -24,6 +24,8 @@ mod parsing;
 #[cfg(test)]
 mod resolution;
 #[cfg(test)]
+mod sharing;
+#[cfg(test)]
 mod shelves;
 #[cfg(test)]
 mod sounds;
