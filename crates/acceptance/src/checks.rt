@@ -5,9 +5,10 @@ use singcheck::laws::one_check;
 use singcheck::{
     Counted, Gate, Input, MOST_SLOTS, MOST_WORKERS, Open, RunFault, Status, check, run_check,
 };
-use std::alloc::Global;
-use std::cell::Cell;
+use std::sync::Wait;
+use std::sync::atomic::{AtomicU64, Ordering};
 use std::test::Fail;
+use std::thread::Threads;
 
 const NEVER: u64 = 0;
 
@@ -45,25 +46,27 @@ const CLAIMED_TWICE: &str =
 const NOTHING_GIVEN: &str =
     "rep struct D { int n; }\nclass K {\nstatic D* in ExHeap H() { }\nstatic void F() {\nD* in ExHeap p = H();\ndelete p;\n}\n}";
 
-/// A gate that counts the methods before which it was entered, as long as they come in order from 0.
+/// A gate that counts how often it was entered.
 #[derive(Drop)]
-struct InOrder {
-    entered: Cell<u32>,
+struct Count {
+    entered: AtomicU64,
 }
 
-impl Gate for InOrder {
-    fn enter(&self, task: u32) {
-        if task == self.entered.get() {
-            self.entered.set(self.entered.get().wrapping_add(1));
-        }
+impl Gate for Count {
+    fn enter(&self, _task: u32) {
+        self.entered.fetch_add(1, Ordering::SeqCst);
     }
 }
 
 /// What a check of this text answers, and what it writes.
-fn answer_to(alloc: Global, text: &str, workers: usize) -> Result<(Status, Vec<u8>), Fail> {
+fn answer_to<R: Threads + Wait + AllocGlobal + Sync>(
+    rt: &R,
+    text: &str,
+    workers: usize,
+) -> Result<(Status, Vec<u8>), Fail> {
     let mut reader = Counted::new(text.as_bytes());
-    let mut writer = Counted::new(Vec::new(alloc));
-    let status = run_check(alloc, &mut reader, &mut writer, workers, 65_536, &Open)?;
+    let mut writer = Counted::new(Vec::new(rt.alloc()));
+    let status = run_check(rt, &mut reader, &mut writer, workers, 65_536, &Open)?;
     Ok((status, writer.device))
 }
 
@@ -91,7 +94,7 @@ fn checks_as_worked_out(rt: HostRuntime) -> Result<(), Fail> {
     ];
     for (text, wanted, answer) in rows.iter() {
         for workers in [1, 2, 64] {
-            let (status, bytes) = answer_to(rt.alloc(), text, workers)?;
+            let (status, bytes) = answer_to(&rt, text, workers)?;
             assert!(rt; status == *wanted, "{text}");
             assert!(rt; bytes.as_slice() == answer.as_bytes(), "{text}");
         }
@@ -100,10 +103,13 @@ fn checks_as_worked_out(rt: HostRuntime) -> Result<(), Fail> {
 }
 
 /// Whether the check of each of these texts has its status and writes its answer, whatever workers are asked for.
-fn all_answered(alloc: Global, rows: &[(&str, Status, &str)]) -> Result<bool, Fail> {
+fn all_answered<R: Threads + Wait + AllocGlobal + Sync>(
+    rt: &R,
+    rows: &[(&str, Status, &str)],
+) -> Result<bool, Fail> {
     for (text, wanted, answer) in rows {
         for workers in [1, 2, 64] {
-            let (status, bytes) = answer_to(alloc, text, workers)?;
+            let (status, bytes) = answer_to(rt, text, workers)?;
             if status != *wanted || bytes.as_slice() != answer.as_bytes() {
                 return Ok(false);
             }
@@ -127,7 +133,7 @@ fn follows_every_way(rt: HostRuntime) -> Result<(), Fail> {
         (KEPT_AT_A_BREAK, Status::Found, left),
         (FREED_IN_A_LOOP, Status::Found, turned),
     ];
-    assert!(rt; all_answered(rt.alloc(), &rows)?);
+    assert!(rt; all_answered(&rt, &rows)?);
     Ok(())
 }
 
@@ -139,34 +145,25 @@ fn looks_at_the_heads_of_methods(rt: HostRuntime) -> Result<(), Fail> {
         (CLAIMED_TWICE, Status::Found, twice),
         (NOTHING_GIVEN, Status::Found, nothing),
     ];
-    assert!(rt; all_answered(rt.alloc(), &rows)?);
+    assert!(rt; all_answered(&rt, &rows)?);
     Ok(())
 }
 
 #[test]
-fn enters_the_gate_before_each_method_in_order(rt: HostRuntime) -> Result<(), Fail> {
-    let gate = InOrder {
-        entered: Cell::new(0),
-    };
-    let report = check(
-        rt.alloc(),
-        HANDED_ON.as_bytes(),
-        MOST_WORKERS,
-        MOST_SLOTS,
-        &gate,
-    )?;
-    assert!(rt; report.status == Status::Empty);
-    assert!(rt; report.bytes.as_slice() == HANDED_ON_ANSWER.as_bytes());
-    assert!(rt; gate.entered.get() == 2);
-    let none = check(
-        rt.alloc(),
-        b"class K { static void F() { k = 1; } }".as_slice(),
-        1,
-        1,
-        &gate,
-    )?;
-    assert!(rt; none.status == Status::Found);
-    assert!(rt; gate.entered.get() == 2);
+fn enters_the_gate_once_for_each_method(rt: HostRuntime) -> Result<(), Fail> {
+    for workers in [1, 2, MOST_WORKERS] {
+        let gate = Count {
+            entered: AtomicU64::new(0),
+        };
+        let report = check(&rt, HANDED_ON.as_bytes(), workers, MOST_SLOTS, &gate)?;
+        assert!(rt; report.status == Status::Empty);
+        assert!(rt; report.bytes.as_slice() == HANDED_ON_ANSWER.as_bytes());
+        assert!(rt; gate.entered.load(Ordering::SeqCst) == 2);
+        let unknown = b"class K { static void F() { k = 1; } }".as_slice();
+        let none = check(&rt, unknown, workers, 1, &gate)?;
+        assert!(rt; none.status == Status::Found);
+        assert!(rt; gate.entered.load(Ordering::SeqCst) == 2);
+    }
     Ok(())
 }
 
@@ -180,7 +177,7 @@ fn checks_or_wants_memory(rt: HostRuntime) {
     for (text, status, answer) in rows.iter() {
         let mut reader = Counted::new(text.as_bytes());
         let mut writer = Card::new();
-        match run_check(rt.alloc(), &mut reader, &mut writer, 1, 1, &Open) {
+        match run_check(&rt, &mut reader, &mut writer, 1, 1, &Open) {
             Ok(answered) => {
                 assert!(rt; answered == *status, "{text}");
                 assert!(rt; writer.taken() == answer.as_bytes(), "{text}");
@@ -205,7 +202,7 @@ fn reads_nothing_where_the_numbers_do_not_fit(rt: HostRuntime) -> Result<(), Fai
         let mut reader = Text::new(rt.alloc(), HANDED_ON, 10, 1)?;
         let mut writer = Page::new(rt.alloc(), 100, NEVER);
         match run_check(
-            rt.alloc(),
+            &rt,
             &mut reader,
             &mut writer,
             *workers,
@@ -224,14 +221,14 @@ fn reads_nothing_where_the_numbers_do_not_fit(rt: HostRuntime) -> Result<(), Fai
 fn names_the_device_that_fails(rt: HostRuntime) -> Result<(), Fail> {
     let mut closed = Text::new(rt.alloc(), FREED_TWICE, 10, 3)?;
     let mut empty = Page::new(rt.alloc(), 100, NEVER);
-    match run_check(rt.alloc(), &mut closed, &mut empty, 1, 1, &Open) {
+    match run_check(&rt, &mut closed, &mut empty, 1, 1, &Open) {
         Err(fault) => assert!(rt; fault == RunFault::Read(Input::Text)),
         Ok(_) => assert!(rt; false),
     }
     assert!(rt; empty.bytes.is_empty());
     let mut open = Text::new(rt.alloc(), FREED_TWICE, 10, NEVER)?;
     let mut full = Page::new(rt.alloc(), 7, 2);
-    match run_check(rt.alloc(), &mut open, &mut full, 1, 1, &Open) {
+    match run_check(&rt, &mut open, &mut full, 1, 1, &Open) {
         Err(fault) => assert!(rt; fault == RunFault::Write),
         Ok(_) => assert!(rt; false),
     }

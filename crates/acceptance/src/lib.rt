@@ -14,6 +14,8 @@ mod conditions;
 #[cfg(test)]
 mod devices;
 #[cfg(test)]
+mod gates;
+#[cfg(test)]
 mod interning;
 #[cfg(test)]
 mod lexing;

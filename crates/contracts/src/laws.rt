@@ -1,14 +1,30 @@
 //! Laws of contracts: they hold of all parts, whatever the code does.
 
 ghost use Rattle.std.specs.Prelude.{ℕ, List};
+ghost use Rattle.std.specs.Thread.{IsSync};
 ghost use Rattle.contracts.specs.Bounds.{IsBound, sign_to};
 ghost use Rattle.contracts.specs.Conditions.{AreExactly, FindingParts, IsFault, IsSound};
 ghost use Rattle.contracts.specs.Parts.{IsWhole, Parts};
+ghost use Rattle.contracts.specs.contracts.sound.Sound as sound;
 ghost use Rattle.program.specs.declared.kind.Side.{Side};
+
+use crate::sound::Sound;
 
 /// What is wrong with a contract is a list, and the bounds of a sound one are numbers: so there is always an answer beside `Memory`.
 pub fn each_contract_is_judged()
     ensures found { (parts : Parts) → ((found : List FindingParts) → AreExactly (IsFault parts) found → ⊥) → ⊥ }
     ensures bounds { (parts : Parts) → IsWhole parts → IsSound parts → (side : Side)
         → ((n : ℕ) → IsBound parts.edges parts.first (sign_to side) n → ⊥) → ⊥ }
+{}
+
+/// Threads may share a sound contract by reference.
+pub fn threads_share_a_contract()
+    ensures { IsSync sound.the_row }
+{
+    shared::<Sound>();
+}
+
+/// Values of this type may be shared.
+fn shared<T: Sync>()
+    ensures { IsSync T.row }
 {}

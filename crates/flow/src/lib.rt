@@ -3,6 +3,7 @@
 
 mod cases;
 mod graph;
+pub mod laws;
 mod laying;
 mod lowering;
 

@@ -1,6 +1,7 @@
 //! Laws of words and tokens: they hold of every table.
 
 ghost use Rattle.std.specs.Prelude.{◌≡◌, ◌+◌, ◌*◌, ◌<◌, ℕ, List, length};
+ghost use Rattle.std.specs.Thread.{IsSync};
 ghost use Rattle.program.specs.declared.limits.TheConstants.{MOST_VARIABLES};
 ghost use Rattle.rules.specs.Leaves.{IsNumbered};
 ghost use Rattle.rules.specs.declared.row.Leaf.{Leaf};
@@ -9,11 +10,14 @@ ghost use Rattle.intern.specs.Layout.{word};
 ghost use Rattle.intern.specs.Seats.{IsSeatOf, slots_of, view};
 ghost use Rattle.intern.specs.Tokens.{HasNoRoom, IsFaithful, IsKnown, Names};
 ghost use Rattle.intern.specs.View.{Grows, IsInside, IsSound, IsWalk, View};
+ghost use Rattle.intern.specs.contracts.rows.Rows as rows;
 ghost use Rattle.intern.specs.declared.layout.TheConstants.{LEAVES, LENGTHS, MOST_SLOTS};
 ghost use Rattle.intern.specs.declared.rows.Rows.{Rows};
 ghost use Rattle.intern.specs.declared.seat.Seat.{Seat};
 ghost use Rattle.intern.specs.declared.token.Token.{Token};
 ghost use Rattle.intern.specs.declared.token.Token.TheVariants.{At};
+
+use crate::rows::Rows;
 
 /// The limits in digits, and the word.
 pub fn limits()
@@ -53,4 +57,16 @@ pub fn a_token_is_a_walk()
 pub fn a_full_table_stays_full()
     ensures { (rows : Rows) (v : View) (seat : Seat) → IsSeatOf rows seat → Grows v (view seat)
         → (row : List Leaf) → HasNoRoom (slots_of rows) v row → HasNoRoom (slots_of rows) (view seat) row }
+{}
+
+/// Threads may share a table of rows by reference.
+pub fn threads_share_rows()
+    ensures { IsSync rows.the_row }
+{
+    shared::<Rows>();
+}
+
+/// Values of this type may be shared.
+fn shared<T: Sync>()
+    ensures { IsSync T.row }
 {}

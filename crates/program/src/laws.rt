@@ -1,7 +1,12 @@
 //! Laws of programs.
 
 ghost use Rattle.std.specs.Prelude.{◌≡◌};
+ghost use Rattle.std.specs.Thread.{IsSync};
+ghost use Rattle.program.specs.contracts.kind.Kind as kind;
+ghost use Rattle.program.specs.contracts.methods.Methods as methods;
 ghost use Rattle.program.specs.declared.limits.TheConstants.{MOST_CONTRACTS, MOST_METHODS, MOST_PARAMETERS, MOST_STATES, MOST_VARIABLES};
+
+use crate::methods::Methods;
 
 /// The limits in digits.
 pub fn limits()
@@ -10,4 +15,17 @@ pub fn limits()
     ensures parameters { MOST_PARAMETERS ≡ 8 }
     ensures variables { MOST_VARIABLES ≡ 1000 }
     ensures methods { MOST_METHODS ≡ 4096 }
+{}
+
+/// Threads may share methods and kinds by reference.
+pub fn threads_share_methods()
+    ensures methods { IsSync methods.the_row }
+    ensures kinds { IsSync kind.the_row }
+{
+    shared::<Methods>();
+}
+
+/// Values of this type may be shared.
+fn shared<T: Sync>()
+    ensures { IsSync T.row }
 {}

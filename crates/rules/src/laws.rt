@@ -1,11 +1,17 @@
 //! Laws of the rule table: they hold of every program.
 
 ghost use Rattle.std.specs.Prelude.{◌≡◌, ℕ, List, All, Some, slice_get};
+ghost use Rattle.std.specs.Thread.{IsSync};
 ghost use Rattle.program.specs.Methods.{MethodSeen};
 ghost use Rattle.program.specs.Programs.{ProgramSeen};
 ghost use Rattle.rules.specs.Outcomes.{Goes, Pair};
 ghost use Rattle.rules.specs.Rows.{IsRowOf};
 ghost use Rattle.rules.specs.Steps.{entry_of, outcome};
+ghost use Rattle.rules.specs.contracts.lowered.Program as program;
+
+use contracts::laws::threads_share_a_contract;
+use flow::laws::threads_share_a_graph;
+use program::laws::threads_share_methods;
 
 /// The row with which a method begins has a leaf for each of its variables, and a step leads from such a row to such rows alone.
 pub fn a_leaf_for_each_variable()
@@ -14,3 +20,12 @@ pub fn a_leaf_for_each_variable()
     ensures step { (p : ProgramSeen) (n : ℕ) (m : MethodSeen) (pair : Pair) (to : List Pair)
         → slice_get p.methods n ≡ Some m → IsRowOf m pair.1 → outcome p n pair ≡ Goes to → All (λ to. IsRowOf m to.1) to }
 {}
+
+/// Threads may share a program by reference.
+pub fn threads_share_a_program()
+    ensures { IsSync program.the_row }
+{
+    threads_share_methods();
+    threads_share_a_contract();
+    threads_share_a_graph();
+}

@@ -1,12 +1,27 @@
--- For proofs within the crate: the verdicts of methods one after another.
-use Rattle.std.specs.Prelude.{◌≡◌, ◌<◌, ◌++◌, ℕ, List, length, map}
+-- For proofs within the crate: the verdicts of methods.
+use Rattle.std.specs.Prelude.{◌≡◌, ◌++◌, ℕ, List, Contains, Ok, Err, Result, map}
 use Rattle.source.specs.Findings.{FindingParts, finding_parts}
 use Rattle.source.specs.declared.finding.Finding.{Finding}
 use Rattle.contracts.specs.Conditions.{AreExactly}
 use Rattle.program.specs.Programs.{ProgramSeen}
-use Rattle.analyse.specs.Tasks.{number_of, numbers_below}
-use Rattle.analyse.specs.declared.task.Task.{Task}
-use Rattle.analyse.specs.Verdicts.{IsFoundIn}
+use Rattle.rules.specs.Programs.{seen_of}
+use Rattle.rules.specs.declared.lowered.Program.{Program}
+use Rattle.analyse.specs.Tasks.{findings_of}
+use Rattle.analyse.specs.Verdicts.{IsFoundIn, IsMethodVerdict}
+use Rattle.analyse.specs.declared.verdict.Verdict.{Verdict}
+use Rattle.shelf.specs.Shelves.{IsOf, verdict_of}
+use Rattle.shelf.specs.declared.receipt.Receipt.{Receipt}
+use Rattle.shelf.specs.declared.shelf.Shelf.{Shelf}
+
+-- the receipt is of the shelf, and what it reads is the verdict of a method
+pub record IsPut (p : Program) (shelf : Shelf) (n : ℕ) (receipt : Receipt) : Type 0 where
+  pub of_shelf : IsOf receipt shelf
+  pub found : IsMethodVerdict (seen_of p) n (map finding_parts (findings_of (verdict_of receipt)))
+
+-- the verdict of a method was put on the shelf, or there was no room for it
+abbrev pub HasVerdict : Program → Shelf → ℕ → Result Receipt Verdict → Type 0
+HasVerdict p shelf n (Ok receipt) = IsPut p shelf n receipt
+HasVerdict p shelf n (Err verdict) = Unit {0}
 
 -- all that is found in a method is added
 pub record AddsVerdict (p : ProgramSeen) (n : ℕ) (old new : List Finding) : Type 0 where
@@ -14,12 +29,10 @@ pub record AddsVerdict (p : ProgramSeen) (n : ℕ) (old new : List Finding) : Ty
   pub exactly : AreExactly (IsFoundIn p n) more
   pub added : map finding_parts new ≡ map finding_parts old ++ more
 
--- what is found in the first methods, so many
-abbrev pub IsWrongBelow : ProgramSeen → ℕ → FindingParts → Type 0
-IsWrongBelow p most f = (n : ℕ) × (n < most) × IsFoundIn p n f
+-- this is found in one of these methods
+abbrev pub IsWrongAmong : ProgramSeen → List ℕ → FindingParts → Type 0
+IsWrongAmong p methods f = (n : ℕ) × Contains methods n × IsFoundIn p n f
 
--- the methods of some tasks are done, and those of these are left
-pub record AreAnalysed (p : ProgramSeen) (left : List Task) (found : List Finding) : Type 0 where
-  pub done : List Task
-  pub tasks : map number_of (done ++ left) ≡ numbers_below (length p.methods)
-  pub exactly : AreExactly (IsWrongBelow p (length done)) (map finding_parts found)
+-- the findings are all that is found in these methods
+abbrev pub AreOfMethods : ProgramSeen → List ℕ → List FindingParts → Type 0
+AreOfMethods p methods found = AreExactly (IsWrongAmong p methods) found

@@ -13,27 +13,33 @@ ghost use Rattle.singcheck.specs.CheckFaults.{AreUnfit, Explains, workers_fit, s
 ghost use Rattle.singcheck.specs.Reports.{IsReport};
 
 use crate::fault::{CheckFault, Status};
-use crate::gate::Gate;
 use crate::limits::{MOST_SLOTS, MOST_WORKERS};
 use crate::lines::add_clear;
 use crate::reports::{Report, report_of};
 use crate::stages::{Clean, Parsed, Staged, named, parse_text};
+use crate::tools::Tools;
 use crate::verdicts::analyse_methods;
+use pool::Gate;
 use rules::Program;
+use shelf::Shelf;
 use source::{Finding, Memory, Tokens};
 use std::alloc::Global;
+use std::sync::Wait;
+use std::thread::Threads;
 use tree::Tree;
 use wellformed::well_formed_methods;
 
 /// Checks a text: the report of the first stage that has findings (the text, its names, its contracts, its methods), with
 /// status `Found`, or the line `ok: C contracts, M methods`, with status `Empty`.
 ///
-/// Each method is checked once, and the gate is entered before it with the number of methods that stand before it in the
-/// text. The report is the same for every number of `workers` and `slots`. `Workers` is answered where there are not 1 to
-/// `MOST_WORKERS`, then `Slots` where there are not 1 to `MOST_SLOTS`, before the text is looked at; `Memory` where a growth was
-/// refused.
-pub fn check<G: Gate>(
-    alloc: Global,
+/// Workers share the methods out. Each method is checked once, by one of them, and the gate is entered before it with the number of
+/// methods that stand before it in the text. The first worker works in the calling thread and each other one in a thread of its own;
+/// there are never more than methods, and none begins before the stages in front of the methods have found nothing. The report is the
+/// same for every number of `workers` and `slots`, whoever took which method. `Workers` is answered where there are not 1 to
+/// `MOST_WORKERS`, then `Slots` where there are not 1 to `MOST_SLOTS`, before the text is looked at; `Memory` where a growth or a
+/// thread was refused.
+pub fn check<R: Threads + Wait + AllocGlobal + Sync, G: Gate>(
+    rt: &R,
     text: &[u8],
     workers: usize,
     slots: usize,
@@ -45,7 +51,36 @@ pub fn check<G: Gate>(
     ensures fault { IfErr result (Explains workers slots) }
 {
     judge_numbers(workers, slots)?;
-    let report = check_text(alloc, text, slots, gate)?;
+    let shelf = Shelf::new(rt.alloc())?;
+    check_onto(rt, text, workers, slots, gate, &shelf)
+}
+
+/// Checks a text as `check` does, and puts the verdict of each method on the caller's shelf, as soon as it is found.
+///
+/// Other threads may read what was put so far at any time. Verdicts that were put before a refusal stay.
+pub fn check_onto<R: Threads + Wait + AllocGlobal + Sync, G: Gate>(
+    rt: &R,
+    text: &[u8],
+    workers: usize,
+    slots: usize,
+    gate: &G,
+    shelf: &Shelf,
+) -> Result<Report, CheckFault>
+    ensures report { IfOk result (λ r. Checks text.now r.bytes.items r.status) }
+    ensures workers { OnOk result (workers_fit workers ≡ true) }
+    ensures slots { OnOk result (slots_fit slots ≡ true) }
+    ensures fault { IfErr result (Explains workers slots) }
+{
+    judge_numbers(workers, slots)?;
+    let tools = Tools {
+        rt,
+        alloc: rt.alloc(),
+        workers,
+        slots,
+        gate,
+        shelf,
+    };
+    let report = check_text(&tools, text)?;
     Ok(report)
 }
 
@@ -64,18 +99,16 @@ pub(crate) fn judge_numbers(workers: usize, slots: usize) -> Result<(), CheckFau
     Ok(())
 }
 
-/// The report of a text. The rows of its methods are kept in a table of so many slots.
-pub(crate) fn check_text<G: Gate>(
-    alloc: Global,
+/// The report of a text.
+pub(crate) fn check_text<R: Threads + Wait + Sync, G: Gate>(
+    tools: &Tools<'_, R, G>,
     text: &[u8],
-    slots: usize,
-    gate: &G,
 ) -> Result<Report, Memory>
     ensures { IfOk result (λ r. Checks text.now r.bytes.items r.status) }
 {
-    match parse_text(alloc, text)? {
-        Parsed::Found(findings) => reported(alloc, findings),
-        Parsed::Program(tokens, tree) => check_program(alloc, &tokens, &tree, slots, gate),
+    match parse_text(tools.alloc, text)? {
+        Parsed::Found(findings) => reported(tools.alloc, findings),
+        Parsed::Program(tokens, tree) => check_program(tools, &tokens, &tree),
     }
 }
 
@@ -91,44 +124,41 @@ fn reported(alloc: Global, findings: Vec<Finding>) -> Result<Report, Memory>
 }
 
 /// The report of a program.
-fn check_program<G: Gate>(
-    alloc: Global,
+fn check_program<R: Threads + Wait + Sync, G: Gate>(
+    tools: &Tools<'_, R, G>,
     tokens: &Tokens,
     tree: &Tree,
-    slots: usize,
-    gate: &G,
 ) -> Result<Report, Memory>
     requires lexed { AreTokens tokens.now.text.items tokens.now.list.items }
     requires spelled { Spells program (program_tree tree.now) tokens.now.list.items }
     requires few { length tokens.now.list.items < 2 ^ 32 }
     ensures { IfOk result (λ r. Checks tokens.now.text.items r.bytes.items r.status) }
 {
-    match named(alloc, tree, tokens)? {
-        Staged::Found(findings) => reported(alloc, findings),
-        Staged::Clean(clean) => check_methods(alloc, tokens, tree, clean, slots, gate),
+    match named(tools.alloc, tree, tokens)? {
+        Staged::Found(findings) => reported(tools.alloc, findings),
+        Staged::Clean(clean) => check_methods(tools, tokens, tree, clean),
     }
 }
 
 /// The report of the methods of a program of these contracts, with which nothing else is wrong.
-fn check_methods<G: Gate>(
-    alloc: Global,
+fn check_methods<R: Threads + Wait + Sync, G: Gate>(
+    tools: &Tools<'_, R, G>,
     tokens: &Tokens,
     tree: &Tree,
     clean: Clean,
-    slots: usize,
-    gate: &G,
 ) -> Result<Report, Memory>
     requires sound { IsSoundProgram tokens.now.text.items (program_tree tree.now) (map contract_seen clean.resolved.contracts.items) }
     requires judged { map sound_parts clean.sounds.items ≡ map (λ c. c.parts) (map contract_seen clean.resolved.contracts.items) }
     requires room { length clean.resolved.contracts.items < 2 ^ 32 }
     ensures { IfOk result (λ r. Checks tokens.now.text.items r.bytes.items r.status) }
 {
+    let alloc = tools.alloc;
     let Clean { resolved, sounds } = clean;
     let contracts = resolved.contracts.len();
     let methods = well_formed_methods(alloc, tree, tokens, resolved)?;
     let count = methods.list().len();
     let program = Program::new(alloc, methods, sounds)?;
-    let findings = analyse_methods(alloc, &program, slots, gate)?;
+    let findings = analyse_methods(tools, &program)?;
     if !findings.is_empty() {
         return reported(alloc, findings);
     }

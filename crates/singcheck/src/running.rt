@@ -9,43 +9,55 @@ ghost use Rattle.singcheck.specs.Runs.{Writes, BeginsAnswer, LeavesRest, TakesAt
 use crate::checking::{check_text, judge_numbers};
 use crate::device::{Sink, Source};
 use crate::fault::{Input, RunFault, Status};
-use crate::gate::Gate;
 use crate::reading::{MAX_READ, read_text};
+use crate::tools::Tools;
 use crate::writing::write_all;
-use std::alloc::Global;
+use pool::Gate;
+use shelf::Shelf;
+use std::sync::Wait;
+use std::thread::Threads;
 
 /// Reads a program text, checks it, and writes its report.
 ///
 /// What `check` answers for the text is written: the report of the first stage that has findings, with status `Found`, or
 /// the line `ok: C contracts, M methods`, with status `Empty`. `Workers` and `Slots` are answered before anything is read. At
 /// most `MAX_READ` bytes are read, and the rest is left unread. `Read` and `Write` are answered only where that device failed,
-/// and `Memory` only where a growth was refused; nothing is written before the answer is known whole, and after `Write` a
+/// and `Memory` only where a growth or a thread was refused; nothing is written before the answer is known whole, and after `Write` a
 /// beginning of it went out.
-pub fn run_check<R: Source, W: Sink, G: Gate>(
-    alloc: Global,
-    reader: &mut R,
-    writer: &mut W,
+pub fn run_check<R: Threads + Wait + AllocGlobal + Sync, I: Source, O: Sink, G: Gate>(
+    rt: &R,
+    reader: &mut I,
+    writer: &mut O,
     workers: usize,
     slots: usize,
     gate: &G,
 ) -> Result<Status, RunFault>
-    ensures written { IfOk result (λ status. IfSome (R.remaining reader.old) (λ text.
-        Writes Checks text (W.contents writer.old) (W.contents writer.new) status)) }
-    ensures begun { IsErrOf result RunFault.Write → IfSome (R.remaining reader.old) (λ text.
-        BeginsAnswer Checks text (W.contents writer.old) (W.contents writer.new)) }
-    ensures rest { OnOk result (LeavesRest MAX_READ (R.remaining reader.old) (R.remaining reader.new)) }
-    ensures most { TakesAtMost MAX_READ (R.remaining reader.old) (R.remaining reader.new) }
-    ensures read { IsErrOf result (RunFault.Read Input.Text) → R.failed reader.new ≢ R.failed reader.old }
-    ensures write { IsErrOf result RunFault.Write → W.failed writer.new ≢ W.failed writer.old }
-    ensures unwritten { OnErr result ((IsErrOf result RunFault.Write → ⊥) → Keeps (W.contents writer.old) (W.contents writer.new)) }
+    ensures written { IfOk result (λ status. IfSome (I.remaining reader.old) (λ text.
+        Writes Checks text (O.contents writer.old) (O.contents writer.new) status)) }
+    ensures begun { IsErrOf result RunFault.Write → IfSome (I.remaining reader.old) (λ text.
+        BeginsAnswer Checks text (O.contents writer.old) (O.contents writer.new)) }
+    ensures rest { OnOk result (LeavesRest MAX_READ (I.remaining reader.old) (I.remaining reader.new)) }
+    ensures most { TakesAtMost MAX_READ (I.remaining reader.old) (I.remaining reader.new) }
+    ensures read { IsErrOf result (RunFault.Read Input.Text) → I.failed reader.new ≢ I.failed reader.old }
+    ensures write { IsErrOf result RunFault.Write → O.failed writer.new ≢ O.failed writer.old }
+    ensures unwritten { OnErr result ((IsErrOf result RunFault.Write → ⊥) → Keeps (O.contents writer.old) (O.contents writer.new)) }
     ensures workers { OnOk result (workers_fit workers ≡ true) }
     ensures slots { OnOk result (slots_fit slots ≡ true) }
     ensures fault { IfErr result (RunExplains workers slots) }
-    ensures unread { (workers_fit workers && slots_fit slots) ≡ false → R.remaining reader.new ≡ R.remaining reader.old }
+    ensures unread { (workers_fit workers && slots_fit slots) ≡ false → I.remaining reader.new ≡ I.remaining reader.old }
 {
     judge_numbers(workers, slots)?;
-    let text = read_text(alloc, reader)?;
-    let report = check_text(alloc, &text, slots, gate)?;
+    let text = read_text(rt.alloc(), reader)?;
+    let shelf = Shelf::new(rt.alloc())?;
+    let tools = Tools {
+        rt,
+        alloc: rt.alloc(),
+        workers,
+        slots,
+        gate,
+        shelf: &shelf,
+    };
+    let report = check_text(&tools, &text)?;
     write_all(&report.bytes, writer)?;
     Ok(report.status)
 }

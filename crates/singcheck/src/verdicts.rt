@@ -1,83 +1,99 @@
 //! What is found in the methods of a program.
 
-ghost use Rattle.std.specs.Prelude.{◌<◌, ◌^◌, IfOk, OnOk, length, map};
+ghost use Rattle.std.specs.Prelude.{◌≡◌, ◌<◌, ◌^◌, ◌++◌, All, IfOk, OnOk, length, map};
 ghost use Rattle.source.specs.Findings.{finding_parts};
 ghost use Rattle.contracts.specs.Conditions.{AreExactly};
-ghost use Rattle.intern.specs.Seats.{IsSeatOf};
 ghost use Rattle.rules.specs.Programs.{seen_of};
-ghost use Rattle.analyse.specs.Tasks.{number_of};
-ghost use Rattle.analyse.specs.Workers.{IsWorkerOf};
+ghost use Rattle.pool.specs.Counts.{method_of};
 ghost use Rattle.singcheck.specs.Checks.{IsWrong};
-ghost use Rattle.singcheck.specs.Verdicts.{AddsVerdict};
+ghost use Rattle.singcheck.specs.Verdicts.{AddsVerdict, AreOfMethods, HasVerdict};
 
-use crate::gate::Gate;
-use analyse::{Task, Worker, analyse, give_up_all, tasks};
-use intern::{Rows, Seat};
+use crate::judging::Judging;
+use crate::seats::{table, workers_at};
+use crate::tools::Tools;
+use analyse::{Verdict, tasks};
+use intern::laws::threads_share_rows;
+use pool::{Done, Gate, share_out};
 use rules::Program;
+use rules::laws::threads_share_a_program;
+use shelf::laws::threads_share_a_shelf;
+use shelf::{Receipt, Shelf};
 use source::{Finding, Memory};
 use std::alloc::Global;
+use std::sync::Wait;
+use std::thread::Threads;
 
-/// What is found in all methods, in order of the text. The gate is entered before each. Their rows are kept in a table of so many
-/// slots, and where that is full, by the worker itself.
-pub(crate) fn analyse_methods<G: Gate>(
-    alloc: Global,
+/// What is found in all methods, in no order. Workers share them out, and put their verdicts on the shelf. No thread is started for one
+/// method, nor for one worker.
+///
+/// `Memory` is answered where a growth or a thread was refused.
+pub(crate) fn analyse_methods<R: Threads + Wait + Sync, G: Gate>(
+    tools: &Tools<'_, R, G>,
     program: &Program,
-    slots: usize,
-    gate: &G,
 ) -> Result<Vec<Finding>, Memory>
     requires few { length (seen_of program.now).methods < 2 ^ 32 }
     ensures { IfOk result (λ found. AreExactly (IsWrong (seen_of program.now)) (map finding_parts found.items)) }
 {
-    let mut found = Vec::new(alloc);
-    let (rows, seat) = table(alloc, slots)?;
-    let mut worker = Worker::new(alloc, seat);
-    let mut left = tasks(alloc, program)?.into_iter();
-    while let Some(task) = left.next() {
-        gate.enter(task.method().0);
-        match add_verdict(alloc, program, task, &rows, &mut worker, &mut found) {
-            Ok(()) => {}
-            Err(memory) => {
-                give_up_all(left);
-                return Err(memory);
-            }
-        }
-    }
-    left.destroy_empty();
-    Ok(found)
-}
-
-/// A table of so many slots, and its first seat.
-fn table(alloc: Global, slots: usize) -> Result<(Rows, Seat), Memory>
-    ensures { IfOk result (λ made. IsSeatOf made.0 made.1) }
-{
-    match Rows::new(alloc, slots) {
-        Ok(made) => Ok(made),
+    threads_share_a_program();
+    threads_share_rows();
+    threads_share_a_shelf();
+    let alloc = tools.alloc;
+    let (rows, seat) = table(alloc, tools.slots)?;
+    let most = tools.workers.min(program.methods().len());
+    let workers = workers_at(alloc, &rows, seat, most.saturating_sub(1))?;
+    let job = Judging {
+        rt: tools.rt,
+        alloc,
+        program,
+        rows: &rows,
+        shelf: tools.shelf,
+    };
+    let all = tasks(alloc, program)?;
+    match share_out(tools.rt, alloc, all, workers, &job, tools.gate) {
+        Ok((_, done)) => found_in(alloc, tools.shelf, program, &done),
         Err(_) => Err(Memory),
     }
 }
 
-/// Adds what is found in the method of a task.
-fn add_verdict(
+/// What is found in the methods of which these are the verdicts.
+///
+/// `Memory` is answered where a growth was refused, also where the shelf had no room for a verdict.
+fn found_in(
     alloc: Global,
+    shelf: &Shelf,
     program: &Program,
-    task: Task,
-    rows: &Rows,
-    worker: &mut Worker,
-    found: &mut Vec<Finding>,
-) -> Result<(), Memory>
-    requires there { number_of task < length (seen_of program.now).methods }
-    requires worker { IsWorkerOf rows.now worker.old }
-    ensures worker { IsWorkerOf rows.now worker.new }
-    ensures adds { OnOk result (AddsVerdict (seen_of program.now) (number_of task) found.old.items found.new.items) }
+    done: &[Done<Result<Receipt, Verdict>>],
+) -> Result<Vec<Finding>, Memory>
+    requires each { All (λ d. HasVerdict program.now shelf.now (method_of d) d.out) done.now }
+    ensures { IfOk result (λ found. AreOfMethods (seen_of program.now) (map method_of done.now) (map finding_parts found.items)) }
 {
-    match analyse(alloc, task, program, rows, worker) {
-        Ok(verdict) => {
-            found.append(&mut verdict.into_findings())?;
-            Ok(())
-        }
-        Err((task, fault)) => {
-            task.give_up();
-            Err(fault)
+    let _ = program;
+    let mut found = Vec::new(alloc);
+    for one in done {
+        match &one.out {
+            Ok(receipt) => add_copies(alloc, shelf.read(receipt).findings(), &mut found)?,
+            Err(_) => return Err(Memory),
         }
     }
+    Ok(found)
+}
+
+/// Adds copies of these findings.
+fn add_copies(
+    alloc: Global,
+    findings: &[Finding],
+    found: &mut Vec<Finding>,
+) -> Result<(), Memory>
+    ensures { OnOk result (map finding_parts found.new.items
+        ≡ map finding_parts found.old.items ++ map finding_parts findings.now) }
+{
+    for finding in findings {
+        let copy = Finding {
+            place: finding.place,
+            code: finding.code,
+            text: String::from_str(alloc, finding.text.as_str())?,
+        };
+        found.push(copy)?;
+    }
+    Ok(())
 }

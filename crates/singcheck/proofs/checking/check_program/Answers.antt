@@ -15,13 +15,13 @@ returns-in-Found g c =
     c.reported.result c.reported.ensures.bytes c.reported.ensures.status
 
 pub check_methods-requires-clause-sound : goal.check_methods-requires-clause-sound
-check_methods-requires-clause-sound g c = subst (IsSoundTree c.args.tokens.now.text.items (program_tree c.args.tree.now)) c.in-Clean.is c.in_ok-findings.ensures.sound
+check_methods-requires-clause-sound g c κs within = subst (IsSoundTree c.args.tokens.now.text.items (program_tree c.args.tree.now)) c.in-Clean.is c.in_ok-findings.ensures.sound
 
 pub check_methods-requires-clause-room : goal.check_methods-requires-clause-room
-check_methods-requires-clause-room g c =
+check_methods-requires-clause-room g c κs within =
     let sound = subst (IsSoundTree c.args.tokens.now.text.items (program_tree c.args.tree.now)) c.in-Clean.is c.in_ok-findings.ensures.sound in
     let few = few_contracts c.args.tokens.now.text.items (program_tree c.args.tree.now) c.args.tokens.now.list.items c.in-Clean.clean.resolved.contracts.items contract_seen c.requires.spelled sound.are in
     omega (arith, few, c.requires.few)
 
 pub check_methods-requires-clause-judged : goal.check_methods-requires-clause-judged
-check_methods-requires-clause-judged g c = (subst (IsStaged c.args.tokens.now.text.items) c.in-Clean.is c.in_ok-findings.ensures.staged).sounds
+check_methods-requires-clause-judged g c κs within = (subst (IsStaged c.args.tokens.now.text.items) c.in-Clean.is c.in_ok-findings.ensures.staged).sounds

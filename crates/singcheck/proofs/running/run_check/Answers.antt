@@ -16,18 +16,18 @@ returns-in_err-text-clause-fault g c =
 pub returns-in_err-write_all-clause-begun : goal.returns-in_err-write_all-clause-begun
 returns-in_err-write_all-clause-begun g c = λ told.
     let report = c.in_ok-report.report in
-    let is = text_is (g.R.Source.remaining c.args.reader.now) (g.R.Source.remaining c.read_text.new.reader) c.in_ok-text.text.items MAX_READ c.in_ok-text.ensures.bytes c.in_ok-text.ensures.long c.in_ok-text.ensures.end in
-    begins_is Checks (g.R.Source.remaining c.args.reader.now) (g.W.Sink.contents c.args.writer.now) (g.W.Sink.contents c.write_all.new.writer) c.in_ok-text.text.items report.bytes.items report.status MAX_READ checks_of_front is
+    let is = text_is (g.I.Source.remaining c.args.reader.now) (g.I.Source.remaining c.read_text.new.reader) c.in_ok-text.text.items MAX_READ c.in_ok-text.ensures.bytes c.in_ok-text.ensures.long c.in_ok-text.ensures.end in
+    begins_is Checks (g.I.Source.remaining c.args.reader.now) (g.O.Sink.contents c.args.writer.now) (g.O.Sink.contents c.write_all.new.writer) c.in_ok-text.text.items report.bytes.items report.status MAX_READ checks_of_front is
     (subst (λ t. Checks t report.bytes.items report.status) c.deref.ensures.value c.in_ok-report.ensures)
-    (subst (λ b. Begins (g.W.Sink.contents c.args.writer.now) (g.W.Sink.contents c.write_all.new.writer) b) c.deref-2.ensures.value c.in_err-write_all.ensures.begun)
+    (subst (λ b. Begins (g.O.Sink.contents c.args.writer.now) (g.O.Sink.contents c.write_all.new.writer) b) c.deref-2.ensures.value c.in_err-write_all.ensures.begun)
 
 pub returns-clause-written : goal.returns-clause-written
 returns-clause-written g c =
     let report = c.in_ok-report.report in
-    let is = text_is (g.R.Source.remaining c.args.reader.now) (g.R.Source.remaining c.read_text.new.reader) c.in_ok-text.text.items MAX_READ c.in_ok-text.ensures.bytes c.in_ok-text.ensures.long c.in_ok-text.ensures.end in
-    writes_is Checks (g.R.Source.remaining c.args.reader.now) (g.W.Sink.contents c.args.writer.now) (g.W.Sink.contents c.write_all.new.writer) c.in_ok-text.text.items report.bytes.items report.status MAX_READ checks_of_front is
+    let is = text_is (g.I.Source.remaining c.args.reader.now) (g.I.Source.remaining c.read_text.new.reader) c.in_ok-text.text.items MAX_READ c.in_ok-text.ensures.bytes c.in_ok-text.ensures.long c.in_ok-text.ensures.end in
+    writes_is Checks (g.I.Source.remaining c.args.reader.now) (g.O.Sink.contents c.args.writer.now) (g.O.Sink.contents c.write_all.new.writer) c.in_ok-text.text.items report.bytes.items report.status MAX_READ checks_of_front is
     (subst (λ t. Checks t report.bytes.items report.status) c.deref.ensures.value c.in_ok-report.ensures)
-    (subst (λ b. Appends (g.W.Sink.contents c.args.writer.now) (g.W.Sink.contents c.write_all.new.writer) b) c.deref-2.ensures.value c.in_ok-write_all.ensures.all)
+    (subst (λ b. Appends (g.O.Sink.contents c.args.writer.now) (g.O.Sink.contents c.write_all.new.writer) b) c.deref-2.ensures.value c.in_ok-write_all.ensures.all)
 
 pub returns-clause-rest : goal.returns-clause-rest
-returns-clause-rest g c = rest_is (g.R.Source.remaining c.args.reader.now) (g.R.Source.remaining c.read_text.new.reader) c.in_ok-text.text.items MAX_READ c.in_ok-text.ensures.bytes c.in_ok-text.ensures.long c.in_ok-text.ensures.end
+returns-clause-rest g c = rest_is (g.I.Source.remaining c.args.reader.now) (g.I.Source.remaining c.read_text.new.reader) c.in_ok-text.text.items MAX_READ c.in_ok-text.ensures.bytes c.in_ok-text.ensures.long c.in_ok-text.ensures.end

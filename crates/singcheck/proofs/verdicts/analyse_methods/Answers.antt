@@ -1,22 +1,34 @@
-use Rattle.std.proofs.Common.{rules, ◌≡◌, [], map, ap, sym, subst, ◌∙◌, arith}
-use Rattle.std.specs.Vec.Iter.{into_iter_items}
+use Rattle.std.specs.Thread.{IsSync}
+use Rattle.std.proofs.Common.{◌≡◌, ℕ, map, length, ap, ◌∙◌}
+use Rattle.std.proofs.Crossing.{crosses}
+use Rattle.std.proofs.lemmas.Result.{IfOk-weaker}
+use denote.Param.Send.{sendable}
+use Rattle.source.specs.Findings.{finding_parts}
 use Rattle.rules.specs.Programs.{seen_of}
+use Rattle.rules.specs.contracts.lowered.Program as program
+use Rattle.intern.specs.contracts.rows.Rows as rows
+use Rattle.shelf.specs.contracts.shelf.Shelf as shelf
 use Rattle.analyse.specs.Tasks.{number_of}
-use Rattle.singcheck.specs.Verdicts.{AreAnalysed}
-use Rattle.singcheck.proofs.VerdictLemmas.{analysed_none, analysed_more, analysed_all, no_tasks, task_there}
+use Rattle.pool.specs.Counts.{method_of, times}
+use Rattle.singcheck.proofs.VerdictLemmas.{of_all_methods, task_there}
 use Rattle.singcheck.proofs.verdicts.analyse_methods.Goals as goal
 
-pub loop-task-init : goal.loop-task-init
-loop-task-init g c = record { worker = search rules; analysed = subst (AreAnalysed (seen_of c.args.program.now) (into_iter_items c.into_iter-left.result)) (sym c.new-found.ensures.items) (analysed_none (seen_of c.args.program.now) (into_iter_items c.into_iter-left.result) (ap (map number_of) c.into_iter-left.ensures.rest ∙ c.in_ok-tasks.ensures)) }
+pub share_out-requires-sync-J : goal.share_out-requires-sync-J
+share_out-requires-sync-J g c κs within =
+    let p : IsSync program.the_row = c.threads_share_a_program.ensures in
+    let s : IsSync shelf.the_row = c.threads_share_a_shelf.ensures.shelf in
+    let r : IsSync rows.the_row = c.threads_share_rows.ensures in
+    let t = c.type_bounds.sync-R in
+    search (crosses, sendable) depth 20
 
-pub add_verdict-requires : goal.add_verdict-requires
-add_verdict-requires g c = record { there = task_there (seen_of c.args.program.now) _ _ c.in-Some.task _ c.loop-task.invariant.analysed c.in-Some.ensures.items; worker = c.loop-task.invariant.worker }
+pub share_out-requires-clause-tasks : goal.share_out-requires-clause-tasks
+share_out-requires-clause-tasks g c κs within = λ k d lt. task_there (seen_of c.args.program.now) c.in_ok-all.all.items c.in_ok-all.ensures k d lt
 
-pub loop-task-preserved : goal.loop-task-preserved
-loop-task-preserved g c = record {
-  worker = c.add_verdict.ensures.worker;
-  analysed = analysed_more (seen_of c.args.program.now) _ _ c.in-Some.task _ _ c.loop-task.invariant.analysed c.in-Some.ensures.items c.in-Ok.ensures.adds;
-}
-
-pub returns : goal.returns
-returns g c = analysed_all (seen_of c.args.program.now) _ c.loop-task.found.items c.loop-task.invariant.analysed (no_tasks _ (omega (arith, c.in_default.ensures.cases.0, c.loop-task.left.rest.ok.0)))
+pub returns-in-Ok : goal.returns-in-Ok
+returns-in-Ok g c =
+    let p = seen_of c.args.program.now in
+    let done = c.deref.result.now in
+    IfOk-weaker c.found_in.result _ _
+    (λ found of. of_all_methods p (map method_of done) (map finding_parts found.items)
+    (λ n. ap (λ l. times n (map method_of l)) c.deref.ensures.value ∙ c.in-Ok.ensures.each n ∙ ap (times n) c.in_ok-all.ensures) of)
+    c.found_in.ensures

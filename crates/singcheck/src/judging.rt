@@ -1,0 +1,48 @@
+//! What a worker does with a method.
+
+ghost use Rattle.std.specs.Prelude.{◌<◌, length};
+ghost use Rattle.rules.specs.Programs.{seen_of};
+ghost use Rattle.analyse.specs.Tasks.{number_of};
+ghost use Rattle.analyse.specs.Workers.{IsWorkerOf};
+ghost use Rattle.singcheck.specs.Verdicts.{HasVerdict};
+
+use analyse::{Task, Verdict, Worker, analyse};
+use intern::Rows;
+use pool::Job;
+use rules::Program;
+use shelf::{Receipt, Shelf};
+use source::Memory;
+use std::alloc::Global;
+use std::sync::Wait;
+
+/// What a worker does with a method: it judges it, and puts the verdict on the shelf. What comes of it is the verdict's receipt, or the
+/// verdict itself where the shelf has no room for it.
+#[derive(Drop)]
+pub(crate) struct Judging<'a, R> {
+    pub(crate) rt: &'a R,
+    pub(crate) alloc: Global,
+    pub(crate) program: &'a Program,
+    pub(crate) rows: &'a Rows,
+    pub(crate) shelf: &'a Shelf,
+}
+
+impl<'a, R: Wait + Sync> Job for Judging<'a, R> {
+    type Seat = Worker;
+
+    type Out = Result<Receipt, Verdict>;
+
+    ghost takes = { λ job task. number_of task < length (seen_of job.program.now).methods };
+
+    ghost seats = { λ job worker. IsWorkerOf job.rows.now worker };
+
+    ghost gives = { λ job number out. HasVerdict job.program.now job.shelf.now number out };
+
+    fn run(
+        &self,
+        task: Task,
+        worker: &mut Worker,
+    ) -> Result<Result<Receipt, Verdict>, (Task, Memory)> {
+        let verdict = analyse(self.alloc, task, self.program, self.rows, worker)?;
+        Ok(self.shelf.put(self.rt, verdict))
+    }
+}
