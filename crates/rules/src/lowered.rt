@@ -29,7 +29,7 @@ pub struct Program {
 }
 
 impl Program {
-    ghost use Rattle.rules.specs.Programs.{seen_of};
+    ghost use Rattle.rules.specs.Programs.{is_entry, seen_of};
 
     /// The program of these methods, with a sound contract for each of theirs, in order.
     ///
@@ -76,6 +76,15 @@ impl Program {
         ensures { IsSomeAnd (slice_get (seen_of self.now).methods method.0) (λ m. graph_seen result.now ≡ graph_of m) }
     {
         &self.graphs[method.0 as usize]
+    }
+
+    /// Whether a run may begin with a method: whether it gives nothing and has no parameter of any kind, numbers included.
+    pub fn is_entry(&self, method: MethodId) -> bool
+        requires there { method.0 < length (seen_of self.now).methods }
+        ensures { IsSomeAnd (slice_get (seen_of self.now).methods method.0) (λ m. result ≡ is_entry m) }
+    {
+        let method = self.method(method);
+        !method.gives && !method.takes
     }
 
     /// A method of it.
