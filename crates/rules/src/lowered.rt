@@ -5,6 +5,7 @@ ghost use Rattle.contracts.specs.Sounds.{sound_parts};
 ghost use Rattle.flow.specs.Graphs.{graph_seen};
 ghost use Rattle.flow.specs.Lowering.{graph_of};
 ghost use Rattle.program.specs.Methods.{method_seen, variable_seen};
+ghost use Rattle.program.specs.Parts.{contract_seen};
 ghost use Rattle.program.specs.Programs.{contracts_seen, methods_seen, program_seen, rows};
 ghost use Rattle.program.specs.WellFormed as formed;
 ghost use Rattle.program.specs.WellFormed.{IsWellFormed, parameters};
@@ -12,7 +13,7 @@ ghost use Rattle.program.specs.declared.limits.TheConstants.{MOST_VARIABLES};
 
 use contracts::Sound;
 use flow::{Graph, lower};
-use program::{ContractId, Kind, Method, MethodId, Methods, Role};
+use program::{Contract, ContractId, Kind, Method, MethodId, Methods, Role};
 use source::Memory;
 use std::alloc::Global;
 
@@ -53,6 +54,13 @@ impl Program {
         ensures { map method_seen result.now ≡ (seen_of self.now).methods }
     {
         self.methods.list()
+    }
+
+    /// Its contracts with their names, in order of the text.
+    pub fn contracts(&self) -> &[Contract]
+        ensures { map contract_seen result.now ≡ (seen_of self.now).contracts }
+    {
+        self.methods.contracts().contracts.as_slice()
     }
 
     /// Its contracts, in order of the text. Each meets the four conditions.
