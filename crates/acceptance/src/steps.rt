@@ -62,6 +62,7 @@ fn freed_and_read(alloc: Global) -> Result<Method, Memory> {
     statements.push(Statement::Simple(Simple { reads, action }))?;
     Ok(Method {
         name: Place { line: 1, col: 1 },
+        takes: true,
         gives: false,
         result: None,
         variables,

@@ -48,6 +48,7 @@ once = record {
 abbrev method : StatementsSeen → MethodSeen
 method statements = record {
   name = at;
+  takes = false;
   gives = false;
   result = None;
   variables = variable (Endpoint record { 0 = 0 } Imp record { 0 = 0 }) None ∷ variable (Endpoint record { 0 = 0 } Exp record { 0 = 0 }) (Some 0) ∷ variable (Struct record { 0 = 0 }) (Some 1) ∷ [];

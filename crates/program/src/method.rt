@@ -26,12 +26,13 @@ pub struct Variable {
     pub outer: Option<VarId>,
 }
 
-/// A method: where its name stands, whether it gives something, and what that is where it is of the exchange heap, its variables
-/// of the exchange heap in order of declaration, parameters first, its statements in order, the last variable of the exchange
-/// heap in scope behind them, and where its body ends.
+/// A method: where its name stands, whether it takes something, which is whether it has a parameter of any kind, whether it gives
+/// something, and what that is where it is of the exchange heap, its variables of the exchange heap in order of declaration,
+/// parameters first, its statements in order, the last variable of the exchange heap in scope behind them, and where its body ends.
 #[derive(Drop)]
 pub struct Method {
     pub name: Place,
+    pub takes: bool,
     pub gives: bool,
     pub result: Option<Kind>,
     pub variables: Vec<Variable>,

@@ -15,34 +15,35 @@ use Rattle.program.specs.declared.number.VarId.{VarId}
 use Rattle.resolving.specs.Frames.{IsFrame}
 use Rattle.resolving.specs.Kinds.{result_held}
 use Rattle.resolving.specs.Locals.{Frame, number_of}
-use Rattle.resolving.specs.Methods.{no_variables, parameters_frame, method_told}
+use Rattle.resolving.specs.Methods.{no_variables, parameters_frame, method_told, takes_some}
 use Rattle.resolving.specs.Steps.{IsTold}
 use Rattle.resolving.specs.Told.{stays_here, statements_told}
 use Rattle.resolving.specs.declared.locals.Locals.{Locals}
 use Rattle.resolving.proofs.StatementTwins.{block_is}
 
-method_of : Place → Bool → Option Kind → List VariableSeen → StatementsSeen → Option VarId → Place → MethodSeen
-method_of name gives result variables statements scope close = record { name = name; gives = gives; result = result; variables = variables; statements = statements; scope = scope; close = close }
+method_of : Place → Bool → Bool → Option Kind → List VariableSeen → StatementsSeen → Option VarId → Place → MethodSeen
+method_of name takes gives result variables statements scope close = record { name = name; takes = takes; gives = gives; result = result; variables = variables; statements = statements; scope = scope; close = close }
 
 with_body : made.Method.Method → BlockTree → MethodTree
 with_body m b = record { access = m.access; result = m.result; name = m.name; open_paren = m.«open»; params = m.params.items; body = b }
 
 -- a method is what its parts come to
-pub method_is : (p : Program) (class : ℕ) (m : made.Method.Method) (r : Method) (l : Locals) → r.name ≡ m.name.place → r.gives ≡ is_some m.result → r.result ≡ result_held p m.result → r.close ≡ m.body.close.place
+pub method_is : (p : Program) (class : ℕ) (m : made.Method.Method) (r : Method) (l : Locals) → r.name ≡ m.name.place → r.takes ≡ takes_some m.params.items → r.gives ≡ is_some m.result → r.result ≡ result_held p m.result → r.close ≡ m.body.close.place
     → IsTold p.text (statements_told p class (stays_here (parameters_frame p m.params.items no_variables)) (statement_row (map statement_tree m.body.statements.items)) (parameters_frame p m.params.items no_variables)) (seen.statement_row (map statement_seen r.statements.items)) l
     → ((t : List ℕ) (f : Frame) → IsFrame t f l → map variable_seen r.variables.items ≡ f.variables) → ((t : List ℕ) (f : Frame) → IsFrame t f l → r.scope ≡ option_map number_of f.last)
     → method_seen r ≡ method_told p class (method_tree m)
 unfolding method_of with_body
-method_is p class m r l name gives result close body variables scope =
+method_is p class m r l name takes gives result close body variables scope =
     let b = statements_told p class (stays_here (parameters_frame p m.params.items no_variables)) (statement_row (map statement_tree m.body.statements.items)) (parameters_frame p m.params.items no_variables) in
     let statements = seen.statement_row (map statement_seen r.statements.items) in
     let heap = map variable_seen r.variables.items in
     let held = result_held p m.result in
-    ap (λ n. method_of n r.gives r.result heap statements r.scope r.close) name
-    ∙ ap (λ g. method_of m.name.place g r.result heap statements r.scope r.close) gives
-    ∙ ap (λ k. method_of m.name.place (is_some m.result) k heap statements r.scope r.close) result
-    ∙ ap (λ v. method_of m.name.place (is_some m.result) held v statements r.scope r.close) (variables p.text b.frame body.frame)
-    ∙ ap (λ s. method_of m.name.place (is_some m.result) held b.frame.variables s r.scope r.close) body.is
-    ∙ ap (λ o. method_of m.name.place (is_some m.result) held b.frame.variables b.what o r.close) (scope p.text b.frame body.frame)
-    ∙ ap (λ c. method_of m.name.place (is_some m.result) held b.frame.variables b.what (option_map number_of b.frame.last) c) close
+    ap (λ n. method_of n r.takes r.gives r.result heap statements r.scope r.close) name
+    ∙ ap (λ t. method_of m.name.place t r.gives r.result heap statements r.scope r.close) takes
+    ∙ ap (λ g. method_of m.name.place (takes_some m.params.items) g r.result heap statements r.scope r.close) gives
+    ∙ ap (λ k. method_of m.name.place (takes_some m.params.items) (is_some m.result) k heap statements r.scope r.close) result
+    ∙ ap (λ v. method_of m.name.place (takes_some m.params.items) (is_some m.result) held v statements r.scope r.close) (variables p.text b.frame body.frame)
+    ∙ ap (λ s. method_of m.name.place (takes_some m.params.items) (is_some m.result) held b.frame.variables s r.scope r.close) body.is
+    ∙ ap (λ o. method_of m.name.place (takes_some m.params.items) (is_some m.result) held b.frame.variables b.what o r.close) (scope p.text b.frame body.frame)
+    ∙ ap (λ c. method_of m.name.place (takes_some m.params.items) (is_some m.result) held b.frame.variables b.what (option_map number_of b.frame.last) c) close
     ∙ ap (λ (k : BlockTree). method_told p class (with_body m k)) (sym (block_is m.body))

@@ -17,7 +17,7 @@ ghost use Rattle.program.specs.Programs.{rows};
 ghost use Rattle.resolving.specs.Callees.{all_methods};
 ghost use Rattle.resolving.specs.Frames.{IsFrame};
 ghost use Rattle.resolving.specs.Locals.{Frame};
-ghost use Rattle.resolving.specs.Methods.{methods_told, role_of, parameter_declaration, parameters_frame, method_told};
+ghost use Rattle.resolving.specs.Methods.{methods_told, role_of, parameter_declaration, parameters_frame, method_told, takes_some};
 
 use crate::around::Around;
 use crate::brought::add_brought;
@@ -55,6 +55,16 @@ fn parameter_declaration(around: &Around<'_, '_>, parameter: Parameter) -> Decla
     }
 }
 
+/// Whether a method with these parameters takes something.
+fn takes_some(params: &[Parameter]) -> bool
+    ensures { result ≡ takes_some params.now }
+{
+    match params {
+        [] => false,
+        [_, ..] => true,
+    }
+}
+
 /// Declares the parameters of a method.
 fn declare_parameters<'a>(
     alloc: Global,
@@ -88,6 +98,7 @@ fn resolve_method(
     let scope = locals.last();
     Ok(Method {
         name: method.name.place,
+        takes: takes_some(&method.params),
         gives: method.result.is_some(),
         result: result_held(around, method.result),
         variables: locals.into_variables(),

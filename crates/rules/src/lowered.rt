@@ -5,6 +5,7 @@ ghost use Rattle.contracts.specs.Sounds.{sound_parts};
 ghost use Rattle.flow.specs.Graphs.{graph_seen};
 ghost use Rattle.flow.specs.Lowering.{graph_of};
 ghost use Rattle.program.specs.Methods.{method_seen, variable_seen};
+ghost use Rattle.program.specs.Parts.{contract_seen};
 ghost use Rattle.program.specs.Programs.{contracts_seen, methods_seen, program_seen, rows};
 ghost use Rattle.program.specs.WellFormed as formed;
 ghost use Rattle.program.specs.WellFormed.{IsWellFormed, parameters};
@@ -12,7 +13,7 @@ ghost use Rattle.program.specs.declared.limits.TheConstants.{MOST_VARIABLES};
 
 use contracts::Sound;
 use flow::{Graph, lower};
-use program::{ContractId, Kind, Method, MethodId, Methods, Role};
+use program::{Contract, ContractId, Kind, Method, MethodId, Methods, Role};
 use source::Memory;
 use std::alloc::Global;
 
@@ -29,7 +30,7 @@ pub struct Program {
 }
 
 impl Program {
-    ghost use Rattle.rules.specs.Programs.{seen_of};
+    ghost use Rattle.rules.specs.Programs.{is_entry, seen_of};
 
     /// The program of these methods, with a sound contract for each of theirs, in order.
     ///
@@ -55,6 +56,13 @@ impl Program {
         self.methods.list()
     }
 
+    /// Its contracts with their names, in order of the text.
+    pub fn contracts(&self) -> &[Contract]
+        ensures { map contract_seen result.now ≡ (seen_of self.now).contracts }
+    {
+        self.methods.contracts().contracts.as_slice()
+    }
+
     /// Its contracts, in order of the text. Each meets the four conditions.
     pub fn sounds(&self) -> &[Sound]
         ensures { map sound_parts result.now ≡ map (λ c. c.parts) (seen_of self.now).contracts }
@@ -76,6 +84,15 @@ impl Program {
         ensures { IsSomeAnd (slice_get (seen_of self.now).methods method.0) (λ m. graph_seen result.now ≡ graph_of m) }
     {
         &self.graphs[method.0 as usize]
+    }
+
+    /// Whether a run may begin with a method: whether it gives nothing and has no parameter of any kind, numbers included.
+    pub fn is_entry(&self, method: MethodId) -> bool
+        requires there { method.0 < length (seen_of self.now).methods }
+        ensures { IsSomeAnd (slice_get (seen_of self.now).methods method.0) (λ m. result ≡ is_entry m) }
+    {
+        let method = self.method(method);
+        !method.gives && !method.takes
     }
 
     /// A method of it.

@@ -26,6 +26,7 @@ place = record { line = 1; col = 1 }
 abbrev nothing : MethodSeen
 nothing = record {
   name = place;
+  takes = false;
   gives = false;
   result = None;
   variables = [];

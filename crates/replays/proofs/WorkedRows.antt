@@ -1,0 +1,214 @@
+-- Small programs that run, and the lines that are printed, computed by the definitions.
+use Rattle.std.proofs.Common.{◌≡◌, ◌∙◌, ◌+◌, ◌<◌, ◌≤◌, ◌/◌, ◌%◌, ◌++◌, ap, arith, ℕ, true, false, List, [], ◌∷◌, Option, Some, None, refl, replicate}
+use Rattle.std.specs.Prelude.{codes, unwrap_or}
+use Rattle.std.specs.Fmt.{decimal}
+use Rattle.std.proofs.lemmas.Fmt.{decimal_digit, decimal_step}
+use Rattle.source.specs.declared.place.Place.{Place}
+use Rattle.program.specs.Methods.{MethodSeen, VariableSeen}
+use Rattle.program.specs.Parts.{ContractSeen, MessageParts, StateParts}
+use Rattle.program.specs.Programs.{ProgramSeen}
+use Rattle.program.specs.Statements.{CaseSeen, CasesSeen, StatementSeen, Simple, Start, Send, While, Switch, Braces, Test, Case, NoCase, MoreCases, statement_row}
+use Rattle.program.specs.declared.contract.Direction.{Direction}
+use Rattle.program.specs.declared.contract.Direction.TheVariants.{In, Out}
+use Rattle.program.specs.declared.contract.Edge.{Edge}
+use Rattle.program.specs.declared.contract.Sign.{Sign}
+use Rattle.program.specs.declared.contract.Sign.TheVariants as sign
+use Rattle.program.specs.declared.kind.Kind.{Kind}
+use Rattle.program.specs.declared.kind.Kind.TheVariants.{Struct, Endpoint}
+use Rattle.program.specs.declared.kind.Side.TheVariants.{Imp, Exp}
+use Rattle.program.specs.declared.method.Role.{Role}
+use Rattle.program.specs.declared.method.Role.TheVariants.{Local, Claimed}
+use Rattle.program.specs.declared.statement.Action.{Action}
+use Rattle.program.specs.declared.statement.Action.TheVariants as does
+use Rattle.program.specs.declared.statement.Awaited.{Awaited}
+use Rattle.program.specs.declared.statement.Awaited.TheVariants as awaits
+use Rattle.program.specs.declared.statement.Mention.{Mention}
+use Rattle.program.specs.declared.statement.Ways.TheVariants.{Body}
+use Rattle.machine.specs.Machine.{event_outcome}
+use Rattle.machine.specs.Outcomes.{Bounds, Outcome, Moved, Faulty, Waits, NoProcess, NoChoice}
+use Rattle.machine.specs.Places.{process_place}
+use Rattle.machine.specs.Runs.{start_of}
+use Rattle.machine.specs.World.{World}
+use Rattle.machine.specs.declared.halts.Event.{Event}
+use Rattle.machine.specs.declared.halts.Halt.{Halt}
+use Rattle.machine.specs.declared.halts.Halt.TheVariants as halts
+use Rattle.replays.specs.WorldLines.{replay_lines}
+
+-- numbers of one digit, and two of two
+digit : (n : ℕ) → n < 10 → decimal n ≡ (48 + n) ∷ []
+digit n h = decimal_digit n h
+
+two_digits : (n : ℕ) → 10 ≤ n → n < 100 → decimal n ≡ (48 + n / 10) ∷ (48 + n % 10) ∷ []
+two_digits n h k = decimal_step n h (omega arith) ∙ ap (λ l. l ++ ((48 + n % 10) ∷ [])) (decimal_digit (n / 10) (omega arith))
+
+abbrev at : ℕ → ℕ → Place
+at line col = record { line = line; col = col }
+
+abbrev mention : ℕ → ℕ → ℕ → Mention
+mention v line col = record { variable = record { 0 = v }; place = at line col }
+
+abbrev state : ℕ → List ℕ → StateParts
+state n name = record { id = record { 0 = n }; name = name; place = at 1 1 }
+
+abbrev message : ℕ → List ℕ → Direction → MessageParts
+message n name direction = record { id = record { 0 = n }; name = name; direction = direction }
+
+abbrev edge : ℕ → ℕ → Sign → ℕ → Edge
+edge from m s to = record { from = record { 0 = from }; message = record { 0 = m }; sign = s; to = record { 0 = to }; place = at 1 1 }
+
+abbrev variable : Kind → Role → VariableSeen
+variable k role = record { name = []; kind = k; role = role; outer = None }
+
+abbrev importing : Kind
+importing = Endpoint record { 0 = 0 } Imp record { 0 = 0 }
+
+abbrev exporting : Kind
+exporting = Endpoint record { 0 = 0 } Exp record { 0 = 0 }
+
+-- a method without result at these places, whose variables are the two ends of a channel and a struct
+abbrev main : List StatementSeen → Place → MethodSeen
+main statements close = record {
+  name = at 1 1;
+  takes = false;
+  gives = false;
+  result = None;
+  variables = variable importing Local ∷ variable exporting Local ∷ variable (Struct record { 0 = 0 }) Local ∷ [];
+  statements = statement_row statements;
+  scope = None;
+  close = close;
+}
+
+abbrev opens : ℕ → StatementSeen
+opens line = Simple [] (does.NewChannel record { place = at line 1; contract = record { 0 = 0 }; first = mention 0 line 1; second = mention 1 line 1 })
+
+abbrev acts : Action → StatementSeen
+acts action = Simple [] action
+
+abbrev sends : (line col endpoint message : ℕ) → List Mention → StatementSeen
+sends line col e m payloads = Send record { reads = []; place = at line col; endpoint = mention e line 1; message = record { 0 = m }; payloads = payloads }
+
+abbrev deletes : ℕ → StatementSeen
+deletes v = acts (does.Delete (mention v 1 1))
+
+-- a case that does these, and then leaves its switch
+abbrev comes : ℕ → Awaited → List StatementSeen → CaseSeen
+comes v what statements = Case (mention v 1 1) what [] (Braces (statement_row statements) None)
+
+abbrev leaves : StatementSeen
+leaves = acts (does.Break None)
+
+abbrev cases : List CaseSeen → CasesSeen
+cases [] = NoCase
+cases (c ∷ cs) = MoreCases c (cases cs)
+
+-- more than any queue of these holds
+abbrev bound : Bounds
+bound c s = 5
+
+abbrev event : ℕ → Event
+event q = record { process = q; choice = 0 }
+
+record Ran : Type 0 where
+  steps : ℕ
+  why : Option Halt
+  world : World
+
+abbrev stopped : ℕ → Halt → World → Ran
+stopped n why w = record { steps = n; why = Some why; world = w }
+
+-- an event comes to this, and behind a step the run goes on
+abbrev behind : ProgramSeen → World → Event → ℕ → Outcome → (World → Ran) → Ran
+behind p w e n (Moved v) more = more v
+behind p w e n (Faulty fault) more = stopped n (halts.Fault fault (unwrap_or (process_place p w e.process) (at 0 0))) w
+behind p w e n Waits more = stopped n halts.Waits w
+behind p w e n NoProcess more = stopped n halts.NoSuchProcess w
+behind p w e n NoChoice more = stopped n halts.NoSuchChoice w
+
+abbrev ran : ProgramSeen → List Event → ℕ → World → Ran
+ran p [] n w = record { steps = n; why = None; world = w }
+ran p (e ∷ events) n w = behind p w e n (event_outcome p bound w e) (ran p events (n + 1))
+
+-- what is printed of these events from the beginning of the first method; the one struct is D
+abbrev printed : ProgramSeen → List Event → List ℕ
+printed p events = let r = ran p events 0 (start_of p 0) in replay_lines (record { program = p; structs = codes "D" ∷ [] }) events r.steps r.why r.world
+
+abbrev program : ContractSeen → List (List Kind) → List MethodSeen → ProgramSeen
+program c messages methods = record { contracts = c ∷ []; messages = messages; methods = methods }
+
+-- a block is read that was sent
+abbrev put : ContractSeen
+put = record {
+  name = codes "Put";
+  parts = record {
+    first = record { 0 = 0 };
+    states = state 0 (codes "S") ∷ state 1 (codes "E") ∷ [];
+    messages = message 0 (codes "X") Out ∷ [];
+    edges = edge 0 0 sign.Send 1 ∷ [];
+  };
+}
+
+abbrev reads_what_it_sent : ProgramSeen
+reads_what_it_sent = program put ((Struct record { 0 = 0 } ∷ []) ∷ []) (main
+    (opens 6 ∷ acts (does.New (mention 2 7 14)) ∷ sends 8 3 1 0 (mention 2 8 9 ∷ []) ∷ Simple (mention 2 9 9 ∷ []) does.Nothing ∷ deletes 0 ∷ deletes 1 ∷ []) (at 11 1) ∷ [])
+
+pub sent_then_read : printed reads_what_it_sent (replicate 5 (event 0))
+    ≡ codes "steps 3\nstop: fault F1 at 9:9 in process 0\nprocess 0 at 9:9, frames 1\nblock 0 Put.Imp S owner process 0 queue [X(2)]\nblock 1 Put.Exp E owner process 0 queue []\nblock 2 D owner queue 0\n"
+sent_then_read = simp (digit 0 (omega arith), digit 1 (omega arith), digit 2 (omega arith), digit 3 (omega arith), digit 9 (omega arith)) refl
+
+-- a process waits for a request
+abbrev ping : ContractSeen
+ping = record {
+  name = codes "Ping";
+  parts = record {
+    first = record { 0 = 0 };
+    states = state 0 (codes "Start") ∷ state 1 (codes "Pend") ∷ [];
+    messages = message 0 (codes "Req") In ∷ message 1 (codes "Rep") Out ∷ [];
+    edges = edge 0 0 sign.Receive 1 ∷ edge 1 1 sign.Send 0 ∷ [];
+  };
+}
+
+abbrev serve : MethodSeen
+serve = record {
+  name = at 14 13;
+  takes = true;
+  gives = false;
+  result = None;
+  variables = variable exporting Claimed ∷ [];
+  statements = statement_row (While (Test (at 15 1) [] Body (Braces (statement_row (
+      Switch (at 16 1) (cases (
+      comes 0 (awaits.Message record { 0 = 0 }) (sends 17 15 0 1 [] ∷ leaves ∷ [])
+      ∷ comes 0 awaits.Closed (deletes 0 ∷ acts (does.Return (at 18 39) None None) ∷ []) ∷ []))
+      ∷ [])) None)) ∷ []);
+  scope = None;
+  close = at 21 1;
+}
+
+abbrev waits_for_a_request : ProgramSeen
+waits_for_a_request = program ping ([] ∷ [] ∷ []) (main
+    (opens 5 ∷ Start record { reads = []; place = at 6 9; method = record { 0 = 1 }; arguments = record { mention = mention 1 6 15; claimed = true } ∷ []; target = None; behind = [] }
+    ∷ sends 7 3 0 0 []
+    ∷ Switch (at 8 1) (cases (comes 0 (awaits.Message record { 0 = 1 }) (leaves ∷ []) ∷ comes 0 awaits.Closed (leaves ∷ []) ∷ []))
+    ∷ deletes 0 ∷ []) (at 13 1) ∷ serve ∷ [])
+
+pub started_and_waits : printed waits_for_a_request (event 0 ∷ event 0 ∷ event 1 ∷ event 1 ∷ [])
+    ≡ codes "steps 3\nstop: process 1 waits\nprocess 0 at 7:3, frames 1\nprocess 1 at 16:1, frames 1\nblock 0 Ping.Imp Start owner process 0 queue []\nblock 1 Ping.Exp Start owner process 1 queue []\n"
+started_and_waits = simp (digit 0 (omega arith), digit 1 (omega arith), digit 3 (omega arith), digit 7 (omega arith), two_digits 16 (omega arith) (omega arith)) refl
+
+-- an endpoint is sent to itself
+abbrev itself : ContractSeen
+itself = record {
+  name = codes "W";
+  parts = record {
+    first = record { 0 = 0 };
+    states = state 0 (codes "S") ∷ state 1 (codes "E") ∷ [];
+    messages = message 0 (codes "M") Out ∷ [];
+    edges = edge 0 0 sign.Send 1 ∷ [];
+  };
+}
+
+abbrev sends_an_end : ProgramSeen
+sends_an_end = program itself ((importing ∷ []) ∷ []) (main (opens 5 ∷ sends 6 3 1 0 (mention 0 6 9 ∷ []) ∷ deletes 1 ∷ []) (at 8 1) ∷ [])
+
+pub end_sent : printed sends_an_end (replicate 4 (event 0))
+    ≡ codes "steps 4\nstop: end of schedule\nprocess 0 ended\nblock 0 W.Imp S owner queue 0 queue [M(0)]\nblock 1 W.Exp freed\n"
+end_sent = simp (digit 0 (omega arith), digit 1 (omega arith), digit 4 (omega arith)) refl

@@ -1,0 +1,71 @@
+-- Schedules: which lines bytes are, and which event each line tells.
+use Rattle.std.specs.Prelude.{◌≡◌, ◌≢◌, ◌<◌, ◌≤◌, ℕ, ◌+◌, ◌==◌, List, [], ◌∷◌, ◌++◌, length, take, replicate, ◌⊎◌, Result, Ok, Err}
+use Rattle.std.specs.Global.{Vec}
+use Rattle.std.specs.List.{slice_split}
+use Rattle.std.specs.Str.Lines.{strip_carriage_return}
+use Rattle.std.specs.Str.Parse.{IsNumeral, digits_value}
+use Rattle.machine.specs.declared.halts.Event.{Event}
+use Rattle.replays.specs.declared.limits.TheConstants.{MOST_NUMBER, MOST_SCHEDULE}
+use Rattle.replays.specs.declared.fault.ScheduleFault.{ScheduleFault}
+use Rattle.replays.specs.declared.fault.ScheduleFault.TheVariants.{Malformed, Memory}
+
+-- a number of a line: decimal digits, one or more, of a value that is not too large
+pub record IsNumber (digits : List ℕ) (n : ℕ) : Type 0 where
+  pub numeral : IsNumeral 10 digits
+  pub value : n ≡ digits_value 10 digits
+  pub small : n ≤ MOST_NUMBER
+
+-- a line of an event: the number of a process, one or more spaces, and a choice
+pub record IsEventLine (line : List ℕ) (e : Event) : Type 0 where
+  pub first : List ℕ
+  pub spaces : ℕ
+  pub second : List ℕ
+  pub spelled : line ≡ first ++ (replicate spaces 32 ++ second)
+  pub process : IsNumber first e.process
+  pub some : 0 < spaces
+  pub choice : IsNumber second e.choice
+
+-- the events that lines tell, in order; an empty line tells none
+abbrev pub Tell : List (List ℕ) → List Event → Type 0
+Tell [] [] = Unit {0}
+Tell [] (e ∷ events) = ⊥
+Tell ([] ∷ lines) events = Tell lines events
+Tell ((b ∷ line) ∷ lines) [] = ⊥
+Tell ((b ∷ line) ∷ lines) (e ∷ events) = IsEventLine (b ∷ line) e × Tell lines events
+
+-- a line that is not empty and tells no event
+pub record IsMalformed (line : List ℕ) : Type 0 where
+  pub some : line ≢ []
+  pub none : (e : Event) → ¬ IsEventLine line e
+
+-- what stands between the ends of lines; of a line that has an end, one CR before it is no part
+abbrev pub ended : List (List ℕ) → List (List ℕ)
+ended [] = []
+ended (line ∷ []) = line ∷ []
+ended (line ∷ next ∷ lines) = strip_carriage_return line ∷ ended (next ∷ lines)
+
+abbrev pub lines_of : List ℕ → List (List ℕ)
+lines_of bytes = ended (slice_split (λ b. b == 10) bytes)
+
+-- the bytes are not too many, and these are the events of their lines
+pub record IsSchedule (bytes : List ℕ) (events : List Event) : Type 0 where
+  pub short : length bytes ≤ MOST_SCHEDULE
+  pub told : Tell (lines_of bytes) events
+
+-- The first malformed line, counted from 1. Of too many bytes the line is malformed that has the first byte past the most, which is
+-- the last line of the bytes before.
+pub record IsFirstMalformed (bytes : List ℕ) (number : ℕ) : Type 0 where
+  pub before : List (List ℕ)
+  pub line : List ℕ
+  pub behind : List (List ℕ)
+  pub lines : lines_of (take MOST_SCHEDULE bytes) ≡ before ++ line ∷ behind
+  pub counted : number ≡ length before + 1
+  pub events : List Event
+  pub told : Tell before events
+  pub wrong : IsMalformed line ⊎ ((MOST_SCHEDULE < length bytes) × (behind ≡ []))
+
+-- what a reading answers: the events of a schedule, or its first malformed line; want of memory tells nothing
+abbrev pub Reads : List ℕ → Result (Vec Event) ScheduleFault → Type 0
+Reads bytes (Ok events) = IsSchedule bytes events.items
+Reads bytes (Err (Malformed number)) = IsFirstMalformed bytes number
+Reads bytes (Err Memory) = Unit {0}

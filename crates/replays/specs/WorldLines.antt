@@ -1,0 +1,103 @@
+-- The lines in which a replay is printed, each with its end.
+use Rattle.std.specs.Prelude.{ℕ, List, [], ◌++◌, Option, Some, None, length, map, slice_get, codes}
+use Rattle.std.specs.Fmt.{decimal}
+use Rattle.std.specs.List.{enumerate_from, flat_map, join_with_byte}
+use Rattle.source.specs.declared.place.Place.{Place}
+use Rattle.program.specs.Programs.{ProgramSeen}
+use Rattle.program.specs.declared.kind.Kind.{Kind}
+use Rattle.program.specs.declared.kind.Kind.TheVariants.{Endpoint}
+use Rattle.machine.specs.Places.{stack_place}
+use Rattle.machine.specs.World.{Block, Frame, MessageHeld, World}
+use Rattle.machine.specs.declared.halts.Event.{Event}
+use Rattle.machine.specs.declared.halts.Fault.{Fault}
+use Rattle.machine.specs.declared.halts.Fault.TheVariants as faults
+use Rattle.machine.specs.declared.halts.Halt.{Halt}
+use Rattle.machine.specs.declared.halts.Halt.TheVariants as halts
+use Rattle.machine.specs.declared.worlds.Owner.{Owner}
+use Rattle.machine.specs.declared.worlds.Owner.TheVariants.{Process, Queue, Channel, Freed}
+use Rattle.replays.specs.Names.{Words, kind_name, message_name, state_name}
+
+-- `steps N`
+abbrev pub steps_line : ℕ → List ℕ
+steps_line steps = codes "steps " ++ (decimal steps ++ codes "\n")
+
+-- `LINE:COL`
+abbrev pub place_text : Place → List ℕ
+place_text at = decimal at.line ++ (codes ":" ++ decimal at.col)
+
+abbrev pub fault_name : Fault → List ℕ
+fault_name faults.F1 = codes "F1"
+fault_name faults.F2 = codes "F2"
+fault_name faults.F3 = codes "F3"
+fault_name faults.F4 = codes "F4"
+fault_name faults.F5 = codes "F5"
+fault_name faults.F6 = codes "F6"
+fault_name faults.F7 = codes "F7"
+
+-- why an event was no step
+abbrev pub halt_text : Event → Halt → List ℕ
+halt_text e halts.NoSuchProcess = codes "no process " ++ decimal e.process
+halt_text e halts.NoSuchChoice = codes "no choice " ++ (decimal e.choice ++ (codes " of process " ++ decimal e.process))
+halt_text e (halts.Fault fault at) =
+    codes "fault " ++ (fault_name fault ++ (codes " at " ++ (place_text at ++ (codes " in process " ++ decimal e.process))))
+halt_text e halts.Waits = codes "process " ++ (decimal e.process ++ codes " waits")
+halt_text e halts.Memory = codes "out of memory"
+
+-- why no further event was a step: there is none, or the one behind the steps is none
+abbrev pub stop_text : Option Event → Option Halt → List ℕ
+stop_text (Some e) (Some why) = halt_text e why
+stop_text _ _ = codes "end of schedule"
+
+-- `stop: ` and why
+abbrev pub stop_line : Option Event → Option Halt → List ℕ
+stop_line e why = codes "stop: " ++ (stop_text e why ++ codes "\n")
+
+-- where a process stands, and how many frames it has; a process that has ended stands nowhere
+abbrev pub standing : ℕ → Option Place → List ℕ
+standing frames None = codes " ended"
+standing frames (Some at) = codes " at " ++ (place_text at ++ (codes ", frames " ++ decimal frames))
+
+-- `process P at LINE:COL, frames N`, or `process P ended`
+abbrev pub process_line : ProgramSeen → ℕ → List Frame → List ℕ
+process_line p number stack = codes "process " ++ (decimal number ++ (standing (length stack) (stack_place p stack) ++ codes "\n"))
+
+abbrev pub owner_text : Owner → List ℕ
+owner_text (Process q) = codes "process " ++ decimal q
+owner_text (Queue a) = codes "queue " ++ decimal a
+owner_text Channel = codes "channel"
+owner_text Freed = codes "nobody"
+
+module _ (w : Words) where
+  -- a message of a contract with what it brings, as `M(2,3)`
+  abbrev pub message_text : ℕ → MessageHeld → List ℕ
+  message_text contract m = message_name w contract m.message ++ (codes "(" ++ (join_with_byte 44 (map decimal m.payload) ++ codes ")"))
+
+  -- the state of an endpoint
+  abbrev pub state_text : Kind → ℕ → List ℕ
+  state_text (Endpoint contract side declared) state = codes " " ++ state_name w contract.0 state
+  state_text _ state = []
+
+  -- its queue, front first
+  abbrev pub queue_text : Kind → List MessageHeld → List ℕ
+  queue_text (Endpoint contract side declared) queue =
+      codes " queue [" ++ (join_with_byte 32 (map (message_text contract.0) queue) ++ codes "]")
+  queue_text _ queue = []
+
+  -- what is told of a block: that it is freed, or who owns it, and of an endpoint its state and its queue too
+  abbrev pub block_text : Block → Owner → List ℕ
+  block_text b Freed = codes " freed"
+  block_text b owner = state_text b.kind b.state ++ (codes " owner " ++ (owner_text owner ++ queue_text b.kind b.queue))
+
+  -- `block A TYPE freed`, `block A TYPE owner OWNER`, or `block A C.Imp STATE owner OWNER queue [..]`
+  abbrev pub block_line : ℕ → Block → List ℕ
+  block_line address b = codes "block " ++ (decimal address ++ (codes " " ++ (kind_name w b.kind ++ (block_text b b.owner ++ codes "\n"))))
+
+  -- a line for each process, and one for each block, by their numbers
+  abbrev pub world_lines : World → List ℕ
+  world_lines v =
+      flat_map (λ q. process_line w.program q.0 q.1) (enumerate_from 0 v.processes)
+      ++ flat_map (λ b. block_line b.0 b.1) (enumerate_from 0 v.blocks)
+
+  -- what is printed of a replay of events: how many were steps, why it stopped, and the world behind them
+  abbrev pub replay_lines : List Event → (steps : ℕ) → Option Halt → World → List ℕ
+  replay_lines events steps why v = steps_line steps ++ (stop_line (slice_get events steps) why ++ world_lines v)

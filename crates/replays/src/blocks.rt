@@ -1,0 +1,172 @@
+//! The lines of blocks.
+
+ghost use Rattle.std.specs.Prelude.{◌≡◌, ◌++◌, OnOk, map};
+ghost use Rattle.std.specs.Fmt.{decimal};
+ghost use Rattle.std.specs.List.{enumerate_from, flat_map, join_with_byte};
+ghost use Rattle.machine.specs.Views.{block_seen, blocks_seen, held_seen};
+ghost use Rattle.replays.specs.Naming.{words_of};
+ghost use Rattle.replays.specs.WorldLines.{block_line, block_text, message_text, owner_text, queue_text, state_text};
+
+use crate::naming::Naming;
+use crate::texts::{add, add_number, separate};
+use machine::{Block, Held, Owner};
+use program::{ContractId, Kind, StateId};
+use source::Memory;
+use std::alloc::Global;
+use std::collections::VecDeque;
+
+/// Adds who owns a block.
+fn add_owner(alloc: Global, answer: &mut Vec<u8>, owner: Owner) -> Result<(), Memory>
+    ensures { OnOk result (answer.new.items ≡ answer.old.items ++ owner_text owner) }
+{
+    match owner {
+        Owner::Process(number) => {
+            add(answer, b"process ")?;
+            add_number(alloc, answer, number as u64)
+        }
+        Owner::Queue(address) => {
+            add(answer, b"queue ")?;
+            add_number(alloc, answer, address as u64)
+        }
+        Owner::Channel => add(answer, b"channel"),
+        Owner::Freed => add(answer, b"nobody"),
+    }
+}
+
+/// Adds addresses, with a comma between each two.
+fn add_addresses(alloc: Global, answer: &mut Vec<u8>, addresses: &[usize]) -> Result<(), Memory>
+    ensures { OnOk result (answer.new.items ≡ answer.old.items ++ join_with_byte 44 (map decimal addresses.now)) }
+{
+    for (place, address) in addresses.iter().enumerate() {
+        separate(answer, place, b',')?;
+        add_number(alloc, answer, *address as u64)?;
+    }
+    Ok(())
+}
+
+/// Adds a message of a contract with what it brings, as `M(2,3)`.
+fn add_message(
+    alloc: Global,
+    answer: &mut Vec<u8>,
+    naming: &Naming<'_>,
+    contract: ContractId,
+    held: &Held,
+) -> Result<(), Memory>
+    ensures { OnOk result (answer.new.items ≡ answer.old.items ++ message_text (words_of naming.now) contract.0 (held_seen held.now)) }
+{
+    add(answer, naming.message_name(contract, held.message))?;
+    add(answer, b"(")?;
+    add_addresses(alloc, answer, &held.payload)?;
+    add(answer, b")")
+}
+
+/// Adds messages of a contract, with a space between each two.
+fn add_messages(
+    alloc: Global,
+    answer: &mut Vec<u8>,
+    naming: &Naming<'_>,
+    contract: ContractId,
+    queue: &VecDeque<Held>,
+) -> Result<(), Memory>
+    ensures { OnOk result (answer.new.items ≡ answer.old.items
+        ++ join_with_byte 32 (map (message_text (words_of naming.now) contract.0) (map held_seen queue.now.items))) }
+{
+    for place in 0..queue.len() {
+        separate(answer, place, b' ')?;
+        add_message(alloc, answer, naming, contract, &queue[place])?;
+    }
+    Ok(())
+}
+
+/// Adds the state of an endpoint.
+fn add_state(
+    answer: &mut Vec<u8>,
+    naming: &Naming<'_>,
+    kind: Kind,
+    state: StateId,
+) -> Result<(), Memory>
+    ensures { OnOk result (answer.new.items ≡ answer.old.items ++ state_text (words_of naming.now) kind state.0) }
+{
+    match kind {
+        Kind::Endpoint { contract, .. } => {
+            add(answer, b" ")?;
+            add(answer, naming.state_name(contract, state))
+        }
+        Kind::Struct(_) | Kind::Array(_) => Ok(()),
+    }
+}
+
+/// Adds the queue of an endpoint.
+fn add_queue(
+    alloc: Global,
+    answer: &mut Vec<u8>,
+    naming: &Naming<'_>,
+    block: &Block,
+) -> Result<(), Memory>
+    ensures { OnOk result (answer.new.items ≡ answer.old.items
+        ++ queue_text (words_of naming.now) block.now.kind (map held_seen block.now.queue.items)) }
+{
+    match block.kind {
+        Kind::Endpoint { contract, .. } => {
+            add(answer, b" queue [")?;
+            add_messages(alloc, answer, naming, contract, &block.queue)?;
+            add(answer, b"]")
+        }
+        Kind::Struct(_) | Kind::Array(_) => Ok(()),
+    }
+}
+
+/// Adds what is told of a block: that it is freed, or who owns it.
+fn add_told(
+    alloc: Global,
+    answer: &mut Vec<u8>,
+    naming: &Naming<'_>,
+    block: &Block,
+) -> Result<(), Memory>
+    ensures { OnOk result (answer.new.items ≡ answer.old.items
+        ++ block_text (words_of naming.now) (block_seen block.now) block.now.owner) }
+{
+    match block.owner {
+        Owner::Freed => add(answer, b" freed"),
+        owner => {
+            add_state(answer, naming, block.kind, block.state)?;
+            add(answer, b" owner ")?;
+            add_owner(alloc, answer, owner)?;
+            add_queue(alloc, answer, naming, block)
+        }
+    }
+}
+
+/// Adds the line of the block at an address.
+fn add_block(
+    alloc: Global,
+    answer: &mut Vec<u8>,
+    naming: &Naming<'_>,
+    address: usize,
+    block: &Block,
+) -> Result<(), Memory>
+    ensures { OnOk result (answer.new.items ≡ answer.old.items ++ block_line (words_of naming.now) address (block_seen block.now)) }
+{
+    add(answer, b"block ")?;
+    add_number(alloc, answer, address as u64)?;
+    add(answer, b" ")?;
+    naming.add_kind(answer, block.kind)?;
+    add_told(alloc, answer, naming, block)?;
+    add(answer, b"\n")
+}
+
+/// Adds a line for each block.
+pub(crate) fn add_blocks(
+    alloc: Global,
+    answer: &mut Vec<u8>,
+    naming: &Naming<'_>,
+    blocks: &[Block],
+) -> Result<(), Memory>
+    ensures { OnOk result (answer.new.items ≡ answer.old.items
+        ++ flat_map (λ b. block_line (words_of naming.now) b.0 b.1) (enumerate_from 0 (blocks_seen blocks.now))) }
+{
+    for (address, block) in blocks.iter().enumerate() {
+        add_block(alloc, answer, naming, address, block)?;
+    }
+    Ok(())
+}

@@ -1,0 +1,24 @@
+//! Laws of schedules.
+
+ghost use Rattle.std.specs.Prelude.{◌≡◌, ℕ, List};
+ghost use Rattle.machine.specs.declared.halts.Event.{Event};
+ghost use Rattle.replays.specs.Schedules.{IsFirstMalformed, IsSchedule};
+ghost use Rattle.replays.specs.declared.limits.TheConstants.{MOST_NUMBER, MOST_SCHEDULE};
+
+/// Bytes are a schedule of one list of events, or one line of them is the first malformed one, and never both.
+pub fn one_reading()
+    ensures events { (bytes : List ℕ) (a b : List Event) → IsSchedule bytes a → IsSchedule bytes b → a ≡ b }
+    ensures line { (bytes : List ℕ) (m n : ℕ) → IsFirstMalformed bytes m → IsFirstMalformed bytes n → m ≡ n }
+    ensures apart { (bytes : List ℕ) (events : List Event) (n : ℕ) → IsSchedule bytes events → ¬ IsFirstMalformed bytes n }
+{}
+
+/// All bytes are a schedule or have a first malformed line.
+pub fn each_schedule_is_read()
+    ensures { (bytes : List ℕ) → ((events : List Event) → ¬ IsSchedule bytes events) → ((n : ℕ) → ¬ IsFirstMalformed bytes n) → ⊥ }
+{}
+
+/// The limits in digits.
+pub fn limits()
+    ensures bytes { MOST_SCHEDULE ≡ 1048576 }
+    ensures number { MOST_NUMBER ≡ 4294967295 }
+{}

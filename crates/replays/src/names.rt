@@ -1,0 +1,138 @@
+//! How what a world has is named.
+
+ghost use Rattle.std.specs.Prelude.{◌≡◌, ◌++◌, IfOk, OnOk, map, option_map, string_bytes};
+ghost use Rattle.program.specs.Parts.{state_parts};
+ghost use Rattle.rules.specs.Programs.{seen_of};
+ghost use Rattle.replays.specs.Naming.{words_of};
+ghost use Rattle.replays.specs.Names as told;
+ghost use Rattle.replays.specs.Names.{Words, kind_name, scalar_name, side_name, state_of};
+ghost use Rattle.replays.specs.Placed.{place_in};
+
+use crate::naming::{Naming, places_in};
+use crate::texts::add;
+use program::{ContractId, Kind, MessageId, Scalar, Side, State, StateId, StructId};
+use rules::Program;
+use source::Memory;
+use std::alloc::{AllocError, Global};
+
+impl<'a> Naming<'a> {
+    /// The names of this program, and of structs, in order of the text.
+    pub(crate) fn new(
+        alloc: Global,
+        program: &'a Program,
+        structs: &'a [String],
+    ) -> Result<Naming<'a>, AllocError>
+        ensures { IfOk result (λ naming. words_of naming
+            ≡ record { program = seen_of program.now; structs = map string_bytes structs.now }) }
+    {
+        let states = places_in(alloc, program.contracts())?;
+        Ok(Naming {
+            program,
+            structs,
+            states,
+        })
+    }
+
+    /// Its program.
+    pub(crate) fn program(&self) -> &'a Program
+        ensures { seen_of result.now ≡ (words_of self.now).program }
+    {
+        self.program
+    }
+
+    /// The name of a struct.
+    fn struct_name(&self, id: StructId) -> &[u8]
+        ensures { result.now ≡ told.struct_name (words_of self.now) id.0 }
+    {
+        match self.structs.get(id.0) {
+            Some(name) => name.as_bytes(),
+            None => &[],
+        }
+    }
+
+    /// The name of a contract.
+    fn contract_name(&self, id: ContractId) -> &[u8]
+        ensures { result.now ≡ told.contract_name (words_of self.now) id.0 }
+    {
+        match self.program.contracts().get(id.0 as usize) {
+            Some(contract) => contract.name.as_bytes(),
+            None => &[],
+        }
+    }
+
+    /// The place of a state of a contract among the states of that.
+    fn place(&self, contract: ContractId, state: StateId) -> Option<usize>
+        ensures { result ≡ place_in self.now.states.items contract.0 state.0 }
+    {
+        self.states.get(contract.0 as usize)?.get(&state.0).copied()
+    }
+
+    /// The state of this number in a contract, if there is one.
+    fn state(&self, contract: ContractId, state: StateId) -> Option<&State>
+        ensures { option_map (λ s. state_parts s.now) result ≡ state_of (words_of self.now).program.contracts contract.0 state.0 }
+    {
+        let place = self.place(contract, state)?;
+        self.program
+            .contracts()
+            .get(contract.0 as usize)?
+            .states
+            .get(place)
+    }
+
+    /// How a state of a contract is printed.
+    pub(crate) fn state_name(&self, contract: ContractId, state: StateId) -> &[u8]
+        ensures { result.now ≡ told.state_name (words_of self.now) contract.0 state.0 }
+    {
+        match self.state(contract, state) {
+            Some(state) => state.name.as_bytes(),
+            None => &[],
+        }
+    }
+
+    /// The name of a message of a contract.
+    pub(crate) fn message_name(&self, contract: ContractId, message: MessageId) -> &[u8]
+        ensures { result.now ≡ told.message_name (words_of self.now) contract.0 message.0 }
+    {
+        match self.program.sounds().get(contract.0 as usize) {
+            Some(sound) => sound.message_name(message),
+            None => &[],
+        }
+    }
+
+    /// Adds a type: the name of a struct, `byte[]`, `C.Imp`.
+    pub(crate) fn add_kind(&self, answer: &mut Vec<u8>, kind: Kind) -> Result<(), Memory>
+        ensures { OnOk result (answer.new.items ≡ answer.old.items ++ kind_name (words_of self.now) kind) }
+    {
+        match kind {
+            Kind::Struct(id) => add(answer, self.struct_name(id)),
+            Kind::Array(element) => {
+                add(answer, scalar_name(element))?;
+                add(answer, b"[]")
+            }
+            Kind::Endpoint { contract, side, .. } => {
+                add(answer, self.contract_name(contract))?;
+                add(answer, b".")?;
+                add(answer, side_name(side))
+            }
+        }
+    }
+}
+
+fn scalar_name(scalar: Scalar) -> &'static [u8]
+    ensures { result.now ≡ scalar_name scalar }
+{
+    match scalar {
+        Scalar::Int => b"int",
+        Scalar::Bool => b"bool",
+        Scalar::Byte => b"byte",
+    }
+}
+
+fn side_name(side: Side) -> &'static [u8]
+    ensures { result.now ≡ side_name side }
+{
+    match side {
+        Side::Imp => b"Imp",
+        Side::Exp => b"Exp",
+    }
+}

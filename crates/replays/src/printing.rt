@@ -1,0 +1,43 @@
+//! A replay as lines.
+
+ghost use Rattle.std.specs.Prelude.{◌≡◌, IfOk, map, string_bytes};
+ghost use Rattle.rules.specs.Programs.{seen_of};
+ghost use Rattle.machine.specs.Views.{world_seen};
+ghost use Rattle.replays.specs.WorldLines.{replay_lines};
+
+use crate::blocks::add_blocks;
+use crate::naming::Naming;
+use crate::processes::{add_processes, add_steps, add_stop};
+use machine::{Event, Replayed};
+use rules::Program;
+use source::Memory;
+use std::alloc::Global;
+
+/// What a replay of events came to, line by line: how many were steps, why it stopped, where each process stands, and who owns each block.
+///
+/// The names of structs are given in order of the text; the program knows structs by their numbers alone. `Memory` is answered where
+/// a growth was refused.
+pub fn lines_of(
+    alloc: Global,
+    program: &Program,
+    structs: &[String],
+    events: &[Event],
+    replayed: &Replayed,
+) -> Result<Vec<u8>, Memory>
+    ensures { IfOk result (λ bytes. bytes.items
+        ≡ replay_lines (record { program = seen_of program.now; structs = map string_bytes structs.now }) events.now replayed.now.steps
+        replayed.now.halt (world_seen replayed.now.world)) }
+{
+    let naming = Naming::new(alloc, program, structs)?;
+    let mut answer = Vec::new(alloc);
+    add_steps(alloc, &mut answer, replayed.steps)?;
+    add_stop(
+        alloc,
+        &mut answer,
+        events.get(replayed.steps).copied(),
+        replayed.halt,
+    )?;
+    add_processes(alloc, &mut answer, program, replayed.world.processes())?;
+    add_blocks(alloc, &mut answer, &naming, replayed.world.blocks())?;
+    Ok(answer)
+}

@@ -1,0 +1,44 @@
+//! Texts and numbers, added to what is written.
+
+ghost use Rattle.std.specs.Prelude.{◌≡◌, ◌++◌, OnOk};
+ghost use Rattle.std.specs.Fmt.{decimal};
+ghost use Rattle.replays.specs.Fronts.{separator};
+ghost use Rattle.replays.specs.WorldLines.{place_text};
+
+use source::{Memory, Place};
+use std::alloc::Global;
+
+/// Adds a text.
+pub(crate) fn add(answer: &mut Vec<u8>, text: &[u8]) -> Result<(), Memory>
+    ensures { OnOk result (answer.new.items ≡ answer.old.items ++ text.now) }
+{
+    answer.extend_from_slice(text)?;
+    Ok(())
+}
+
+/// Adds a number in decimal.
+pub(crate) fn add_number(alloc: Global, answer: &mut Vec<u8>, number: u64) -> Result<(), Memory>
+    ensures { OnOk result (answer.new.items ≡ answer.old.items ++ decimal number) }
+{
+    let digits = number.to_string(alloc)?;
+    add(answer, digits.as_bytes())
+}
+
+/// Adds `LINE:COL`.
+pub(crate) fn add_place(alloc: Global, answer: &mut Vec<u8>, place: Place) -> Result<(), Memory>
+    ensures { OnOk result (answer.new.items ≡ answer.old.items ++ place_text place) }
+{
+    add_number(alloc, answer, u64::from(place.line))?;
+    add(answer, b":")?;
+    add_number(alloc, answer, u64::from(place.col))
+}
+
+/// Adds a byte between two pieces: not before the first.
+pub(crate) fn separate(answer: &mut Vec<u8>, place: usize, between: u8) -> Result<(), Memory>
+    ensures { OnOk result (answer.new.items ≡ answer.old.items ++ separator place between) }
+{
+    if 0 < place {
+        answer.push(between)?;
+    }
+    Ok(())
+}
