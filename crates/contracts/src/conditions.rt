@@ -2,7 +2,8 @@
 
 ghost use Rattle.std.specs.Prelude.{◌≡◌, ◌<◌, IfOk, length, map, Contains};
 ghost use Rattle.contracts.specs.Arcs.{AllWithin, AreRows, IsDrawn};
-ghost use Rattle.contracts.specs.Conditions.{AreExactly, IsAgainst, IsTwice, IsBoth, IsRound, IsFault, finding_parts, sign_of as sign_of_direction};
+ghost use Rattle.contracts.specs.Conditions.{AreExactly, IsAgainst, IsTwice, IsBoth, IsRound};
+ghost use Rattle.contracts.specs.Conditions.{IsFault, finding_parts, sign_of as sign_of_direction};
 ghost use Rattle.contracts.specs.Found.{FoundBelow};
 ghost use Rattle.contracts.specs.Graphs.{rows};
 ghost use Rattle.contracts.specs.Parts.{IsWhole, parts_of, message_ids, state_parts, message_parts};

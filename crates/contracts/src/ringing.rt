@@ -1,6 +1,7 @@
 //! Which vertices lie on a ring.
 
-ghost use Rattle.std.specs.Prelude.{◌≡◌, ◌==◌, ◌<◌, ◌≤◌, ℕ, List, length, map, filter, All, IfOk, IsTrue, IfSome, Bool, true, false, not, vec_len};
+ghost use Rattle.std.specs.Prelude.{◌≡◌, ◌==◌, ◌<◌, ◌≤◌, ℕ, List, length, map, filter, All};
+ghost use Rattle.std.specs.Prelude.{IfOk, IsTrue, IfSome, Bool, true, false, not, vec_len};
 ghost use Rattle.contracts.specs.Arcs.{AllWithin, AreRows, turned_arc};
 ghost use Rattle.contracts.specs.Graphs.{rows, InRange};
 ghost use Rattle.contracts.specs.Marking.{Reaches};

@@ -26,7 +26,8 @@ entrance_seen e = record { endpoint = e.endpoint; awaited = e.awaited; bound = e
 abbrev pub first_mentions : List ℕ → List EntranceSeen → List Mention
 first_mentions seen [] = []
 first_mentions seen (c ∷ cases) =
-    if is_among seen c.endpoint.variable.0 then first_mentions seen cases else (c.endpoint ∷ first_mentions (c.endpoint.variable.0 ∷ seen) cases)
+    if is_among seen c.endpoint.variable.0 then first_mentions seen cases
+    else (c.endpoint ∷ first_mentions (c.endpoint.variable.0 ∷ seen) cases)
 
 -- a case waits for this message, or where there is none, for the close
 abbrev pub awaits : Awaited → Option ℕ → Bool
@@ -37,7 +38,8 @@ awaits _ _ = false
 -- the first case for it at this endpoint
 abbrev pub case_for : List EntranceSeen → ℕ → Option ℕ → Option EntranceSeen
 case_for [] endpoint message = None
-case_for (c ∷ cases) endpoint message = if (c.endpoint.variable.0 == endpoint) && awaits c.awaited message then Some c else case_for cases endpoint message
+case_for (c ∷ cases) endpoint message = if (c.endpoint.variable.0 == endpoint) && awaits c.awaited message then Some c
+    else case_for cases endpoint message
 
 -- what tells cases apart: the number of the endpoint, and of the message where it waits for one
 abbrev pub CaseKey : Type 0

@@ -21,6 +21,7 @@ pub record GrewCases (old new : List Instr) (pushed : List EntranceSeen) (laid :
   pub entrances : pushed ≡ reverse laid.entrances
 
 -- of a row of cases, the last ones are laid, and the rest is not
-pub record CasesBehind {A : Type 0} (all rest done : List A) (old new : List Instr) (pushed : List EntranceSeen) (lays : List A → LaidCases) : Type 0 where
+pub record CasesBehind {A : Type 0} (all rest done : List A) (old new : List Instr) (pushed : List EntranceSeen)
+    (lays : List A → LaidCases) : Type 0 where
   pub split : all ≡ rest ++ done
   pub grew : GrewCases old new pushed (lays done)

@@ -31,7 +31,8 @@ pub(crate) fn branches(ways: Ways, inside: usize, past: usize) -> Branches
 
 /// Lays one more instruction. The answer is its point.
 pub(crate) fn lay(instructions: &mut Vec<Instr>, instruction: Instr) -> Result<usize, Memory>
-    ensures { IfOk result (λ at. (instructions.new.items ≡ instructions.old.items ++ instruction ∷ []) × (at ≡ length instructions.old.items)) }
+    ensures { IfOk result (λ at. (instructions.new.items ≡ instructions.old.items ++ instruction ∷ [])
+        × (at ≡ length instructions.old.items)) }
 {
     let at = instructions.len();
     instructions.push(instruction)?;
@@ -46,7 +47,8 @@ pub(crate) fn lay_branches(
     inside: usize,
     past: usize,
 ) -> Result<usize, Memory>
-    ensures { IfOk result (λ at. (instructions.new.items ≡ instructions.old.items ++ Instr.Branch place (laid.branches ways inside past) ∷ []) × (at ≡ length instructions.old.items)) }
+    ensures { IfOk result (λ at. (instructions.new.items
+        ≡ instructions.old.items ++ Instr.Branch place (laid.branches ways inside past) ∷ []) × (at ≡ length instructions.old.items)) }
 {
     let branches = branches(ways, inside, past);
     lay(instructions, Instr::Branch { place, branches })
@@ -58,7 +60,8 @@ pub(crate) fn lay_reads(
     mentions: &[Mention],
     next: usize,
 ) -> Result<usize, Memory>
-    ensures { IfOk result (λ entry. Grew instructions.old.items instructions.new.items entry (laid.reads mentions.now (length instructions.old.items) next)) }
+    ensures { IfOk result (λ entry.
+        Grew instructions.old.items instructions.new.items entry (laid.reads mentions.now (length instructions.old.items) next)) }
 {
     let mut entry = next;
     for mention in mentions.iter().rev() {
@@ -77,7 +80,8 @@ pub(crate) fn lay_forget(
     forget: Option<Forget>,
     next: usize,
 ) -> Result<usize, Memory>
-    ensures { IfOk result (λ entry. Grew instructions.old.items instructions.new.items entry (laid.forgets forget (length instructions.old.items) next)) }
+    ensures { IfOk result
+        (λ entry. Grew instructions.old.items instructions.new.items entry (laid.forgets forget (length instructions.old.items) next)) }
 {
     match forget {
         Some(forget) => lay(instructions, Instr::Forget { forget, next }),
@@ -93,7 +97,8 @@ fn lay_action(
     exits: Exits,
     next: usize,
 ) -> Result<usize, Memory>
-    ensures { IfOk result (λ entry. Grew instructions.old.items instructions.new.items entry (laid.acts action exits.end exits.again (length instructions.old.items) next)) }
+    ensures { IfOk result (λ entry. Grew instructions.old.items instructions.new.items entry
+        (laid.acts action exits.end exits.again (length instructions.old.items) next)) }
 {
     let instruction = match action {
         Action::Nothing => return Ok(next),
@@ -133,7 +138,8 @@ pub(crate) fn lay_simple(
     exits: Exits,
     next: usize,
 ) -> Result<usize, Memory>
-    ensures { IfOk result (λ entry. Grew instructions.old.items instructions.new.items entry (laid.statement (simple_seen simple.now) exits.end exits.again (length instructions.old.items) next)) }
+    ensures { IfOk result (λ entry. Grew instructions.old.items instructions.new.items entry
+        (laid.statement (simple_seen simple.now) exits.end exits.again (length instructions.old.items) next)) }
 {
     let behind = lay_action(alloc, instructions, simple.action, exits, next)?;
     lay_reads(instructions, &simple.reads, behind)
@@ -146,7 +152,8 @@ pub(crate) fn lay_call(
     call: &Call,
     next: usize,
 ) -> Result<usize, Memory>
-    ensures { IfOk result (λ entry. Grew instructions.old.items instructions.new.items entry (laid.called (call_seen call.now) (length instructions.old.items) next)) }
+    ensures { IfOk result (λ entry. Grew instructions.old.items instructions.new.items entry
+        (laid.called (call_seen call.now) (length instructions.old.items) next)) }
 {
     let next = lay_reads(instructions, &call.behind, next)?;
     let instruction = Instr::Call(Calling {
@@ -167,7 +174,8 @@ pub(crate) fn lay_start(
     call: &Call,
     next: usize,
 ) -> Result<usize, Memory>
-    ensures { IfOk result (λ entry. Grew instructions.old.items instructions.new.items entry (laid.started (call_seen call.now) (length instructions.old.items) next)) }
+    ensures { IfOk result (λ entry. Grew instructions.old.items instructions.new.items entry
+        (laid.started (call_seen call.now) (length instructions.old.items) next)) }
 {
     let instruction = Instr::Start(Starting {
         place: call.place,
@@ -186,7 +194,8 @@ pub(crate) fn lay_send(
     send: &Send,
     next: usize,
 ) -> Result<usize, Memory>
-    ensures { IfOk result (λ entry. Grew instructions.old.items instructions.new.items entry (laid.sent (send_seen send.now) (length instructions.old.items) next)) }
+    ensures { IfOk result (λ entry. Grew instructions.old.items instructions.new.items entry
+        (laid.sent (send_seen send.now) (length instructions.old.items) next)) }
 {
     let instruction = Instr::Send(Sending {
         place: send.place,
@@ -201,7 +210,8 @@ pub(crate) fn lay_send(
 
 /// Where a case begins.
 pub(crate) fn entrance_of(alloc: Global, case: &Case, next: usize) -> Result<Entrance, Memory>
-    ensures { IfOk result (λ e. entrance_seen e ≡ record { endpoint = case.now.endpoint; awaited = case.now.awaited; bound = case.now.bound.items; next = next }) }
+    ensures { IfOk result (λ e. entrance_seen e
+        ≡ record { endpoint = case.now.endpoint; awaited = case.now.awaited; bound = case.now.bound.items; next = next }) }
 {
     let bound = Vec::from_slice(alloc, &case.bound)?;
     Ok(Entrance {

@@ -72,7 +72,8 @@ fn lay_statements(
     exits: Exits,
     next: usize,
 ) -> Result<usize, Memory>
-    ensures { IfOk result (λ entry. Grew instructions.old.items instructions.new.items entry (laid.statements (statement_row (map statement_seen statements.now)) exits.end exits.again (length instructions.old.items) next)) }
+    ensures { IfOk result (λ entry. Grew instructions.old.items instructions.new.items entry
+        (laid.statements (statement_row (map statement_seen statements.now)) exits.end exits.again (length instructions.old.items) next)) }
 {
     let mut entry = next;
     for statement in statements.iter().rev() {
@@ -90,7 +91,8 @@ fn lay_statement(
     exits: Exits,
     next: usize,
 ) -> Result<usize, Memory>
-    ensures { IfOk result (λ entry. Grew instructions.old.items instructions.new.items entry (laid.statement (statement_seen statement.now) exits.end exits.again (length instructions.old.items) next)) }
+    ensures { IfOk result (λ entry. Grew instructions.old.items instructions.new.items entry
+        (laid.statement (statement_seen statement.now) exits.end exits.again (length instructions.old.items) next)) }
 {
     match statement {
         Statement::Simple(simple) => lay_simple(alloc, instructions, simple, exits, next),
@@ -115,7 +117,8 @@ fn lay_block(
     exits: Exits,
     next: usize,
 ) -> Result<usize, Memory>
-    ensures { IfOk result (λ entry. Grew instructions.old.items instructions.new.items entry (laid.block (block_seen block.now) exits.end exits.again (length instructions.old.items) next)) }
+    ensures { IfOk result (λ entry. Grew instructions.old.items instructions.new.items entry
+        (laid.block (block_seen block.now) exits.end exits.again (length instructions.old.items) next)) }
 {
     let behind = lay_forget(instructions, block.forget, next)?;
     lay_statements(alloc, instructions, &block.statements, exits, behind)
@@ -130,7 +133,8 @@ fn lay_otherwise(
     exits: Exits,
     next: usize,
 ) -> Result<usize, Memory>
-    ensures { IfOk result (λ entry. Grew instructions.old.items instructions.new.items entry (laid.others (other_row [] (option_map block_seen otherwise.now)) exits.end exits.again (length instructions.old.items) next)) }
+    ensures { IfOk result (λ entry. Grew instructions.old.items instructions.new.items entry
+        (laid.others (other_row [] (option_map block_seen otherwise.now)) exits.end exits.again (length instructions.old.items) next)) }
 {
     match otherwise {
         Some(block) => lay_block(alloc, instructions, block, exits, next),
@@ -147,7 +151,9 @@ fn lay_if(
     exits: Exits,
     next: usize,
 ) -> Result<usize, Memory>
-    ensures { IfOk result (λ entry. Grew instructions.old.items instructions.new.items entry (laid.condition (if_seen branches.now).first (laid.others (if_seen branches.now).others exits.end exits.again) exits.end exits.again (length instructions.old.items) next)) }
+    ensures { IfOk result (λ entry. Grew instructions.old.items instructions.new.items entry
+        (laid.condition (if_seen branches.now).first (laid.others (if_seen branches.now).others exits.end exits.again)
+        exits.end exits.again (length instructions.old.items) next)) }
 {
     let mut other = lay_otherwise(alloc, instructions, &branches.otherwise, exits, next)?;
     for test in branches.others.iter().rev() {
@@ -167,7 +173,10 @@ fn lay_condition(
     other: usize,
     next: usize,
 ) -> Result<usize, Memory>
-    ensures { IfOk result (λ entry. (below : List Instr) (otherwise : Lays) → Grew below instructions.old.items other (otherwise (length below) next) → Grew below instructions.new.items entry (laid.condition (test_seen test.now) otherwise exits.end exits.again (length below) next)) }
+    ensures { IfOk result (λ entry. (below : List Instr) (otherwise : Lays)
+        → Grew below instructions.old.items other (otherwise (length below) next)
+        → Grew below instructions.new.items entry
+        (laid.condition (test_seen test.now) otherwise exits.end exits.again (length below) next)) }
 {
     let body = lay_block(alloc, instructions, &test.body, exits, next)?;
     let branch = lay_branches(instructions, test.place, test.ways, body, other)?;
@@ -182,7 +191,8 @@ fn lay_while(
     test: &Test,
     next: usize,
 ) -> Result<usize, Memory>
-    ensures { IfOk result (λ entry. (exit again : ℕ) → Grew instructions.old.items instructions.new.items entry (laid.statement (stated.While (test_seen test.now)) exit again (length instructions.old.items) next)) }
+    ensures { IfOk result (λ entry. (exit again : ℕ) → Grew instructions.old.items instructions.new.items entry
+        (laid.statement (stated.While (test_seen test.now)) exit again (length instructions.old.items) next)) }
 {
     let branch = lay_branches(instructions, test.place, test.ways, next, next)?;
     let head = lay_reads(instructions, &test.reads, branch)?;
@@ -208,7 +218,8 @@ fn lay_switch(
     again: usize,
     next: usize,
 ) -> Result<usize, Memory>
-    ensures { IfOk result (λ entry. (exit : ℕ) → Grew instructions.old.items instructions.new.items entry (laid.statement (stated.Switch place (case_row (map case_seen cases.now))) exit again (length instructions.old.items) next)) }
+    ensures { IfOk result (λ entry. (exit : ℕ) → Grew instructions.old.items instructions.new.items entry
+        (laid.statement (stated.Switch place (case_row (map case_seen cases.now))) exit again (length instructions.old.items) next)) }
 {
     let exits = Exits { end: next, again };
     let mut entrances = Vec::new(alloc);

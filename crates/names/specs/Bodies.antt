@@ -51,7 +51,8 @@ given_findings i asked None = []
 given_findings i asked (Some v) = value_findings i asked v
 
 abbrev pub declaration_turn : Surroundings → DeclareTree → Frame → Turn
-declaration_turn m d f = before (type_unknown m.program d.kind ++ given_findings (inside_of m f) (type_kind m.program d.kind) d.value) (declared_variable m.program.text d.name (type_kind m.program d.kind) (is_heap d.kind) f)
+declaration_turn m d f = before (type_unknown m.program d.kind ++ given_findings (inside_of m f) (type_kind m.program d.kind) d.value)
+    (declared_variable m.program.text d.name (type_kind m.program d.kind) (is_heap d.kind) f)
 
 -- a block is deleted, and no scalar
 abbrev pub delete_findings : InScope → Span → List FindingParts
@@ -76,7 +77,8 @@ new_ends_findings s None contract first second = unknown s.program.text contract
 new_ends_findings s (Some c) contract first second = ends_findings c.0 (held (meant s first)) (held (meant s second)) first second
 
 abbrev pub channel_findings : InScope → Span → Span → Span → List FindingParts
-channel_findings s contract first second = new_ends_findings s (contract_named s.program contract) contract first second ++ (variable_findings s first ++ variable_findings s second)
+channel_findings s contract first second = new_ends_findings s (contract_named s.program contract) contract first second
+    ++ (variable_findings s first ++ variable_findings s second)
 
 -- A void method returns nothing, another what its result asks for.
 abbrev pub return_findings : InScope → Option type_nodes.Type.Type → Span → Option ExpressionTree → List FindingParts
@@ -101,7 +103,8 @@ abbrev mutual
   pub statement_turn : Surroundings → StatementTree → Frame → Turn
   statement_turn m (trees.Block b) f = block_turn m b f
   statement_turn m (trees.Declare d) f = declaration_turn m d f
-  statement_turn m (trees.Assign a) f = turn (target_findings (scope_in m f) a.target ++ value_findings (inside_of m f) (target_kind (scope_in m f) a.target) a.value) f
+  statement_turn m (trees.Assign a) f =
+      turn (target_findings (scope_in m f) a.target ++ value_findings (inside_of m f) (target_kind (scope_in m f) a.target) a.value) f
   statement_turn m (trees.Call c) f = turn (call_findings (inside_of m f) Alone c) f
   statement_turn m (trees.Start word c) f = turn (call_findings (inside_of m f) Started c) f
   statement_turn m (trees.Delete name) f = turn (delete_findings (scope_in m f) name) f
@@ -141,4 +144,5 @@ abbrev mutual
 
   pub cases_turn : Surroundings → List Head → List Head → CaseTrees → Frame → Turn
   cases_turn m all earlier trees.NoCase f = turn [] f
-  cases_turn m all earlier (trees.MoreCases c cases) f = follow (case_turn m all earlier c f) (cases_turn m all (earlier ++ head_of c ∷ []) cases)
+  cases_turn m all earlier (trees.MoreCases c cases) f =
+      follow (case_turn m all earlier c f) (cases_turn m all (earlier ++ head_of c ∷ []) cases)

@@ -1,5 +1,6 @@
 -- What is wrong with the cases of a switch.
-use Rattle.std.specs.Prelude.{ℕ, Bool, true, false, ◌&&◌, ◌||◌, List, [], ◌∷◌, ◌++◌, codes, if◌then◌else◌, Option, None, Some, is_some, option_and_then}
+use Rattle.std.specs.Prelude.{ℕ, Bool, true, false, ◌&&◌, ◌||◌, List, [], ◌∷◌, ◌++◌, codes}
+use Rattle.std.specs.Prelude.{if◌then◌else◌, Option, None, Some, is_some, option_and_then}
 use Rattle.std.specs.Str.Lossy.{utf8_lossy}
 use Rattle.source.specs.declared.token.Span.{Span}
 use Rattle.source.specs.declared.finding.Code.TheVariants.{N08, N09}
@@ -57,14 +58,20 @@ awaits_closed text name [] = false
 awaits_closed text name (x ∷ xs) = (same_name text x.endpoint name && is_closed x.awaited) || awaits_closed text name xs
 
 abbrev pub case_twice : List ℕ → Head → FindingParts
-case_twice text h = record { place = h.endpoint.place; code = N08; text = codes "case " ++ (utf8_lossy (word_at text h.endpoint) ++ (codes "." ++ (utf8_lossy (word_at text (awaited_span h.awaited)) ++ codes " twice"))) }
+case_twice text h = record {
+  place = h.endpoint.place;
+  code = N08;
+  text = codes "case "
+      ++ (utf8_lossy (word_at text h.endpoint) ++ (codes "." ++ (utf8_lossy (word_at text (awaited_span h.awaited)) ++ codes " twice")));
+}
 
 abbrev pub lacks_closed : List ℕ → Span → FindingParts
 lacks_closed text name = record { place = name.place; code = N09; text = utf8_lossy (word_at text name) ++ codes " lacks ChannelClosed" }
 
 -- the message that an endpoint's case awaits, the first of that name in its contract
 abbrev pub awaited_message : InScope → Kind → made.Awaited.Awaited → Option MessageTree
-awaited_message s (kind.Endpoint n end) (Message m) = option_and_then (λ c. message_written s.program.text c.1 (word_at s.program.text m)) (item_at as_contract s.program n)
+awaited_message s (kind.Endpoint n end) (Message m) =
+    option_and_then (λ c. message_written s.program.text c.1 (word_at s.program.text m)) (item_at as_contract s.program n)
 awaited_message s _ _ = None
 
 -- the kinds and the exchange-heap marks of what a case binds: those of the message's parameters, as far as they reach
@@ -75,7 +82,8 @@ bound_params (Some m) = m.params
 -- an endpoint's case on a message that its contract has
 abbrev pub message_case_findings : InScope → Option MessageTree → Side → Span → List made.Bind.Bind → List FindingParts
 message_case_findings s None end word binds = unknown s.program.text word ∷ []
-message_case_findings s (Some m) end word binds = unless (receives end m.direction) word.place ++ number_of_arguments m.params binds word.place
+message_case_findings s (Some m) end word binds =
+    unless (receives end m.direction) word.place ++ number_of_arguments m.params binds word.place
 
 -- that the other end is closed binds nothing
 abbrev pub closed_findings : List made.Bind.Bind → Span → List FindingParts
@@ -87,7 +95,8 @@ twice_findings s before h = if awaits_too s.program.text h before then case_twic
 -- the head of a case on an endpoint; before it stand these
 abbrev pub awaited_findings : InScope → List Head → Kind → Side → Head → made.Awaited.Awaited → List FindingParts
 awaited_findings s before k end h (Closed word) = closed_findings h.binds word ++ twice_findings s before h
-awaited_findings s before k end h (Message word) = message_case_findings s (awaited_message s k h.awaited) end word h.binds ++ (if is_some (awaited_message s k h.awaited) then twice_findings s before h else [])
+awaited_findings s before k end h (Message word) = message_case_findings s (awaited_message s k h.awaited) end word h.binds
+    ++ (if is_some (awaited_message s k h.awaited) then twice_findings s before h else [])
 
 abbrev pub endpoint_head_findings : InScope → List Head → Kind → Side → Head → List FindingParts
 endpoint_head_findings s before k end h = awaited_findings s before k end h h.awaited
@@ -102,10 +111,13 @@ other_head_findings h = other_awaited_findings h h.awaited
 
 -- Each endpoint of a switch has a case for its close: told at the endpoint's first case.
 abbrev pub lack_findings : InScope → List Head → List Head → Head → List FindingParts
-lack_findings s all before h = if names_endpoint s.program.text h.endpoint before || awaits_closed s.program.text h.endpoint all then [] else lacks_closed s.program.text h.endpoint ∷ []
+lack_findings s all before h =
+    if names_endpoint s.program.text h.endpoint before || awaits_closed s.program.text h.endpoint all then []
+    else lacks_closed s.program.text h.endpoint ∷ []
 
 abbrev pub kind_head_findings : InScope → List Head → List Head → Kind → Head → List FindingParts
-kind_head_findings s all before (kind.Endpoint n end) h = endpoint_head_findings s before (kind.Endpoint n end) end h ++ lack_findings s all before h
+kind_head_findings s all before (kind.Endpoint n end) h =
+    endpoint_head_findings s before (kind.Endpoint n end) end h ++ lack_findings s all before h
 kind_head_findings s all before k h = if is_silent k then [] else other_head_findings h
 
 abbrev pub head_findings : InScope → List Head → List Head → Head → List FindingParts
@@ -122,7 +134,8 @@ brings_heap (Some x) = is_heap x.kind
 
 -- a name that a case binds, with a type or without, for this parameter of the message, if there is one
 abbrev pub typed_turn : Program → Option contract_nodes.Param.Param → Span → Option type_nodes.Type.Type → Frame → Turn
-typed_turn p param name (Some t) f = before (type_unknown p t ++ unless (agree (type_kind p t) (brought_kind p param)) name.place) (declared_variable p.text name (type_kind p t) (is_heap t) f)
+typed_turn p param name (Some t) f = before (type_unknown p t ++ unless (agree (type_kind p t) (brought_kind p param)) name.place)
+    (declared_variable p.text name (type_kind p t) (is_heap t) f)
 typed_turn p param name None f = declared_variable p.text name (brought_kind p param) (brings_heap param) f
 
 abbrev pub bind_turn : Program → Option contract_nodes.Param.Param → made.Bind.Bind → Frame → Turn

@@ -1,5 +1,6 @@
 -- The kind of an expression, and what is wrong with the names and kinds in it.
-use Rattle.std.specs.Prelude.{ℕ, Bool, ◌||◌, not, List, [], ◌∷◌, ◌++◌, map, codes, if◌then◌else◌, Option, None, Some, is_some, option_and_then, slice_get}
+use Rattle.std.specs.Prelude.{ℕ, Bool, ◌||◌, not, List, [], ◌∷◌, ◌++◌, map, codes, if◌then◌else◌}
+use Rattle.std.specs.Prelude.{Option, None, Some, is_some, option_and_then, slice_get}
 use Rattle.std.specs.Option.{option_map_or}
 use Rattle.source.specs.declared.place.Place.{Place}
 use Rattle.source.specs.declared.token.Span.{Span}
@@ -8,7 +9,8 @@ use Rattle.names.specs.Declarations.{first_among}
 use Rattle.names.specs.Found.{FindingParts, unknown}
 use Rattle.names.specs.Kinds.{is_silent, is_unknown, is_number, is_truth, is_block, unless}
 use Rattle.names.specs.Program.{Program, as_struct, item_at}
-use Rattle.names.specs.Shapes.{Shape, Number, Truth, Mention, Field, Element, Parens, Signed, Joined, Joint, Logic, Likeness, Order, Sum, Sign, Denial, Minus}
+use Rattle.names.specs.Shapes.{Shape, Number, Truth, Mention, Field, Element, Parens, Signed}
+use Rattle.names.specs.Shapes.{Joined, Joint, Logic, Likeness, Order, Sum, Sign, Denial, Minus}
 use Rattle.tree.specs.Trees.{StructTree}
 use Rattle.tree.specs.declared.class as made
 use Rattle.names.specs.Variables.{Variable, variable_named}
@@ -50,7 +52,8 @@ struct_field_kind s (Some f) = kind.Scalar f.kind
 
 abbrev pub field_kind : InScope → Kind → Span → Kind
 field_kind s (kind.Array element) field = if is_length s field then kind.Scalar scalar.Int else kind.Unknown
-field_kind s (kind.Pointer n) field = option_map_or (λ x. struct_field_kind s (field_named s.program.text x.1 field)) (item_at as_struct s.program n) kind.Unknown
+field_kind s (kind.Pointer n) field =
+    option_map_or (λ x. struct_field_kind s (field_named s.program.text x.1 field)) (item_at as_struct s.program n) kind.Unknown
 field_kind s kind.Unknown field = kind.Unknown
 field_kind s _ field = kind.Missing
 
@@ -84,7 +87,8 @@ kind_of s (Field name field) = field_kind s (held (meant s name)) field
 kind_of s (Element name index) = element_kind (held (meant s name)) (is_unknown (kind_of s index))
 kind_of s (Parens place inner) = kind_of s inner
 kind_of s (Signed sign place inner) = if is_unknown (kind_of s inner) then kind.Unknown else signed_kind sign
-kind_of s (Joined joint left right) = if is_unknown (kind_of s left) || is_unknown (kind_of s right) then kind.Unknown else joined_kind joint
+kind_of s (Joined joint left right) = if is_unknown (kind_of s left) || is_unknown (kind_of s right) then kind.Unknown
+    else joined_kind joint
 
 -- what is asked of an operand
 abbrev pub asked_number : Kind → Place → List FindingParts
@@ -98,7 +102,8 @@ asked_either k place = unless (is_silent k || (is_number k || is_truth k)) place
 
 -- Of two that are compared the left one decides, where it is a number or a truth value.
 abbrev pub asked_like : Kind → Kind → Place → List FindingParts
-asked_like left k place = if is_number left then asked_number k place else (if is_truth left then asked_truth k place else asked_either k place)
+asked_like left k place = if is_number left then asked_number k place
+    else (if is_truth left then asked_truth k place else asked_either k place)
 
 abbrev pub left_asked : Joint → Kind → Place → List FindingParts
 left_asked Logic k place = asked_truth k place
@@ -132,7 +137,9 @@ element_findings k name = unless (is_silent k) name.place
 -- a struct has its fields, an array its length, anything else none
 abbrev pub field_findings : InScope → Kind → Span → Span → List FindingParts
 field_findings s (kind.Array element) name field = if is_length s field then [] else unknown s.program.text field ∷ []
-field_findings s (kind.Pointer n) name field = option_map_or (λ x. if is_some (field_named s.program.text x.1 field) then [] else unknown s.program.text field ∷ []) (item_at as_struct s.program n) []
+field_findings s (kind.Pointer n) name field =
+    option_map_or (λ x. if is_some (field_named s.program.text x.1 field) then [] else unknown s.program.text field ∷ [])
+    (item_at as_struct s.program n) []
 field_findings s k name field = unless (is_silent k) name.place
 
 abbrev pub expression_findings : InScope → Shape → List FindingParts

@@ -67,5 +67,6 @@ is_before place (Some first) = ltb first place
 
 -- where the heads of a switch stand
 pub record IsHeads (text : List ℕ) (all : List Head) (heads : Heads) : Type 0 where
-  pub cases : (key : Bor (List ℕ) × Option (Bor (List ℕ))) → get (λ x y. ordering_then (slice_cmp nat_cmp x.0.now y.0.now) (option_cmp (λ a b. slice_cmp nat_cmp a.now b.now) x.1 y.1)) heads.cases key ≡ key_at text (key_words key) all
+  pub cases : (key : Bor (List ℕ) × Option (Bor (List ℕ))) → get (λ x y. ordering_then (slice_cmp nat_cmp x.0.now y.0.now)
+      (option_cmp (λ a b. slice_cmp nat_cmp a.now b.now) x.1 y.1)) heads.cases key ≡ key_at text (key_words key) all
   pub endpoints : IsTable (words_at text (map (λ h. h.endpoint) all)) heads.endpoints

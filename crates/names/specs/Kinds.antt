@@ -70,7 +70,8 @@ unless well place = if well then [] else wrong_type place ∷ []
 abbrev pub endpoint_kind : List ℕ → Option (ℕ × ContractTree) → Side → Option Span → Kind
 endpoint_kind text None end state = kind.Unknown
 endpoint_kind text (Some c) end None = kind.Endpoint c.0 end
-endpoint_kind text (Some c) end (Some state) = if is_declared text (names_of_states (states_of c.1)) state then kind.Endpoint c.0 end else kind.Unknown
+endpoint_kind text (Some c) end (Some state) = if is_declared text (names_of_states (states_of c.1)) state then kind.Endpoint c.0 end
+    else kind.Unknown
 
 abbrev pub pointer_kind : {X : Type 0} → Option (ℕ × X) → Kind
 pointer_kind None = kind.Unknown
@@ -86,7 +87,8 @@ type_kind p (type.Heap (heap.Endpoint contract end state bang in_heap)) = endpoi
 abbrev pub endpoint_unknown : List ℕ → Option (ℕ × ContractTree) → Span → Option Span → List FindingParts
 endpoint_unknown text None contract state = unknown text contract ∷ []
 endpoint_unknown text (Some c) contract None = []
-endpoint_unknown text (Some c) contract (Some state) = if is_declared text (names_of_states (states_of c.1)) state then [] else unknown text state ∷ []
+endpoint_unknown text (Some c) contract (Some state) = if is_declared text (names_of_states (states_of c.1)) state then []
+    else unknown text state ∷ []
 
 abbrev pub pointer_unknown : {X : Type 0} → List ℕ → Option X → Span → List FindingParts
 pointer_unknown text None name = unknown text name ∷ []
@@ -96,7 +98,8 @@ abbrev pub type_unknown : Program → type_nodes.Type.Type → List FindingParts
 type_unknown p (type.Scalar s) = []
 type_unknown p (type.Heap (heap.Pointer name bang)) = pointer_unknown p.text (struct_named p name) name
 type_unknown p (type.Heap (heap.Array element bang)) = []
-type_unknown p (type.Heap (heap.Endpoint contract end state bang in_heap)) = endpoint_unknown p.text (contract_named p contract) contract state
+type_unknown p (type.Heap (heap.Endpoint contract end state bang in_heap)) =
+    endpoint_unknown p.text (contract_named p contract) contract state
 
 -- a type of the exchange heap, whether its names are declared or not
 abbrev pub is_heap : type_nodes.Type.Type → Bool

@@ -31,7 +31,10 @@ state_names m = names_of_states (states_in m)
 
 -- what names mean there
 abbrev pub meanings : Meaning → Meanings
-meanings m = record { message = message_meant (text_of m) m.messages_before (messages_in m); state = state_meant (text_of m) m.states_before (states_in m) }
+meanings m = record {
+  message = message_meant (text_of m) m.messages_before (messages_in m);
+  state = state_meant (text_of m) m.states_before (states_in m);
+}
 
 -- its tables and places are those of what it declares, and there are numbers enough
 pub record IsMeaning (m : Meaning) : Type 0 where

@@ -22,12 +22,15 @@ pub record IsGiven (is : Kind) (more : List FindingParts) (old new : List Findin
   pub found : Adds old new more
 
 -- whatever is in scope, of that program
-pub record GivesIn (scope : Scope) (kind : InScope → Kind) (more : InScope → List FindingParts) (old new : List Finding) (k : Kind) : Type 0 where
+pub record GivesIn (scope : Scope) (kind : InScope → Kind) (more : InScope → List FindingParts) (old new : List Finding)
+    (k : Kind) : Type 0 where
   pub all : (s : InScope) → IsScope s.program scope → IsGiven (kind s) (more s) old new k
 
 -- whatever these have in scope
-pub record Gives (scope : Scope) (variables : Variables) (kind : InScope → Kind) (more : InScope → List FindingParts) (old new : List Finding) (k : Kind) : Type 0 where
-  pub all : (p : Program) (f : Frame) → IsScope p scope → IsFrame p.text f variables → IsGiven (kind (in_frame p f)) (more (in_frame p f)) old new k
+pub record Gives (scope : Scope) (variables : Variables) (kind : InScope → Kind) (more : InScope → List FindingParts)
+    (old new : List Finding) (k : Kind) : Type 0 where
+  pub all : (p : Program) (f : Frame) → IsScope p scope → IsFrame p.text f variables
+      → IsGiven (kind (in_frame p f)) (more (in_frame p f)) old new k
 
 -- what a look-up of a struct answers
 abbrev pub IsStruct : List ℕ → Option (ℕ × StructTree) → Option Fields → Type 0

@@ -3,7 +3,8 @@ use Rattle.std.specs.Prelude.{◌≡◌, ◌++◌, ◌||◌, List, Option, Some,
 use Rattle.source.specs.declared.finding.Finding.{Finding}
 use Rattle.source.specs.declared.place.Place.{Place}
 use Rattle.source.specs.declared.token.Span.{Span}
-use Rattle.names.specs.Expressions.{InScope, kind_of, place_of, expression_findings, whole_findings, joined_kind, left_asked, right_asked, signed_kind, sign_asked}
+use Rattle.names.specs.Expressions.{InScope, kind_of, place_of, expression_findings, whole_findings}
+use Rattle.names.specs.Expressions.{joined_kind, left_asked, right_asked, signed_kind, sign_asked}
 use Rattle.names.specs.Found.{Adds}
 use Rattle.names.specs.Frames.{IsFrame}
 use Rattle.names.specs.Kinds.{is_unknown}

@@ -13,11 +13,13 @@ contract_place p name = option_map (λ c. c.0) (contract_named p name)
 
 -- how many messages stand before the first one that is written so, in the contract that is the item at this place
 abbrev pub message_place : Program → ℕ → List ℕ → Option ℕ
-message_place p n word = option_and_then (λ c. first_of (words_at p.text (names_of_messages (messages_of c.1))) word) (item_at as_contract p n)
+message_place p n word =
+    option_and_then (λ c. first_of (words_at p.text (names_of_messages (messages_of c.1))) word) (item_at as_contract p n)
 
 -- the same of the message that a word like `SendM` sends
 abbrev pub sent_place : Program → ℕ → Span → Option ℕ
-sent_place p n word = if same_word (take 4 (word_at p.text word)) (codes "Send") then message_place p n (drop 4 (word_at p.text word)) else None
+sent_place p n word = if same_word (take 4 (word_at p.text word)) (codes "Send") then message_place p n (drop 4 (word_at p.text word))
+    else None
 
 -- the message there
 abbrev pub message_at : Program → ℕ → ℕ → Option MessageTree

@@ -16,7 +16,8 @@ use Rattle.names.specs.declared.members.Members.{Members}
 pub record IsReady (text : List ℕ) (d : Declared) : Type 0 where
   pub messages : IsTable (words_at text (names_of_messages (outlined_messages d.outline))) d.messages
   pub states : IsTable (words_at text (names_of_states (outlined_states d.outline))) d.states
-  pub clean : flat_map (state_findings text (names_of_messages (outlined_messages d.outline)) (names_of_states (outlined_states d.outline))) (outlined_states d.outline) ≡ []
+  pub clean : flat_map (state_findings text (names_of_messages (outlined_messages d.outline))
+      (names_of_states (outlined_states d.outline))) (outlined_states d.outline) ≡ []
 
 -- what the contracts among the items declare, in order
 abbrev pub declared_in : List Members → List Declared
@@ -31,8 +32,10 @@ declared_states declared = length (flat_map (λ d. counted_states (outlined_stat
 
 -- a contract as it is resolved, behind so many messages and states
 abbrev pub resolved_declared : List ℕ → ℕ → ℕ → Declared → ContractSeen
-resolved_declared text message state d = resolved_contract text message state d.outline.name (outlined_messages d.outline) (outlined_states d.outline)
+resolved_declared text message state d =
+    resolved_contract text message state d.outline.name (outlined_messages d.outline) (outlined_states d.outline)
 
 -- contracts in order as they are resolved
 abbrev pub all_resolved : List ℕ → List Declared → List ContractSeen
-all_resolved text declared = each_behind (λ before d. resolved_declared text (declared_messages before) (declared_states before) d ∷ []) [] declared
+all_resolved text declared =
+    each_behind (λ before d. resolved_declared text (declared_messages before) (declared_states before) d ∷ []) [] declared

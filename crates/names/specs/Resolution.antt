@@ -8,7 +8,8 @@ use Rattle.source.specs.declared.place.Place.{Place}
 use Rattle.source.specs.declared.token.Span.{Span}
 use Rattle.tree.specs.Trees.{ContractTree, MessageTree, StateTree, PathTree}
 use Rattle.tree.specs.declared.contract as tree
-use Rattle.names.specs.Declarations.{messages_of, states_of, paths_of, unnamed_of, counted_states, names_of_messages, names_of_states, first_among}
+use Rattle.names.specs.Declarations.{messages_of, states_of, paths_of, unnamed_of, counted_states}
+use Rattle.names.specs.Declarations.{names_of_messages, names_of_states, first_among}
 use Rattle.program.specs.Parts.{StateParts, MessageParts, ContractSeen}
 use Rattle.names.specs.Words.{word_at}
 use Rattle.program.specs.declared.contract.Edge.{Edge}
@@ -65,7 +66,8 @@ message_meant text first messages name = option_map_or (λ k. first + k) (first_
 
 -- the number of the state that a name means, likewise
 abbrev pub state_meant : List ℕ → ℕ → List StateTree → Span → ℕ
-state_meant text first states name = option_map_or (λ k. first + length (counted_states (take k states))) (first_among text (names_of_states states) name) 0
+state_meant text first states name =
+    option_map_or (λ k. first + length (counted_states (take k states))) (first_among text (names_of_states states) name) 0
 
 -- what the names in the edges of a contract mean
 pub record Meanings : Type 0 where
@@ -90,7 +92,8 @@ edges_through means from (to ∷ stops) (e ∷ edges) = edge_between means from 
 
 -- A path leads from its state through its unnamed states, numbered in a row, to the state of its target.
 abbrev pub path_edges : Meanings → ℕ → ℕ → PathTree → List Edge
-path_edges means from unnamed p = edges_through means from (range_with_len unnamed (length p.others) ++ means.state p.target ∷ []) (p.first ∷ p.others)
+path_edges means from unnamed p =
+    edges_through means from (range_with_len unnamed (length p.others) ++ means.state p.target ∷ []) (p.first ∷ p.others)
 
 -- the edges of the paths of one state; the unnamed states are counted behind it, path by path
 abbrev pub paths_edges : Meanings → ℕ → List PathTree → List Edge
@@ -98,7 +101,8 @@ paths_edges means from paths = each_behind (λ before p. path_edges means from (
 
 -- the edges of a contract, where so many states stand before its own
 abbrev pub edges_from : Meanings → ℕ → List StateTree → List Edge
-edges_from means first states = each_behind (λ before s. paths_edges means (first + length (counted_states before)) (paths_of s.body)) [] states
+edges_from means first states =
+    each_behind (λ before s. paths_edges means (first + length (counted_states before)) (paths_of s.body)) [] states
 
 -- A contract with these messages and states, where so many messages and so many states stand before its own. Its first
 -- state is the one that stands first.
@@ -109,7 +113,10 @@ resolved_contract text first_message first_state name messages states = record {
     first = record { 0 = first_state };
     states = states_from text first_state states;
     messages = messages_from text first_message messages;
-    edges = edges_from (record { message = message_meant text first_message messages; state = state_meant text first_state states }) first_state states;
+    edges = edges_from (record {
+      message = message_meant text first_message messages;
+      state = state_meant text first_state states;
+    }) first_state states;
   };
 }
 
@@ -122,4 +129,5 @@ state_count contracts = length (flat_map (λ c. counted_states (states_of c)) co
 
 -- the contracts of a program, in order
 abbrev pub resolved_contracts : List ℕ → List ContractTree → List ContractSeen
-resolved_contracts text contracts = each_behind (λ before c. resolved_contract text (message_count before) (state_count before) c.name (messages_of c) (states_of c) ∷ []) [] contracts
+resolved_contracts text contracts = each_behind (λ before c.
+    resolved_contract text (message_count before) (state_count before) c.name (messages_of c) (states_of c) ∷ []) [] contracts

@@ -3,7 +3,8 @@ use Rattle.std.specs.Prelude.{◌≡◌, ℕ, List, [], ◌∷◌, map, Option, 
 use Rattle.std.specs.BTreeMap.{get}
 use Rattle.std.specs.Ordering.{nat_cmp}
 use Rattle.tree.specs.declared.types.Type.TheVariants as type
-use Rattle.tree.specs.Trees.{ItemTree, DefinitionTree, Contract, Struct, Class, ContractTree, StructTree, ClassTree, MethodTree, item_tree, method_tree}
+use Rattle.tree.specs.Trees.{ItemTree, DefinitionTree, Contract, Struct, Class, ContractTree}
+use Rattle.tree.specs.Trees.{StructTree, ClassTree, MethodTree, item_tree, method_tree}
 use Rattle.names.specs.Declarations.{names_of_messages, names_of_states, messages_of, states_of}
 use Rattle.names.specs.Kinds.{type_kind}
 use Rattle.names.specs.Numbered.{places_named}

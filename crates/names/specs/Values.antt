@@ -1,5 +1,6 @@
 -- What is wrong with the names and kinds of targets, arguments, calls and values.
-use Rattle.std.specs.Prelude.{ℕ, Bool, true, false, ◌&&◌, ◌||◌, not, List, [], ◌∷◌, ◌++◌, map, length, drop, take, codes, if◌then◌else◌, Option, None, Some, is_some, option_and_then, slice_get, ◌==◌}
+use Rattle.std.specs.Prelude.{ℕ, Bool, true, false, ◌&&◌, ◌||◌, not, List, [], ◌∷◌, ◌++◌, map, length, drop, take}
+use Rattle.std.specs.Prelude.{codes, if◌then◌else◌, Option, None, Some, is_some, option_and_then, slice_get, ◌==◌}
 use Rattle.source.specs.declared.place.Place.{Place}
 use Rattle.source.specs.declared.token.Span.{Span}
 use Rattle.source.specs.declared.finding.Code.TheVariants.{N04, N07}
@@ -15,7 +16,8 @@ use Rattle.names.specs.Firsts.{first_of}
 use Rattle.names.specs.Found.{FindingParts, unknown}
 use Rattle.names.specs.Kinds.{agree, is_silent, is_unknown, is_block, is_heap, unless, type_kind, pointer_kind, pointer_unknown}
 use Rattle.names.specs.Program.{Program, struct_named, class_named, as_contract, item_at}
-use Rattle.names.specs.Expressions.{InScope, meant, held, kind_of, place_of, field_kind, field_findings, element_kind, element_findings, variable_findings, whole_findings, number_findings, is_length}
+use Rattle.names.specs.Expressions.{InScope, meant, held, kind_of, place_of, field_kind, field_findings, element_kind}
+use Rattle.names.specs.Expressions.{element_findings, variable_findings, whole_findings, number_findings, is_length}
 use Rattle.names.specs.Shapes.{Shape, shape}
 use Rattle.tree.specs.Expressions.{TargetTree, Variable, Field, Element}
 use Rattle.tree.specs.Values as values
@@ -107,7 +109,8 @@ receives _ _ = false
 
 -- the first message of a contract that is written so
 abbrev pub message_written : List ℕ → ContractTree → List ℕ → Option MessageTree
-message_written text c word = option_and_then (slice_get (messages_of c)) (first_of (words_at text (names_of_messages (messages_of c))) word)
+message_written text c word =
+    option_and_then (slice_get (messages_of c)) (first_of (words_at text (names_of_messages (messages_of c))) word)
 
 -- the message that a word like `SendM` sends
 abbrev pub sent_message : List ℕ → ContractTree → List ℕ → Option MessageTree
@@ -128,7 +131,8 @@ message_findings s (Some m) end role word arguments =
     ++ (number_of_arguments m.params arguments word.place ++ argument_findings s (message_kinds s.program m) arguments)
 
 abbrev pub contract_message : InScope → ℕ → Span → Option MessageTree
-contract_message s n word = option_and_then (λ c. sent_message s.program.text c.1 (word_at s.program.text word)) (item_at as_contract s.program n)
+contract_message s n word =
+    option_and_then (λ c. sent_message s.program.text c.1 (word_at s.program.text word)) (item_at as_contract s.program n)
 
 -- a call on a variable is a send; only an endpoint sends
 abbrev pub send_findings : InScope → Kind → Role → Span → Span → List Shape → List FindingParts
@@ -186,5 +190,7 @@ length_findings s k field = []
 
 abbrev pub target_findings : InScope → TargetTree → List FindingParts
 target_findings s (Variable name) = variable_findings s name
-target_findings s (Field name field) = variable_findings s name ++ (field_findings s (held (meant s name)) name field ++ length_findings s (held (meant s name)) field)
-target_findings s (Element name index) = number_findings s (shape index) ++ (variable_findings s name ++ element_findings (held (meant s name)) name)
+target_findings s (Field name field) =
+    variable_findings s name ++ (field_findings s (held (meant s name)) name field ++ length_findings s (held (meant s name)) field)
+target_findings s (Element name index) =
+    number_findings s (shape index) ++ (variable_findings s name ++ element_findings (held (meant s name)) name)

@@ -30,7 +30,9 @@ fn judge_argument(
     argument: &Expression,
     found: &mut Vec<Finding>,
 ) -> Result<(), Memory>
-    ensures { (p : Program) (f : Frame) → IsScope p scope.now → IsFrame p.text f variables.now → OnOk result (Adds found.old.items found.new.items (argument_asked (record { program = p; variables = f.variables }) asked (shape (expression_tree argument.now)))) }
+    ensures { (p : Program) (f : Frame) → IsScope p scope.now
+        → IsFrame p.text f variables.now → OnOk result (Adds found.old.items found.new.items
+        (argument_asked (record { program = p; variables = f.variables }) asked (shape (expression_tree argument.now)))) }
 {
     match asked {
         Some(kind) => judge_asked(alloc, scope, variables, kind, argument, found),
@@ -56,7 +58,9 @@ pub(crate) fn judge_arguments(
     arguments: &[Expression],
     found: &mut Vec<Finding>,
 ) -> Result<(), Memory>
-    ensures { (p : Program) (f : Frame) → IsScope p scope.now → IsFrame p.text f variables.now → OnOk result (Adds found.old.items found.new.items (argument_findings (record { program = p; variables = f.variables }) asked.now (map shape (map expression_tree arguments.now)))) }
+    ensures { (p : Program) (f : Frame) → IsScope p scope.now → IsFrame p.text f variables.now
+        → OnOk result (Adds found.old.items found.new.items (argument_findings
+        (record { program = p; variables = f.variables }) asked.now (map shape (map expression_tree arguments.now)))) }
 {
     for (place, argument) in arguments.iter().enumerate() {
         let kind = kind_at(asked, place);
@@ -72,7 +76,8 @@ fn parameter_kinds(
     parameters: &[Parameter],
     most: usize,
 ) -> Result<Vec<Kind>, Memory>
-    ensures { IfOk result (λ kinds. (p : Program) → IsScope p scope.now → kinds.items ≡ map (λ x. type_kind p x.kind) (take most parameters.now)) }
+    ensures { IfOk result (λ kinds. (p : Program) → IsScope p scope.now
+        → kinds.items ≡ map (λ x. type_kind p x.kind) (take most parameters.now)) }
 {
     let mut kinds = Vec::new(alloc);
     for parameter in &parameters[..most.min(parameters.len())] {
@@ -88,7 +93,8 @@ fn message_kinds(
     parameters: &[Param],
     most: usize,
 ) -> Result<Vec<Kind>, Memory>
-    ensures { IfOk result (λ kinds. (p : Program) → IsScope p scope.now → kinds.items ≡ map (λ x. type_kind p x.kind) (take most parameters.now)) }
+    ensures { IfOk result (λ kinds. (p : Program) → IsScope p scope.now
+        → kinds.items ≡ map (λ x. type_kind p x.kind) (take most parameters.now)) }
 {
     let mut kinds = Vec::new(alloc);
     for parameter in &parameters[..most.min(parameters.len())] {
@@ -106,7 +112,9 @@ pub(crate) fn judge_parameter_arguments(
     arguments: &[Expression],
     found: &mut Vec<Finding>,
 ) -> Result<(), Memory>
-    ensures { (p : Program) (f : Frame) → IsScope p scope.now → IsFrame p.text f variables.now → OnOk result (Adds found.old.items found.new.items (argument_findings (record { program = p; variables = f.variables }) (map (λ x. type_kind p x.kind) parameters.now) (map shape (map expression_tree arguments.now)))) }
+    ensures { (p : Program) (f : Frame) → IsScope p scope.now → IsFrame p.text f variables.now
+        → OnOk result (Adds found.old.items found.new.items (argument_findings (record { program = p; variables = f.variables })
+        (map (λ x. type_kind p x.kind) parameters.now) (map shape (map expression_tree arguments.now)))) }
 {
     let kinds = parameter_kinds(alloc, scope, parameters, arguments.len())?;
     judge_arguments(alloc, scope, variables, &kinds, arguments, found)
@@ -121,7 +129,9 @@ pub(crate) fn judge_message_arguments(
     arguments: &[Expression],
     found: &mut Vec<Finding>,
 ) -> Result<(), Memory>
-    ensures { (p : Program) (f : Frame) → IsScope p scope.now → IsFrame p.text f variables.now → OnOk result (Adds found.old.items found.new.items (argument_findings (record { program = p; variables = f.variables }) (map (λ x. type_kind p x.kind) parameters.now) (map shape (map expression_tree arguments.now)))) }
+    ensures { (p : Program) (f : Frame) → IsScope p scope.now → IsFrame p.text f variables.now
+        → OnOk result (Adds found.old.items found.new.items (argument_findings (record { program = p; variables = f.variables })
+        (map (λ x. type_kind p x.kind) parameters.now) (map shape (map expression_tree arguments.now)))) }
 {
     let kinds = message_kinds(alloc, scope, parameters, arguments.len())?;
     judge_arguments(alloc, scope, variables, &kinds, arguments, found)

@@ -84,7 +84,8 @@ fn add_case_twice(
     awaited: Awaited,
     found: &mut Vec<Finding>,
 ) -> Result<(), Memory>
-    ensures { OnOk result (Adds found.old.items found.new.items (case_twice tokens.now.text.items (record { endpoint = endpoint; awaited = awaited; binds = [] }) ∷ [])) }
+    ensures { OnOk result (Adds found.old.items found.new.items
+        (case_twice tokens.now.text.items (record { endpoint = endpoint; awaited = awaited; binds = [] }) ∷ [])) }
 {
     let name = tokens.slice(endpoint);
     let word = tokens.slice(awaited_span(awaited));
@@ -101,7 +102,8 @@ pub(crate) fn judge_case_twice(
     awaited: Awaited,
     found: &mut Vec<Finding>,
 ) -> Result<(), Memory>
-    ensures { OnOk result (Adds found.old.items found.new.items (if twice then case_twice tokens.now.text.items (record { endpoint = endpoint; awaited = awaited; binds = [] }) ∷ [] else [])) }
+    ensures { OnOk result (Adds found.old.items found.new.items (if twice
+        then case_twice tokens.now.text.items (record { endpoint = endpoint; awaited = awaited; binds = [] }) ∷ [] else [])) }
 {
     if !twice {
         return Ok(());
@@ -117,7 +119,8 @@ pub(crate) fn judge_other_head(
     binds: &[Bind],
     found: &mut Vec<Finding>,
 ) -> Result<(), Memory>
-    ensures { OnOk result (Adds found.old.items found.new.items (other_head_findings (record { endpoint = endpoint; awaited = awaited; binds = binds.now }))) }
+    ensures { OnOk result (Adds found.old.items found.new.items
+        (other_head_findings (record { endpoint = endpoint; awaited = awaited; binds = binds.now }))) }
 {
     match awaited {
         Awaited::Closed(word) => {
@@ -137,7 +140,8 @@ pub(crate) fn judge_message_case(
     binds: &[Bind],
     found: &mut Vec<Finding>,
 ) -> Result<(), Memory>
-    ensures { (p : Program) (vs : List Variable) → OnOk result (Adds found.old.items found.new.items (message_case_findings (record { program = p; variables = vs }) (Some (message_tree message.now)) end word binds.now)) }
+    ensures { (p : Program) (vs : List Variable) → OnOk result (Adds found.old.items found.new.items
+        (message_case_findings (record { program = p; variables = vs }) (Some (message_tree message.now)) end word binds.now)) }
 {
     let well = receives(end, message.direction);
     ask(alloc, well, word.place, found)?;

@@ -51,7 +51,8 @@ fn judge_bound_type(
     name: Span,
     found: &mut Vec<Finding>,
 ) -> Result<(), Memory>
-    ensures { (p : Program) → IsScope p scope.now → OnOk result (Adds found.old.items found.new.items (type_unknown p kind ++ unless (agree (type_kind p kind) brought) name.place)) }
+    ensures { (p : Program) → IsScope p scope.now → OnOk result
+        (Adds found.old.items found.new.items (type_unknown p kind ++ unless (agree (type_kind p kind) brought) name.place)) }
 {
     judge_type(alloc, scope, kind, found)?;
     let bound = kind_of_type(scope, kind);
@@ -68,7 +69,8 @@ fn declare_in<'a>(
     heap: bool,
     found: &mut Vec<Finding>,
 ) -> Result<(), Memory>
-    ensures { (p : Program) (f : Frame) → IsScope p scope.now → IsFrame p.text f variables.old → OnOk result (Turned p.text found.old.items found.new.items variables.new (declared_variable p.text name kind heap f)) }
+    ensures { (p : Program) (f : Frame) → IsScope p scope.now → IsFrame p.text f variables.old
+        → OnOk result (Turned p.text found.old.items found.new.items variables.new (declared_variable p.text name kind heap f)) }
 {
     variables.declare(alloc, scope.tokens, name, kind, heap, found)
 }
@@ -82,7 +84,8 @@ fn judge_bind<'a>(
     bind: Bind,
     found: &mut Vec<Finding>,
 ) -> Result<(), Memory>
-    ensures { (p : Program) (f : Frame) → IsScope p scope.now → IsFrame p.text f variables.old → OnOk result (Turned p.text found.old.items found.new.items variables.new (bind_turn p (option_map (λ x. x.now) parameter.entry) bind f)) }
+    ensures { (p : Program) (f : Frame) → IsScope p scope.now → IsFrame p.text f variables.old → OnOk result
+        (Turned p.text found.old.items found.new.items variables.new (bind_turn p (option_map (λ x. x.now) parameter.entry) bind f)) }
 {
     let brought = brought_kind(scope, parameter);
     match bind.kind {
@@ -121,7 +124,8 @@ pub(crate) fn judge_bound<'a>(
     binds: &[Bind],
     found: &mut Vec<Finding>,
 ) -> Result<(), Memory>
-    ensures { (p : Program) (f : Frame) → IsScope p scope.now → IsFrame p.text f variables.old → OnOk result (Turned p.text found.old.items found.new.items variables.new (binds_turn p parameters.now binds.now f)) }
+    ensures { (p : Program) (f : Frame) → IsScope p scope.now → IsFrame p.text f variables.old
+        → OnOk result (Turned p.text found.old.items found.new.items variables.new (binds_turn p parameters.now binds.now f)) }
 {
     for (place, bind) in binds.iter().enumerate() {
         let parameter = parameter_at(parameters, place);

@@ -1,6 +1,7 @@
 //! What is wrong with the names and kinds in calls.
 
-ghost use Rattle.std.specs.Prelude.{◌≡◌, ◌++◌, ◌&&◌, ◌∷◌, ℕ, [], map, drop, take, codes, List, Option, Some, None, OnOk, IfOk, option_map, if◌then◌else◌};
+ghost use Rattle.std.specs.Prelude.{◌≡◌, ◌++◌, ◌&&◌, ◌∷◌, ℕ, [], map, drop, take, codes, List};
+ghost use Rattle.std.specs.Prelude.{Option, Some, None, OnOk, IfOk, option_map, if◌then◌else◌};
 ghost use Rattle.tree.specs.ExpressionTrees.{expression_tree};
 ghost use Rattle.tree.specs.Trees.{ContractTree, MethodTree, ClassTree, message_tree, method_tree};
 ghost use Rattle.tree.specs.Values.{call_tree};
@@ -11,7 +12,9 @@ ghost use Rattle.names.specs.Frames.{IsFrame, AreSurroundings, variable_seen};
 ghost use Rattle.names.specs.Program.{Program, class_named};
 ghost use Rattle.names.specs.Scopes.{IsScope, IsCallee};
 ghost use Rattle.names.specs.Shapes.{shape};
-ghost use Rattle.names.specs.Values.{argument_findings, can_start, result_fits, start_findings, method_findings, sends, is_alone, message_findings, contract_message, send_findings, class_findings, class_meant, member_findings, call_findings};
+ghost use Rattle.names.specs.Values.{argument_findings, can_start, result_fits, start_findings, method_findings};
+ghost use Rattle.names.specs.Values.{sends, is_alone, message_findings, contract_message, send_findings};
+ghost use Rattle.names.specs.Values.{class_findings, class_meant, member_findings, call_findings};
 ghost use Rattle.names.specs.Variables.{Frame};
 ghost use Rattle.names.specs.Variables as model;
 ghost use Rattle.names.specs.Words.{word_at, same_word};
@@ -64,7 +67,8 @@ fn judge_start(
     name: Span,
     found: &mut Vec<Finding>,
 ) -> Result<(), Memory>
-    ensures { (p : Program) (m : MethodTree) → IsScope p scope.now → startable ≡ can_start m → OnOk result (Adds found.old.items found.new.items (start_findings p.text m role name)) }
+    ensures { (p : Program) (m : MethodTree) → IsScope p scope.now → startable ≡ can_start m
+        → OnOk result (Adds found.old.items found.new.items (start_findings p.text m role name)) }
 {
     match role {
         Role::Started if !startable => add_not_started(alloc, scope.tokens, name, found),
@@ -83,7 +87,10 @@ fn judge_known_method(
     arguments: &[Expression],
     found: &mut Vec<Finding>,
 ) -> Result<(), Memory>
-    ensures { (p : Program) (f : Frame) → IsScope p scope.now → IsFrame p.text f variables.now → callee.entry.startable ≡ can_start (method_tree callee.entry.method.now) → OnOk result (Adds found.old.items found.new.items (method_findings (record { program = p; variables = f.variables }) (Some (method_tree callee.entry.method.now)) role name (map shape (map expression_tree arguments.now)))) }
+    ensures { (p : Program) (f : Frame) → IsScope p scope.now → IsFrame p.text f variables.now
+        → callee.entry.startable ≡ can_start (method_tree callee.entry.method.now)
+        → OnOk result (Adds found.old.items found.new.items (method_findings (record { program = p; variables = f.variables })
+        (Some (method_tree callee.entry.method.now)) role name (map shape (map expression_tree arguments.now)))) }
 {
     let method = callee.method;
     let asked = method.params.len();
@@ -103,7 +110,9 @@ fn judge_unknown(
     arguments: &[Expression],
     found: &mut Vec<Finding>,
 ) -> Result<(), Memory>
-    ensures { (p : Program) (f : Frame) → IsScope p scope.now → IsFrame p.text f variables.now → OnOk result (Adds found.old.items found.new.items (unknown p.text name ∷ argument_findings (record { program = p; variables = f.variables }) [] (map shape (map expression_tree arguments.now)))) }
+    ensures { (p : Program) (f : Frame) → IsScope p scope.now → IsFrame p.text f variables.now
+        → OnOk result (Adds found.old.items found.new.items (unknown p.text name
+        ∷ argument_findings (record { program = p; variables = f.variables }) [] (map shape (map expression_tree arguments.now)))) }
 {
     add_unknown(alloc, scope.tokens, name, found)?;
     judge_arguments(alloc, scope, variables, &[], arguments, found)
@@ -120,7 +129,9 @@ fn judge_method(
     arguments: &[Expression],
     found: &mut Vec<Finding>,
 ) -> Result<(), Memory>
-    ensures { (p : Program) (f : Frame) (m : Option MethodTree) → IsScope p scope.now → IsFrame p.text f variables.now → IsCallee m callee.entry → OnOk result (Adds found.old.items found.new.items (method_findings (record { program = p; variables = f.variables }) m role name (map shape (map expression_tree arguments.now)))) }
+    ensures { (p : Program) (f : Frame) (m : Option MethodTree) → IsScope p scope.now → IsFrame p.text f variables.now
+        → IsCallee m callee.entry → OnOk result (Adds found.old.items found.new.items (method_findings
+        (record { program = p; variables = f.variables }) m role name (map shape (map expression_tree arguments.now)))) }
 {
     match callee {
         Some(callee) => judge_known_method(
@@ -155,7 +166,8 @@ fn is_sent(role: Role, end: Side, direction: Direction) -> bool
 
 /// The message that a word like `SendM` sends in the contract that is the item at this place.
 fn sent_message<'a>(scope: &Scope<'a>, place: usize, word: Span) -> Option<&'a Message>
-    ensures { (p : Program) (vs : List model.Variable) → IsScope p scope.now → option_map (λ m. message_tree m.now) result ≡ contract_message (record { program = p; variables = vs }) place word }
+    ensures { (p : Program) (vs : List model.Variable) → IsScope p scope.now
+        → option_map (λ m. message_tree m.now) result ≡ contract_message (record { program = p; variables = vs }) place word }
 {
     let declared = scope.contract_at(place)?;
     let name = scope.tokens.slice(word).strip_prefix(b"Send")?;
@@ -174,7 +186,9 @@ fn judge_known_message(
     arguments: &[Expression],
     found: &mut Vec<Finding>,
 ) -> Result<(), Memory>
-    ensures { (p : Program) (f : Frame) → IsScope p scope.now → IsFrame p.text f variables.now → OnOk result (Adds found.old.items found.new.items (message_findings (record { program = p; variables = f.variables }) (Some (message_tree message.now)) end role word (map shape (map expression_tree arguments.now)))) }
+    ensures { (p : Program) (f : Frame) → IsScope p scope.now → IsFrame p.text f variables.now
+        → OnOk result (Adds found.old.items found.new.items (message_findings (record { program = p; variables = f.variables })
+        (Some (message_tree message.now)) end role word (map shape (map expression_tree arguments.now)))) }
 {
     ask(
         alloc,
@@ -199,7 +213,9 @@ fn judge_end(
     arguments: &[Expression],
     found: &mut Vec<Finding>,
 ) -> Result<(), Memory>
-    ensures { (p : Program) (f : Frame) → IsScope p scope.now → IsFrame p.text f variables.now → OnOk result (Adds found.old.items found.new.items (message_findings (record { program = p; variables = f.variables }) (contract_message (record { program = p; variables = f.variables }) place word) end role word (map shape (map expression_tree arguments.now)))) }
+    ensures { (p : Program) (f : Frame) → IsScope p scope.now → IsFrame p.text f variables.now → OnOk result
+        (Adds found.old.items found.new.items (message_findings (record { program = p; variables = f.variables }) (contract_message
+        (record { program = p; variables = f.variables }) place word) end role word (map shape (map expression_tree arguments.now)))) }
 {
     match sent_message(scope, place, word) {
         Some(message) => judge_known_message(
@@ -221,7 +237,9 @@ fn judge_send(
     arguments: &[Expression],
     found: &mut Vec<Finding>,
 ) -> Result<(), Memory>
-    ensures { (p : Program) (f : Frame) → IsScope p scope.now → IsFrame p.text f variables.now → OnOk result (Adds found.old.items found.new.items (send_findings (record { program = p; variables = f.variables }) kind role variable word (map shape (map expression_tree arguments.now)))) }
+    ensures { (p : Program) (f : Frame) → IsScope p scope.now → IsFrame p.text f variables.now
+        → OnOk result (Adds found.old.items found.new.items (send_findings
+        (record { program = p; variables = f.variables }) kind role variable word (map shape (map expression_tree arguments.now)))) }
 {
     match kind {
         Kind::Endpoint(place, end) => judge_end(
@@ -245,7 +263,9 @@ fn judge_class(
     arguments: &[Expression],
     found: &mut Vec<Finding>,
 ) -> Result<(), Memory>
-    ensures { (p : Program) (f : Frame) → IsScope p scope.now → IsFrame p.text f variables.now → OnOk result (Adds found.old.items found.new.items (class_findings (record { program = p; variables = f.variables }) (class_meant (class_named p class)) role class name (map shape (map expression_tree arguments.now)))) }
+    ensures { (p : Program) (f : Frame) → IsScope p scope.now → IsFrame p.text f variables.now
+        → OnOk result (Adds found.old.items found.new.items (class_findings (record { program = p; variables = f.variables })
+        (class_meant (class_named p class)) role class name (map shape (map expression_tree arguments.now)))) }
 {
     match scope.class(class) {
         Some(methods) => {
@@ -269,7 +289,9 @@ fn judge_member(
     arguments: &[Expression],
     found: &mut Vec<Finding>,
 ) -> Result<(), Memory>
-    ensures { (p : Program) (f : Frame) → IsScope p scope.now → IsFrame p.text f variables.now → OnOk result (Adds found.old.items found.new.items (member_findings (record { program = p; variables = f.variables }) (meant (record { program = p; variables = f.variables }) front) role front word (map shape (map expression_tree arguments.now)))) }
+    ensures { (p : Program) (f : Frame) → IsScope p scope.now → IsFrame p.text f variables.now
+        → OnOk result (Adds found.old.items found.new.items (member_findings (record { program = p; variables = f.variables }) (meant
+        (record { program = p; variables = f.variables }) front) role front word (map shape (map expression_tree arguments.now)))) }
 {
     match variables.find(scope.tokens, front) {
         Some(variable) => judge_send(
@@ -296,7 +318,8 @@ pub(crate) fn judge_call(
     call: &Call,
     found: &mut Vec<Finding>,
 ) -> Result<(), Memory>
-    ensures { (m : bodies.Surroundings) (f : Frame) → AreSurroundings m around.now → IsFrame m.program.text f variables.now → OnOk result (Adds found.old.items found.new.items (call_findings (bodies.inside_of m f) role (call_tree call.now))) }
+    ensures { (m : bodies.Surroundings) (f : Frame) → AreSurroundings m around.now → IsFrame m.program.text f variables.now
+        → OnOk result (Adds found.old.items found.new.items (call_findings (bodies.inside_of m f) role (call_tree call.now))) }
 {
     let scope = around.scope;
     let arguments = &call.arguments;

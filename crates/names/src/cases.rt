@@ -2,7 +2,8 @@
 
 ghost use Rattle.std.specs.Prelude.{◌≡◌, List, Some, [], take, if◌then◌else◌, OnOk, option_map, option_and_then, slice_get};
 ghost use Rattle.tree.specs.Trees.{message_tree};
-ghost use Rattle.names.specs.Cases.{Head, awaits_too, awaited_findings, endpoint_head_findings, kind_head_findings, other_head_findings, head_findings, binds_turn, bound_params, awaited_message};
+ghost use Rattle.names.specs.Cases.{Head, awaits_too, awaited_findings, endpoint_head_findings, kind_head_findings};
+ghost use Rattle.names.specs.Cases.{other_head_findings, head_findings, binds_turn, bound_params, awaited_message};
 ghost use Rattle.names.specs.Expressions.{meant, held};
 ghost use Rattle.names.specs.Found.{Adds};
 ghost use Rattle.names.specs.Frames.{IsFrame, Turned};
@@ -39,7 +40,9 @@ pub(crate) fn judge_head<'a>(
     case: &Case,
     found: &mut Vec<Finding>,
 ) -> Result<(), Memory>
-    ensures { (p : Program) (f : Frame) (all : List Head) → IsScope p scope.now → IsFrame p.text f variables.now → IsHeads p.text all heads.now → OnOk result (Adds found.old.items found.new.items (head_findings (record { program = p; variables = f.variables }) all (take place all) (case_head case.now))) }
+    ensures { (p : Program) (f : Frame) (all : List Head) → IsScope p scope.now → IsFrame p.text f variables.now
+        → IsHeads p.text all heads.now → OnOk result (Adds found.old.items found.new.items
+        (head_findings (record { program = p; variables = f.variables }) all (take place all) (case_head case.now))) }
 {
     judge_use(alloc, scope, variables, case.endpoint, found)?;
     match kind_held(scope, variables, case.endpoint) {
@@ -61,7 +64,9 @@ fn judge_endpoint_head<'a>(
     case: &Case,
     found: &mut Vec<Finding>,
 ) -> Result<(), Memory>
-    ensures { (p : Program) (vs : List Variable) (all : List Head) → IsScope p scope.now → IsHeads p.text all heads.now → OnOk result (Adds found.old.items found.new.items (kind_head_findings (record { program = p; variables = vs }) all (take place all) (Kind.Endpoint item end) (case_head case.now))) }
+    ensures { (p : Program) (vs : List Variable) (all : List Head) → IsScope p scope.now → IsHeads p.text all heads.now
+        → OnOk result (Adds found.old.items found.new.items (kind_head_findings (record { program = p; variables = vs }) all
+        (take place all) (Kind.Endpoint item end) (case_head case.now))) }
 {
     let twice = heads.is_twice(scope.tokens, place, awaiting_at(case));
     judge_awaited(alloc, scope, item, end, twice, case, found)?;
@@ -79,7 +84,9 @@ fn judge_awaited(
     case: &Case,
     found: &mut Vec<Finding>,
 ) -> Result<(), Memory>
-    ensures { (p : Program) (vs : List Variable) (earlier : List Head) → IsScope p scope.now → twice ≡ awaits_too p.text (case_head case.now) earlier → OnOk result (Adds found.old.items found.new.items (endpoint_head_findings (record { program = p; variables = vs }) earlier (Kind.Endpoint item end) end (case_head case.now))) }
+    ensures { (p : Program) (vs : List Variable) (earlier : List Head) → IsScope p scope.now
+        → twice ≡ awaits_too p.text (case_head case.now) earlier → OnOk result (Adds found.old.items found.new.items
+        (endpoint_head_findings (record { program = p; variables = vs }) earlier (Kind.Endpoint item end) end (case_head case.now))) }
 {
     match case.message {
         Awaited::Closed(word) => {
@@ -110,7 +117,9 @@ fn judge_message(
     case: &Case,
     found: &mut Vec<Finding>,
 ) -> Result<(), Memory>
-    ensures { (p : Program) (vs : List Variable) (earlier : List Head) → IsScope p scope.now → case.now.message ≡ Awaited.Message word → twice ≡ awaits_too p.text (case_head case.now) earlier → OnOk result (Adds found.old.items found.new.items (awaited_findings (record { program = p; variables = vs }) earlier (Kind.Endpoint item end) end (case_head case.now) (Awaited.Message word))) }
+    ensures { (p : Program) (vs : List Variable) (earlier : List Head) → IsScope p scope.now → case.now.message ≡ Awaited.Message word
+        → twice ≡ awaits_too p.text (case_head case.now) earlier → OnOk result (Adds found.old.items found.new.items (awaited_findings
+        (record { program = p; variables = vs }) earlier (Kind.Endpoint item end) end (case_head case.now) (Awaited.Message word))) }
 {
     match message_named(scope, item, word) {
         Some(message) => {
@@ -153,7 +162,11 @@ pub(crate) fn judge_binds<'a>(
     binds: &[Bind],
     found: &mut Vec<Finding>,
 ) -> Result<(), Memory>
-    ensures { (p : Program) (f : Frame) → IsScope p scope.now → IsFrame p.text f variables.old → OnOk result (Turned p.text found.old.items found.new.items variables.new (binds_turn p (bound_params (awaited_message (record { program = p; variables = f.variables }) (held (meant (record { program = p; variables = f.variables }) endpoint)) awaited)) binds.now f)) }
+    ensures { (p : Program) (f : Frame) → IsScope p scope.now → IsFrame p.text f variables.old → OnOk result
+        (Turned p.text found.old.items found.new.items variables.new (binds_turn p (bound_params (awaited_message (record {
+          program = p;
+          variables = f.variables;
+        }) (held (meant (record { program = p; variables = f.variables }) endpoint)) awaited)) binds.now f)) }
 {
     match kind_held(scope, variables, endpoint) {
         Kind::Endpoint(place, end) => {
@@ -167,7 +180,8 @@ pub(crate) fn judge_binds<'a>(
 
 /// The message of this name in the contract that is the item at this place.
 fn message_named<'a>(scope: &Scope<'a>, place: usize, word: Span) -> Option<&'a Message>
-    ensures { (p : Program) → IsScope p scope.now → option_map (λ m. message_tree m.now) result ≡ option_and_then (λ c. message_written p.text c.1 (word_at p.text word)) (item_at as_contract p place) }
+    ensures { (p : Program) → IsScope p scope.now → option_map (λ m. message_tree m.now) result
+        ≡ option_and_then (λ c. message_written p.text c.1 (word_at p.text word)) (item_at as_contract p place) }
 {
     let declared = scope.contract_at(place)?;
     declared.message(scope.tokens.slice(word))
@@ -180,7 +194,8 @@ fn awaited_message<'a>(
     end: Side,
     awaited: Awaited,
 ) -> Option<&'a Message>
-    ensures { (p : Program) (vs : List Variable) → IsScope p scope.now → option_map (λ m. message_tree m.now) result ≡ awaited_message (record { program = p; variables = vs }) (Kind.Endpoint place end) awaited }
+    ensures { (p : Program) (vs : List Variable) → IsScope p scope.now → option_map (λ m. message_tree m.now) result
+        ≡ awaited_message (record { program = p; variables = vs }) (Kind.Endpoint place end) awaited }
 {
     match awaited {
         Awaited::Message(word) => message_named(scope, place, word),

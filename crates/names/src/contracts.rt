@@ -26,7 +26,8 @@ pub(crate) fn judge_contract(
     declared: &Declared<'_>,
     found: &mut Vec<Finding>,
 ) -> Result<(), Memory>
-    ensures { (p : Program) (contract : ContractTree) → IsScope p scope.now → IsDeclared p.text contract declared.now → OnOk result (Adds found.old.items found.new.items (contract_findings p contract)) }
+    ensures { (p : Program) (contract : ContractTree) → IsScope p scope.now → IsDeclared p.text contract declared.now
+        → OnOk result (Adds found.old.items found.new.items (contract_findings p contract)) }
 {
     let messages = declared.outline.message_names(alloc)?;
     judge_twice(alloc, scope.tokens, &declared.messages, &messages, found)?;

@@ -16,7 +16,8 @@ use tree::{Edge, Path, State};
 /// The names at which the states of the contracts among these are counted: its own for a named state, and the message
 /// behind it for an unnamed one.
 pub(crate) fn all_counted(alloc: Global, items: &[Members<'_>]) -> Result<Vec<Span>, AllocError>
-    ensures { IfOk result (λ names. names.items ≡ flat_map (λ m. flat_map (λ d. counted_states (outlined_states d.outline)) (declared_among m)) items.now) }
+    ensures { IfOk result (λ names. names.items
+        ≡ flat_map (λ m. flat_map (λ d. counted_states (outlined_states d.outline)) (declared_among m)) items.now) }
 {
     let mut names = Vec::new(alloc);
     for item in items {
@@ -26,7 +27,8 @@ pub(crate) fn all_counted(alloc: Global, items: &[Members<'_>]) -> Result<Vec<Sp
 }
 
 fn add_counted(names: &mut Vec<Span>, item: &Members<'_>) -> Result<(), AllocError>
-    ensures { OnOk result (names.new.items ≡ names.old.items ++ flat_map (λ d. counted_states (outlined_states d.outline)) (declared_among item.now)) }
+    ensures { OnOk result (names.new.items
+        ≡ names.old.items ++ flat_map (λ d. counted_states (outlined_states d.outline)) (declared_among item.now)) }
 {
     match item {
         Members::Contract(declared) => add_states(names, &declared.outline.states),

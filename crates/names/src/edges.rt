@@ -18,7 +18,8 @@ use tree::Path;
 /// The edges, in order of the text.
 pub(crate) fn edges_of(alloc: Global, meaning: &Meaning<'_, '_>) -> Result<Vec<Edge>, Memory>
     requires meaning { IsMeaning meaning.now }
-    requires clean { flat_map (state_findings (text_of meaning.now) (message_names meaning.now) (state_names meaning.now)) (states_in meaning.now) ≡ [] }
+    requires clean { flat_map (state_findings (text_of meaning.now) (message_names meaning.now) (state_names meaning.now))
+        (states_in meaning.now) ≡ [] }
     ensures { IfOk result (λ edges. edges.items ≡ edges_from (meanings meaning.now) meaning.now.states_before (states_in meaning.now)) }
 {
     let mut edges = Vec::new(alloc);
@@ -37,7 +38,8 @@ fn add_paths(
     edges: &mut Vec<Edge>,
 ) -> Result<(), Memory>
     requires meaning { IsMeaning meaning.now }
-    requires clean { flat_map (path_findings (text_of meaning.now) (message_names meaning.now) (state_names meaning.now)) (map path_tree paths.now) ≡ [] }
+    requires clean { flat_map (path_findings (text_of meaning.now) (message_names meaning.now) (state_names meaning.now))
+        (map path_tree paths.now) ≡ [] }
     requires room { state + 1 + length (flat_map unnamed_of (map path_tree paths.now)) < 2 ^ 32 }
     ensures { OnOk result (edges.new.items ≡ edges.old.items ++ paths_edges (meanings meaning.now) state (map path_tree paths.now)) }
 {

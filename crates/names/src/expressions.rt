@@ -2,7 +2,8 @@
 
 ghost use Rattle.std.specs.Prelude.{◌≡◌, ℕ, List, OnOk, IfOk};
 ghost use Rattle.source.specs.declared.finding.Finding.{Finding};
-ghost use Rattle.tree.specs.ExpressionTrees.{expression_tree, conjunction_tree, equality_tree, relation_tree, sum_tree, term_tree, unary_tree, atom_tree, target_tree};
+ghost use Rattle.tree.specs.ExpressionTrees.{expression_tree, conjunction_tree, equality_tree, relation_tree};
+ghost use Rattle.tree.specs.ExpressionTrees.{sum_tree, term_tree, unary_tree, atom_tree, target_tree};
 ghost use Rattle.names.specs.Expressions.{InScope, kind_of, expression_findings, whole_findings};
 ghost use Rattle.names.specs.Found.{Adds};
 ghost use Rattle.names.specs.Frames.{IsFrame};
@@ -158,7 +159,8 @@ fn judge_signs(
     inner: Operand,
     found: &mut Vec<Finding>,
 ) -> Result<Operand, Memory>
-    ensures { IfOk result (λ o. (s : InScope) (e : Shape) (start : List Finding) → IsJudged s e start found.old.items inner → IsJudged s (signed prefixes.now e) start found.new.items o) }
+    ensures { IfOk result (λ o. (s : InScope) (e : Shape) (start : List Finding) → IsJudged s e start found.old.items inner
+        → IsJudged s (signed prefixes.now e) start found.new.items o) }
 {
     let mut operand = inner;
     let mut left = prefixes.len();
@@ -226,8 +228,11 @@ pub(crate) fn judge_expression(
     expression: &Expression,
     found: &mut Vec<Finding>,
 ) -> Result<Kind, Memory>
-    ensures kind { IfOk result (λ kind. (p : Program) (f : Frame) → IsScope p scope.now → IsFrame p.text f variables.now → kind ≡ kind_of (record { program = p; variables = f.variables }) (shape (expression_tree expression.now))) }
-    ensures found { (p : Program) (f : Frame) → IsScope p scope.now → IsFrame p.text f variables.now → OnOk result (Adds found.old.items found.new.items (expression_findings (record { program = p; variables = f.variables }) (shape (expression_tree expression.now)))) }
+    ensures kind { IfOk result (λ kind. (p : Program) (f : Frame) → IsScope p scope.now → IsFrame p.text f variables.now
+        → kind ≡ kind_of (record { program = p; variables = f.variables }) (shape (expression_tree expression.now))) }
+    ensures found { (p : Program) (f : Frame) → IsScope p scope.now
+        → IsFrame p.text f variables.now → OnOk result (Adds found.old.items found.new.items
+        (expression_findings (record { program = p; variables = f.variables }) (shape (expression_tree expression.now)))) }
 {
     let operand = judge_operand(alloc, scope, variables, expression, found)?;
     Ok(operand.kind)
@@ -242,8 +247,10 @@ pub(crate) fn judge_whole(
     expression: &Expression,
     found: &mut Vec<Finding>,
 ) -> Result<Kind, Memory>
-    ensures kind { IfOk result (λ kind. (p : Program) (f : Frame) → IsScope p scope.now → IsFrame p.text f variables.now → kind ≡ kind_of (record { program = p; variables = f.variables }) (shape (expression_tree expression.now))) }
-    ensures found { (p : Program) (f : Frame) → IsScope p scope.now → IsFrame p.text f variables.now → OnOk result (Adds found.old.items found.new.items (whole_findings (record { program = p; variables = f.variables }) (shape (expression_tree expression.now)))) }
+    ensures kind { IfOk result (λ kind. (p : Program) (f : Frame) → IsScope p scope.now → IsFrame p.text f variables.now
+        → kind ≡ kind_of (record { program = p; variables = f.variables }) (shape (expression_tree expression.now))) }
+    ensures found { (p : Program) (f : Frame) → IsScope p scope.now → IsFrame p.text f variables.now → OnOk result (Adds found.old.items
+        found.new.items (whole_findings (record { program = p; variables = f.variables }) (shape (expression_tree expression.now)))) }
 {
     let operand = judge_whole_operand(alloc, scope, variables, expression, found)?;
     Ok(operand.kind)

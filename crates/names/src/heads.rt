@@ -54,14 +54,16 @@ impl<'a> Heads<'a> {
 
     /// Whether one of the heads before this place awaits the same as this case.
     pub(crate) fn is_twice(&self, tokens: &'a Tokens, place: usize, case: Awaiting) -> bool
-        ensures { (all : List Head) (h : Head) → IsHeads tokens.now.text.items all self.now → case ≡ awaiting_of h → result ≡ awaits_too tokens.now.text.items h (take place all) }
+        ensures { (all : List Head) (h : Head) → IsHeads tokens.now.text.items all self.now → case ≡ awaiting_of h
+            → result ≡ awaits_too tokens.now.text.items h (take place all) }
     {
         stands_before(self.place_of(key_of(tokens, case)), place)
     }
 
     /// Whether the endpoint has no case for its close, and none of the heads before this place names it.
     pub(crate) fn is_lacking(&self, tokens: &'a Tokens, place: usize, endpoint: Span) -> bool
-        ensures { (all : List Head) (h : Head) → IsHeads tokens.now.text.items all self.now → endpoint ≡ h.endpoint → result ≡ lacks tokens.now.text.items all (take place all) h }
+        ensures { (all : List Head) (h : Head) → IsHeads tokens.now.text.items all self.now → endpoint ≡ h.endpoint
+            → result ≡ lacks tokens.now.text.items all (take place all) h }
     {
         let word = tokens.slice(endpoint);
         let named = stands_before(self.endpoints.find(word), place);
@@ -100,7 +102,8 @@ fn key_of<'a>(tokens: &'a Tokens, case: Awaiting) -> Key<'a>
 
 /// What is written at these heads.
 fn keys_of<'a>(alloc: Global, tokens: &'a Tokens, list: &[Awaiting]) -> Result<Vec<Key<'a>>, Memory>
-    ensures { IfOk result (λ keys. map key_words keys.items ≡ map (λ a. (word_at tokens.now.text.items a.endpoint, awaited_word tokens.now.text.items a.awaited)) list.now) }
+    ensures { IfOk result (λ keys. map key_words keys.items
+        ≡ map (λ a. (word_at tokens.now.text.items a.endpoint, awaited_word tokens.now.text.items a.awaited)) list.now) }
 {
     let mut keys = Vec::new(alloc);
     for case in list {

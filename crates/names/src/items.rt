@@ -48,7 +48,8 @@ fn judge_definitions(
     scope: &Scope<'_>,
     found: &mut Vec<Finding>,
 ) -> Result<(), Memory>
-    ensures { (p : Program) → IsScope p scope.now → OnOk result (Adds found.old.items found.new.items (flat_map (λ i. definition_findings p i.definition) p.items)) }
+    ensures { (p : Program) → IsScope p scope.now
+        → OnOk result (Adds found.old.items found.new.items (flat_map (λ i. definition_findings p i.definition) p.items)) }
 {
     for members in &scope.members {
         judge_definition(alloc, scope, members, found)?;
@@ -63,7 +64,8 @@ fn judge_definition<'a>(
     members: &Members<'a>,
     found: &mut Vec<Finding>,
 ) -> Result<(), Memory>
-    ensures { (p : Program) (d : DefinitionTree) → IsScope p scope.now → AreMembers p.text d members.now → OnOk result (Adds found.old.items found.new.items (definition_findings p d)) }
+    ensures { (p : Program) (d : DefinitionTree) → IsScope p scope.now → AreMembers p.text d members.now
+        → OnOk result (Adds found.old.items found.new.items (definition_findings p d)) }
 {
     match members {
         Members::Contract(declared) => judge_contract(alloc, scope, declared, found),
@@ -79,7 +81,8 @@ fn judge_struct(
     fields: &Fields<'_>,
     found: &mut Vec<Finding>,
 ) -> Result<(), Memory>
-    ensures { (p : Program) (s : StructTree) → tokens.now.text.items ≡ p.text → AreFields p.text s fields.now → OnOk result (Adds found.old.items found.new.items (struct_findings p s)) }
+    ensures { (p : Program) (s : StructTree) → tokens.now.text.items ≡ p.text → AreFields p.text s fields.now
+        → OnOk result (Adds found.old.items found.new.items (struct_findings p s)) }
 {
     let names = names_of_fields(alloc, fields.list)?;
     judge_twice(alloc, tokens, &fields.table, &names, found)

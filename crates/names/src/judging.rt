@@ -45,7 +45,8 @@ pub(crate) fn judge_name(
     name: Span,
     found: &mut Vec<Finding>,
 ) -> Result<(), Memory>
-    ensures { (names : List Span) → IsTable (words_at tokens.now.text.items names) table.now → OnOk result (Adds found.old.items found.new.items (asked_name tokens.now.text.items names name)) }
+    ensures { (names : List Span) → IsTable (words_at tokens.now.text.items names) table.now
+        → OnOk result (Adds found.old.items found.new.items (asked_name tokens.now.text.items names name)) }
 {
     match table.find(tokens.slice(name)) {
         Some(_) => Ok(()),
@@ -61,7 +62,8 @@ pub(crate) fn judge_twice(
     names: &[Span],
     found: &mut Vec<Finding>,
 ) -> Result<(), Memory>
-    ensures { IsTable (words_at tokens.now.text.items names.now) table.now → OnOk result (Adds found.old.items found.new.items (twice_among tokens.now.text.items names.now)) }
+    ensures { IsTable (words_at tokens.now.text.items names.now) table.now
+        → OnOk result (Adds found.old.items found.new.items (twice_among tokens.now.text.items names.now)) }
 {
     for (place, name) in names.iter().enumerate() {
         let word = tokens.slice(*name);

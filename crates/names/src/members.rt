@@ -2,7 +2,8 @@
 
 ghost use Rattle.std.specs.Prelude.{◌≡◌, List, ℕ, map, IfOk, option_map, slice_get};
 ghost use Rattle.std.specs.Option.{option_copied};
-ghost use Rattle.tree.specs.Trees.{ContractTree, StructTree, ClassTree, contract_tree, struct_tree, class_tree, definition_tree, message_tree, method_tree};
+ghost use Rattle.tree.specs.Trees.{ContractTree, StructTree, ClassTree, contract_tree, struct_tree};
+ghost use Rattle.tree.specs.Trees.{class_tree, definition_tree, message_tree, method_tree};
 ghost use Rattle.names.specs.Declarations.{first_among, names_of_messages, names_of_states};
 ghost use Rattle.names.specs.Expressions.{field_named};
 ghost use Rattle.names.specs.Outlines.{outlined_messages, outlined_states};
@@ -130,7 +131,8 @@ impl<'a> Declared<'a> {
 
     /// The first message that is written so.
     pub(crate) fn message(&self, word: &[u8]) -> Option<&'a Message>
-        ensures { (text : List ℕ) (c : ContractTree) → IsDeclared text c self.now → option_map (λ m. message_tree m.now) result ≡ message_written text c word.now }
+        ensures { (text : List ℕ) (c : ContractTree) → IsDeclared text c self.now
+            → option_map (λ m. message_tree m.now) result ≡ message_written text c word.now }
     {
         let place = self.messages.find(word)?;
         self.outline.messages.get(place).copied()
@@ -195,14 +197,16 @@ impl<'a> Methods<'a> {
 
     /// How many methods of the class stand before the first one of this name.
     pub(crate) fn place(&self, tokens: &Tokens, name: Span) -> Option<usize>
-        ensures { (c : ClassTree) → AreMethods tokens.now.text.items c self.now → result ≡ first_among tokens.now.text.items (map (λ m. m.name) c.methods) name }
+        ensures { (c : ClassTree) → AreMethods tokens.now.text.items c self.now
+            → result ≡ first_among tokens.now.text.items (map (λ m. m.name) c.methods) name }
     {
         self.table.find(tokens.slice(name))
     }
 
     /// The first method of this name.
     pub(crate) fn find(&self, tokens: &Tokens, name: Span) -> Option<Callee<'a>>
-        ensures { (c : ClassTree) → AreMethods tokens.now.text.items c self.now → IsCallee (method_named tokens.now.text.items c name) result }
+        ensures { (c : ClassTree) → AreMethods tokens.now.text.items c self.now
+            → IsCallee (method_named tokens.now.text.items c name) result }
     {
         let place = self.place(tokens, name)?;
         self.callee(place)

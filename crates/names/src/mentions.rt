@@ -4,7 +4,8 @@ ghost use Rattle.std.specs.Prelude.{◌≡◌, ℕ, List, [], ◌∷◌, OnOk, I
 ghost use Rattle.source.specs.declared.finding.Finding.{Finding};
 ghost use Rattle.source.specs.declared.token.Span.{Span};
 ghost use Rattle.tree.specs.Trees.{StructTree};
-ghost use Rattle.names.specs.Expressions.{InScope, meant, held, variable_findings, field_kind, field_findings, element_kind, element_findings, struct_field_kind, field_named};
+ghost use Rattle.names.specs.Expressions.{InScope, meant, held, variable_findings, field_kind, field_findings};
+ghost use Rattle.names.specs.Expressions.{element_kind, element_findings, struct_field_kind, field_named};
 ghost use Rattle.names.specs.Found.{Adds, unknown};
 ghost use Rattle.names.specs.Mentions.{Gives, GivesIn, IsGiven, IsStruct, fields_declared};
 ghost use Rattle.names.specs.Operands.{Judges};
@@ -32,7 +33,8 @@ pub(crate) fn judge_variable(
     name: Span,
     found: &mut Vec<Finding>,
 ) -> Result<Kind, Memory>
-    ensures { IfOk result (Gives scope.now variables.now (λ s. held (meant s name)) (λ s. variable_findings s name) found.old.items found.new.items) }
+    ensures { IfOk result
+        (Gives scope.now variables.now (λ s. held (meant s name)) (λ s. variable_findings s name) found.old.items found.new.items) }
 {
     match variables.find(scope.tokens, name) {
         Some(variable) => Ok(variable.kind),
@@ -89,7 +91,8 @@ pub(crate) fn judge_element_of(
     index: Operand,
     found: &mut Vec<Finding>,
 ) -> Result<Operand, Memory>
-    ensures { IfOk result (λ o. (e : Shape) (start : List Finding) → Judges scope.now variables.now e start found.old.items index → Judges scope.now variables.now (shapes.Element variable e) start found.new.items o) }
+    ensures { IfOk result (λ o. (e : Shape) (start : List Finding) → Judges scope.now variables.now e start found.old.items index
+        → Judges scope.now variables.now (shapes.Element variable e) start found.new.items o) }
 {
     ask_number(alloc, index.kind, index.place, found)?;
     let held = judge_variable(alloc, scope, variables, variable, found)?;
@@ -136,7 +139,8 @@ pub(crate) fn judge_field(
     field: Span,
     found: &mut Vec<Finding>,
 ) -> Result<Kind, Memory>
-    ensures { IfOk result (GivesIn scope.now (λ s. field_kind s held field) (λ s. field_findings s held variable field) found.old.items found.new.items) }
+    ensures { IfOk result
+        (GivesIn scope.now (λ s. field_kind s held field) (λ s. field_findings s held variable field) found.old.items found.new.items) }
 {
     match held {
         Kind::Array(_) => judge_length(alloc, scope.tokens, field, found),
@@ -156,7 +160,9 @@ fn judge_length(
     field: Span,
     found: &mut Vec<Finding>,
 ) -> Result<Kind, Memory>
-    ensures { IfOk result (let is_length = same_word (word_at tokens.now.text.items field) (codes "Length") in IsGiven (if is_length then Kind.Scalar Scalar.Int else Kind.Unknown) (if is_length then [] else unknown tokens.now.text.items field ∷ []) found.old.items found.new.items) }
+    ensures { IfOk result (let is_length = same_word (word_at tokens.now.text.items field) (codes "Length") in
+        IsGiven (if is_length then Kind.Scalar Scalar.Int else Kind.Unknown)
+        (if is_length then [] else unknown tokens.now.text.items field ∷ []) found.old.items found.new.items) }
 {
     if is_length(tokens, field) {
         return Ok(Kind::Scalar(Scalar::Int));
@@ -181,7 +187,8 @@ fn judge_struct_field(
     field: Span,
     found: &mut Vec<Finding>,
 ) -> Result<Kind, Memory>
-    ensures { IfOk result (GivesIn scope.now (λ s. field_kind s (Kind.Pointer place) field) (λ s. field_findings s (Kind.Pointer place) field field) found.old.items found.new.items) }
+    ensures { IfOk result (GivesIn scope.now (λ s. field_kind s (Kind.Pointer place) field)
+        (λ s. field_findings s (Kind.Pointer place) field field) found.old.items found.new.items) }
 {
     match struct_at(scope, place) {
         Some(fields) => judge_field_in(alloc, scope.tokens, fields, field, found),
@@ -197,7 +204,10 @@ fn judge_field_in(
     field: Span,
     found: &mut Vec<Finding>,
 ) -> Result<Kind, Memory>
-    ensures { IfOk result (λ k. (s : InScope) (x : StructTree) → AreFields tokens.now.text.items x fields.now → IsGiven (struct_field_kind s (field_named tokens.now.text.items x field)) (if is_some (field_named tokens.now.text.items x field) then [] else unknown tokens.now.text.items field ∷ []) found.old.items found.new.items k) }
+    ensures { IfOk result (λ k. (s : InScope) (x : StructTree) → AreFields tokens.now.text.items x fields.now
+        → IsGiven (struct_field_kind s (field_named tokens.now.text.items x field))
+        (if is_some (field_named tokens.now.text.items x field) then [] else unknown tokens.now.text.items field ∷ [])
+        found.old.items found.new.items k) }
 {
     match fields.find(tokens, field) {
         Some(declared) => Ok(Kind::Scalar(declared.kind)),

@@ -25,7 +25,8 @@ pub(crate) fn judge_message(
     message: &Message,
     found: &mut Vec<Finding>,
 ) -> Result<(), Memory>
-    ensures { (p : Program) → IsScope p scope.now → OnOk result (Adds found.old.items found.new.items (message_findings p (message_tree message.now))) }
+    ensures { (p : Program) → IsScope p scope.now
+        → OnOk result (Adds found.old.items found.new.items (message_findings p (message_tree message.now))) }
 {
     judge_types(alloc, scope, &message.params, found)?;
     let names = names_of(alloc, &message.params)?;
@@ -40,7 +41,8 @@ fn judge_types(
     params: &[Param],
     found: &mut Vec<Finding>,
 ) -> Result<(), Memory>
-    ensures { (p : Program) → IsScope p scope.now → OnOk result (Adds found.old.items found.new.items (flat_map (λ x. type_unknown p x.kind) params.now)) }
+    ensures { (p : Program) → IsScope p scope.now
+        → OnOk result (Adds found.old.items found.new.items (flat_map (λ x. type_unknown p x.kind) params.now)) }
 {
     for param in params {
         judge_type(alloc, scope, param.kind, found)?;
@@ -65,7 +67,8 @@ pub(crate) fn judge_messages(
     messages: &[&Message],
     found: &mut Vec<Finding>,
 ) -> Result<(), Memory>
-    ensures { (p : Program) → IsScope p scope.now → OnOk result (Adds found.old.items found.new.items (flat_map (message_findings p) (map (λ m. message_tree m.now) messages.now))) }
+    ensures { (p : Program) → IsScope p scope.now → OnOk result
+        (Adds found.old.items found.new.items (flat_map (message_findings p) (map (λ m. message_tree m.now) messages.now))) }
 {
     for message in messages {
         judge_message(alloc, scope, message, found)?;

@@ -28,7 +28,8 @@ pub(crate) fn judge_class<'a>(
     methods: &Methods<'a>,
     found: &mut Vec<Finding>,
 ) -> Result<(), Memory>
-    ensures { (p : Program) (c : ClassTree) → IsScope p scope.now → AreMethods p.text c methods.now → OnOk result (Adds found.old.items found.new.items (class_findings p c)) }
+    ensures { (p : Program) (c : ClassTree) → IsScope p scope.now → AreMethods p.text c methods.now
+        → OnOk result (Adds found.old.items found.new.items (class_findings p c)) }
 {
     let names = names_of_methods(alloc, methods.list)?;
     judge_twice(alloc, scope.tokens, &methods.table, &names, found)?;
@@ -42,7 +43,8 @@ fn judge_methods<'a>(
     methods: &Methods<'a>,
     found: &mut Vec<Finding>,
 ) -> Result<(), Memory>
-    ensures { (p : Program) (c : ClassTree) → IsScope p scope.now → AreMethods p.text c methods.now → OnOk result (Adds found.old.items found.new.items (flat_map (λ m. (method_turn p c m).found) c.methods)) }
+    ensures { (p : Program) (c : ClassTree) → IsScope p scope.now → AreMethods p.text c methods.now
+        → OnOk result (Adds found.old.items found.new.items (flat_map (λ m. (method_turn p c m).found) c.methods)) }
 {
     for method in methods.list {
         judge_method(alloc, scope, methods, method, found)?;
@@ -58,7 +60,8 @@ fn judge_method<'a>(
     method: &Method,
     found: &mut Vec<Finding>,
 ) -> Result<(), Memory>
-    ensures { (p : Program) (c : ClassTree) → IsScope p scope.now → AreMethods p.text c methods.now → OnOk result (Adds found.old.items found.new.items (method_turn p c (method_tree method.now)).found) }
+    ensures { (p : Program) (c : ClassTree) → IsScope p scope.now → AreMethods p.text c methods.now
+        → OnOk result (Adds found.old.items found.new.items (method_turn p c (method_tree method.now)).found) }
 {
     judge_result(alloc, scope, method.result, found)?;
     let mut variables = Variables::new(alloc);
@@ -96,7 +99,8 @@ fn judge_parameters<'a>(
     params: &[Parameter],
     found: &mut Vec<Finding>,
 ) -> Result<(), Memory>
-    ensures { (p : Program) (f : Frame) → IsScope p scope.now → IsFrame p.text f variables.old → OnOk result (Turned p.text found.old.items found.new.items variables.new (parameters_turn p params.now f)) }
+    ensures { (p : Program) (f : Frame) → IsScope p scope.now → IsFrame p.text f variables.old
+        → OnOk result (Turned p.text found.old.items found.new.items variables.new (parameters_turn p params.now f)) }
 {
     for parameter in params {
         judge_parameter(alloc, scope, variables, *parameter, found)?;
@@ -112,7 +116,8 @@ fn judge_parameter<'a>(
     parameter: Parameter,
     found: &mut Vec<Finding>,
 ) -> Result<(), Memory>
-    ensures { (p : Program) (f : Frame) → IsScope p scope.now → IsFrame p.text f variables.old → OnOk result (Turned p.text found.old.items found.new.items variables.new (parameter_turn p parameter f)) }
+    ensures { (p : Program) (f : Frame) → IsScope p scope.now → IsFrame p.text f variables.old
+        → OnOk result (Turned p.text found.old.items found.new.items variables.new (parameter_turn p parameter f)) }
 {
     judge_type(alloc, scope, parameter.kind, found)?;
     let kind = kind_of_type(scope, parameter.kind);

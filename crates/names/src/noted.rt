@@ -73,7 +73,8 @@ impl NotedKinds {
 
 /// The kind that is noted, if it is that of this type.
 fn kind_for(noted: Noted, written: Heap) -> Option<Kind>
-    ensures { (p : Program) (k : Kind) → noted.kind ≡ type_kind p (type.Heap noted.written) → result ≡ Some k → k ≡ type_kind p (type.Heap written) }
+    ensures { (p : Program) (k : Kind) → noted.kind ≡ type_kind p (type.Heap noted.written) → result ≡ Some k
+        → k ≡ type_kind p (type.Heap written) }
 {
     if is_same(noted.written, written) {
         return Some(noted.kind);

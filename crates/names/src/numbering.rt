@@ -19,7 +19,8 @@ pub(crate) fn number_messages(
     before: u32,
 ) -> Result<Vec<Message>, Memory>
     requires { before + length messages.now < 2 ^ 32 }
-    ensures { IfOk result (λ numbered. map message_parts numbered.items ≡ messages_from tokens.now.text.items before (map (λ m. message_tree m.now) messages.now)) }
+    ensures { IfOk result (λ numbered. map message_parts numbered.items
+        ≡ messages_from tokens.now.text.items before (map (λ m. message_tree m.now) messages.now)) }
 {
     let mut numbered = Vec::new(alloc);
     for (i, message) in messages.iter().enumerate() {
@@ -41,7 +42,8 @@ pub(crate) fn number_states(
     before: u32,
 ) -> Result<Vec<State>, Memory>
     requires { before + length names.now < 2 ^ 32 }
-    ensures { IfOk result (λ numbered. map state_parts numbered.items ≡ numbered_states before (map (counted_as tokens.now.text.items) names.now)) }
+    ensures { IfOk result (λ numbered. map state_parts numbered.items
+        ≡ numbered_states before (map (counted_as tokens.now.text.items) names.now)) }
 {
     let mut numbered = Vec::new(alloc);
     for (i, name) in names.iter().enumerate() {

@@ -46,8 +46,10 @@ fn add_members<'a>(
     states: &mut Vec<&'a State>,
     members: &'a [Member],
 ) -> Result<(), AllocError>
-    ensures messages { OnOk result (map (λ m. message_tree m.now) messages.new.items ≡ map (λ m. message_tree m.now) messages.old.items ++ flat_map message_among (map member_tree members.now)) }
-    ensures states { OnOk result (map (λ s. state_tree s.now) states.new.items ≡ map (λ s. state_tree s.now) states.old.items ++ flat_map state_among (map member_tree members.now)) }
+    ensures messages { OnOk result (map (λ m. message_tree m.now) messages.new.items
+        ≡ map (λ m. message_tree m.now) messages.old.items ++ flat_map message_among (map member_tree members.now)) }
+    ensures states { OnOk result (map (λ s. state_tree s.now) states.new.items
+        ≡ map (λ s. state_tree s.now) states.old.items ++ flat_map state_among (map member_tree members.now)) }
 {
     for member in members {
         match member {

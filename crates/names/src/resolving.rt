@@ -40,7 +40,8 @@ pub fn resolve(alloc: Global, tree: &Tree, tokens: &Tokens) -> Result<Resolved, 
     requires few { length tokens.now.list.items < 2 ^ 32 }
     ensures found { IfErr result (Explains (program_of tokens.now.text.items tree.now)) }
     ensures clean { OnOk result (program_findings (program_of tokens.now.text.items tree.now) ≡ []) }
-    ensures resolved { IfOk result (λ r. map contract_seen r.contracts.items ≡ resolved_contracts tokens.now.text.items (contracts_of (program_tree tree.now))) }
+    ensures resolved { IfOk result (λ r. map contract_seen r.contracts.items
+        ≡ resolved_contracts tokens.now.text.items (contracts_of (program_tree tree.now))) }
     ensures apart { IfOk result (λ r. AreApart (map contract_parts r.contracts.items)) }
     ensures whole { IfOk result (λ r. All (λ c. IsWhole (contract_parts c)) r.contracts.items) }
 {
@@ -98,7 +99,8 @@ fn add_item(
     requires states { before.old.states + declared_states (declared_among item.now) < 2 ^ 32 }
     ensures messages { OnOk result (before.new.messages ≡ before.old.messages + declared_messages (declared_among item.now)) }
     ensures states { OnOk result (before.new.states ≡ before.old.states + declared_states (declared_among item.now)) }
-    ensures contracts { OnOk result (map contract_seen contracts.new.items ≡ map contract_seen contracts.old.items ++ map (resolved_declared tokens.now.text.items before.old.messages before.old.states) (declared_among item.now)) }
+    ensures contracts { OnOk result (map contract_seen contracts.new.items ≡ map contract_seen contracts.old.items
+        ++ map (resolved_declared tokens.now.text.items before.old.messages before.old.states) (declared_among item.now)) }
 {
     match item {
         Members::Contract(declared) => add_contract(alloc, tokens, declared, before, contracts),
@@ -119,7 +121,8 @@ fn add_contract(
     requires states { before.old.states + length (counted_states (outlined_states declared.now.outline)) < 2 ^ 32 }
     ensures messages { OnOk result (before.new.messages ≡ before.old.messages + length (outlined_messages declared.now.outline)) }
     ensures states { OnOk result (before.new.states ≡ before.old.states + length (counted_states (outlined_states declared.now.outline))) }
-    ensures contracts { OnOk result (map contract_seen contracts.new.items ≡ map contract_seen contracts.old.items ++ resolved_declared tokens.now.text.items before.old.messages before.old.states declared.now ∷ []) }
+    ensures contracts { OnOk result (map contract_seen contracts.new.items ≡ map contract_seen contracts.old.items
+        ++ resolved_declared tokens.now.text.items before.old.messages before.old.states declared.now ∷ []) }
 {
     let contract = resolve_contract(alloc, tokens, declared, before.messages, before.states)?;
     before.messages += contract.messages.len() as u32;

@@ -4,7 +4,8 @@ ghost use Rattle.std.specs.Prelude.{◌≡◌, IfOk, map, Option, option_map, op
 ghost use Rattle.std.specs.Option.{option_copied};
 ghost use Rattle.tree.specs.Trees.{item_tree, definition_tree};
 ghost use Rattle.names.specs.Declarations.{first_among};
-ghost use Rattle.names.specs.Program.{Program, contract_named, struct_named, class_named, item_at, item_names, as_contract, as_struct, as_class, defined_name};
+ghost use Rattle.names.specs.Program.{Program, contract_named, struct_named, class_named, item_at};
+ghost use Rattle.names.specs.Program.{item_names, as_contract, as_struct, as_class, defined_name};
 ghost use Rattle.names.specs.Expressions.{field_named};
 ghost use Rattle.names.specs.Scopes.{AllMembers};
 
@@ -60,7 +61,8 @@ impl<'a> Scope<'a> {
 
     /// What the item at this place declares, if it is a contract.
     pub(crate) fn contract_at(&self, place: usize) -> Option<&Declared<'a>>
-        ensures { (p : Program) → IsScope p self.now → IsContract p.text (item_at as_contract p place) (option_map (λ d. (place, d.now)) result) }
+        ensures { (p : Program) → IsScope p self.now
+            → IsContract p.text (item_at as_contract p place) (option_map (λ d. (place, d.now)) result) }
     {
         self.declared_at(place)
     }
@@ -76,7 +78,8 @@ impl<'a> Scope<'a> {
 
     /// The first field of this name in the struct that is the item at this place.
     pub(crate) fn field(&self, place: usize, name: Span) -> Option<Field>
-        ensures { (p : Program) → IsScope p self.now → result ≡ option_and_then (λ s. field_named p.text s.1 name) (item_at as_struct p place) }
+        ensures { (p : Program) → IsScope p self.now
+            → result ≡ option_and_then (λ s. field_named p.text s.1 name) (item_at as_struct p place) }
     {
         let fields = self.fields_at(place)?;
         fields.find(self.tokens, name)
@@ -101,7 +104,8 @@ impl<'a> Scope<'a> {
 
     /// How many methods stand before the first one of this name in the class that is the item at this place.
     pub fn method_place(&self, class: usize, name: Span) -> Option<usize>
-        ensures { (p : Program) → IsScope p self.now → result ≡ option_and_then (λ c. first_among p.text (map (λ m. m.name) c.1.methods) name) (item_at as_class p class) }
+        ensures { (p : Program) → IsScope p self.now
+            → result ≡ option_and_then (λ c. first_among p.text (map (λ m. m.name) c.1.methods) name) (item_at as_class p class) }
     {
         let methods = self.methods_at(class)?;
         methods.place(self.tokens, name)

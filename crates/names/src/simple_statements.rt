@@ -5,7 +5,8 @@ ghost use Rattle.tree.specs.ExpressionTrees.{expression_tree};
 ghost use Rattle.tree.specs.StatementTrees.{declare_tree, assign_tree};
 ghost use Rattle.tree.specs.Values.{value_tree};
 ghost use Rattle.names.specs.Bodies as bodies;
-ghost use Rattle.names.specs.Bodies.{given_findings, declaration_turn, delete_findings, is_end_of, same_end, ends_findings, new_ends_findings, channel_findings, return_findings};
+ghost use Rattle.names.specs.Bodies.{given_findings, declaration_turn, delete_findings, is_end_of, same_end};
+ghost use Rattle.names.specs.Bodies.{ends_findings, new_ends_findings, channel_findings, return_findings};
 ghost use Rattle.names.specs.Expressions.{variable_findings, meant, held};
 ghost use Rattle.names.specs.Found.{Adds};
 ghost use Rattle.names.specs.Frames.{IsFrame, Turned, AreSurroundings};
@@ -48,7 +49,8 @@ fn judge_given(
     value: &Option<Value>,
     found: &mut Vec<Finding>,
 ) -> Result<(), Memory>
-    ensures { (m : bodies.Surroundings) (f : Frame) → AreSurroundings m around.now → IsFrame m.program.text f variables.now → OnOk result (Adds found.old.items found.new.items (given_findings (bodies.inside_of m f) asked (option_map value_tree value.now))) }
+    ensures { (m : bodies.Surroundings) (f : Frame) → AreSurroundings m around.now → IsFrame m.program.text f variables.now → OnOk
+        result (Adds found.old.items found.new.items (given_findings (bodies.inside_of m f) asked (option_map value_tree value.now))) }
 {
     match value {
         Some(value) => judge_value(alloc, around, variables, asked, value, found),
@@ -64,7 +66,8 @@ pub(crate) fn judge_declare<'a>(
     declare: &Declare,
     found: &mut Vec<Finding>,
 ) -> Result<(), Memory>
-    ensures { (m : bodies.Surroundings) (f : Frame) → AreSurroundings m around.now → IsFrame m.program.text f variables.old → OnOk result (Turned m.program.text found.old.items found.new.items variables.new (declaration_turn m (declare_tree declare.now) f)) }
+    ensures { (m : bodies.Surroundings) (f : Frame) → AreSurroundings m around.now → IsFrame m.program.text f variables.old → OnOk
+        result (Turned m.program.text found.old.items found.new.items variables.new (declaration_turn m (declare_tree declare.now) f)) }
 {
     let scope = around.scope;
     let kind = kind_of_type(scope, declare.kind);
@@ -82,7 +85,10 @@ pub(crate) fn judge_assign(
     assign: &Assign,
     found: &mut Vec<Finding>,
 ) -> Result<(), Memory>
-    ensures { (m : bodies.Surroundings) (f : Frame) → AreSurroundings m around.now → IsFrame m.program.text f variables.now → OnOk result (Adds found.old.items found.new.items (target_findings (bodies.scope_in m f) (assign_tree assign.now).target ++ value_findings (bodies.inside_of m f) (target_kind (bodies.scope_in m f) (assign_tree assign.now).target) (assign_tree assign.now).value)) }
+    ensures { (m : bodies.Surroundings) (f : Frame) → AreSurroundings m around.now
+        → IsFrame m.program.text f variables.now → OnOk result
+        (Adds found.old.items found.new.items (target_findings (bodies.scope_in m f) (assign_tree assign.now).target ++ value_findings
+        (bodies.inside_of m f) (target_kind (bodies.scope_in m f) (assign_tree assign.now).target) (assign_tree assign.now).value)) }
 {
     let asked = judge_target(alloc, around.scope, variables, &assign.target, found)?;
     judge_value(alloc, around, variables, asked, &assign.value, found)
@@ -90,7 +96,8 @@ pub(crate) fn judge_assign(
 
 /// The kind of what this name means.
 pub(crate) fn kind_held(scope: &Scope<'_>, variables: &Variables<'_>, name: Span) -> Kind
-    ensures { (p : Program) (f : Frame) → IsScope p scope.now → IsFrame p.text f variables.now → result ≡ held (meant (record { program = p; variables = f.variables }) name) }
+    ensures { (p : Program) (f : Frame) → IsScope p scope.now → IsFrame p.text f variables.now
+        → result ≡ held (meant (record { program = p; variables = f.variables }) name) }
 {
     match variables.find(scope.tokens, name) {
         Some(variable) => variable.kind,
@@ -106,7 +113,8 @@ pub(crate) fn judge_use(
     name: Span,
     found: &mut Vec<Finding>,
 ) -> Result<(), Memory>
-    ensures { (p : Program) (f : Frame) → IsScope p scope.now → IsFrame p.text f variables.now → OnOk result (Adds found.old.items found.new.items (variable_findings (record { program = p; variables = f.variables }) name)) }
+    ensures { (p : Program) (f : Frame) → IsScope p scope.now → IsFrame p.text f variables.now → OnOk result
+        (Adds found.old.items found.new.items (variable_findings (record { program = p; variables = f.variables }) name)) }
 {
     judge_variable(alloc, scope, variables, name, found)?;
     Ok(())
@@ -120,7 +128,8 @@ pub(crate) fn judge_delete(
     name: Span,
     found: &mut Vec<Finding>,
 ) -> Result<(), Memory>
-    ensures { (p : Program) (f : Frame) → IsScope p scope.now → IsFrame p.text f variables.now → OnOk result (Adds found.old.items found.new.items (delete_findings (record { program = p; variables = f.variables }) name)) }
+    ensures { (p : Program) (f : Frame) → IsScope p scope.now → IsFrame p.text f variables.now
+        → OnOk result (Adds found.old.items found.new.items (delete_findings (record { program = p; variables = f.variables }) name)) }
 {
     judge_use(alloc, scope, variables, name, found)?;
     let kind = kind_held(scope, variables, name);
@@ -179,7 +188,9 @@ fn judge_new_ends(
     channel: NewChannel,
     found: &mut Vec<Finding>,
 ) -> Result<(), Memory>
-    ensures { (p : Program) (f : Frame) → IsScope p scope.now → IsFrame p.text f variables.now → OnOk result (Adds found.old.items found.new.items (new_ends_findings (record { program = p; variables = f.variables }) (contract_named p channel.contract) channel.contract channel.first channel.second)) }
+    ensures { (p : Program) (f : Frame) → IsScope p scope.now → IsFrame p.text f variables.now
+        → OnOk result (Adds found.old.items found.new.items (new_ends_findings (record { program = p; variables = f.variables })
+        (contract_named p channel.contract) channel.contract channel.first channel.second)) }
 {
     let left = kind_held(scope, variables, channel.first);
     let right = kind_held(scope, variables, channel.second);
@@ -204,7 +215,9 @@ pub(crate) fn judge_channel(
     channel: NewChannel,
     found: &mut Vec<Finding>,
 ) -> Result<(), Memory>
-    ensures { (p : Program) (f : Frame) → IsScope p scope.now → IsFrame p.text f variables.now → OnOk result (Adds found.old.items found.new.items (channel_findings (record { program = p; variables = f.variables }) channel.contract channel.first channel.second)) }
+    ensures { (p : Program) (f : Frame) → IsScope p scope.now
+        → IsFrame p.text f variables.now → OnOk result (Adds found.old.items found.new.items
+        (channel_findings (record { program = p; variables = f.variables }) channel.contract channel.first channel.second)) }
 {
     judge_new_ends(alloc, scope, variables, channel, found)?;
     judge_use(alloc, scope, variables, channel.first, found)?;
@@ -220,7 +233,9 @@ fn judge_needless(
     value: &Option<Expression>,
     found: &mut Vec<Finding>,
 ) -> Result<(), Memory>
-    ensures { (p : Program) (f : Frame) → IsScope p scope.now → IsFrame p.text f variables.now → OnOk result (Adds found.old.items found.new.items (return_findings (record { program = p; variables = f.variables }) None word (option_map expression_tree value.now))) }
+    ensures { (p : Program) (f : Frame) → IsScope p scope.now
+        → IsFrame p.text f variables.now → OnOk result (Adds found.old.items found.new.items
+        (return_findings (record { program = p; variables = f.variables }) None word (option_map expression_tree value.now))) }
 {
     match value {
         Some(value) => {
@@ -241,7 +256,9 @@ fn judge_returned(
     value: &Option<Expression>,
     found: &mut Vec<Finding>,
 ) -> Result<(), Memory>
-    ensures { (p : Program) (f : Frame) → IsScope p scope.now → IsFrame p.text f variables.now → OnOk result (Adds found.old.items found.new.items (return_findings (record { program = p; variables = f.variables }) (Some asked) word (option_map expression_tree value.now))) }
+    ensures { (p : Program) (f : Frame) → IsScope p scope.now
+        → IsFrame p.text f variables.now → OnOk result (Adds found.old.items found.new.items
+        (return_findings (record { program = p; variables = f.variables }) (Some asked) word (option_map expression_tree value.now))) }
 {
     match value {
         Some(value) => {
@@ -262,7 +279,9 @@ pub(crate) fn judge_return(
     value: &Option<Expression>,
     found: &mut Vec<Finding>,
 ) -> Result<(), Memory>
-    ensures { (p : Program) (f : Frame) → IsScope p scope.now → IsFrame p.text f variables.now → OnOk result (Adds found.old.items found.new.items (return_findings (record { program = p; variables = f.variables }) asked word (option_map expression_tree value.now))) }
+    ensures { (p : Program) (f : Frame) → IsScope p scope.now
+        → IsFrame p.text f variables.now → OnOk result (Adds found.old.items found.new.items
+        (return_findings (record { program = p; variables = f.variables }) asked word (option_map expression_tree value.now))) }
 {
     match asked {
         Some(asked) => judge_returned(alloc, scope, variables, asked, word, value, found),

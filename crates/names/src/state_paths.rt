@@ -27,7 +27,9 @@ pub(crate) fn judge_state(
     state: &State,
     found: &mut Vec<Finding>,
 ) -> Result<(), Memory>
-    ensures { (messages states : List Span) → IsTable (words_at tokens.now.text.items messages) declared.now.messages → IsTable (words_at tokens.now.text.items states) declared.now.states → OnOk result (Adds found.old.items found.new.items (state_findings tokens.now.text.items messages states (state_tree state.now))) }
+    ensures { (messages states : List Span) → IsTable (words_at tokens.now.text.items messages) declared.now.messages
+        → IsTable (words_at tokens.now.text.items states) declared.now.states → OnOk result
+        (Adds found.old.items found.new.items (state_findings tokens.now.text.items messages states (state_tree state.now))) }
 {
     for path in paths(state) {
         judge_path(alloc, tokens, declared, path, found)?;
@@ -42,7 +44,9 @@ fn judge_path(
     path: &Path,
     found: &mut Vec<Finding>,
 ) -> Result<(), Memory>
-    ensures { (messages states : List Span) → IsTable (words_at tokens.now.text.items messages) declared.now.messages → IsTable (words_at tokens.now.text.items states) declared.now.states → OnOk result (Adds found.old.items found.new.items (path_findings tokens.now.text.items messages states (path_tree path.now))) }
+    ensures { (messages states : List Span) → IsTable (words_at tokens.now.text.items messages) declared.now.messages
+        → IsTable (words_at tokens.now.text.items states) declared.now.states → OnOk result
+        (Adds found.old.items found.new.items (path_findings tokens.now.text.items messages states (path_tree path.now))) }
 {
     judge_name(alloc, tokens, &declared.messages, path.first.message, found)?;
     judge_edges(alloc, tokens, &declared.messages, &path.others, found)?;
@@ -56,7 +60,8 @@ fn judge_edges(
     edges: &[Edge],
     found: &mut Vec<Finding>,
 ) -> Result<(), Memory>
-    ensures { (names : List Span) → IsTable (words_at tokens.now.text.items names) table.now → OnOk result (Adds found.old.items found.new.items (flat_map (λ e. asked_name tokens.now.text.items names e.message) edges.now)) }
+    ensures { (names : List Span) → IsTable (words_at tokens.now.text.items names) table.now → OnOk result
+        (Adds found.old.items found.new.items (flat_map (λ e. asked_name tokens.now.text.items names e.message) edges.now)) }
 {
     for edge in edges {
         judge_name(alloc, tokens, table, edge.message, found)?;
@@ -71,7 +76,9 @@ pub(crate) fn judge_states(
     declared: &Declared<'_>,
     found: &mut Vec<Finding>,
 ) -> Result<(), Memory>
-    ensures { (messages states : List Span) → IsTable (words_at tokens.now.text.items messages) declared.now.messages → IsTable (words_at tokens.now.text.items states) declared.now.states → OnOk result (Adds found.old.items found.new.items (flat_map (state_findings tokens.now.text.items messages states) (outlined_states declared.now.outline))) }
+    ensures { (messages states : List Span) → IsTable (words_at tokens.now.text.items messages) declared.now.messages
+        → IsTable (words_at tokens.now.text.items states) declared.now.states → OnOk result (Adds found.old.items found.new.items
+        (flat_map (state_findings tokens.now.text.items messages states) (outlined_states declared.now.outline))) }
 {
     for state in &declared.outline.states {
         judge_state(alloc, tokens, declared, state, found)?;

@@ -1,9 +1,11 @@
 //! What is wrong with the names and kinds in statements.
 
 ghost use Rattle.std.specs.Prelude.{◌≡◌, List, Some, map, take, OnOk, slice_get, [], ◌∷◌};
-ghost use Rattle.tree.specs.StatementTrees.{statement_tree, statement_row, block_tree, test_tree, if_tree, switch_tree, case_tree, case_row};
+ghost use Rattle.tree.specs.StatementTrees.{statement_tree, statement_row, block_tree, test_tree};
+ghost use Rattle.tree.specs.StatementTrees.{if_tree, switch_tree, case_tree, case_row};
 ghost use Rattle.names.specs.Bodies as bodies;
-ghost use Rattle.names.specs.Bodies.{in_loop, in_switch, statement_turn, statements_turn, block_turn, test_turn, others_turn, case_turn, cases_turn, head_of};
+ghost use Rattle.names.specs.Bodies.{in_loop, in_switch, statement_turn, statements_turn, block_turn};
+ghost use Rattle.names.specs.Bodies.{test_turn, others_turn, case_turn, cases_turn, head_of};
 ghost use Rattle.names.specs.Cases.{Head};
 ghost use Rattle.names.specs.Frames.{IsFrame, Turned, AreSurroundings};
 ghost use Rattle.names.specs.Heads.{IsHeads, switch_heads};
@@ -53,7 +55,8 @@ pub(crate) fn judge_block<'a>(
     block: &Block,
     found: &mut Vec<Finding>,
 ) -> Result<(), Memory>
-    ensures { (m : bodies.Surroundings) (f : Frame) → AreSurroundings m around.now → IsFrame m.program.text f variables.old → OnOk result (Turned m.program.text found.old.items found.new.items variables.new (block_turn m (block_tree block.now) f)) }
+    ensures { (m : bodies.Surroundings) (f : Frame) → AreSurroundings m around.now → IsFrame m.program.text f variables.old
+        → OnOk result (Turned m.program.text found.old.items found.new.items variables.new (block_turn m (block_tree block.now) f)) }
 {
     let outer = variables.len();
     judge_statements(alloc, around, variables, &block.statements, found)?;
@@ -70,7 +73,9 @@ fn judge_statements<'a>(
     statements: &[Statement],
     found: &mut Vec<Finding>,
 ) -> Result<(), Memory>
-    ensures { (m : bodies.Surroundings) (f : Frame) → AreSurroundings m around.now → IsFrame m.program.text f variables.old → OnOk result (Turned m.program.text found.old.items found.new.items variables.new (statements_turn m (statement_row (map statement_tree statements.now)) f)) }
+    ensures { (m : bodies.Surroundings) (f : Frame) → AreSurroundings m around.now → IsFrame m.program.text f variables.old
+        → OnOk result (Turned m.program.text found.old.items found.new.items variables.new
+        (statements_turn m (statement_row (map statement_tree statements.now)) f)) }
 {
     for statement in statements {
         judge_statement(alloc, around, variables, statement, found)?;
@@ -87,7 +92,9 @@ fn judge_statement<'a>(
     statement: &Statement,
     found: &mut Vec<Finding>,
 ) -> Result<(), Memory>
-    ensures { (m : bodies.Surroundings) (f : Frame) → AreSurroundings m around.now → IsFrame m.program.text f variables.old → OnOk result (Turned m.program.text found.old.items found.new.items variables.new (statement_turn m (statement_tree statement.now) f)) }
+    ensures { (m : bodies.Surroundings) (f : Frame) → AreSurroundings m around.now
+        → IsFrame m.program.text f variables.old → OnOk result
+        (Turned m.program.text found.old.items found.new.items variables.new (statement_turn m (statement_tree statement.now) f)) }
 {
     let scope = around.scope;
     match statement {
@@ -126,7 +133,8 @@ fn judge_test<'a>(
     test: &Test,
     found: &mut Vec<Finding>,
 ) -> Result<(), Memory>
-    ensures { (m : bodies.Surroundings) (f : Frame) → AreSurroundings m around.now → IsFrame m.program.text f variables.old → OnOk result (Turned m.program.text found.old.items found.new.items variables.new (test_turn m (test_tree test.now) f)) }
+    ensures { (m : bodies.Surroundings) (f : Frame) → AreSurroundings m around.now → IsFrame m.program.text f variables.old
+        → OnOk result (Turned m.program.text found.old.items found.new.items variables.new (test_turn m (test_tree test.now) f)) }
 {
     judge_truth(alloc, around.scope, variables, &test.test, found)?;
     judge_block(alloc, around, variables, &test.body, found)
@@ -141,7 +149,9 @@ fn judge_if<'a>(
     branches: &If,
     found: &mut Vec<Finding>,
 ) -> Result<(), Memory>
-    ensures { (m : bodies.Surroundings) (f : Frame) → AreSurroundings m around.now → IsFrame m.program.text f variables.old → OnOk result (Turned m.program.text found.old.items found.new.items variables.new (follow (test_turn m (if_tree branches.now).first f) (others_turn m (if_tree branches.now).others))) }
+    ensures { (m : bodies.Surroundings) (f : Frame) → AreSurroundings m around.now → IsFrame m.program.text f variables.old
+        → OnOk result (Turned m.program.text found.old.items found.new.items variables.new
+        (follow (test_turn m (if_tree branches.now).first f) (others_turn m (if_tree branches.now).others))) }
 {
     judge_test(alloc, around, variables, &branches.first, found)?;
     for test in &branches.others {
@@ -162,7 +172,10 @@ fn judge_switch<'a>(
     switch: &Switch,
     found: &mut Vec<Finding>,
 ) -> Result<(), Memory>
-    ensures { (m : bodies.Surroundings) (f : Frame) → AreSurroundings m around.now → IsFrame m.program.text f variables.old → OnOk result (Turned m.program.text found.old.items found.new.items variables.new (follow (case_turn m (switch_heads (switch_tree switch.now)) [] (switch_tree switch.now).first f) (cases_turn m (switch_heads (switch_tree switch.now)) (head_of (switch_tree switch.now).first ∷ []) (case_row (switch_tree switch.now).others)))) }
+    ensures { (m : bodies.Surroundings) (f : Frame) → AreSurroundings m around.now → IsFrame m.program.text f variables.old
+        → OnOk result (Turned m.program.text found.old.items found.new.items variables.new
+        (follow (case_turn m (switch_heads (switch_tree switch.now)) [] (switch_tree switch.now).first f) (cases_turn m (switch_heads
+        (switch_tree switch.now)) (head_of (switch_tree switch.now).first ∷ []) (case_row (switch_tree switch.now).others)))) }
 {
     let heads = Heads::of(alloc, around.scope.tokens, switch)?;
     judge_case(alloc, around, variables, &heads, 0, &switch.first, found)?;
@@ -183,7 +196,11 @@ fn judge_case<'a>(
     case: &Case,
     found: &mut Vec<Finding>,
 ) -> Result<(), Memory>
-    ensures { (m : bodies.Surroundings) (f : Frame) (all : List Head) → AreSurroundings m around.now → IsFrame m.program.text f variables.old → IsHeads m.program.text all heads.now → slice_get all place ≡ Some (head_of (case_tree case.now)) → OnOk result (Turned m.program.text found.old.items found.new.items variables.new (case_turn m all (take place all) (case_tree case.now) f)) }
+    ensures { (m : bodies.Surroundings) (f : Frame) (all : List Head) → AreSurroundings m around.now
+        → IsFrame m.program.text f variables.old → IsHeads m.program.text all heads.now
+        → slice_get all place ≡ Some (head_of (case_tree case.now))
+        → OnOk result (Turned m.program.text found.old.items found.new.items variables.new
+        (case_turn m all (take place all) (case_tree case.now) f)) }
 {
     let scope = around.scope;
     judge_head(alloc, scope, variables, heads, place, case, found)?;

@@ -56,7 +56,8 @@ impl<'a> Table<'a> {
 
     /// Adds a name that it lacks, behind the others. Where memory is refused, the table is as before.
     pub fn add(&mut self, name: &'a [u8], place: usize) -> Result<(), AllocError>
-        ensures added { (words : List (List ℕ)) → IsTable words self.old → first_of words name.now ≡ None → place ≡ length words → OnOk result (IsTable (words ++ name.now ∷ []) self.new) }
+        ensures added { (words : List (List ℕ)) → IsTable words self.old → first_of words name.now ≡ None → place ≡ length words
+            → OnOk result (IsTable (words ++ name.now ∷ []) self.new) }
         ensures kept { (words : List (List ℕ)) → IsTable words self.old → OnErr result (IsTable words self.new) }
     {
         self.first.insert(name, place)?;
@@ -65,7 +66,8 @@ impl<'a> Table<'a> {
 
     /// Takes the last name away, which no other is.
     pub fn remove(&mut self, name: &[u8])
-        ensures { (words : List (List ℕ)) → IsTable (words ++ name.now ∷ []) self.old → first_of words name.now ≡ None → IsTable words self.new }
+        ensures { (words : List (List ℕ)) → IsTable (words ++ name.now ∷ []) self.old → first_of words name.now ≡ None
+            → IsTable words self.new }
     {
         self.first.remove(name);
     }

@@ -26,7 +26,8 @@ pub(crate) fn judge_target(
     target: &Target,
     found: &mut Vec<Finding>,
 ) -> Result<Kind, Memory>
-    ensures { IfOk result (Gives scope.now variables.now (λ s. target_kind s (target_tree target.now)) (λ s. target_findings s (target_tree target.now)) found.old.items found.new.items) }
+    ensures { IfOk result (Gives scope.now variables.now (λ s. target_kind s (target_tree target.now))
+        (λ s. target_findings s (target_tree target.now)) found.old.items found.new.items) }
 {
     match target {
         Target::Variable(name) => judge_variable(alloc, scope, variables, *name, found),
@@ -50,7 +51,9 @@ fn judge_field_target(
     field: Span,
     found: &mut Vec<Finding>,
 ) -> Result<Kind, Memory>
-    ensures { IfOk result (Gives scope.now variables.now (λ s. field_kind s (held (meant s variable)) field) (λ s. variable_findings s variable ++ (field_findings s (held (meant s variable)) variable field ++ length_findings s (held (meant s variable)) field)) found.old.items found.new.items) }
+    ensures { IfOk result (Gives scope.now variables.now (λ s. field_kind s (held (meant s variable)) field)
+        (λ s. variable_findings s variable ++ (field_findings s (held (meant s variable)) variable field
+        ++ length_findings s (held (meant s variable)) field)) found.old.items found.new.items) }
 {
     let held = judge_variable(alloc, scope, variables, variable, found)?;
     let kind = judge_field(alloc, scope, held, variable, field, found)?;
@@ -66,7 +69,8 @@ fn judge_written(
     field: Span,
     found: &mut Vec<Finding>,
 ) -> Result<(), Memory>
-    ensures { (s : InScope) → IsScope s.program scope.now → OnOk result (Adds found.old.items found.new.items (length_findings s held field)) }
+    ensures { (s : InScope) → IsScope s.program scope.now
+        → OnOk result (Adds found.old.items found.new.items (length_findings s held field)) }
 {
     match held {
         Kind::Array(_) => ask(alloc, !is_length(scope.tokens, field), field.place, found),

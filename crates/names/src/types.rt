@@ -84,7 +84,8 @@ fn kind_of_end(
     side: Side,
     state: Option<Span>,
 ) -> Kind
-    ensures { (c : ContractTree) → IsDeclared tokens.now.text.items c declared.now → result ≡ endpoint_kind tokens.now.text.items (Some (place, c)) side state }
+    ensures { (c : ContractTree) → IsDeclared tokens.now.text.items c declared.now
+        → result ≡ endpoint_kind tokens.now.text.items (Some (place, c)) side state }
 {
     match state {
         Some(state) => kind_of_end_in(tokens, place, declared, side, state),
@@ -99,7 +100,8 @@ fn kind_of_end_in(
     side: Side,
     state: Span,
 ) -> Kind
-    ensures { (c : ContractTree) → IsDeclared tokens.now.text.items c declared.now → result ≡ endpoint_kind tokens.now.text.items (Some (place, c)) side (Some state) }
+    ensures { (c : ContractTree) → IsDeclared tokens.now.text.items c declared.now
+        → result ≡ endpoint_kind tokens.now.text.items (Some (place, c)) side (Some state) }
 {
     match declared.states.find(tokens.slice(state)) {
         Some(_) => Kind::Endpoint(place, side),
@@ -148,7 +150,8 @@ pub(crate) fn judge_pointer(
     name: Span,
     found: &mut Vec<Finding>,
 ) -> Result<(), Memory>
-    ensures { (p : Program) → IsScope p scope.now → OnOk result (Adds found.old.items found.new.items (pointer_unknown p.text (struct_named p name) name)) }
+    ensures { (p : Program) → IsScope p scope.now
+        → OnOk result (Adds found.old.items found.new.items (pointer_unknown p.text (struct_named p name) name)) }
 {
     match scope.structure(name) {
         Some(_) => Ok(()),
@@ -164,7 +167,8 @@ fn judge_endpoint(
     state: Option<Span>,
     found: &mut Vec<Finding>,
 ) -> Result<(), Memory>
-    ensures { (p : Program) → IsScope p scope.now → OnOk result (Adds found.old.items found.new.items (endpoint_unknown p.text (contract_named p contract) contract state)) }
+    ensures { (p : Program) → IsScope p scope.now
+        → OnOk result (Adds found.old.items found.new.items (endpoint_unknown p.text (contract_named p contract) contract state)) }
 {
     match (scope.contract(contract), state) {
         (Some((_, declared)), Some(state)) => {

@@ -31,7 +31,8 @@ fn judge_structure(
     found: &mut Vec<Finding>,
 ) -> Result<Kind, Memory>
     ensures kind { IfOk result (λ kind. (p : Program) → IsScope p scope.now → kind ≡ pointer_kind (struct_named p name)) }
-    ensures found { (p : Program) → IsScope p scope.now → OnOk result (Adds found.old.items found.new.items (pointer_unknown p.text (struct_named p name) name)) }
+    ensures found { (p : Program) → IsScope p scope.now
+        → OnOk result (Adds found.old.items found.new.items (pointer_unknown p.text (struct_named p name) name)) }
 {
     match scope.structure(name) {
         Some(place) => Ok(Kind::Pointer(place)),
@@ -50,8 +51,10 @@ fn judge_made(
     made: &Made,
     found: &mut Vec<Finding>,
 ) -> Result<Kind, Memory>
-    ensures kind { IfOk result (λ kind. (p : Program) (f : Frame) → IsScope p scope.now → kind ≡ made_kind (record { program = p; variables = f.variables }) (made_tree made.now)) }
-    ensures found { (p : Program) (f : Frame) → IsScope p scope.now → IsFrame p.text f variables.now → OnOk result (Adds found.old.items found.new.items (made_findings (record { program = p; variables = f.variables }) (made_tree made.now))) }
+    ensures kind { IfOk result (λ kind. (p : Program) (f : Frame) → IsScope p scope.now
+        → kind ≡ made_kind (record { program = p; variables = f.variables }) (made_tree made.now)) }
+    ensures found { (p : Program) (f : Frame) → IsScope p scope.now → IsFrame p.text f variables.now → OnOk result
+        (Adds found.old.items found.new.items (made_findings (record { program = p; variables = f.variables }) (made_tree made.now))) }
 {
     match made {
         Made::Struct { name, .. } => {
@@ -74,7 +77,8 @@ fn judge_new(
     new: &New,
     found: &mut Vec<Finding>,
 ) -> Result<(), Memory>
-    ensures { (p : Program) (f : Frame) → IsScope p scope.now → IsFrame p.text f variables.now → OnOk result (Adds found.old.items found.new.items (new_findings (record { program = p; variables = f.variables }) asked (new_tree new.now))) }
+    ensures { (p : Program) (f : Frame) → IsScope p scope.now → IsFrame p.text f variables.now → OnOk result (Adds found.old.items
+        found.new.items (new_findings (record { program = p; variables = f.variables }) asked (new_tree new.now))) }
 {
     let kind = judge_made(alloc, scope, variables, &new.made, found)?;
     ask(alloc, kind.agrees(asked), new.word.place, found)
@@ -89,7 +93,8 @@ pub(crate) fn judge_value(
     value: &Value,
     found: &mut Vec<Finding>,
 ) -> Result<(), Memory>
-    ensures { (m : bodies.Surroundings) (f : Frame) → AreSurroundings m around.now → IsFrame m.program.text f variables.now → OnOk result (Adds found.old.items found.new.items (value_findings (bodies.inside_of m f) asked (value_tree value.now))) }
+    ensures { (m : bodies.Surroundings) (f : Frame) → AreSurroundings m around.now → IsFrame m.program.text f variables.now
+        → OnOk result (Adds found.old.items found.new.items (value_findings (bodies.inside_of m f) asked (value_tree value.now))) }
 {
     match value {
         Value::Expression(e) => judge_asked(alloc, around.scope, variables, asked, e, found),

@@ -49,7 +49,8 @@ impl<'a> Variables<'a> {
 
     /// The variable of this name.
     pub(crate) fn find(&self, tokens: &Tokens, name: Span) -> Option<Variable>
-        ensures { (f : Frame) → IsFrame tokens.now.text.items f self.now → option_map variable_seen result ≡ variable_named tokens.now.text.items f.variables name }
+        ensures { (f : Frame) → IsFrame tokens.now.text.items f self.now
+            → option_map variable_seen result ≡ variable_named tokens.now.text.items f.variables name }
     {
         let place = self.names.find(tokens.slice(name))?;
         self.list.get(place).copied()
@@ -65,7 +66,8 @@ impl<'a> Variables<'a> {
         heap: bool,
         found: &mut Vec<Finding>,
     ) -> Result<(), Memory>
-        ensures { (f : Frame) → IsFrame tokens.now.text.items f self.old → OnOk result (Turned tokens.now.text.items found.old.items found.new.items self.new (declared_variable tokens.now.text.items name kind heap f)) }
+        ensures { (f : Frame) → IsFrame tokens.now.text.items f self.old → OnOk result (Turned tokens.now.text.items found.old.items
+            found.new.items self.new (declared_variable tokens.now.text.items name kind heap f)) }
     {
         if !heap {
             return self.enter(alloc, tokens, name, kind, found);
@@ -77,7 +79,8 @@ impl<'a> Variables<'a> {
 
     /// Adds the name of one more of the exchange heap if it is one past the limit.
     fn judge_heap(&self, alloc: Global, name: Span, found: &mut Vec<Finding>) -> Result<(), Memory>
-        ensures { (text : List ℕ) (f : Frame) → IsFrame text f self.now → OnOk result (Adds found.old.items found.new.items (past_heap name f.heap)) }
+        ensures { (text : List ℕ) (f : Frame) → IsFrame text f self.now
+            → OnOk result (Adds found.old.items found.new.items (past_heap name f.heap)) }
     {
         if self.heap != MOST_VARIABLES {
             return Ok(());
@@ -88,7 +91,8 @@ impl<'a> Variables<'a> {
 
     /// Counts one more of the exchange heap.
     fn count(&mut self)
-        ensures { (text : List ℕ) (f : Frame) → IsFrame text f self.old → IsFrame text (record { variables = f.variables; heap = f.heap + 1 }) self.new }
+        ensures { (text : List ℕ) (f : Frame) → IsFrame text f self.old
+            → IsFrame text (record { variables = f.variables; heap = f.heap + 1 }) self.new }
     {
         if self.heap <= MOST_VARIABLES {
             self.heap += 1;
@@ -104,7 +108,8 @@ impl<'a> Variables<'a> {
         kind: Kind,
         found: &mut Vec<Finding>,
     ) -> Result<(), Memory>
-        ensures { (f : Frame) → IsFrame tokens.now.text.items f self.old → OnOk result (Turned tokens.now.text.items found.old.items found.new.items self.new (entered_variable tokens.now.text.items name kind f)) }
+        ensures { (f : Frame) → IsFrame tokens.now.text.items f self.old → OnOk result (Turned tokens.now.text.items found.old.items
+            found.new.items self.new (entered_variable tokens.now.text.items name kind f)) }
     {
         let word = tokens.slice(name);
         if self.names.find(word).is_some() {
@@ -118,7 +123,8 @@ impl<'a> Variables<'a> {
 
     /// Leaves a scope: the first so many stay.
     pub(crate) fn leave(&mut self, tokens: &Tokens, outer: usize)
-        ensures { (f : Frame) → IsFrame tokens.now.text.items f self.old → IsFrame tokens.now.text.items (record { variables = take outer f.variables; heap = f.heap }) self.new }
+        ensures { (f : Frame) → IsFrame tokens.now.text.items f self.old
+            → IsFrame tokens.now.text.items (record { variables = take outer f.variables; heap = f.heap }) self.new }
     {
         while self.list.len() > outer {
             self.drop_last(tokens);
@@ -127,7 +133,8 @@ impl<'a> Variables<'a> {
 
     /// Takes the last variable out of scope.
     fn drop_last(&mut self, tokens: &Tokens)
-        ensures frame { (f : Frame) → IsFrame tokens.now.text.items f self.old → IsFrame tokens.now.text.items (record { variables = take (length f.variables - 1) f.variables; heap = f.heap }) self.new }
+        ensures frame { (f : Frame) → IsFrame tokens.now.text.items f self.old
+            → IsFrame tokens.now.text.items (record { variables = take (length f.variables - 1) f.variables; heap = f.heap }) self.new }
         ensures shorter { length self.new.list.items ≡ length self.old.list.items - 1 }
     {
         match self.list.pop() {

@@ -1,7 +1,8 @@
 //! Expressions that are the whole of something: of a value, of an argument, of what is returned.
 
 ghost use Rattle.std.specs.Prelude.{◌≡◌, IfOk, OnOk, Option};
-ghost use Rattle.tree.specs.ExpressionTrees.{expression_tree, conjunction_tree, equality_tree, relation_tree, sum_tree, term_tree, unary_tree, atom_tree, target_tree};
+ghost use Rattle.tree.specs.ExpressionTrees.{expression_tree, conjunction_tree, equality_tree, relation_tree};
+ghost use Rattle.tree.specs.ExpressionTrees.{sum_tree, term_tree, unary_tree, atom_tree, target_tree};
 ghost use Rattle.names.specs.Expressions.{truth_findings, number_findings};
 ghost use Rattle.names.specs.Found.{Adds};
 ghost use Rattle.names.specs.Frames.{IsFrame};
@@ -53,7 +54,8 @@ pub(crate) fn judge_asked(
     expression: &Expression,
     found: &mut Vec<Finding>,
 ) -> Result<(), Memory>
-    ensures { (p : Program) (f : Frame) → IsScope p scope.now → IsFrame p.text f variables.now → OnOk result (Adds found.old.items found.new.items (asked_findings (in_frame p f) asked (shape (expression_tree expression.now)))) }
+    ensures { (p : Program) (f : Frame) → IsScope p scope.now → IsFrame p.text f variables.now → OnOk result
+        (Adds found.old.items found.new.items (asked_findings (in_frame p f) asked (shape (expression_tree expression.now)))) }
 {
     let operand = judge_whole_operand(alloc, scope, variables, expression, found)?;
     ask(alloc, operand.kind.agrees(asked), operand.place, found)
@@ -67,7 +69,8 @@ pub(crate) fn judge_truth(
     expression: &Expression,
     found: &mut Vec<Finding>,
 ) -> Result<(), Memory>
-    ensures { (p : Program) (f : Frame) → IsScope p scope.now → IsFrame p.text f variables.now → OnOk result (Adds found.old.items found.new.items (truth_findings (in_frame p f) (shape (expression_tree expression.now)))) }
+    ensures { (p : Program) (f : Frame) → IsScope p scope.now → IsFrame p.text f variables.now
+        → OnOk result (Adds found.old.items found.new.items (truth_findings (in_frame p f) (shape (expression_tree expression.now)))) }
 {
     let operand = judge_operand(alloc, scope, variables, expression, found)?;
     ask_truth(alloc, operand.kind, operand.place, found)
@@ -81,7 +84,8 @@ pub(crate) fn judge_number(
     expression: &Expression,
     found: &mut Vec<Finding>,
 ) -> Result<(), Memory>
-    ensures { (p : Program) (f : Frame) → IsScope p scope.now → IsFrame p.text f variables.now → OnOk result (Adds found.old.items found.new.items (number_findings (in_frame p f) (shape (expression_tree expression.now)))) }
+    ensures { (p : Program) (f : Frame) → IsScope p scope.now → IsFrame p.text f variables.now
+        → OnOk result (Adds found.old.items found.new.items (number_findings (in_frame p f) (shape (expression_tree expression.now)))) }
 {
     let operand = judge_operand(alloc, scope, variables, expression, found)?;
     ask_number(alloc, operand.kind, operand.place, found)

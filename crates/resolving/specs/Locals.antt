@@ -1,5 +1,6 @@
 -- Variables in scope, and the numbers of those of the exchange heap.
-use Rattle.std.specs.Prelude.{ℕ, ◌==◌, List, [], ◌∷◌, ◌++◌, map, length, Bool, false, if◌then◌else◌, Option, Some, None, is_some, option_map, option_and_then, slice_get}
+use Rattle.std.specs.Prelude.{ℕ, ◌==◌, List, [], ◌∷◌, ◌++◌, map, length, Bool, false, if◌then◌else◌}
+use Rattle.std.specs.Prelude.{Option, Some, None, is_some, option_map, option_and_then, slice_get}
 use Rattle.source.specs.declared.place.Place.{Place}
 use Rattle.source.specs.declared.token.Span.{Span}
 use Rattle.names.specs.Declarations.{first_among}
@@ -49,10 +50,12 @@ abbrev pub number_of : ℕ → VarId
 number_of n = record { 0 = n }
 
 abbrev pub entered : List ℕ → Declaration → Option ℕ → List Local → List Local
-entered text d number locals = if is_some (local_named text locals d.name) then locals else locals ++ record { name = d.name; kind = d.kind; number = number } ∷ []
+entered text d number locals = if is_some (local_named text locals d.name) then locals
+    else locals ++ record { name = d.name; kind = d.kind; number = number } ∷ []
 
 abbrev pub counted : List ℕ → Declaration → Kind → Option ℕ → List VariableSeen → List VariableSeen
-counted text d held last variables = variables ++ record { name = word_at text d.name; kind = held; role = d.role; outer = option_map number_of last } ∷ []
+counted text d held last variables =
+    variables ++ record { name = word_at text d.name; kind = held; role = d.role; outer = option_map number_of last } ∷ []
 
 abbrev pub declared_heap : List ℕ → Declaration → Kind → Frame → Frame
 declared_heap text d held f = record {

@@ -22,7 +22,8 @@ message_number p n place = option_map (λ m. m.id) (option_and_then (λ c. slice
 
 -- that message
 abbrev pub message_there : Program → ℕ → ℕ → Option Meant
-message_there p n place = option_and_then (λ m. option_map (λ id. record { id = id; message = m }) (message_number p n place)) (message_at p n place)
+message_there p n place =
+    option_and_then (λ m. option_map (λ id. record { id = id; message = m }) (message_number p n place)) (message_at p n place)
 
 -- the message of this name
 abbrev pub message_named : Program → ℕ → Span → Option Meant

@@ -16,7 +16,8 @@ use Rattle.names.specs.Kinds.{type_kind}
 use Rattle.names.specs.Program.{Program}
 use Rattle.program.specs.declared.number.ContractId.{ContractId}
 use Rattle.program.specs.Statements as seen
-use Rattle.program.specs.Statements.{CallSeen, SendSeen, StatementSeen, StatementsSeen, BlockSeen, TestSeen, OthersSeen, CaseSeen, CasesSeen}
+use Rattle.program.specs.Statements.{CallSeen, SendSeen, StatementSeen, StatementsSeen}
+use Rattle.program.specs.Statements.{BlockSeen, TestSeen, OthersSeen, CaseSeen, CasesSeen}
 use Rattle.program.specs.declared.call.Argument.{Argument}
 use Rattle.program.specs.declared.method.Role.TheVariants.{Local}
 use Rattle.program.specs.declared.statement.Action.{Action}
@@ -102,7 +103,13 @@ module _ (p : Program) (class : ℕ) (f : Frame) where
 
   -- a send of this message on this endpoint
   abbrev pub send_of : Span → CallTree → Mention → Meant → SendSeen
-  send_of word c endpoint m = record { reads = argument_reads c.arguments; place = word.place; endpoint = endpoint; message = m.id; payloads = payloads c.arguments }
+  send_of word c endpoint m = record {
+    reads = argument_reads c.arguments;
+    place = word.place;
+    endpoint = endpoint;
+    message = m.id;
+    payloads = payloads c.arguments;
+  }
 
   -- a call by two names that sends this message
   abbrev pub sent : CallTree → Span → Meant → Option SendSeen
@@ -124,7 +131,8 @@ module _ (p : Program) (class : ℕ) (f : Frame) where
   ends_of place contract v w = NewChannel (record { place = place; contract = contract; first = v; second = w })
 
   abbrev pub channel_of : statement.NewChannel.NewChannel → ContractId → Option Action
-  channel_of n contract = option_and_then (λ v. option_map (ends_of n.word.place contract v) (mention p.text f.locals n.second)) (mention p.text f.locals n.first)
+  channel_of n contract = option_and_then (λ v. option_map (ends_of n.word.place contract v) (mention p.text f.locals n.second))
+      (mention p.text f.locals n.first)
 
   abbrev pub channel_found : statement.NewChannel.NewChannel → Option Action
   channel_found n = option_and_then (channel_of n) (contract_named p n.contract)

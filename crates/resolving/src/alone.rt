@@ -2,7 +2,8 @@
 
 ghost use Rattle.std.specs.Prelude.{◌≡◌, Some, option_map};
 ghost use Rattle.tree.specs.Expressions as trees;
-ghost use Rattle.tree.specs.ExpressionTrees.{expression_tree, conjunction_tree, equality_tree, relation_tree, sum_tree, term_tree, unary_tree, atom_tree, target_tree};
+ghost use Rattle.tree.specs.ExpressionTrees.{expression_tree, conjunction_tree, equality_tree, relation_tree};
+ghost use Rattle.tree.specs.ExpressionTrees.{sum_tree, term_tree, unary_tree, atom_tree, target_tree};
 ghost use Rattle.resolving.specs.Reads.{lone_atom, atom_name, lone_name, atom_ways, ways};
 
 use program::Ways;

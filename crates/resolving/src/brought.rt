@@ -39,7 +39,8 @@ fn add_messages(
     messages: &[Message],
     told: &mut Vec<Vec<Kind>>,
 ) -> Result<(), AllocError>
-    ensures { (p : Program) (own : ℕ) → IsAround p own around.now → OnOk result (rows told.new.items ≡ rows told.old.items ++ map (brought p) (map message_tree messages.now)) }
+    ensures { (p : Program) (own : ℕ) → IsAround p own around.now
+        → OnOk result (rows told.new.items ≡ rows told.old.items ++ map (brought p) (map message_tree messages.now)) }
 {
     for message in messages {
         told.push(params_held(alloc, around, &message.params)?)?;
@@ -54,7 +55,8 @@ fn add_members(
     members: &[Member],
     told: &mut Vec<Vec<Kind>>,
 ) -> Result<(), AllocError>
-    ensures { (p : Program) (own : ℕ) → IsAround p own around.now → OnOk result (rows told.new.items ≡ rows told.old.items ++ map (brought p) (flat_map message_among (map member_tree members.now))) }
+    ensures { (p : Program) (own : ℕ) → IsAround p own around.now → OnOk result (rows told.new.items
+        ≡ rows told.old.items ++ map (brought p) (flat_map message_among (map member_tree members.now))) }
 {
     for member in members {
         if let Member::Message(message) = member {
@@ -71,7 +73,8 @@ pub(crate) fn add_brought(
     definition: &Definition,
     told: &mut Vec<Vec<Kind>>,
 ) -> Result<(), AllocError>
-    ensures { (p : Program) (own : ℕ) → IsAround p own around.now → OnOk result (rows told.new.items ≡ rows told.old.items ++ map (brought p) (flat_map messages_of (contract_of (definition_tree definition.now)))) }
+    ensures { (p : Program) (own : ℕ) → IsAround p own around.now → OnOk result (rows told.new.items
+        ≡ rows told.old.items ++ map (brought p) (flat_map messages_of (contract_of (definition_tree definition.now)))) }
 {
     if let Definition::Contract(contract) = definition {
         add_messages(alloc, around, &contract.messages, told)?;

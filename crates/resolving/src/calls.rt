@@ -39,7 +39,8 @@ fn method_at<'a>(
     class: usize,
     name: Span,
 ) -> Option<Callee<'a>>
-    ensures { (items : List ItemTree) (own : ℕ) → IsAround (program_in tokens.now.text.items items) own around.now → option_map callee_seen result ≡ method_at (program_in tokens.now.text.items items) class name }
+    ensures { (items : List ItemTree) (own : ℕ) → IsAround (program_in tokens.now.text.items items) own around.now
+        → option_map callee_seen result ≡ method_at (program_in tokens.now.text.items items) class name }
 {
     let place = around.scope.method_place(class, name)?;
     let item = around.items.get(class)?;
@@ -58,7 +59,8 @@ fn method_of<'a>(
     class: Span,
     name: Span,
 ) -> Option<Callee<'a>>
-    ensures { (items : List ItemTree) (own : ℕ) → IsAround (program_in tokens.now.text.items items) own around.now → option_map callee_seen result ≡ method_of (program_in tokens.now.text.items items) class name }
+    ensures { (items : List ItemTree) (own : ℕ) → IsAround (program_in tokens.now.text.items items) own around.now
+        → option_map callee_seen result ≡ method_of (program_in tokens.now.text.items items) class name }
 {
     let class = around.scope.class_place(class)?;
     method_at(tokens, around, class, name)
@@ -72,7 +74,9 @@ fn member_callee<'a>(
     class: Span,
     name: Span,
 ) -> Option<Callee<'a>>
-    ensures { (items : List ItemTree) (own : ℕ) (f : Frame) → IsAround (program_in tokens.now.text.items items) own around.now → IsFrame tokens.now.text.items f locals.now → option_map callee_seen result ≡ member_callee (program_in tokens.now.text.items items) (local_named tokens.now.text.items f.locals class) class name }
+    ensures { (items : List ItemTree) (own : ℕ) (f : Frame) → IsAround (program_in tokens.now.text.items items) own around.now
+        → IsFrame tokens.now.text.items f locals.now → option_map callee_seen result
+        ≡ member_callee (program_in tokens.now.text.items items) (local_named tokens.now.text.items f.locals class) class name }
 {
     if locals.is_in_scope(tokens, class) {
         return None;
@@ -87,7 +91,9 @@ fn callee_of<'a>(
     locals: &Locals<'_>,
     call: &tree::Call,
 ) -> Option<Callee<'a>>
-    ensures { (items : List ItemTree) (own : ℕ) (f : Frame) → IsAround (program_in tokens.now.text.items items) own around.now → IsFrame tokens.now.text.items f locals.now → option_map callee_seen result ≡ model.callee (program_in tokens.now.text.items items) own f.locals (call_tree call.now) }
+    ensures { (items : List ItemTree) (own : ℕ) (f : Frame)
+        → IsAround (program_in tokens.now.text.items items) own around.now → IsFrame tokens.now.text.items f locals.now
+        → option_map callee_seen result ≡ model.callee (program_in tokens.now.text.items items) own f.locals (call_tree call.now) }
 {
     match call.member {
         Some(name) => member_callee(tokens, around, locals, call.name, name),
@@ -112,7 +118,8 @@ pub(crate) fn add_argument_reads(
     arguments: &[Expression],
     found: &mut Vec<Mention>,
 ) -> Result<(), AllocError>
-    ensures { (items : List ItemTree) (own : ℕ) → OnOk result (AddsReads tokens.now.text.items locals.now (λ f. argument_reads (program_in tokens.now.text.items items) own f (map expression_tree arguments.now)) found.old.items found.new.items) }
+    ensures { (items : List ItemTree) (own : ℕ) → OnOk result (AddsReads tokens.now.text.items locals.now (λ f. argument_reads
+        (program_in tokens.now.text.items items) own f (map expression_tree arguments.now)) found.old.items found.new.items) }
 {
     for argument in arguments {
         add_reads(tokens, locals, argument, found)?;
@@ -143,7 +150,8 @@ fn arguments_of(
     parameters: &[Parameter],
     arguments: &[Expression],
 ) -> Result<Vec<Argument>, AllocError>
-    ensures { (items : List ItemTree) (own : ℕ) (f : Frame) → IsFrame tokens.now.text.items f locals.now → IfOk result (λ list. list.items ≡ told.arguments (program_in tokens.now.text.items items) own f parameters.now (map expression_tree arguments.now)) }
+    ensures { (items : List ItemTree) (own : ℕ) (f : Frame) → IsFrame tokens.now.text.items f locals.now → IfOk result (λ list.
+        list.items ≡ told.arguments (program_in tokens.now.text.items items) own f parameters.now (map expression_tree arguments.now)) }
 {
     let mut given = Vec::new(alloc);
     for (parameter, argument) in parameters.iter().zip(arguments) {
@@ -163,7 +171,9 @@ fn call_of(
     target: Option<Mention>,
     behind: Vec<Mention>,
 ) -> Result<Call, AllocError>
-    ensures { (items : List ItemTree) (own : ℕ) (f : Frame) → IsFrame tokens.now.text.items f locals.now → IfOk result (λ c. call_seen c ≡ told.call_of (program_in tokens.now.text.items items) own f (call_tree call.now) target behind.items (callee_seen callee.entry)) }
+    ensures { (items : List ItemTree) (own : ℕ) (f : Frame) → IsFrame tokens.now.text.items f locals.now
+        → IfOk result (λ c. call_seen c ≡ told.call_of (program_in tokens.now.text.items items) own f
+        (call_tree call.now) target behind.items (callee_seen callee.entry)) }
 {
     let mut reads = Vec::new(alloc);
     add_argument_reads(tokens, locals, &call.arguments, &mut reads)?;
@@ -194,7 +204,9 @@ fn tell_called(
     target: Option<Mention>,
     behind: Vec<Mention>,
 ) -> Result<Option<Call>, AllocError>
-    ensures { (items : List ItemTree) (own : ℕ) → IsAround (program_in tokens.now.text.items items) own around.now → IfOk result (TellsCall tokens.now.text.items locals.now (λ f. call_told (program_in tokens.now.text.items items) own f (call_tree call.now) target behind.items)) }
+    ensures { (items : List ItemTree) (own : ℕ) → IsAround (program_in tokens.now.text.items items) own around.now
+        → IfOk result (TellsCall tokens.now.text.items locals.now
+        (λ f. call_told (program_in tokens.now.text.items items) own f (call_tree call.now) target behind.items)) }
 {
     match callee_of(tokens, around, locals, call) {
         Some(callee) => {
@@ -215,7 +227,9 @@ pub(crate) fn tell_call(
     target: Option<Mention>,
     behind: Vec<Mention>,
 ) -> Result<Statement, AllocError>
-    ensures { (items : List ItemTree) (own : ℕ) → IsAround (program_in tokens.now.text.items items) own around.now → IfOk result (Tells tokens.now.text.items locals.now (λ f. told.called (program_in tokens.now.text.items items) own f (call_tree call.now) target behind.items)) }
+    ensures { (items : List ItemTree) (own : ℕ) → IsAround (program_in tokens.now.text.items items) own around.now
+        → IfOk result (Tells tokens.now.text.items locals.now
+        (λ f. told.called (program_in tokens.now.text.items items) own f (call_tree call.now) target behind.items)) }
 {
     match tell_called(alloc, tokens, around, locals, call, target, behind)? {
         Some(call) => Ok(Statement::Call(call)),
@@ -231,7 +245,8 @@ pub(crate) fn tell_start(
     locals: &Locals<'_>,
     call: &tree::Call,
 ) -> Result<Statement, AllocError>
-    ensures { (items : List ItemTree) (own : ℕ) → IsAround (program_in tokens.now.text.items items) own around.now → IfOk result (Tells tokens.now.text.items locals.now (λ f. told.started (program_in tokens.now.text.items items) own f (call_tree call.now))) }
+    ensures { (items : List ItemTree) (own : ℕ) → IsAround (program_in tokens.now.text.items items) own around.now → IfOk result (Tells
+        tokens.now.text.items locals.now (λ f. told.started (program_in tokens.now.text.items items) own f (call_tree call.now))) }
 {
     let behind = Vec::new(alloc);
     match tell_called(alloc, tokens, around, locals, call, None, behind)? {

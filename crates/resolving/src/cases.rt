@@ -22,7 +22,8 @@ use tree::{Bind, Param};
 
 /// The endpoint of a case.
 pub(crate) fn case_endpoint(tokens: &Tokens, locals: &Locals<'_>, name: Span) -> Mention
-    ensures { (items : List ItemTree) (f : Frame) → IsFrame tokens.now.text.items f locals.now → result ≡ told.case_endpoint (program_in tokens.now.text.items items) f name }
+    ensures { (items : List ItemTree) (f : Frame) → IsFrame tokens.now.text.items f locals.now
+        → result ≡ told.case_endpoint (program_in tokens.now.text.items items) f name }
 {
     match locals.mention(tokens, name) {
         Some(mention) => mention,
@@ -41,7 +42,9 @@ pub(crate) fn awaited_message<'a>(
     name: Span,
     awaited: tree::Awaited,
 ) -> Option<Meant<'a>>
-    ensures { (items : List ItemTree) (own : ℕ) (f : Frame) → IsAround (program_in tokens.now.text.items items) own around.now → IsFrame tokens.now.text.items f locals.now → option_map meant_seen result ≡ told.awaited_message (program_in tokens.now.text.items items) f name awaited }
+    ensures { (items : List ItemTree) (own : ℕ) (f : Frame)
+        → IsAround (program_in tokens.now.text.items items) own around.now → IsFrame tokens.now.text.items f locals.now
+        → option_map meant_seen result ≡ told.awaited_message (program_in tokens.now.text.items items) f name awaited }
 {
     let tree::Awaited::Message(word) = awaited else {
         return None;
@@ -92,7 +95,8 @@ fn brought_kind(around: &Around<'_, '_>, param: Option<&Param>) -> names::Kind
 
 /// What a case declares by a name that it binds for this parameter, if there is one.
 fn bind_declaration(around: &Around<'_, '_>, param: Option<&Param>, bind: Bind) -> Declaration
-    ensures { (p : Program) (own : ℕ) → IsAround p own around.now → result ≡ model.bind_declaration p (option_map (λ x. x.now) param.entry) bind }
+    ensures { (p : Program) (own : ℕ) → IsAround p own around.now
+        → result ≡ model.bind_declaration p (option_map (λ x. x.now) param.entry) bind }
 {
     let name = bind.name;
     let role = Role::Local;
@@ -137,7 +141,9 @@ fn declare_bind<'a>(
     bind: Bind,
     bound: &mut Vec<VarId>,
 ) -> Result<(), AllocError>
-    ensures { (items : List ItemTree) (own : ℕ) (f : Frame) → IsAround (program_in tokens.now.text.items items) own around.now → IsFrame tokens.now.text.items f locals.old → OnOk result (IsBound tokens.now.text.items bound.old.items bound.new.items locals.new (model.bind_told (program_in tokens.now.text.items items) (option_map (λ x. x.now) param.entry) bind f)) }
+    ensures { (items : List ItemTree) (own : ℕ) (f : Frame) → IsAround (program_in tokens.now.text.items items) own around.now
+        → IsFrame tokens.now.text.items f locals.old → OnOk result (IsBound tokens.now.text.items bound.old.items bound.new.items
+        locals.new (model.bind_told (program_in tokens.now.text.items items) (option_map (λ x. x.now) param.entry) bind f)) }
 {
     let declaration = bind_declaration(around, param, bind);
     let number = locals.next_number(declaration.held);
@@ -162,7 +168,9 @@ pub(crate) fn declare_binds<'a>(
     params: &[Param],
     binds: &[Bind],
 ) -> Result<Vec<VarId>, AllocError>
-    ensures { (items : List ItemTree) (own : ℕ) (f : Frame) → IsAround (program_in tokens.now.text.items items) own around.now → IsFrame tokens.now.text.items f locals.old → IfOk result (λ bound. IsTold tokens.now.text.items (model.binds_told (program_in tokens.now.text.items items) params.now binds.now f) bound.items locals.new) }
+    ensures { (items : List ItemTree) (own : ℕ) (f : Frame) → IsAround (program_in tokens.now.text.items items) own around.now
+        → IsFrame tokens.now.text.items f locals.old → IfOk result (λ bound. IsTold tokens.now.text.items
+        (model.binds_told (program_in tokens.now.text.items items) params.now binds.now f) bound.items locals.new) }
 {
     let mut bound = Vec::new(alloc);
     for (place, bind) in binds.iter().enumerate() {

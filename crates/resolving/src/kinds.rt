@@ -14,7 +14,8 @@ use tree::{Heap, Type};
 
 /// The contract that is the item at this place.
 pub(crate) fn contract_at<'s>(around: &Around<'s, '_>, place: usize) -> Option<&'s Contract>
-    ensures { (p : Program) (own : ℕ) → IsAround p own around.now → option_map (λ c. contract_seen c.now) result ≡ model.contract_at p place }
+    ensures { (p : Program) (own : ℕ) → IsAround p own around.now
+        → option_map (λ c. contract_seen c.now) result ≡ model.contract_at p place }
 {
     let before = around.before.get(place)?;
     around.resolved.contracts.get(before.contracts)

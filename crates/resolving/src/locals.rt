@@ -78,7 +78,8 @@ impl<'a> Locals<'a> {
 
     /// The variable of this name.
     fn find(&self, tokens: &Tokens, name: Span) -> Option<Local>
-        ensures { (f : Frame) → IsFrame tokens.now.text.items f self.now → option_map local_seen result ≡ local_named tokens.now.text.items f.locals name }
+        ensures { (f : Frame) → IsFrame tokens.now.text.items f self.now
+            → option_map local_seen result ≡ local_named tokens.now.text.items f.locals name }
     {
         let place = self.names.find(tokens.slice(name))?;
         let local = self.list.get(place)?;
@@ -87,7 +88,8 @@ impl<'a> Locals<'a> {
 
     /// Whether a variable in scope has this name.
     pub(crate) fn is_in_scope(&self, tokens: &Tokens, name: Span) -> bool
-        ensures { (f : Frame) → IsFrame tokens.now.text.items f self.now → result ≡ is_some (local_named tokens.now.text.items f.locals name) }
+        ensures { (f : Frame) → IsFrame tokens.now.text.items f self.now
+            → result ≡ is_some (local_named tokens.now.text.items f.locals name) }
     {
         self.find(tokens, name).is_some()
     }
@@ -105,7 +107,8 @@ impl<'a> Locals<'a> {
 
     /// The place of the contract of the endpoint that a name means.
     pub(crate) fn contract(&self, tokens: &Tokens, name: Span) -> Option<usize>
-        ensures { (items : List ItemTree) (f : Frame) → IsFrame tokens.now.text.items f self.now → result ≡ end_contract (program_in tokens.now.text.items items) f.locals name }
+        ensures { (items : List ItemTree) (f : Frame) → IsFrame tokens.now.text.items f self.now
+            → result ≡ end_contract (program_in tokens.now.text.items items) f.locals name }
     {
         contract_of(self.find(tokens, name)?.kind)
     }
@@ -127,7 +130,8 @@ impl<'a> Locals<'a> {
         tokens: &'a Tokens,
         declaration: Declaration,
     ) -> Result<(), AllocError>
-        ensures { (f : Frame) → IsFrame tokens.now.text.items f self.old → OnOk result (IsFrame tokens.now.text.items (declared tokens.now.text.items declaration f) self.new) }
+        ensures { (f : Frame) → IsFrame tokens.now.text.items f self.old
+            → OnOk result (IsFrame tokens.now.text.items (declared tokens.now.text.items declaration f) self.new) }
     {
         match declaration.held {
             Some(held) => self.declare_heap(alloc, tokens, declaration, held),
@@ -143,7 +147,8 @@ impl<'a> Locals<'a> {
         declaration: Declaration,
         held: Kind,
     ) -> Result<(), AllocError>
-        ensures { (f : Frame) → IsFrame tokens.now.text.items f self.old → OnOk result (IsFrame tokens.now.text.items (declared_heap tokens.now.text.items declaration held f) self.new) }
+        ensures { (f : Frame) → IsFrame tokens.now.text.items f self.old
+            → OnOk result (IsFrame tokens.now.text.items (declared_heap tokens.now.text.items declaration held f) self.new) }
     {
         let number = VarId(self.variables.len());
         self.enter(tokens, declaration, Some(number))?;
@@ -159,7 +164,13 @@ impl<'a> Locals<'a> {
         declaration: Declaration,
         number: Option<VarId>,
     ) -> Result<(), AllocError>
-        ensures { (f : Frame) → IsFrame tokens.now.text.items f self.old → OnOk result (IsFrame tokens.now.text.items (record { locals = entered tokens.now.text.items declaration (number_seen number) f.locals; last = f.last; variables = f.variables }) self.new) }
+        ensures { (f : Frame) → IsFrame tokens.now.text.items f self.old
+            → OnOk result (IsFrame tokens.now.text.items (record {
+              locals = entered tokens.now.text.items declaration
+                  (number_seen number) f.locals;
+              last = f.last;
+              variables = f.variables;
+            }) self.new) }
     {
         let name = declaration.name;
         let kind = declaration.kind;
@@ -180,7 +191,12 @@ impl<'a> Locals<'a> {
         declaration: Declaration,
         kind: Kind,
     ) -> Result<(), AllocError>
-        ensures { (f : Frame) → IsFrame tokens.now.text.items f self.old → OnOk result (IsFrame tokens.now.text.items (record { locals = f.locals; last = f.last; variables = counted tokens.now.text.items declaration kind f.last f.variables }) self.new) }
+        ensures { (f : Frame) → IsFrame tokens.now.text.items f self.old
+            → OnOk result (IsFrame tokens.now.text.items (record {
+              locals = f.locals;
+              last = f.last;
+              variables = counted tokens.now.text.items declaration kind f.last f.variables;
+            }) self.new) }
     {
         let name = Vec::from_slice(alloc, tokens.slice(declaration.name))?;
         let outer = self.last;
@@ -195,7 +211,8 @@ impl<'a> Locals<'a> {
 
     /// Leaves a scope: the first so many stay, and the last of the exchange heap among them is this.
     pub(crate) fn leave(&mut self, tokens: &Tokens, outer: usize, last: Option<VarId>)
-        ensures { (f : Frame) → IsFrame tokens.now.text.items f self.old → IsFrame tokens.now.text.items (record { locals = take outer f.locals; last = number_seen last; variables = f.variables }) self.new }
+        ensures { (f : Frame) → IsFrame tokens.now.text.items f self.old → IsFrame tokens.now.text.items
+            (record { locals = take outer f.locals; last = number_seen last; variables = f.variables }) self.new }
     {
         while self.list.len() > outer {
             self.drop_last(tokens);
@@ -205,7 +222,8 @@ impl<'a> Locals<'a> {
 
     /// Takes the last variable out of scope.
     fn drop_last(&mut self, tokens: &Tokens)
-        ensures frame { (f : Frame) → IsFrame tokens.now.text.items f self.old → IsFrame tokens.now.text.items (record { locals = take (length f.locals - 1) f.locals; last = f.last; variables = f.variables }) self.new }
+        ensures frame { (f : Frame) → IsFrame tokens.now.text.items f self.old → IsFrame tokens.now.text.items
+            (record { locals = take (length f.locals - 1) f.locals; last = f.last; variables = f.variables }) self.new }
         ensures shorter { length self.new.list.items ≡ length self.old.list.items - 1 }
     {
         match self.list.pop() {

@@ -73,7 +73,9 @@ fn declare_parameters<'a>(
     locals: &mut Locals<'a>,
     params: &[Parameter],
 ) -> Result<(), AllocError>
-    ensures { (items : List ItemTree) (own : ℕ) (f : Frame) → IsAround (program_in tokens.now.text.items items) own around.now → IsFrame tokens.now.text.items f locals.old → OnOk result (IsFrame tokens.now.text.items (parameters_frame (program_in tokens.now.text.items items) params.now f) locals.new) }
+    ensures { (items : List ItemTree) (own : ℕ) (f : Frame) → IsAround (program_in tokens.now.text.items items) own around.now
+        → IsFrame tokens.now.text.items f locals.old → OnOk result
+        (IsFrame tokens.now.text.items (parameters_frame (program_in tokens.now.text.items items) params.now f) locals.new) }
 {
     for parameter in params {
         locals.declare(alloc, tokens, parameter_declaration(around, *parameter))?;
@@ -88,7 +90,8 @@ fn resolve_method(
     around: &Around<'_, '_>,
     method: &tree::Method,
 ) -> Result<Method, AllocError>
-    ensures { (items : List ItemTree) (own : ℕ) → IsAround (program_in tokens.now.text.items items) own around.now → IfOk result (λ m. method_seen m ≡ method_told (program_in tokens.now.text.items items) own (method_tree method.now)) }
+    ensures { (items : List ItemTree) (own : ℕ) → IsAround (program_in tokens.now.text.items items) own around.now
+        → IfOk result (λ m. method_seen m ≡ method_told (program_in tokens.now.text.items items) own (method_tree method.now)) }
 {
     let mut locals = Locals::new(alloc);
     declare_parameters(alloc, tokens, around, &mut locals, &method.params)?;
@@ -126,7 +129,9 @@ fn add_methods(
     methods: &[tree::Method],
     resolved: &mut Vec<Method>,
 ) -> Result<(), AllocError>
-    ensures { (items : List ItemTree) (own : ℕ) → IsAround (program_in tokens.now.text.items items) own around.now → OnOk result (map method_seen resolved.new.items ≡ map method_seen resolved.old.items ++ map (method_told (program_in tokens.now.text.items items) own) (map method_tree methods.now)) }
+    ensures { (items : List ItemTree) (own : ℕ) → IsAround (program_in tokens.now.text.items items) own around.now
+        → OnOk result (map method_seen resolved.new.items ≡ map method_seen resolved.old.items
+        ++ map (method_told (program_in tokens.now.text.items items) own) (map method_tree methods.now)) }
 {
     for method in methods {
         resolved.push(resolve_method(alloc, tokens, around, method)?)?;
@@ -150,12 +155,15 @@ fn resolve_items<'a>(
     contracts: &Resolved,
     items: &'a [Item],
 ) -> Result<Program, AllocError>
-    requires contracts { map contract_seen contracts.now.contracts.items ≡ resolved_contracts tokens.now.text.items (contracts_of (map item_tree items.now)) }
+    requires contracts { map contract_seen contracts.now.contracts.items
+        ≡ resolved_contracts tokens.now.text.items (contracts_of (map item_tree items.now)) }
     requires room { length contracts.now.contracts.items < 2 ^ 32 }
     requires scope { IsScope (program_in tokens.now.text.items (map item_tree items.now)) scope.now }
     requires few { length (all_methods (map item_tree items.now)) ≤ MOST_METHODS }
-    ensures messages { IfOk result (λ program. rows program.messages.items ≡ messages_told (program_in tokens.now.text.items (map item_tree items.now))) }
-    ensures methods { IfOk result (λ program. map method_seen program.methods.items ≡ methods_told (program_in tokens.now.text.items (map item_tree items.now))) }
+    ensures messages { IfOk result (λ program. rows program.messages.items
+        ≡ messages_told (program_in tokens.now.text.items (map item_tree items.now))) }
+    ensures methods { IfOk result (λ program. map method_seen program.methods.items
+        ≡ methods_told (program_in tokens.now.text.items (map item_tree items.now))) }
 {
     let before = count_items(alloc, items)?;
     let mut messages = Vec::new(alloc);
@@ -189,11 +197,13 @@ pub fn resolve_methods(
     tokens: &Tokens,
     contracts: &Resolved,
 ) -> Result<Program, Memory>
-    requires contracts { map contract_seen contracts.now.contracts.items ≡ resolved_contracts tokens.now.text.items (contracts_of (program_tree tree.now)) }
+    requires contracts { map contract_seen contracts.now.contracts.items
+        ≡ resolved_contracts tokens.now.text.items (contracts_of (program_tree tree.now)) }
     requires room { length contracts.now.contracts.items < 2 ^ 32 }
     requires clean { program_findings (program_of tokens.now.text.items tree.now) ≡ [] }
     ensures messages { IfOk result (λ program. rows program.messages.items ≡ messages_told (program_of tokens.now.text.items tree.now)) }
-    ensures resolved { IfOk result (λ program. map method_seen program.methods.items ≡ methods_told (program_of tokens.now.text.items tree.now)) }
+    ensures resolved { IfOk result (λ program. map method_seen program.methods.items
+        ≡ methods_told (program_of tokens.now.text.items tree.now)) }
     ensures few { IfOk result (λ program. length program.methods.items ≤ MOST_METHODS) }
 {
     let scope = Scope::of(alloc, tokens, &tree.items)?;

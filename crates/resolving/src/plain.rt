@@ -44,7 +44,9 @@ fn tell_assign(
     target: &Target,
     value: &Value,
 ) -> Result<Statement, AllocError>
-    ensures { (items : List ItemTree) (own : ℕ) → IsAround (program_in tokens.now.text.items items) own around.now → IfOk result (Tells tokens.now.text.items locals.now (λ f. written (program_in tokens.now.text.items items) own f (target_tree target.now) (value_tree value.now))) }
+    ensures { (items : List ItemTree) (own : ℕ) → IsAround (program_in tokens.now.text.items items) own around.now
+        → IfOk result (Tells tokens.now.text.items locals.now
+        (λ f. written (program_in tokens.now.text.items items) own f (target_tree target.now) (value_tree value.now))) }
 {
     match target {
         Target::Variable(name) => {
@@ -72,7 +74,9 @@ fn declared_mention(
     locals: &Locals<'_>,
     declare: &Declare,
 ) -> Option<Mention>
-    ensures { (items : List ItemTree) (own : ℕ) (f : Frame) → IsAround (program_in tokens.now.text.items items) own around.now → IsFrame tokens.now.text.items f locals.now → result ≡ option_map (mention_of declare.now.name) (next_number (type_held (program_in tokens.now.text.items items) declare.now.kind) f) }
+    ensures { (items : List ItemTree) (own : ℕ) (f : Frame) → IsAround (program_in tokens.now.text.items items) own around.now
+        → IsFrame tokens.now.text.items f locals.now → result ≡ option_map (mention_of declare.now.name)
+        (next_number (type_held (program_in tokens.now.text.items items) declare.now.kind) f) }
 {
     let variable = locals.next_number(type_held(around, declare.kind))?;
     Some(Mention {
@@ -89,7 +93,9 @@ fn tell_declare(
     locals: &Locals<'_>,
     declare: &Declare,
 ) -> Result<Statement, AllocError>
-    ensures { (items : List ItemTree) (own : ℕ) → IsAround (program_in tokens.now.text.items items) own around.now → IfOk result (Tells tokens.now.text.items locals.now (λ f. first_value (program_in tokens.now.text.items items) own f declare.now.name (next_number (type_held (program_in tokens.now.text.items items) declare.now.kind) f) (option_map value_tree declare.now.value))) }
+    ensures { (items : List ItemTree) (own : ℕ) → IsAround (program_in tokens.now.text.items items) own around.now → IfOk result (Tells
+        tokens.now.text.items locals.now (λ f. first_value (program_in tokens.now.text.items items) own f declare.now.name (next_number
+        (type_held (program_in tokens.now.text.items items) declare.now.kind) f) (option_map value_tree declare.now.value))) }
 {
     match &declare.value {
         Some(value) => {
@@ -108,7 +114,8 @@ fn tell_return(
     place: Place,
     value: &Option<Expression>,
 ) -> Result<Statement, AllocError>
-    ensures { (items : List ItemTree) (own : ℕ) → IfOk result (Tells tokens.now.text.items locals.now (λ f. returned (program_in tokens.now.text.items items) own f place (option_map expression_tree value.now))) }
+    ensures { (items : List ItemTree) (own : ℕ) → IfOk result (Tells tokens.now.text.items locals.now
+        (λ f. returned (program_in tokens.now.text.items items) own f place (option_map expression_tree value.now))) }
 {
     let scope = locals.last();
     match value {
@@ -143,7 +150,9 @@ pub(crate) fn tell_plain(
     locals: &Locals<'_>,
     statement: &tree::Statement,
 ) -> Result<Statement, AllocError>
-    ensures { (items : List ItemTree) (own : ℕ) → IsAround (program_in tokens.now.text.items items) own around.now → IfOk result (Tells tokens.now.text.items locals.now (λ f. plain_told (program_in tokens.now.text.items items) own f (statement_tree statement.now))) }
+    ensures { (items : List ItemTree) (own : ℕ) → IsAround (program_in tokens.now.text.items items) own around.now
+        → IfOk result (Tells tokens.now.text.items locals.now
+        (λ f. plain_told (program_in tokens.now.text.items items) own f (statement_tree statement.now))) }
 {
     match statement {
         tree::Statement::Declare(declare) => {
@@ -192,7 +201,9 @@ pub(crate) fn declare_in<'a>(
     locals: &mut Locals<'a>,
     statement: &tree::Statement,
 ) -> Result<(), AllocError>
-    ensures { (items : List ItemTree) (own : ℕ) (f : Frame) → IsAround (program_in tokens.now.text.items items) own around.now → IsFrame tokens.now.text.items f locals.old → OnOk result (IsFrame tokens.now.text.items (frame_behind (program_in tokens.now.text.items items) own f (statement_tree statement.now)) locals.new) }
+    ensures { (items : List ItemTree) (own : ℕ) (f : Frame) → IsAround (program_in tokens.now.text.items items) own around.now
+        → IsFrame tokens.now.text.items f locals.old → OnOk result (IsFrame tokens.now.text.items
+        (frame_behind (program_in tokens.now.text.items items) own f (statement_tree statement.now)) locals.new) }
 {
     match statement {
         tree::Statement::Declare(declare) => {

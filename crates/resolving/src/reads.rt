@@ -1,7 +1,8 @@
 //! The blocks that an expression reads, in order of the text.
 
 ghost use Rattle.std.specs.Prelude.{OnOk};
-ghost use Rattle.tree.specs.ExpressionTrees.{expression_tree, conjunction_tree, equality_tree, relation_tree, sum_tree, term_tree, unary_tree, atom_tree, target_tree};
+ghost use Rattle.tree.specs.ExpressionTrees.{expression_tree, conjunction_tree, equality_tree, relation_tree};
+ghost use Rattle.tree.specs.ExpressionTrees.{sum_tree, term_tree, unary_tree, atom_tree, target_tree};
 ghost use Rattle.resolving.specs.Locals.{mention};
 ghost use Rattle.resolving.specs.Reads.{reads, atom_reads, target_reads, listed};
 ghost use Rattle.resolving.specs.Steps.{AddsReads};
@@ -20,7 +21,8 @@ pub(crate) fn add_reads(
     expression: &Expression,
     found: &mut Vec<Mention>,
 ) -> Result<(), AllocError>
-    ensures { OnOk result (AddsReads tokens.now.text.items locals.now (λ f. reads tokens.now.text.items f.locals (expression_tree expression.now)) found.old.items found.new.items) }
+    ensures { OnOk result (AddsReads tokens.now.text.items locals.now
+        (λ f. reads tokens.now.text.items f.locals (expression_tree expression.now)) found.old.items found.new.items) }
 {
     add_conjunction(tokens, locals, &expression.first, found)?;
     'each: for conjunction in &expression.others {
@@ -37,7 +39,8 @@ fn add_conjunction(
     conjunction: &Conjunction,
     found: &mut Vec<Mention>,
 ) -> Result<(), AllocError>
-    ensures { OnOk result (AddsReads tokens.now.text.items locals.now (λ f. reads tokens.now.text.items f.locals (conjunction_tree conjunction.now)) found.old.items found.new.items) }
+    ensures { OnOk result (AddsReads tokens.now.text.items locals.now
+        (λ f. reads tokens.now.text.items f.locals (conjunction_tree conjunction.now)) found.old.items found.new.items) }
 {
     add_equality(tokens, locals, &conjunction.first, found)?;
     'each: for equality in &conjunction.others {
@@ -54,7 +57,8 @@ fn add_equality(
     equality: &Equality,
     found: &mut Vec<Mention>,
 ) -> Result<(), AllocError>
-    ensures { OnOk result (AddsReads tokens.now.text.items locals.now (λ f. reads tokens.now.text.items f.locals (equality_tree equality.now)) found.old.items found.new.items) }
+    ensures { OnOk result (AddsReads tokens.now.text.items locals.now
+        (λ f. reads tokens.now.text.items f.locals (equality_tree equality.now)) found.old.items found.new.items) }
 {
     add_relation(tokens, locals, &equality.first, found)?;
     'each: for step in &equality.others {
@@ -71,7 +75,8 @@ fn add_relation(
     relation: &Relation,
     found: &mut Vec<Mention>,
 ) -> Result<(), AllocError>
-    ensures { OnOk result (AddsReads tokens.now.text.items locals.now (λ f. reads tokens.now.text.items f.locals (relation_tree relation.now)) found.old.items found.new.items) }
+    ensures { OnOk result (AddsReads tokens.now.text.items locals.now
+        (λ f. reads tokens.now.text.items f.locals (relation_tree relation.now)) found.old.items found.new.items) }
 {
     add_sum(tokens, locals, &relation.first, found)?;
     'each: for step in &relation.others {
@@ -88,7 +93,8 @@ fn add_sum(
     sum: &Sum,
     found: &mut Vec<Mention>,
 ) -> Result<(), AllocError>
-    ensures { OnOk result (AddsReads tokens.now.text.items locals.now (λ f. reads tokens.now.text.items f.locals (sum_tree sum.now)) found.old.items found.new.items) }
+    ensures { OnOk result (AddsReads tokens.now.text.items locals.now
+        (λ f. reads tokens.now.text.items f.locals (sum_tree sum.now)) found.old.items found.new.items) }
 {
     add_term(tokens, locals, &sum.first, found)?;
     'each: for step in &sum.others {
@@ -105,7 +111,8 @@ fn add_term(
     term: &Term,
     found: &mut Vec<Mention>,
 ) -> Result<(), AllocError>
-    ensures { OnOk result (AddsReads tokens.now.text.items locals.now (λ f. reads tokens.now.text.items f.locals (term_tree term.now)) found.old.items found.new.items) }
+    ensures { OnOk result (AddsReads tokens.now.text.items locals.now
+        (λ f. reads tokens.now.text.items f.locals (term_tree term.now)) found.old.items found.new.items) }
 {
     add_unary(tokens, locals, &term.first, found)?;
     'each: for unary in &term.others {
@@ -122,7 +129,8 @@ fn add_unary(
     unary: &Unary,
     found: &mut Vec<Mention>,
 ) -> Result<(), AllocError>
-    ensures { OnOk result (AddsReads tokens.now.text.items locals.now (λ f. reads tokens.now.text.items f.locals (unary_tree unary.now)) found.old.items found.new.items) }
+    ensures { OnOk result (AddsReads tokens.now.text.items locals.now
+        (λ f. reads tokens.now.text.items f.locals (unary_tree unary.now)) found.old.items found.new.items) }
 {
     add_atom(tokens, locals, &unary.atom, found)
 }
@@ -135,7 +143,8 @@ fn add_atom(
     atom: &Atom,
     found: &mut Vec<Mention>,
 ) -> Result<(), AllocError>
-    ensures { OnOk result (AddsReads tokens.now.text.items locals.now (λ f. atom_reads tokens.now.text.items f.locals (atom_tree atom.now)) found.old.items found.new.items) }
+    ensures { OnOk result (AddsReads tokens.now.text.items locals.now
+        (λ f. atom_reads tokens.now.text.items f.locals (atom_tree atom.now)) found.old.items found.new.items) }
 {
     match atom {
         Atom::Number(_) => Ok(()),
@@ -154,7 +163,8 @@ fn add_target(
     target: &Target,
     found: &mut Vec<Mention>,
 ) -> Result<(), AllocError>
-    ensures { OnOk result (AddsReads tokens.now.text.items locals.now (λ f. target_reads tokens.now.text.items f.locals (target_tree target.now)) found.old.items found.new.items) }
+    ensures { OnOk result (AddsReads tokens.now.text.items locals.now
+        (λ f. target_reads tokens.now.text.items f.locals (target_tree target.now)) found.old.items found.new.items) }
 {
     match target {
         Target::Variable(_) => Ok(()),
@@ -173,7 +183,8 @@ fn add_mention(
     name: Span,
     found: &mut Vec<Mention>,
 ) -> Result<(), AllocError>
-    ensures { OnOk result (AddsReads tokens.now.text.items locals.now (λ f. listed (mention tokens.now.text.items f.locals name)) found.old.items found.new.items) }
+    ensures { OnOk result (AddsReads tokens.now.text.items locals.now
+        (λ f. listed (mention tokens.now.text.items f.locals name)) found.old.items found.new.items) }
 {
     if let Some(mention) = locals.mention(tokens, name) {
         found.push(mention)?;

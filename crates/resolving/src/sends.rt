@@ -29,7 +29,8 @@ fn payloads_of(
     locals: &Locals<'_>,
     arguments: &[Expression],
 ) -> Result<Vec<Mention>, AllocError>
-    ensures { (items : List ItemTree) (own : ℕ) (f : Frame) → IsFrame tokens.now.text.items f locals.now → IfOk result (λ list. list.items ≡ told.payloads (program_in tokens.now.text.items items) own f (map expression_tree arguments.now)) }
+    ensures { (items : List ItemTree) (own : ℕ) (f : Frame) → IsFrame tokens.now.text.items f locals.now → IfOk result
+        (λ list. list.items ≡ told.payloads (program_in tokens.now.text.items items) own f (map expression_tree arguments.now)) }
 {
     let mut payloads = Vec::new(alloc);
     for argument in arguments {
@@ -49,7 +50,8 @@ fn send_of(
     endpoint: Mention,
     meant: Meant<'_>,
 ) -> Result<Send, AllocError>
-    ensures { (items : List ItemTree) (own : ℕ) (f : Frame) → IsFrame tokens.now.text.items f locals.now → IfOk result (λ s. send_seen s ≡ told.send_of (program_in tokens.now.text.items items) own f word (call_tree call.now) endpoint (meant_seen meant.entry)) }
+    ensures { (items : List ItemTree) (own : ℕ) (f : Frame) → IsFrame tokens.now.text.items f locals.now → IfOk result (λ s. send_seen s
+        ≡ told.send_of (program_in tokens.now.text.items items) own f word (call_tree call.now) endpoint (meant_seen meant.entry)) }
 {
     let mut reads = Vec::new(alloc);
     add_argument_reads(tokens, locals, &call.arguments, &mut reads)?;
@@ -70,7 +72,9 @@ fn sent_by<'a>(
     call: &Call,
     word: Span,
 ) -> Option<Meant<'a>>
-    ensures { (items : List ItemTree) (own : ℕ) (f : Frame) → IsAround (program_in tokens.now.text.items items) own around.now → IsFrame tokens.now.text.items f locals.now → option_map meant_seen result ≡ told.meant_by (program_in tokens.now.text.items items) f (call_tree call.now) word }
+    ensures { (items : List ItemTree) (own : ℕ) (f : Frame)
+        → IsAround (program_in tokens.now.text.items items) own around.now → IsFrame tokens.now.text.items f locals.now
+        → option_map meant_seen result ≡ told.meant_by (program_in tokens.now.text.items items) f (call_tree call.now) word }
 {
     let contract = locals.contract(tokens, call.name)?;
     message_sent(around, contract, word)
@@ -84,7 +88,9 @@ fn tell_send(
     locals: &Locals<'_>,
     call: &Call,
 ) -> Result<Option<Send>, AllocError>
-    ensures { (items : List ItemTree) (own : ℕ) → IsAround (program_in tokens.now.text.items items) own around.now → IfOk result (TellsSend tokens.now.text.items locals.now (λ f. told.send_told (program_in tokens.now.text.items items) own f (call_tree call.now))) }
+    ensures { (items : List ItemTree) (own : ℕ) → IsAround (program_in tokens.now.text.items items) own around.now
+        → IfOk result (TellsSend tokens.now.text.items locals.now
+        (λ f. told.send_told (program_in tokens.now.text.items items) own f (call_tree call.now))) }
 {
     let Some(word) = call.member else {
         return Ok(None);
@@ -107,7 +113,8 @@ pub(crate) fn tell_stated(
     locals: &Locals<'_>,
     call: &Call,
 ) -> Result<Statement, AllocError>
-    ensures { (items : List ItemTree) (own : ℕ) → IsAround (program_in tokens.now.text.items items) own around.now → IfOk result (Tells tokens.now.text.items locals.now (λ f. told.stated_call (program_in tokens.now.text.items items) own f (call_tree call.now))) }
+    ensures { (items : List ItemTree) (own : ℕ) → IsAround (program_in tokens.now.text.items items) own around.now → IfOk result (Tells
+        tokens.now.text.items locals.now (λ f. told.stated_call (program_in tokens.now.text.items items) own f (call_tree call.now))) }
 {
     match tell_send(alloc, tokens, around, locals, call)? {
         Some(send) => Ok(Statement::Send(send)),
@@ -122,7 +129,9 @@ fn channel_of(
     locals: &Locals<'_>,
     channel: NewChannel,
 ) -> Option<Action>
-    ensures { (items : List ItemTree) (own : ℕ) (f : Frame) → IsAround (program_in tokens.now.text.items items) own around.now → IsFrame tokens.now.text.items f locals.now → result ≡ told.channel_found (program_in tokens.now.text.items items) own f channel }
+    ensures { (items : List ItemTree) (own : ℕ) (f : Frame)
+        → IsAround (program_in tokens.now.text.items items) own around.now → IsFrame tokens.now.text.items f locals.now
+        → result ≡ told.channel_found (program_in tokens.now.text.items items) own f channel }
 {
     let contract = contract_named(around, channel.contract)?;
     let first = locals.mention(tokens, channel.first)?;
@@ -142,7 +151,8 @@ pub(crate) fn channel_action(
     locals: &Locals<'_>,
     channel: NewChannel,
 ) -> Action
-    ensures { (items : List ItemTree) (own : ℕ) (f : Frame) → IsAround (program_in tokens.now.text.items items) own around.now → IsFrame tokens.now.text.items f locals.now → result ≡ told.channel (program_in tokens.now.text.items items) own f channel }
+    ensures { (items : List ItemTree) (own : ℕ) (f : Frame) → IsAround (program_in tokens.now.text.items items) own around.now
+        → IsFrame tokens.now.text.items f locals.now → result ≡ told.channel (program_in tokens.now.text.items items) own f channel }
 {
     match channel_of(tokens, around, locals, channel) {
         Some(action) => action,

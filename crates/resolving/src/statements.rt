@@ -10,7 +10,8 @@ ghost use Rattle.resolving.specs.Steps.{IsTold, walked};
 ghost use Rattle.resolving.specs.Plain.{plain_told, frame_behind};
 ghost use Rattle.resolving.specs.Told.{follow, statement_told, statements_told, block_told, test_told, others_told, case_told, cases_told};
 ghost use Rattle.tree.specs.Trees.{ItemTree};
-ghost use Rattle.tree.specs.StatementTrees.{MoreCases, statement_tree, statement_row, block_tree, test_tree, if_tree, last_other, case_tree, case_row, switch_tree};
+ghost use Rattle.tree.specs.StatementTrees.{MoreCases, statement_tree, statement_row, block_tree, test_tree};
+ghost use Rattle.tree.specs.StatementTrees.{if_tree, last_other, case_tree, case_row, switch_tree};
 
 use crate::alone::ways_of;
 use crate::around::Around;
@@ -32,7 +33,13 @@ fn tell_alone<'a>(
     locals: &mut Locals<'a>,
     statement: &tree::Statement,
 ) -> Result<Statement, AllocError>
-    ensures { (items : List ItemTree) (own : ℕ) (f : Frame) → IsAround (program_in tokens.now.text.items items) own around.now → IsFrame tokens.now.text.items f locals.old → IfOk result (λ s. IsTold tokens.now.text.items (record { what = plain_told (program_in tokens.now.text.items items) own f (statement_tree statement.now); frame = frame_behind (program_in tokens.now.text.items items) own f (statement_tree statement.now) }) (statement_seen s) locals.new) }
+    ensures { (items : List ItemTree) (own : ℕ) (f : Frame) → IsAround (program_in tokens.now.text.items items) own around.now
+        → IsFrame tokens.now.text.items f locals.old → IfOk result (λ s. IsTold tokens.now.text.items
+        (record {
+          what = plain_told (program_in tokens.now.text.items items) own f (statement_tree statement.now);
+          frame = frame_behind
+              (program_in tokens.now.text.items items) own f (statement_tree statement.now);
+        }) (statement_seen s) locals.new) }
 {
     let told = tell_plain(alloc, tokens, around, locals, statement)?;
     declare_in(alloc, tokens, around, locals, statement)?;
@@ -49,21 +56,20 @@ fn tell_statement<'a>(
     stays: Staying,
     statement: &tree::Statement,
 ) -> Result<Statement, AllocError>
-    ensures { (items : List ItemTree) (own : ℕ) (f : Frame) → IsAround (program_in tokens.now.text.items items) own around.now → IsFrame tokens.now.text.items f locals.old → IfOk result (λ s. IsTold tokens.now.text.items (statement_told (program_in tokens.now.text.items items) own (staying_seen stays) (statement_tree statement.now) f) (statement_seen s) locals.new) }
+    ensures { (items : List ItemTree) (own : ℕ) (f : Frame) → IsAround (program_in tokens.now.text.items items) own around.now
+        → IsFrame tokens.now.text.items f locals.old → IfOk result (λ s. IsTold tokens.now.text.items (statement_told (program_in
+        tokens.now.text.items items) own (staying_seen stays) (statement_tree statement.now) f) (statement_seen s) locals.new) }
 {
     match statement {
         tree::Statement::Block(block) => {
-            let block = tell_block(alloc, tokens, around, locals, stays, block)?;
-            Ok(Statement::Block(block))
+            Ok(Statement::Block(tell_block(alloc, tokens, around, locals, stays, block)?))
         }
         tree::Statement::If(branches) => {
-            let branches = tell_if(alloc, tokens, around, locals, stays, branches)?;
-            Ok(Statement::If(branches))
+            Ok(Statement::If(tell_if(alloc, tokens, around, locals, stays, branches)?))
         }
         tree::Statement::While(test) => {
             let inside = Staying::here(locals.last());
-            let test = tell_test(alloc, tokens, around, locals, inside, test)?;
-            Ok(Statement::While(test))
+            Ok(Statement::While(tell_test(alloc, tokens, around, locals, inside, test)?))
         }
         tree::Statement::Break(word) => Ok(tell_break(alloc, locals, word.place, stays)),
         tree::Statement::Continue(word) => Ok(tell_continue(alloc, locals, word.place, stays)),
@@ -93,7 +99,10 @@ pub(crate) fn tell_statements<'a>(
     stays: Staying,
     statements: &[tree::Statement],
 ) -> Result<Vec<Statement>, AllocError>
-    ensures { (items : List ItemTree) (own : ℕ) (f : Frame) → IsAround (program_in tokens.now.text.items items) own around.now → IsFrame tokens.now.text.items f locals.old → IfOk result (λ list. IsTold tokens.now.text.items (statements_told (program_in tokens.now.text.items items) own (staying_seen stays) (statement_row (map statement_tree statements.now)) f) (seen.statement_row (map statement_seen list.items)) locals.new) }
+    ensures { (items : List ItemTree) (own : ℕ) (f : Frame) → IsAround (program_in tokens.now.text.items items) own around.now
+        → IsFrame tokens.now.text.items f locals.old → IfOk result
+        (λ list. IsTold tokens.now.text.items (statements_told (program_in tokens.now.text.items items) own (staying_seen stays)
+        (statement_row (map statement_tree statements.now)) f) (seen.statement_row (map statement_seen list.items)) locals.new) }
 {
     let mut told = Vec::new(alloc);
     for statement in statements {
@@ -112,7 +121,9 @@ fn tell_block<'a>(
     stays: Staying,
     block: &tree::Block,
 ) -> Result<Block, AllocError>
-    ensures { (items : List ItemTree) (own : ℕ) (f : Frame) → IsAround (program_in tokens.now.text.items items) own around.now → IsFrame tokens.now.text.items f locals.old → IfOk result (λ b. IsTold tokens.now.text.items (block_told (program_in tokens.now.text.items items) own (staying_seen stays) (block_tree block.now) f) (block_seen b) locals.new) }
+    ensures { (items : List ItemTree) (own : ℕ) (f : Frame) → IsAround (program_in tokens.now.text.items items) own around.now
+        → IsFrame tokens.now.text.items f locals.old → IfOk result (λ b. IsTold tokens.now.text.items (block_told
+        (program_in tokens.now.text.items items) own (staying_seen stays) (block_tree block.now) f) (block_seen b) locals.new) }
 {
     let outer = locals.len();
     let last = locals.last();
@@ -132,7 +143,9 @@ fn tell_test<'a>(
     stays: Staying,
     test: &tree::Test,
 ) -> Result<Test, AllocError>
-    ensures { (items : List ItemTree) (own : ℕ) (f : Frame) → IsAround (program_in tokens.now.text.items items) own around.now → IsFrame tokens.now.text.items f locals.old → IfOk result (λ t. IsTold tokens.now.text.items (test_told (program_in tokens.now.text.items items) own (staying_seen stays) (test_tree test.now) f) (test_seen t) locals.new) }
+    ensures { (items : List ItemTree) (own : ℕ) (f : Frame) → IsAround (program_in tokens.now.text.items items) own around.now
+        → IsFrame tokens.now.text.items f locals.old → IfOk result (λ t. IsTold tokens.now.text.items
+        (test_told (program_in tokens.now.text.items items) own (staying_seen stays) (test_tree test.now) f) (test_seen t) locals.new) }
 {
     let mut reads = Vec::new(alloc);
     add_reads(tokens, locals, &test.test, &mut reads)?;
@@ -155,7 +168,9 @@ fn tell_tests<'a>(
     stays: Staying,
     tests: &[tree::Test],
 ) -> Result<Vec<Test>, AllocError>
-    ensures { (items : List ItemTree) (own : ℕ) (f : Frame) → IsAround (program_in tokens.now.text.items items) own around.now → IsFrame tokens.now.text.items f locals.old → IfOk result (λ list. IsTold tokens.now.text.items (walked (test_told (program_in tokens.now.text.items items) own (staying_seen stays)) (map test_tree tests.now) f) (map test_seen list.items) locals.new) }
+    ensures { (items : List ItemTree) (own : ℕ) (f : Frame) → IsAround (program_in tokens.now.text.items items) own around.now
+        → IsFrame tokens.now.text.items f locals.old → IfOk result (λ list. IsTold tokens.now.text.items (walked (test_told (program_in
+        tokens.now.text.items items) own (staying_seen stays)) (map test_tree tests.now) f) (map test_seen list.items) locals.new) }
 {
     let mut told = Vec::new(alloc);
     for test in tests {
@@ -174,7 +189,10 @@ fn tell_otherwise<'a>(
     stays: Staying,
     otherwise: &Option<tree::Block>,
 ) -> Result<Option<Block>, AllocError>
-    ensures { (items : List ItemTree) (own : ℕ) (f : Frame) → IsAround (program_in tokens.now.text.items items) own around.now → IsFrame tokens.now.text.items f locals.old → IfOk result (λ b. IsTold tokens.now.text.items (others_told (program_in tokens.now.text.items items) own (staying_seen stays) (last_other (option_map block_tree otherwise.now)) f) (seen.last_other (option_map block_seen b)) locals.new) }
+    ensures { (items : List ItemTree) (own : ℕ) (f : Frame)
+        → IsAround (program_in tokens.now.text.items items) own around.now → IsFrame tokens.now.text.items f locals.old
+        → IfOk result (λ b. IsTold tokens.now.text.items (others_told (program_in tokens.now.text.items items) own (staying_seen stays)
+        (last_other (option_map block_tree otherwise.now)) f) (seen.last_other (option_map block_seen b)) locals.new) }
 {
     match otherwise {
         Some(block) => {
@@ -195,7 +213,11 @@ fn tell_if<'a>(
     stays: Staying,
     branches: &tree::If,
 ) -> Result<If, AllocError>
-    ensures { (items : List ItemTree) (own : ℕ) (f : Frame) → IsAround (program_in tokens.now.text.items items) own around.now → IsFrame tokens.now.text.items f locals.old → IfOk result (λ i. IsTold tokens.now.text.items (follow seen.If (test_told (program_in tokens.now.text.items items) own (staying_seen stays) (if_tree branches.now).first f) (others_told (program_in tokens.now.text.items items) own (staying_seen stays) (if_tree branches.now).others)) (seen.If (if_seen i).first (if_seen i).others) locals.new) }
+    ensures { (items : List ItemTree) (own : ℕ) (f : Frame) → IsAround (program_in tokens.now.text.items items) own around.now
+        → IsFrame tokens.now.text.items f locals.old → IfOk result (λ i. IsTold tokens.now.text.items
+        (follow seen.If (test_told (program_in tokens.now.text.items items) own (staying_seen stays) (if_tree branches.now).first f)
+        (others_told (program_in tokens.now.text.items items) own (staying_seen stays) (if_tree branches.now).others))
+        (seen.If (if_seen i).first (if_seen i).others) locals.new) }
 {
     let first = tell_test(alloc, tokens, around, locals, stays, &branches.first)?;
     let others = tell_tests(alloc, tokens, around, locals, stays, &branches.others)?;
@@ -217,7 +239,11 @@ fn tell_cases<'a>(
     stays: Staying,
     switch: &Switch,
 ) -> Result<Vec<Case>, AllocError>
-    ensures { (items : List ItemTree) (own : ℕ) (f : Frame) → IsAround (program_in tokens.now.text.items items) own around.now → IsFrame tokens.now.text.items f locals.old → IfOk result (λ list. IsTold tokens.now.text.items (cases_told (program_in tokens.now.text.items items) own (staying_seen stays) (MoreCases (switch_tree switch.now).first (case_row (switch_tree switch.now).others)) (switch_tree switch.now).close.place f) (seen.case_row (map case_seen list.items)) locals.new) }
+    ensures { (items : List ItemTree) (own : ℕ) (f : Frame)
+        → IsAround (program_in tokens.now.text.items items) own around.now → IsFrame tokens.now.text.items f locals.old
+        → IfOk result (λ list. IsTold tokens.now.text.items (cases_told (program_in tokens.now.text.items items) own
+        (staying_seen stays) (MoreCases (switch_tree switch.now).first (case_row (switch_tree switch.now).others))
+        (switch_tree switch.now).close.place f) (seen.case_row (map case_seen list.items)) locals.new) }
 {
     let mut told = Vec::new(alloc);
     let mut case = &switch.first;
@@ -249,7 +275,9 @@ fn tell_case<'a>(
     behind: Place,
     case: &tree::Case,
 ) -> Result<Case, AllocError>
-    ensures { (items : List ItemTree) (own : ℕ) (f : Frame) → IsAround (program_in tokens.now.text.items items) own around.now → IsFrame tokens.now.text.items f locals.old → IfOk result (λ c. IsTold tokens.now.text.items (case_told (program_in tokens.now.text.items items) own (staying_seen stays) behind (case_tree case.now) f) (case_seen c) locals.new) }
+    ensures { (items : List ItemTree) (own : ℕ) (f : Frame) → IsAround (program_in tokens.now.text.items items) own around.now
+        → IsFrame tokens.now.text.items f locals.old → IfOk result (λ c. IsTold tokens.now.text.items (case_told
+        (program_in tokens.now.text.items items) own (staying_seen stays) behind (case_tree case.now) f) (case_seen c) locals.new) }
 {
     let kept = locals.len();
     let last = locals.last();

@@ -69,7 +69,8 @@ pub(crate) fn tell_break(
     place: Place,
     stays: Staying,
 ) -> Statement
-    ensures { (text : List ℕ) (f : Frame) → IsFrame text f locals.now → statement_seen result ≡ told [] (Break (left place (number_seen stays.at_break) f)) }
+    ensures { (text : List ℕ) (f : Frame) → IsFrame text f locals.now
+        → statement_seen result ≡ told [] (Break (left place (number_seen stays.at_break) f)) }
 {
     unread(alloc, Action::Break(leaving(locals, place, stays.at_break)))
 }
@@ -81,7 +82,8 @@ pub(crate) fn tell_continue(
     place: Place,
     stays: Staying,
 ) -> Statement
-    ensures { (text : List ℕ) (f : Frame) → IsFrame text f locals.now → statement_seen result ≡ told [] (Continue (left place (number_seen stays.at_continue) f)) }
+    ensures { (text : List ℕ) (f : Frame) → IsFrame text f locals.now
+        → statement_seen result ≡ told [] (Continue (left place (number_seen stays.at_continue) f)) }
 {
     unread(
         alloc,

@@ -43,7 +43,8 @@ pub(crate) fn alone(
     locals: &Locals<'_>,
     expression: &Expression,
 ) -> Option<Mention>
-    ensures { (items : List ItemTree) (own : ℕ) (f : Frame) → IsFrame tokens.now.text.items f locals.now → result ≡ lone (program_in tokens.now.text.items items) own f (expression_tree expression.now) }
+    ensures { (items : List ItemTree) (own : ℕ) (f : Frame) → IsFrame tokens.now.text.items f locals.now
+        → result ≡ lone (program_in tokens.now.text.items items) own f (expression_tree expression.now) }
 {
     let name = name_alone(expression)?;
     locals.mention(tokens, name)
@@ -76,7 +77,8 @@ fn add_made_reads(
     made: &Made,
     found: &mut Vec<Mention>,
 ) -> Result<(), AllocError>
-    ensures { (items : List ItemTree) (own : ℕ) → OnOk result (AddsReads tokens.now.text.items locals.now (λ f. made_reads (program_in tokens.now.text.items items) own f (made_tree made.now)) found.old.items found.new.items) }
+    ensures { (items : List ItemTree) (own : ℕ) → OnOk result (AddsReads tokens.now.text.items locals.now
+        (λ f. made_reads (program_in tokens.now.text.items items) own f (made_tree made.now)) found.old.items found.new.items) }
 {
     match made {
         Made::Struct { .. } => Ok(()),
@@ -92,7 +94,8 @@ fn tell_made(
     made: &Made,
     action: Action,
 ) -> Result<Statement, AllocError>
-    ensures { (items : List ItemTree) (own : ℕ) → IfOk result (Tells tokens.now.text.items locals.now (λ f. told (before.items ++ made_reads (program_in tokens.now.text.items items) own f (made_tree made.now)) action)) }
+    ensures { (items : List ItemTree) (own : ℕ) → IfOk result (Tells tokens.now.text.items locals.now
+        (λ f. told (before.items ++ made_reads (program_in tokens.now.text.items items) own f (made_tree made.now)) action)) }
 {
     add_made_reads(tokens, locals, made, &mut before)?;
     Ok(reading(before, action))
@@ -106,7 +109,8 @@ pub(crate) fn tell_read(
     expression: &Expression,
     action: Action,
 ) -> Result<Statement, AllocError>
-    ensures { IfOk result (Tells tokens.now.text.items locals.now (λ f. told (before.items ++ reads tokens.now.text.items f.locals (expression_tree expression.now)) action)) }
+    ensures { IfOk result (Tells tokens.now.text.items locals.now
+        (λ f. told (before.items ++ reads tokens.now.text.items f.locals (expression_tree expression.now)) action)) }
 {
     add_reads(tokens, locals, expression, &mut before)?;
     Ok(reading(before, action))
@@ -121,7 +125,8 @@ fn tell_taken(
     target: Mention,
     value: &Value,
 ) -> Result<Statement, AllocError>
-    ensures { (items : List ItemTree) (own : ℕ) → IsAround (program_in tokens.now.text.items items) own around.now → IfOk result (Tells tokens.now.text.items locals.now (λ f. taken (program_in tokens.now.text.items items) own f target (value_tree value.now))) }
+    ensures { (items : List ItemTree) (own : ℕ) → IsAround (program_in tokens.now.text.items items) own around.now → IfOk result (Tells
+        tokens.now.text.items locals.now (λ f. taken (program_in tokens.now.text.items items) own f target (value_tree value.now))) }
 {
     match value {
         Value::Expression(expression) => {
@@ -147,7 +152,8 @@ fn tell_scalar(
     locals: &Locals<'_>,
     value: &Value,
 ) -> Result<Statement, AllocError>
-    ensures { (items : List ItemTree) (own : ℕ) → IsAround (program_in tokens.now.text.items items) own around.now → IfOk result (Tells tokens.now.text.items locals.now (λ f. scalar_taken (program_in tokens.now.text.items items) own f (value_tree value.now))) }
+    ensures { (items : List ItemTree) (own : ℕ) → IsAround (program_in tokens.now.text.items items) own around.now → IfOk result (Tells
+        tokens.now.text.items locals.now (λ f. scalar_taken (program_in tokens.now.text.items items) own f (value_tree value.now))) }
 {
     let before = Vec::new(alloc);
     match value {
@@ -168,7 +174,8 @@ pub(crate) fn tell_assigned(
     target: Option<Mention>,
     value: &Value,
 ) -> Result<Statement, AllocError>
-    ensures { (items : List ItemTree) (own : ℕ) → IsAround (program_in tokens.now.text.items items) own around.now → IfOk result (Tells tokens.now.text.items locals.now (λ f. assigned (program_in tokens.now.text.items items) own f target (value_tree value.now))) }
+    ensures { (items : List ItemTree) (own : ℕ) → IsAround (program_in tokens.now.text.items items) own around.now → IfOk result (Tells
+        tokens.now.text.items locals.now (λ f. assigned (program_in tokens.now.text.items items) own f target (value_tree value.now))) }
 {
     match target {
         Some(target) => tell_taken(alloc, tokens, around, locals, target, value),
@@ -199,7 +206,9 @@ fn tell_part_called(
     whole: Option<Mention>,
     call: &tree::Call,
 ) -> Result<Statement, AllocError>
-    ensures { (items : List ItemTree) (own : ℕ) → IsAround (program_in tokens.now.text.items items) own around.now → IfOk result (Tells tokens.now.text.items locals.now (λ f. part_taken (program_in tokens.now.text.items items) own f index.items whole (values.Call (call_tree call.now)))) }
+    ensures { (items : List ItemTree) (own : ℕ) → IsAround (program_in tokens.now.text.items items) own around.now
+        → IfOk result (Tells tokens.now.text.items locals.now
+        (λ f. part_taken (program_in tokens.now.text.items items) own f index.items whole (values.Call (call_tree call.now)))) }
 {
     add_listed(whole, &mut index)?;
     tell_call(alloc, tokens, around, locals, call, None, index)
@@ -215,7 +224,9 @@ pub(crate) fn tell_part(
     whole: Option<Mention>,
     value: &Value,
 ) -> Result<Statement, AllocError>
-    ensures { (items : List ItemTree) (own : ℕ) → IsAround (program_in tokens.now.text.items items) own around.now → IfOk result (Tells tokens.now.text.items locals.now (λ f. part_taken (program_in tokens.now.text.items items) own f index.items whole (value_tree value.now))) }
+    ensures { (items : List ItemTree) (own : ℕ) → IsAround (program_in tokens.now.text.items items) own around.now
+        → IfOk result (Tells tokens.now.text.items locals.now
+        (λ f. part_taken (program_in tokens.now.text.items items) own f index.items whole (value_tree value.now))) }
 {
     match value {
         Value::Expression(expression) => {

@@ -9,7 +9,9 @@ use Rattle.source.specs.Places.{first_place}
 use Rattle.source.specs.declared.fault.TextFault.{TextFault}
 use Rattle.source.specs.declared.fault.TextFault.TheVariants.{Stray, OpenComment, TooLong, TooDeep, TooLarge, Memory}
 use Rattle.source.specs.declared.finding.Code.{Code}
-use Rattle.source.specs.declared.finding.Code.TheVariants.{A01, A02, A03, A04, A05, A06, A07, A08, A09, A10, A11, A12, A13, A14, C01, C02, C03, C04, N01, N02, N03, N04, N05, N06, N07, N08, N09, S01, S02, S03, S04, S05, S06}
+use Rattle.source.specs.declared.finding.Code.TheVariants.{A01, A02, A03, A04, A05, A06, A07, A08, A09, A10, A11}
+use Rattle.source.specs.declared.finding.Code.TheVariants.{A12, A13, A14, C01, C02, C03, C04, N01, N02, N03, N04}
+use Rattle.source.specs.declared.finding.Code.TheVariants.{N05, N06, N07, N08, N09, S01, S02, S03, S04, S05, S06}
 use Rattle.source.specs.declared.finding.Finding.{Finding}
 
 -- a finding without its memory: its place, its code and its text

@@ -1,7 +1,9 @@
 -- The symbols.
 use Rattle.std.specs.Prelude.{ℕ, List, [], ◌∷◌, Option, Some, None, if◌then◌else◌, ◌&&◌, ◌==◌}
 use Rattle.source.specs.declared.kind.Kind.{Kind}
-use Rattle.source.specs.declared.kind.Kind.TheVariants.{OpenBrace, CloseBrace, OpenParen, CloseParen, OpenBracket, CloseBracket, Semicolon, Colon, Comma, Dot, Star, Bang, Question, Equal, EqualEqual, NotEqual, Less, LessEqual, Greater, GreaterEqual, Plus, Minus, AndAnd, OrOr, Arrow}
+use Rattle.source.specs.declared.kind.Kind.TheVariants.{OpenBrace, CloseBrace, OpenParen, CloseParen, OpenBracket, CloseBracket}
+use Rattle.source.specs.declared.kind.Kind.TheVariants.{Semicolon, Colon, Comma, Dot, Star, Bang, Question, Equal, EqualEqual, NotEqual}
+use Rattle.source.specs.declared.kind.Kind.TheVariants.{Less, LessEqual, Greater, GreaterEqual, Plus, Minus, AndAnd, OrOr, Arrow}
 
 -- the symbols of one byte: { } ( ) [ ] ; : , . * ! ? = < > + -
 abbrev pub single : ℕ → Option Kind

@@ -2,7 +2,10 @@
 use Rattle.std.specs.Prelude.{ℕ, List, [], ◌∷◌, find, nat_eq, unwrap_or, codes}
 use Rattle.std.specs.Cmp.Lexicographic.{pointwise}
 use Rattle.source.specs.declared.kind.Kind.{Kind}
-use Rattle.source.specs.declared.kind.Kind.TheVariants.{Name, Bool as BoolWord, Break, Byte, Case, Class, ChannelClosed, Claims, Continue, Contract, Delete, Else, Exp, ExHeap, False, If, Imp, In, Int, Internal, Message, New, NewChannel, One, Out, Private, Public, Receive, Rep, Return, Start, State, Static, Struct, Switch, True, Void, While}
+use Rattle.source.specs.declared.kind.Kind.TheVariants.{Name, Bool as BoolWord, Break, Byte, Case, Class, ChannelClosed, Claims}
+use Rattle.source.specs.declared.kind.Kind.TheVariants.{Continue, Contract, Delete, Else, Exp, ExHeap, False, If, Imp, In, Int}
+use Rattle.source.specs.declared.kind.Kind.TheVariants.{Internal, Message, New, NewChannel, One, Out, Private, Public, Receive}
+use Rattle.source.specs.declared.kind.Kind.TheVariants.{Rep, Return, Start, State, Static, Struct, Switch, True, Void, While}
 
 -- the reserved words
 abbrev pub reserved : List Kind

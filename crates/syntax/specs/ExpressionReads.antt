@@ -4,7 +4,8 @@ use Rattle.source.specs.declared.kind.Kind.{Kind}
 use Rattle.source.specs.declared.kind.Kind.TheVariants as kind
 use Rattle.tree.specs.Symbols.{Symbol, kind_is, by_kind}
 use Rattle.tree.specs.Operators.{Operators, Or, Level, Joined}
-use Rattle.tree.specs.Expressions.{LevelTree, Unary, Chain, StepTrees, Done, More, AtomTree, Number, True, False, Target, Parens, TargetTree, Variable, Field, Element, ExpressionTree, StepOf}
+use Rattle.tree.specs.Expressions.{LevelTree, Unary, Chain, StepTrees, Done, More, AtomTree, Number, True, False}
+use Rattle.tree.specs.Expressions.{Target, Parens, TargetTree, Variable, Field, Element, ExpressionTree, StepOf}
 use Rattle.syntax.specs.Reading.{never, many_at}
 use Rattle.syntax.specs.OperatorReads.{opens_prefix, joins, opens_rest, goes_on}
 

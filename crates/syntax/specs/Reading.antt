@@ -94,7 +94,8 @@ Takes spell at old new y = (old ≡ spell y ++ new) × Stops (at y) new
 
 -- What a function that reads a piece returns, seen by view, and what it leaves. `on` has the symbols by which
 -- some piece could go on, and `at` those by which this one could.
-abbrev pub Reads : {X Y : Type 0} → (X → Y) → (Y → List Symbol) → (Symbol → Bool) → (Y → Symbol → Bool) → List Symbol → List Symbol → Result X Stuck → Type 0
+abbrev pub Reads : {X Y : Type 0} → (X → Y) → (Y → List Symbol) → (Symbol → Bool) → (Y → Symbol → Bool) → List Symbol → List Symbol
+    → Result X Stuck → Type 0
 Reads view spell on at old new (Ok x) = Takes spell at old new (view x)
 Reads view spell on at old new (Err fault) = AtFault fault (Fails spell on old new)
 
@@ -111,9 +112,13 @@ abbrev pub ReadsMark : {X : Type 0} → (X → Kind) → List Symbol → List Sy
 ReadsMark word_of old new result = ReadsEnded (λ p. p) (λ p. placed (word_of p.0) p.1) old new result
 
 -- What a function returns that reads a piece, or nothing where it does not begin with such a token.
-abbrev pub ReadsOption : {X : Type 0} → (X → List Symbol) → (Option Kind → Bool) → List Symbol → List Symbol → Result (Option X) Stuck → Type 0
-ReadsOption spell opens old new result = Reads (λ x. x) (optional spell) (by_kind opens) (optional_at (by_kind opens) (λ _. never)) old new result
+abbrev pub ReadsOption : {X : Type 0} → (X → List Symbol) → (Option Kind → Bool) → List Symbol → List Symbol → Result (Option X) Stuck
+    → Type 0
+ReadsOption spell opens old new result =
+    Reads (λ x. x) (optional spell) (by_kind opens) (optional_at (by_kind opens) (λ _. never)) old new result
 
 -- What a function returns that reads pieces as long as one begins with such a token.
-abbrev pub ReadsRow : {X Y : Type 0} → (X → Y) → (Y → List Symbol) → (Option Kind → Bool) → List Symbol → List Symbol → Result (Vec X Global) Stuck → Type 0
-ReadsRow view spell opens old new result = Reads (λ v. map view v.items) (flat_map spell) (by_kind opens) (λ _. by_kind opens) old new result
+abbrev pub ReadsRow : {X Y : Type 0} → (X → Y) → (Y → List Symbol) → (Option Kind → Bool) → List Symbol → List Symbol
+    → Result (Vec X Global) Stuck → Type 0
+ReadsRow view spell opens old new result =
+    Reads (λ v. map view v.items) (flat_map spell) (by_kind opens) (λ _. by_kind opens) old new result

@@ -4,7 +4,8 @@ use Rattle.source.specs.declared.kind.Kind.{Kind}
 use Rattle.source.specs.declared.kind.Kind.TheVariants as kind
 use Rattle.tree.specs.Symbols.{Symbol, is_kind, by_kind}
 use Rattle.syntax.specs.Reading.{never, many_at}
-use Rattle.tree.specs.StatementTrees.{StatementTree, If, OtherTrees, NoOther, Else, ElseIf, CaseTree, Case, StatementTrees, NoStatement, MoreStatements, CaseTrees, NoCase, MoreCases}
+use Rattle.tree.specs.StatementTrees.{StatementTree, If, OtherTrees, NoOther, Else, ElseIf, CaseTree, Case}
+use Rattle.tree.specs.StatementTrees.{StatementTrees, NoStatement, MoreStatements, CaseTrees, NoCase, MoreCases}
 use Rattle.syntax.specs.declared.leads.Lead.{Lead}
 use Rattle.syntax.specs.declared.leads.Lead.TheVariants as lead
 use Rattle.syntax.specs.declared.leads.Simple.TheVariants as simple

@@ -36,7 +36,8 @@ if_at i = others_at i.others
 
 -- switch = "switch" "receive" "{" case { case } "}" .
 abbrev pub switch_parts : SwitchTree → List Symbol
-switch_parts s = row (placed kind.Switch s.word ∷ word kind.Receive ∷ word kind.OpenBrace ∷ case s.first ∷ flat_map case s.others ∷ placed kind.CloseBrace s.close ∷ [])
+switch_parts s = row (placed kind.Switch s.word ∷ word kind.Receive ∷ word kind.OpenBrace ∷ case s.first ∷ flat_map case s.others
+    ∷ placed kind.CloseBrace s.close ∷ [])
 
 -- what stands before the statements of a case
 pub record CaseFrontTree : Type 0 where
@@ -48,7 +49,8 @@ pub record CaseFrontTree : Type 0 where
 
 -- case_front = "case" ID "." awaited "(" [ bind { "," bind } ] ")" ":" .
 abbrev pub case_front : CaseFrontTree → List Symbol
-case_front c = row (placed kind.Case c.word ∷ name c.endpoint ∷ word kind.Dot ∷ awaited c.message ∷ parens (listed bind) (c.open_paren, c.binds) ∷ word kind.Colon ∷ [])
+case_front c = row (placed kind.Case c.word ∷ name c.endpoint ∷ word kind.Dot ∷ awaited c.message
+    ∷ parens (listed bind) (c.open_paren, c.binds) ∷ word kind.Colon ∷ [])
 
 -- declared = ID [ init ] ";" .
 abbrev pub declared : Span × Option ValueTree → List Symbol
@@ -64,7 +66,8 @@ called p = row (arguments p ∷ word kind.Semicolon ∷ [])
 
 -- channel_ends = "NewChannel" "(" "out" ID "," "out" ID ")" ";" .
 abbrev pub channel_ends : ChannelEnds → List Symbol
-channel_ends c = row (placed kind.NewChannel c.word ∷ placed kind.OpenParen c.open ∷ word kind.Out ∷ name c.first ∷ word kind.Comma ∷ word kind.Out ∷ name c.second ∷ word kind.CloseParen ∷ word kind.Semicolon ∷ [])
+channel_ends c = row (placed kind.NewChannel c.word ∷ placed kind.OpenParen c.open ∷ word kind.Out ∷ name c.first ∷ word kind.Comma
+    ∷ word kind.Out ∷ name c.second ∷ word kind.CloseParen ∷ word kind.Semicolon ∷ [])
 
 -- jump = word ";" .
 abbrev pub jump : Kind → Span → List Symbol

@@ -70,7 +70,8 @@ endpoint_on y = (is_kind kind.Colon y || is_kind kind.Bang y) || is_kind kind.In
 
 -- by what the type of this one could
 abbrev pub endpoint_at : parts.EndpointTail.EndpointTail → Symbol → Bool
-endpoint_at e = open_at (open_at (optional_at (is_kind kind.Colon) (λ _. never) e.state) (is_kind kind.Bang) (is_some e.bang)) (is_kind kind.In) e.in_heap
+endpoint_at e = open_at (open_at (optional_at (is_kind kind.Colon) (λ _. never) e.state) (is_kind kind.Bang) (is_some e.bang))
+    (is_kind kind.In) e.in_heap
 
 -- by what this could go on that follows a name
 abbrev pub tail_at : parts.NamedTail.NamedTail → Symbol → Bool
@@ -94,4 +95,5 @@ abbrev pub type_at : type_nodes.Type.Type → Symbol → Bool
 type_at (type.Scalar s) = is_kind kind.OpenBracket
 type_at (type.Heap (heap.Array element bang)) = never
 type_at (type.Heap (heap.Pointer span bang)) = never
-type_at (type.Heap (heap.Endpoint contract side state bang in_heap)) = endpoint_at (record { side = side; state = state; bang = bang; in_heap = in_heap })
+type_at (type.Heap (heap.Endpoint contract side state bang in_heap)) =
+    endpoint_at (record { side = side; state = state; bang = bang; in_heap = in_heap })

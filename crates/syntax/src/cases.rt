@@ -4,7 +4,8 @@ ghost use Rattle.std.specs.Prelude.{◌≡◌};
 ghost use Rattle.tree.specs.Spelling.{comma, listed, parens};
 ghost use Rattle.syntax.specs.Reading.{Reads, ReadsEnded, ReadsOption};
 ghost use Rattle.tree.specs.StatementGrammar.{awaited, bind};
-ghost use Rattle.syntax.specs.StatementParts.{case_front, case_front_tree, typed, of_typed, opens_tail, bind_on, bind_at, binds_on, binds_at};
+ghost use Rattle.syntax.specs.StatementParts.{case_front, case_front_tree, typed, of_typed};
+ghost use Rattle.syntax.specs.StatementParts.{opens_tail, bind_on, bind_at, binds_on, binds_at};
 
 use crate::cursor::{Cursor, Stuck};
 use crate::fronts::{NamedTail, NamedType};

@@ -164,7 +164,8 @@ impl Cursor<'_> {
     /// Passes over a token, and answers where it lies.
     pub fn skip(&mut self) -> Span
         requires { IsSome (kind_at self.old) }
-        ensures fixed { (kind : Kind) → kind ≢ Kind.Name → is_placed kind ≡ false → kind_at self.old ≡ Some kind → self.old ≡ Fixed kind ∷ self.new }
+        ensures fixed { (kind : Kind) → kind ≢ Kind.Name → is_placed kind ≡ false → kind_at self.old ≡ Some kind
+            → self.old ≡ Fixed kind ∷ self.new }
         ensures placed { (kind : Kind) → is_placed kind ≡ true → kind_at self.old ≡ Some kind → self.old ≡ Placed kind result ∷ self.new }
         ensures named { kind_at self.old ≡ Some Kind.Name → self.old ≡ Named result ∷ self.new }
     {

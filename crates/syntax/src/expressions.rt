@@ -10,7 +10,9 @@ ghost use Rattle.tree.specs.Operators.{Or, And, Equal, Compare, Add, Multiply, S
 ghost use Rattle.syntax.specs.OperatorReads.{joins, opens_prefix};
 ghost use Rattle.tree.specs.Expressions.{level, expression, step, atom, target, dot_name};
 ghost use Rattle.syntax.specs.ExpressionReads.{level_on, level_at, step_at, steps_end, atom_at, target_at, target_on, opens_expression};
-ghost use Rattle.tree.specs.ExpressionTrees.{expression_tree, conjunction_tree, equality_tree, equality_step_tree, relation_tree, relation_step_tree, sum_tree, sum_step_tree, term_tree, unary_tree, atom_tree, target_tree, unmarked};
+ghost use Rattle.tree.specs.ExpressionTrees.{expression_tree, conjunction_tree, equality_tree, equality_step_tree};
+ghost use Rattle.tree.specs.ExpressionTrees.{relation_tree, relation_step_tree, sum_tree, sum_step_tree};
+ghost use Rattle.tree.specs.ExpressionTrees.{term_tree, unary_tree, atom_tree, target_tree, unmarked};
 
 use crate::cursor::{Cursor, Stuck};
 use crate::operators::{
@@ -70,7 +72,8 @@ pub fn expression_from(
 /// { "||" conjunction }
 #[cycle(expression)]
 fn conjunctions(alloc: Global, cursor: &mut Cursor<'_>) -> Result<Vec<Conjunction>, Stuck>
-    ensures { Reads (λ v. map (unmarked conjunction_tree) v.items) (flat_map (step Or)) (level_on (Joined Or)) (steps_end Or) cursor.old cursor.new result }
+    ensures { Reads (λ v. map (unmarked conjunction_tree) v.items) (flat_map (step Or)) (level_on (Joined Or)) (steps_end Or)
+        cursor.old cursor.new result }
 {
     let mut all = Vec::new(alloc);
     'each: while cursor.is_next(Kind::OrOr) {
@@ -97,7 +100,8 @@ fn conjunction_from(
     unary: Unary,
 ) -> Result<Conjunction, Stuck>
     requires { Stops (level_at (unary_tree unary)) cursor.old }
-    ensures read { Reads conjunction_tree level (level_on (Joined And)) level_at (level (unary_tree unary) ++ cursor.old) cursor.new result }
+    ensures read { Reads conjunction_tree level (level_on (Joined And)) level_at
+        (level (unary_tree unary) ++ cursor.old) cursor.new result }
     ensures left { OnOk result (length cursor.new ≤ length cursor.old) }
 {
     let first = equality_from(alloc, cursor, unary)?;
@@ -108,7 +112,8 @@ fn conjunction_from(
 /// { "&&" equality }
 #[cycle(expression)]
 fn equalities(alloc: Global, cursor: &mut Cursor<'_>) -> Result<Vec<Equality>, Stuck>
-    ensures { Reads (λ v. map (unmarked equality_tree) v.items) (flat_map (step And)) (level_on (Joined And)) (steps_end And) cursor.old cursor.new result }
+    ensures { Reads (λ v. map (unmarked equality_tree) v.items) (flat_map (step And)) (level_on (Joined And)) (steps_end And)
+        cursor.old cursor.new result }
 {
     let mut all = Vec::new(alloc);
     'each: while cursor.is_next(Kind::AndAnd) {
@@ -142,7 +147,8 @@ fn equality_from(alloc: Global, cursor: &mut Cursor<'_>, unary: Unary) -> Result
 /// { ( "==" | "!=" ) relation }
 #[cycle(expression)]
 fn equality_steps(alloc: Global, cursor: &mut Cursor<'_>) -> Result<Vec<EqualityStep>, Stuck>
-    ensures { Reads (λ v. map equality_step_tree v.items) (flat_map (step Equal)) (level_on (Joined Equal)) (steps_end Equal) cursor.old cursor.new result }
+    ensures { Reads (λ v. map equality_step_tree v.items) (flat_map (step Equal)) (level_on (Joined Equal)) (steps_end Equal)
+        cursor.old cursor.new result }
 {
     let mut all = Vec::new(alloc);
     'each: while is_equality(cursor.peek()) {
@@ -166,7 +172,8 @@ fn equality_step(alloc: Global, cursor: &mut Cursor<'_>) -> Result<EqualityStep,
 #[cycle(expression)]
 fn relation_from(alloc: Global, cursor: &mut Cursor<'_>, unary: Unary) -> Result<Relation, Stuck>
     requires { Stops (level_at (unary_tree unary)) cursor.old }
-    ensures read { Reads relation_tree level (level_on (Joined Compare)) level_at (level (unary_tree unary) ++ cursor.old) cursor.new result }
+    ensures read { Reads relation_tree level (level_on (Joined Compare)) level_at
+        (level (unary_tree unary) ++ cursor.old) cursor.new result }
     ensures left { OnOk result (length cursor.new ≤ length cursor.old) }
 {
     let first = sum_from(alloc, cursor, unary)?;
@@ -177,7 +184,8 @@ fn relation_from(alloc: Global, cursor: &mut Cursor<'_>, unary: Unary) -> Result
 /// { ( "<" | "<=" | ">" | ">=" ) sum }
 #[cycle(expression)]
 fn relation_steps(alloc: Global, cursor: &mut Cursor<'_>) -> Result<Vec<RelationStep>, Stuck>
-    ensures { Reads (λ v. map relation_step_tree v.items) (flat_map (step Compare)) (level_on (Joined Compare)) (steps_end Compare) cursor.old cursor.new result }
+    ensures { Reads (λ v. map relation_step_tree v.items) (flat_map (step Compare)) (level_on (Joined Compare)) (steps_end Compare)
+        cursor.old cursor.new result }
 {
     let mut all = Vec::new(alloc);
     'each: while is_relation(cursor.peek()) {
@@ -212,7 +220,8 @@ fn sum_from(alloc: Global, cursor: &mut Cursor<'_>, unary: Unary) -> Result<Sum,
 /// { ( "+" | "-" ) term }
 #[cycle(expression)]
 fn sum_steps(alloc: Global, cursor: &mut Cursor<'_>) -> Result<Vec<SumStep>, Stuck>
-    ensures { Reads (λ v. map sum_step_tree v.items) (flat_map (step Add)) (level_on (Joined Add)) (steps_end Add) cursor.old cursor.new result }
+    ensures { Reads (λ v. map sum_step_tree v.items) (flat_map (step Add)) (level_on (Joined Add)) (steps_end Add)
+        cursor.old cursor.new result }
 {
     let mut all = Vec::new(alloc);
     'each: while is_sum(cursor.peek()) {
@@ -249,7 +258,8 @@ fn term_from(alloc: Global, cursor: &mut Cursor<'_>, unary: Unary) -> Result<Ter
 /// { "*" unary }
 #[cycle(expression)]
 fn factors(alloc: Global, cursor: &mut Cursor<'_>) -> Result<Vec<Unary>, Stuck>
-    ensures { Reads (λ v. map (unmarked unary_tree) v.items) (flat_map (step Multiply)) (level_on (Joined Multiply)) (steps_end Multiply) cursor.old cursor.new result }
+    ensures { Reads (λ v. map (unmarked unary_tree) v.items) (flat_map (step Multiply)) (level_on (Joined Multiply)) (steps_end Multiply)
+        cursor.old cursor.new result }
 {
     let mut all = Vec::new(alloc);
     'each: while cursor.is_next(Kind::Star) {

@@ -11,7 +11,8 @@ ghost use Rattle.tree.specs.ExpressionTrees.{expression_tree};
 ghost use Rattle.tree.specs.Values.{value_tree, call_tree, call};
 ghost use Rattle.syntax.specs.ValueReads.{value_on, value_at};
 ghost use Rattle.tree.specs.StatementGrammar.{init};
-ghost use Rattle.syntax.specs.StatementParts.{init_on, result_on, declared, assigned, called, called_tree, channel_ends, jump, delete, start, return_parts};
+ghost use Rattle.syntax.specs.StatementParts.{init_on, result_on, declared, assigned, called, called_tree};
+ghost use Rattle.syntax.specs.StatementParts.{channel_ends, jump, delete, start, return_parts};
 
 use crate::cursor::{Cursor, Stuck};
 use crate::expressions::{dot_name, is_expression, read_expression};

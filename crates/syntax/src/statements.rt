@@ -6,7 +6,8 @@ ghost use Rattle.tree.specs.Symbols.{is_placed, kind_at};
 ghost use Rattle.syntax.specs.Reading.{Reads, ReadsEnded};
 ghost use Rattle.tree.specs.StatementTrees.{statement_tree, block_tree, case_tree, if_tree, switch_tree, test_tree};
 ghost use Rattle.tree.specs.StatementGrammar.{statement, block, test, case};
-ghost use Rattle.syntax.specs.StatementFirsts.{lead_of, statement_on, statement_at, statements_on, statements_at, case_at, cases_on, cases_at};
+ghost use Rattle.syntax.specs.StatementFirsts.{lead_of, statement_on, statement_at, statements_on};
+ghost use Rattle.syntax.specs.StatementFirsts.{statements_at, case_at, cases_on, cases_at};
 ghost use Rattle.syntax.specs.StatementParts.{if_parts, if_at, switch_parts};
 
 use crate::cases::case_front;

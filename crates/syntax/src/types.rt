@@ -6,7 +6,8 @@ ghost use Rattle.tree.specs.Spelling.{word, optional, when};
 ghost use Rattle.syntax.specs.Reading.{ReadsWord, ReadsOption, ReadsRow, never, Reads, ReadsEnded, optional_at, when_at};
 ghost use Rattle.tree.specs.Grammar.{scalar_word, side_word, in_heap_words, colon_name, value_type};
 ghost use Rattle.syntax.specs.Firsts.{scalar_of, side_of, opens_side, opens_type};
-ghost use Rattle.syntax.specs.Types.{bang_in_heap, array_tail, scalar_type, scalar_at, pointer_tail, endpoint_end, endpoint_tail, endpoint_on, endpoint_at, named_tail, tail_at, named_type, named_at, type_on, type_at};
+ghost use Rattle.syntax.specs.Types.{bang_in_heap, array_tail, scalar_type, scalar_at, pointer_tail, endpoint_end, endpoint_tail};
+ghost use Rattle.syntax.specs.Types.{endpoint_on, endpoint_at, named_tail, tail_at, named_type, named_at, type_on, type_at};
 
 use crate::cursor::{Cursor, Stuck};
 use crate::fronts::{EndpointTail, NamedTail, NamedType, ScalarType};

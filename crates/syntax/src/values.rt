@@ -8,7 +8,8 @@ ghost use Rattle.syntax.specs.Reading.{Stops, Reads, ReadsEnded};
 ghost use Rattle.tree.specs.Expressions.{expression, target, dot_name};
 ghost use Rattle.syntax.specs.ExpressionReads.{expression_on, expression_at, target_at};
 ghost use Rattle.tree.specs.ExpressionTrees.{expression_tree, target_tree};
-ghost use Rattle.tree.specs.Values.{arguments, call_tree, call, made_tree, made_spelling, made_struct, made_array, new_tree, new_spelling, value_tree, value_spelling};
+ghost use Rattle.tree.specs.Values.{arguments, call_tree, call, made_tree, made_spelling, made_struct};
+ghost use Rattle.tree.specs.Values.{made_array, new_tree, new_spelling, value_tree, value_spelling};
 ghost use Rattle.syntax.specs.ValueReads.{expressions_on, expressions_at, value_on, value_at, opens_value};
 
 use crate::cursor::{Cursor, Stuck};

@@ -33,7 +33,8 @@ parameter p = row (when claims_words p.claims ∷ value_type p.kind ∷ name p.n
 
 -- method = [ access ] "static" result ID "(" [ parameter { "," parameter } ] ")" block .
 abbrev pub method : MethodTree → List Symbol
-method m = row (optional (λ a. word (access_word a)) m.access ∷ word kind.Static ∷ result_type m.result ∷ name m.name ∷ parens (listed parameter) (m.open_paren, m.params) ∷ block m.body ∷ [])
+method m = row (optional (λ a. word (access_word a)) m.access ∷ word kind.Static ∷ result_type m.result ∷ name m.name
+    ∷ parens (listed parameter) (m.open_paren, m.params) ∷ block m.body ∷ [])
 
 -- class = "class" ID "{" { method } "}" .
 abbrev pub class : ClassTree → List Symbol

@@ -7,7 +7,10 @@ use Rattle.tree.specs.Spelling.{word, placed, name, row, optional, listed, paren
 use Rattle.tree.specs.Grammar.{value_type}
 use Rattle.tree.specs.Expressions.{expression, target}
 use Rattle.tree.specs.Values.{ValueTree, value_spelling, call}
-use Rattle.tree.specs.StatementTrees.{DeclareTree, AssignTree, StatementTree, Block, Declare, Assign, Call, Start, Delete, NewChannel, If, While, Break, Continue, Return, Switch, StatementTrees, NoStatement, MoreStatements, BlockTree, Braces, TestTree, Test, OtherTrees, NoOther, Else, ElseIf, CaseTree, Case, CaseTrees, NoCase, MoreCases}
+use Rattle.tree.specs.StatementTrees.{DeclareTree, AssignTree, StatementTree, Block, Declare, Assign, Call, Start}
+use Rattle.tree.specs.StatementTrees.{Delete, NewChannel, If, While, Break, Continue, Return, Switch, StatementTrees}
+use Rattle.tree.specs.StatementTrees.{NoStatement, MoreStatements, BlockTree, Braces, TestTree, Test, OtherTrees}
+use Rattle.tree.specs.StatementTrees.{NoOther, Else, ElseIf, CaseTree, Case, CaseTrees, NoCase, MoreCases}
 use Rattle.tree.specs.declared.statement as made
 use Rattle.tree.specs.declared.statement.Awaited.{Awaited}
 use Rattle.tree.specs.declared.statement.Awaited.TheVariants.{Message, Closed}
@@ -27,7 +30,8 @@ assign a = row (target a.target ∷ word kind.Equal ∷ value_spelling a.value �
 
 -- new_channel = ID "." "NewChannel" "(" "out" ID "," "out" ID ")" ";" .
 abbrev pub new_channel : made.NewChannel.NewChannel → List Symbol
-new_channel n = row (name n.contract ∷ word kind.Dot ∷ placed kind.NewChannel n.word ∷ placed kind.OpenParen n.«open» ∷ word kind.Out ∷ name n.first ∷ word kind.Comma ∷ word kind.Out ∷ name n.second ∷ word kind.CloseParen ∷ word kind.Semicolon ∷ [])
+new_channel n = row (name n.contract ∷ word kind.Dot ∷ placed kind.NewChannel n.word ∷ placed kind.OpenParen n.«open» ∷ word kind.Out
+    ∷ name n.first ∷ word kind.Comma ∷ word kind.Out ∷ name n.second ∷ word kind.CloseParen ∷ word kind.Semicolon ∷ [])
 
 -- awaited = ID | "ChannelClosed" .
 abbrev pub awaited : Awaited → List Symbol
@@ -56,7 +60,8 @@ abbrev mutual
   statement (Break span) = row (placed kind.Break span ∷ word kind.Semicolon ∷ [])
   statement (Continue span) = row (placed kind.Continue span ∷ word kind.Semicolon ∷ [])
   statement (Return span result) = row (placed kind.Return span ∷ optional expression result ∷ word kind.Semicolon ∷ [])
-  statement (Switch span first more close) = row (placed kind.Switch span ∷ word kind.Receive ∷ word kind.OpenBrace ∷ case first ∷ cases more ∷ placed kind.CloseBrace close ∷ [])
+  statement (Switch span first more close) = row (placed kind.Switch span ∷ word kind.Receive ∷ word kind.OpenBrace ∷ case first
+      ∷ cases more ∷ placed kind.CloseBrace close ∷ [])
 
   -- { statement }
   pub statements : StatementTrees → List Symbol
@@ -79,7 +84,8 @@ abbrev mutual
 
   -- case = "case" ID "." awaited "(" [ bind { "," bind } ] ")" ":" { statement } .
   pub case : CaseTree → List Symbol
-  case (Case span endpoint message open_paren binds inner) = row (placed kind.Case span ∷ name endpoint ∷ word kind.Dot ∷ awaited message ∷ parens (listed bind) (open_paren, binds) ∷ word kind.Colon ∷ statements inner ∷ [])
+  case (Case span endpoint message open_paren binds inner) = row (placed kind.Case span ∷ name endpoint ∷ word kind.Dot
+      ∷ awaited message ∷ parens (listed bind) (open_paren, binds) ∷ word kind.Colon ∷ statements inner ∷ [])
 
   -- { case }
   pub cases : CaseTrees → List Symbol

@@ -140,19 +140,25 @@ test_step t = Test t.word t.«open» (expression_tree t.test) t.body
 -- What lies in memory as a tree.
 
 abbrev pub statement_tree : made.Statement.Statement → StatementTree
-statement_tree = made.Statement.fold-Statement StatementTree BlockTree CaseTree IfTree SwitchTree TestTree statement_step block_step case_step if_step switch_step test_step
+statement_tree = made.Statement.fold-Statement StatementTree BlockTree CaseTree IfTree SwitchTree TestTree statement_step block_step
+    case_step if_step switch_step test_step
 
 abbrev pub block_tree : made.Block.Block → BlockTree
-block_tree = made.Block.fold-Block StatementTree BlockTree CaseTree IfTree SwitchTree TestTree statement_step block_step case_step if_step switch_step test_step
+block_tree = made.Block.fold-Block StatementTree BlockTree CaseTree IfTree SwitchTree TestTree statement_step block_step case_step
+    if_step switch_step test_step
 
 abbrev pub case_tree : made.Case.Case → CaseTree
-case_tree = made.Case.fold-Case StatementTree BlockTree CaseTree IfTree SwitchTree TestTree statement_step block_step case_step if_step switch_step test_step
+case_tree = made.Case.fold-Case StatementTree BlockTree CaseTree IfTree SwitchTree TestTree statement_step block_step case_step if_step
+    switch_step test_step
 
 abbrev pub if_tree : made.If.If → IfTree
-if_tree = made.If.fold-If StatementTree BlockTree CaseTree IfTree SwitchTree TestTree statement_step block_step case_step if_step switch_step test_step
+if_tree = made.If.fold-If StatementTree BlockTree CaseTree IfTree SwitchTree TestTree statement_step block_step case_step if_step
+    switch_step test_step
 
 abbrev pub switch_tree : made.Switch.Switch → SwitchTree
-switch_tree = made.Switch.fold-Switch StatementTree BlockTree CaseTree IfTree SwitchTree TestTree statement_step block_step case_step if_step switch_step test_step
+switch_tree = made.Switch.fold-Switch StatementTree BlockTree CaseTree IfTree SwitchTree TestTree statement_step block_step case_step
+    if_step switch_step test_step
 
 abbrev pub test_tree : made.Test.Test → TestTree
-test_tree = made.Test.fold-Test StatementTree BlockTree CaseTree IfTree SwitchTree TestTree statement_step block_step case_step if_step switch_step test_step
+test_tree = made.Test.fold-Test StatementTree BlockTree CaseTree IfTree SwitchTree TestTree statement_step block_step case_step if_step
+    switch_step test_step

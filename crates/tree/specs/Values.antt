@@ -77,7 +77,8 @@ made_spelling (Array element length) = made_array (element, length)
 
 -- new = "new" "[" "ExHeap" "]" made .
 abbrev pub new_spelling : NewTree → List Symbol
-new_spelling n = row (placed kind.New n.word ∷ word kind.OpenBracket ∷ word kind.ExHeap ∷ word kind.CloseBracket ∷ made_spelling n.made ∷ [])
+new_spelling n =
+    row (placed kind.New n.word ∷ word kind.OpenBracket ∷ word kind.ExHeap ∷ word kind.CloseBracket ∷ made_spelling n.made ∷ [])
 
 -- value = expression | call | new .
 abbrev pub value_spelling : ValueTree → List Symbol

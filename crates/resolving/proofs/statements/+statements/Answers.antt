@@ -107,26 +107,26 @@ tell_otherwise-returns-in_ok-block-in-Some t c = λ items own f round h.
     subst (λ o. IsTold text (others_told p own stays (trees.last_other (option_map block_tree o)) f) (seen.Else (block_seen c.in_ok-block-in-Some.block)) c.tell_block.new.locals) (sym c.in-Some.is)
     (made_told text seen.Else _ _ c.tell_block.new.locals (c.in_ok-block-in-Some.ensures items own f round h))
 
-pub tell_statement-returns-in_ok-block-in-Block : goal.tell_statement-returns-in_ok-block-in-Block
-tell_statement-returns-in_ok-block-in-Block t c = λ items own f round h.
+pub tell_statement-returns-in_ok-tell_block-in-Block : goal.tell_statement-returns-in_ok-tell_block-in-Block
+tell_statement-returns-in_ok-tell_block-in-Block t c = λ items own f round h.
     let p = program_in c.args.tokens.now.text.items items in
-    told_as p own (staying_seen c.args.stays) f (ap statement_tree c.in-Block.is ∙ of_block c.in-Block.block) (seen_as.of_block c.in_ok-block-in-Block.block)
-    (made_told p.text seen.Block _ _ c.tell_block.new.locals (c.in_ok-block-in-Block.ensures items own f round h))
+    told_as p own (staying_seen c.args.stays) f (ap statement_tree c.in-Block.is ∙ of_block c.in-Block.block) (seen_as.of_block c.in_ok-tell_block-in-Block.field-0)
+    (made_told p.text seen.Block _ _ c.tell_block.new.locals (c.in_ok-tell_block-in-Block.ensures items own f round h))
 
-pub tell_statement-returns-in_ok-branches-in-If : goal.tell_statement-returns-in_ok-branches-in-If
-tell_statement-returns-in_ok-branches-in-If t c = λ items own f round h.
+pub tell_statement-returns-in_ok-tell_if-in-If : goal.tell_statement-returns-in_ok-tell_if-in-If
+tell_statement-returns-in_ok-tell_if-in-If t c = λ items own f round h.
     let p = program_in c.args.tokens.now.text.items items in
-    told_as p own (staying_seen c.args.stays) f (ap statement_tree c.in-If.is ∙ of_if c.in-If.branches) (seen_as.of_if c.in_ok-branches-in-If.branches) (c.in_ok-branches-in-If.ensures items own f round h)
+    told_as p own (staying_seen c.args.stays) f (ap statement_tree c.in-If.is ∙ of_if c.in-If.branches) (seen_as.of_if c.in_ok-tell_if-in-If.field-0) (c.in_ok-tell_if-in-If.ensures items own f round h)
 
-pub tell_statement-returns-in_ok-test-in-While : goal.tell_statement-returns-in_ok-test-in-While
-tell_statement-returns-in_ok-test-in-While t c = λ items own f round h.
+pub tell_statement-returns-in_ok-tell_test-in-While : goal.tell_statement-returns-in_ok-tell_test-in-While
+tell_statement-returns-in_ok-tell_test-in-While t c = λ items own f round h.
     let text = c.args.tokens.now.text.items in
     let p = program_in text items in
-    let test = c.in_ok-test-in-While.test in
+    let test = c.in_ok-tell_test-in-While.field-0 in
     let after = c.tell_test.new.locals in
     told_as p own (staying_seen c.args.stays) f (ap statement_tree c.in-While.is ∙ of_while c.in-While.test) (seen_as.of_while test)
     (subst (λ stays. IsTold text (remade seen.While (test_told p own stays (test_tree c.in-While.test) f)) (seen.While (test_seen test)) after) (c.here-inside.ensures f (number_is c.last.result f.last (c.last.ensures text f h)))
-    (made_told text seen.While _ _ after (c.in_ok-test-in-While.ensures items own f round h)))
+    (made_told text seen.While _ _ after (c.in_ok-tell_test-in-While.ensures items own f round h)))
 
 pub tell_statement-returns-in-Declare : goal.tell_statement-returns-in-Declare
 tell_statement-returns-in-Declare t c = λ items own f round h.
