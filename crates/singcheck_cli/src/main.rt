@@ -9,6 +9,8 @@ use std::alloc::{AllocError, Global};
 use std::fs::File;
 use std::process::ExitCode;
 use std::rt::{Env, Files};
+use std::sync::Wait;
+use std::thread::Threads;
 use std::{env, fs, io};
 
 fn main(rt: HostRuntime) -> ExitCode {
@@ -18,7 +20,7 @@ fn main(rt: HostRuntime) -> ExitCode {
 }
 
 /// Does what the command line asks for, and answers the exit status.
-fn run<R: AllocGlobal + Env + Files + Print + Eprint, O: Sink, E: Sink>(
+fn run<R: AllocGlobal + Env + Files + Print + Eprint + Threads + Wait + Sync, O: Sink, E: Sink>(
     rt: &R,
     output: &mut O,
     errors: &mut E,
@@ -55,7 +57,7 @@ fn words_of(alloc: Global, texts: &[String]) -> Result<Vec<&str>, AllocError> {
     Ok(words)
 }
 
-fn answer<R: AllocGlobal + Files + Print + Eprint, O: Sink, E: Sink>(
+fn answer<R: AllocGlobal + Files + Print + Eprint + Threads + Wait + Sync, O: Sink, E: Sink>(
     rt: &R,
     words: &[&str],
     output: &mut O,
@@ -94,7 +96,7 @@ fn bounds<R: AllocGlobal + Files, O: Sink, E: Sink>(
     status(answered, file, errors)
 }
 
-fn check<R: AllocGlobal + Files, O: Sink, E: Sink>(
+fn check<R: AllocGlobal + Files + Threads + Wait + Sync, O: Sink, E: Sink>(
     rt: &R,
     file: &str,
     workers: usize,
@@ -106,7 +108,7 @@ fn check<R: AllocGlobal + Files, O: Sink, E: Sink>(
         return ending(&RunFault::Read(Input::Text), file, errors);
     };
     let mut text = Counted::new(text);
-    let answered = run_check(rt.alloc(), &mut text, output, workers, slots, &Open);
+    let answered = run_check(rt, &mut text, output, workers, slots, &Open);
     status(answered, file, errors)
 }
 
