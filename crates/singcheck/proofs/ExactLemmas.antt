@@ -1,5 +1,5 @@
 -- All that is wrong with contracts, or with methods, is a list where it is one for each of them.
-use Rattle.std.proofs.Common.{◌≡◌, ℕ, zero, suc, ◌⊎◌, inl, inr, List, [], ◌∷◌, ◌++◌, refl, sym, subst, arith, ⊎_elim}
+use Rattle.std.proofs.Common.{◌≡◌, ◌<◌, ℕ, zero, suc, ◌⊎◌, inl, inr, List, [], ◌∷◌, ◌++◌, refl, sym, subst, arith, ⊎_elim}
 use Rattle.std.specs.Prelude.{◌≢◌, All, Contains, length}
 use Rattle.std.proofs.Math.Nat.{eq-or-lt_of_le}
 use Rattle.std.proofs.lemmas.List.Elements.{Contains-append_left, Contains-append_right, Contains-append_cases, Contains-get_or}
@@ -11,7 +11,6 @@ use Rattle.contracts.specs.Conditions.{AreExactly, IsSound}
 use Rattle.analyse.specs.Verdicts.{IsFoundIn, IsMethodVerdict}
 use Rattle.singcheck.specs.Answers.{IsBroken}
 use Rattle.singcheck.specs.Checks.{IsWrong}
-use Rattle.singcheck.specs.Verdicts.{IsWrongBelow}
 use Rattle.singcheck.proofs.SameLemmas.{at_front, behind_front, front_or_behind, nothing_in}
 use Rattle.singcheck.proofs.VerdictLemmas.{verdict_exactly}
 
@@ -50,6 +49,10 @@ broken_some judged (c ∷ cs) none =
 -- where nothing is broken, each contract is sound
 pub all_sound : (contracts : List ContractSeen) → ((f : FindingParts) → IsBroken contracts f → ⊥) → All (λ c. IsSound c.parts) contracts
 all_sound contracts none = λ k d lt f fault. none f (_, Contains-get_or contracts k d lt, fault)
+
+-- what is found in the first methods, so many
+abbrev IsWrongBelow : ProgramSeen → ℕ → FindingParts → Type 0
+IsWrongBelow p most f = (n : ℕ) × (n < most) × IsFoundIn p n f
 
 wrong_below : ((p : ProgramSeen) (n : ℕ) → ((found : List FindingParts) → IsMethodVerdict p n found → ⊥) → ⊥)
     → (p : ProgramSeen) (most : ℕ) → ((found : List FindingParts) → AreExactly (IsWrongBelow p most) found → ⊥) → ⊥

@@ -26,7 +26,7 @@ never n m more few = omega arith
 no_tokens : (text : List ℕ) (tokens : List Token) → MAX_TEXT < length text → AreTokens text tokens → ⊥
 no_tokens text tokens long are = never MAX_TEXT (length text) long are.short
 
-no_program : {A : Type 0} (text : List ℕ) → MAX_TEXT < length text → (tokens : List Token) → AreTokens text tokens → A
+pub no_program : {A : Type 0} (text : List ℕ) → MAX_TEXT < length text → (tokens : List Token) → AreTokens text tokens → A
 no_program text long tokens are = absurd (no_tokens text tokens long are)
 
 fault_long : (text other : List ℕ) (fault : TextFault) → AreLong text other → IsFault text fault → IsFault other fault
@@ -56,7 +56,7 @@ checks_long text other bytes Empty long told = no_program text long.one told.has
 checks_long text other bytes Found long told = record { found = told.found; are = checked_long text other told.found long told.are; told = told.told }
 
 -- what holds of the bytes that are read holds of the text, where it holds of all texts too long if of one
-of_front : (P : List ℕ → Type 0) (limit most : ℕ) → most ≡ limit + 1 → ((front text : List ℕ) → limit < length front → limit < length text → P front → P text) → (text : List ℕ) → P (take most text) → P text
+pub of_front : (P : List ℕ → Type 0) (limit most : ℕ) → most ≡ limit + 1 → ((front text : List ℕ) → limit < length front → limit < length text → P front → P text) → (text : List ℕ) → P (take most text) → P text
 of_front P limit most one_more long text told = ⊎_elim
     (λ short. subst P (take_all most text (omega (arith, short))) told)
     (λ full. let size = length-take most text in long (take most text) text (omega (arith, full, one_more, size)) (omega (arith, full, one_more)) told)

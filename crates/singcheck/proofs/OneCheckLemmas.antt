@@ -27,7 +27,7 @@ one_messages laws text p q one other = one.messages ∙ ap (λ items. messages_t
 one_methods : Laws → (text : List ℕ) (p q : ProgramSeen) → HasProgram text p → HasProgram text q → p.methods ≡ q.methods
 one_methods laws text p q one other = one.methods ∙ ap (λ items. methods_told (record { text = text; items = items })) (one_items laws text p q one other) ∙ sym other.methods
 
-one_seen : Laws → (text : List ℕ) (p q : ProgramSeen) → HasProgram text p → HasProgram text q → p ≡ q
+pub one_seen : Laws → (text : List ℕ) (p q : ProgramSeen) → HasProgram text p → HasProgram text q → p ≡ q
 one_seen laws text p q one other =
     let contracts = one_contracts laws text p q one other in
     let messages = one_messages laws text p q one other in

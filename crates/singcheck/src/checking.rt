@@ -11,8 +11,10 @@ ghost use Rattle.program.specs.Parts.{contract_seen};
 ghost use Rattle.singcheck.specs.Checks.{Checks, IsSoundProgram};
 ghost use Rattle.singcheck.specs.CheckFaults.{AreUnfit, Explains, workers_fit, slots_fit};
 ghost use Rattle.singcheck.specs.Reports.{IsReport};
+ghost use Rattle.singcheck.specs.Safety.{IsSafeText};
 
 use crate::fault::{CheckFault, Status};
+use crate::laws::one_program;
 use crate::limits::{MOST_SLOTS, MOST_WORKERS};
 use crate::lines::add_clear;
 use crate::reports::{Report, report_of};
@@ -22,6 +24,7 @@ use crate::verdicts::analyse_methods;
 use pool::Gate;
 use rules::Program;
 use shelf::Shelf;
+use sound::laws::clean_methods_are_safe;
 use source::{Finding, Memory, Tokens};
 use std::alloc::Global;
 use std::sync::Wait;
@@ -35,7 +38,9 @@ use wellformed::well_formed_methods;
 /// Workers share the methods out. Each method is checked once, by one of them, and the gate is entered before it with the number of
 /// methods that stand before it in the text. The first worker works in the calling thread and each other one in a thread of its own;
 /// there are never more than methods, and none begins before the stages in front of the methods have found nothing. The report is the
-/// same for every number of `workers` and `slots`, whoever took which method. `Workers` is answered where there are not 1 to
+/// same for every number of `workers` and `slots`, whoever took which method. Where it is empty, every run of the text's program is safe:
+/// no process uses a block that is not its own, sends out of state, meets a message that its switch lacks, overfills a queue or ends
+/// owning anything. `Workers` is answered where there are not 1 to
 /// `MOST_WORKERS`, then `Slots` where there are not 1 to `MOST_SLOTS`, before the text is looked at; `Memory` where a growth or a
 /// thread was refused.
 pub fn check<R: Threads + Wait + AllocGlobal + Sync, G: Gate>(
@@ -46,6 +51,7 @@ pub fn check<R: Threads + Wait + AllocGlobal + Sync, G: Gate>(
     gate: &G,
 ) -> Result<Report, CheckFault>
     ensures report { IfOk result (λ r. Checks text.now r.bytes.items r.status) }
+    ensures safe { IfOk result (λ r. r.status ≡ Status.Empty → IsSafeText text.now) }
     ensures workers { OnOk result (workers_fit workers ≡ true) }
     ensures slots { OnOk result (slots_fit slots ≡ true) }
     ensures fault { IfErr result (Explains workers slots) }
@@ -67,6 +73,7 @@ pub fn check_onto<R: Threads + Wait + AllocGlobal + Sync, G: Gate>(
     shelf: &Shelf,
 ) -> Result<Report, CheckFault>
     ensures report { IfOk result (λ r. Checks text.now r.bytes.items r.status) }
+    ensures safe { IfOk result (λ r. r.status ≡ Status.Empty → IsSafeText text.now) }
     ensures workers { OnOk result (workers_fit workers ≡ true) }
     ensures slots { OnOk result (slots_fit slots ≡ true) }
     ensures fault { IfErr result (Explains workers slots) }
@@ -104,7 +111,8 @@ pub(crate) fn check_text<R: Threads + Wait + Sync, G: Gate>(
     tools: &Tools<'_, R, G>,
     text: &[u8],
 ) -> Result<Report, Memory>
-    ensures { IfOk result (λ r. Checks text.now r.bytes.items r.status) }
+    ensures report { IfOk result (λ r. Checks text.now r.bytes.items r.status) }
+    ensures safe { IfOk result (λ r. r.status ≡ Status.Empty → IsSafeText text.now) }
 {
     match parse_text(tools.alloc, text)? {
         Parsed::Found(findings) => reported(tools.alloc, findings),
@@ -132,7 +140,8 @@ fn check_program<R: Threads + Wait + Sync, G: Gate>(
     requires lexed { AreTokens tokens.now.text.items tokens.now.list.items }
     requires spelled { Spells program (program_tree tree.now) tokens.now.list.items }
     requires few { length tokens.now.list.items < 2 ^ 32 }
-    ensures { IfOk result (λ r. Checks tokens.now.text.items r.bytes.items r.status) }
+    ensures report { IfOk result (λ r. Checks tokens.now.text.items r.bytes.items r.status) }
+    ensures safe { IfOk result (λ r. r.status ≡ Status.Empty → IsSafeText tokens.now.text.items) }
 {
     match named(tools.alloc, tree, tokens)? {
         Staged::Found(findings) => reported(tools.alloc, findings),
@@ -150,12 +159,15 @@ fn check_methods<R: Threads + Wait + Sync, G: Gate>(
     requires sound { IsSoundProgram tokens.now.text.items (program_tree tree.now) (map contract_seen clean.resolved.contracts.items) }
     requires judged { map sound_parts clean.sounds.items ≡ map (λ c. c.parts) (map contract_seen clean.resolved.contracts.items) }
     requires room { length clean.resolved.contracts.items < 2 ^ 32 }
-    ensures { IfOk result (λ r. Checks tokens.now.text.items r.bytes.items r.status) }
+    ensures report { IfOk result (λ r. Checks tokens.now.text.items r.bytes.items r.status) }
+    ensures safe { IfOk result (λ r. r.status ≡ Status.Empty → IsSafeText tokens.now.text.items) }
 {
     let alloc = tools.alloc;
     let Clean { resolved, sounds } = clean;
     let contracts = resolved.contracts.len();
     let methods = well_formed_methods(alloc, tree, tokens, resolved)?;
+    one_program();
+    clean_methods_are_safe(&methods, &sounds);
     let count = methods.list().len();
     let program = Program::new(alloc, methods, sounds)?;
     let findings = analyse_methods(tools, &program)?;

@@ -2,7 +2,8 @@
 
 ghost use Rattle.std.specs.Prelude.{◌≡◌, ℕ, List};
 ghost use Rattle.singcheck.specs.Answers.{Answers};
-ghost use Rattle.singcheck.specs.Checks.{Checks};
+ghost use Rattle.program.specs.Programs.{ProgramSeen};
+ghost use Rattle.singcheck.specs.Checks.{Checks, HasProgram};
 ghost use Rattle.singcheck.specs.declared.fault.Status.{Status};
 ghost use Rattle.singcheck.specs.declared.limits.TheConstants.{MOST_SLOTS, MOST_WORKERS};
 ghost use Rattle.singcheck.specs.declared.reading.TheConstants.{MAX_READ};
@@ -31,6 +32,15 @@ pub fn one_check()
         → Checks text a s → Checks text b t → a ≡ b }
     ensures status { (text a b : List ℕ) (s t : Status)
         → Checks text a s → Checks text b t → s ≡ t }
+{
+    one_cutting();
+    one_fault();
+    one_tree_a_spelling();
+}
+
+/// A text comes to one program, or to none.
+pub fn one_program()
+    ensures { (text : List ℕ) (p q : ProgramSeen) → HasProgram text p → HasProgram text q → p ≡ q }
 {
     one_cutting();
     one_fault();

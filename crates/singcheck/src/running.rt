@@ -4,6 +4,7 @@ ghost use Rattle.std.specs.Prelude.{◌≡◌, ◌≢◌, ◌&&◌, true, false,
 ghost use Rattle.std.specs.Io.KnownBytes.{Keeps};
 ghost use Rattle.singcheck.specs.Checks.{Checks};
 ghost use Rattle.singcheck.specs.CheckFaults.{RunExplains, workers_fit, slots_fit};
+ghost use Rattle.singcheck.specs.Safety.{IsSafeText};
 ghost use Rattle.singcheck.specs.Runs.{Writes, BeginsAnswer, LeavesRest, TakesAtMost};
 
 use crate::checking::{check_text, judge_numbers};
@@ -34,6 +35,7 @@ pub fn run_check<R: Threads + Wait + AllocGlobal + Sync, I: Source, O: Sink, G: 
 ) -> Result<Status, RunFault>
     ensures written { IfOk result (λ status. IfSome (I.remaining reader.old) (λ text.
         Writes Checks text (O.contents writer.old) (O.contents writer.new) status)) }
+    ensures safe { IfOk result (λ status. IfSome (I.remaining reader.old) (λ text. status ≡ Status.Empty → IsSafeText text)) }
     ensures begun { IsErrOf result RunFault.Write → IfSome (I.remaining reader.old) (λ text.
         BeginsAnswer Checks text (O.contents writer.old) (O.contents writer.new)) }
     ensures rest { OnOk result (LeavesRest MAX_READ (I.remaining reader.old) (I.remaining reader.new)) }

@@ -10,14 +10,16 @@ use Rattle.rules.specs.Programs.{seen_of}
 use Rattle.singcheck.specs.Checks.{IsSoundProgram}
 use Rattle.singcheck.specs.Lines.{clear_line}
 use Rattle.singcheck.proofs.CheckLemmas.{reported_ok, has_program, misowned, clear_is}
+use Rattle.singcheck.specs.Safety.{IsSafeText}
 use Rattle.singcheck.proofs.JudgeLemmas.{no_items}
+use Rattle.singcheck.proofs.SafetyLemmas.{AreCleanSafe, found_unsafe, safe_text}
 use Rattle.singcheck.proofs.checking.check_methods.Goals as goal
 
 pub new-requires : goal.new-requires
 new-requires g c = record { sound = c.requires.judged ∙ ap (map (λ (x : ContractSeen). x.parts)) (sym c.in_ok-methods.ensures.contracts) }
 
-pub returns-then-not-is_empty : goal.returns-then-not-is_empty
-returns-then-not-is_empty g c =
+pub returns-then-not-is_empty-clause-report : goal.returns-then-not-is_empty-clause-report
+returns-then-not-is_empty-clause-report g c =
     let text = c.args.tokens.now.text.items in
     let items = program_tree c.args.tree.now in
     let p = seen_of c.in_ok-program.program in
@@ -30,8 +32,8 @@ returns-then-not-is_empty g c =
     reported_ok text (map finding_parts found.items) (misowned text p found.items has some c.in_ok-findings.ensures)
     c.reported.result c.reported.ensures.bytes c.reported.ensures.status
 
-pub returns : goal.returns
-returns g c =
+pub returns-clause-report : goal.returns-clause-report
+returns-clause-report g c =
     let text = c.args.tokens.now.text.items in
     let items = program_tree c.args.tree.now in
     let p = seen_of c.in_ok-program.program in
@@ -48,3 +50,21 @@ returns g c =
     let many : length listed ≡ length p.methods = sym (length-map listed method_seen) ∙ ap length c.list-count.ensures.list ∙ sym (ap length told) in
     clear_is text c.add_clear.new.answer.items p c.in_ok-findings.findings.items has (no_items c.in_ok-findings.findings.items (sym c.in_ok-findings.findings.ok.0 ∙ eqb-true _ _ (sym c.is_empty.ensures ∙ c.if-not-is_empty.false))) c.in_ok-findings.ensures
     (c.in_ok-add_clear.ensures ∙ ap (λ l. l ++ clear_line c.len-contracts.result (length listed)) c.new-bytes.ensures.items ∙ ap₂ clear_line counted many)
+
+pub returns-then-not-is_empty-clause-safe : goal.returns-then-not-is_empty-clause-safe
+returns-then-not-is_empty-clause-safe g c = found_unsafe (IsSafeText c.args.tokens.now.text.items) c.reported.result c.reported.ensures.status
+
+pub returns-clause-safe : goal.returns-clause-safe
+returns-clause-safe g c = λ e.
+    let text = c.args.tokens.now.text.items in
+    let items = program_tree c.args.tree.now in
+    let p = seen_of c.in_ok-program.program in
+    let seen = c.in_ok-program.ensures in
+    let methods = c.in_ok-methods.ensures in
+    let contracts = ap (λ s. s.contracts) seen ∙ methods.contracts in
+    let has = has_program text items p (subst (IsSoundProgram text items) (sym contracts) c.requires.sound)
+    (ap (λ s. s.messages) seen ∙ methods.messages) (ap (λ s. s.methods) seen ∙ methods.methods) in
+    let found = c.in_ok-findings.findings in
+    let none = no_items found.items (sym found.ok.0 ∙ eqb-true _ _ (sym c.is_empty.ensures ∙ c.if-not-is_empty.false)) in
+    safe_text text p found.items (λ q other. c.one_program.ensures text p q has other) none c.in_ok-findings.ensures
+    (subst AreCleanSafe (sym seen) c.clean_methods_are_safe.ensures)

@@ -1,0 +1,61 @@
+-- Why an empty report is safe.
+use Rattle.std.proofs.Common.{◌≡◌, ℕ, ◌<◌, List, [], map, length, take, Option, Some, None, refl, sym, subst, inl, ◌∙◌}
+use Rattle.std.specs.Prelude.{Contains, Err, IfOk, IfSome, Ok, Result}
+use Rattle.source.specs.Findings.{FindingParts, finding_parts}
+use Rattle.source.specs.declared.fault.Memory.{Memory}
+use Rattle.source.specs.declared.finding.Finding.{Finding}
+use Rattle.source.specs.declared.lexer.TheConstants.{MAX_TEXT}
+use Rattle.contracts.specs.Conditions.{AreExactly}
+use Rattle.program.specs.Programs.{ProgramSeen}
+use Rattle.machine.specs.Outcomes.{Bounds}
+use Rattle.machine.specs.Runs.{AreBounds, Run}
+use Rattle.machine.specs.World.{World}
+use Rattle.analyse.specs.Verdicts.{IsFoundIn, IsMethodVerdict, place_of_method, too_many_pairs}
+use Rattle.sound.specs.Premises.{IsEntry, NothingIsFound}
+use Rattle.sound.specs.Safe.{IsSafe}
+use Rattle.singcheck.specs.Checks.{HasProgram, IsWrong}
+use Rattle.singcheck.specs.Safety.{IsSafeText, RunsAreSafe}
+use Rattle.singcheck.specs.declared.fault.Status.{Status}
+use Rattle.singcheck.specs.declared.fault.Status.TheVariants.{Empty, Found}
+use Rattle.singcheck.specs.declared.reading.TheConstants.{MAX_READ}
+use Rattle.singcheck.specs.declared.reports.Report.{Report}
+use Rattle.singcheck.proofs.JudgeLemmas.{none_of}
+use Rattle.singcheck.proofs.LongLemmas.{no_program, of_front}
+
+-- where no finding is found in a method, that is its verdict
+empty_verdict : (p : ProgramSeen) (n : ℕ) → ((f : FindingParts) → IsFoundIn p n f → ⊥) → IsMethodVerdict p n []
+empty_verdict p n none = record {
+  exactly = λ f. (λ h. absurd (none_of f h), λ w. absurd (none f w));
+  once = λ many. absurd (none (too_many_pairs (place_of_method p n)) (inl (many, refl)));
+}
+
+-- where all that is wrong is nothing, nothing is found in any method
+nothing_found : (p : ProgramSeen) (found : List Finding) → found ≡ [] → AreExactly (IsWrong p) (map finding_parts found) → NothingIsFound p
+nothing_found p found none are = λ n lt. empty_verdict p n (λ f w. none_of f (subst (λ l. Contains (map finding_parts l) f) none (are.all f (n, lt, w))))
+
+-- what is shown of a program whose methods are clean
+abbrev pub AreCleanSafe : ProgramSeen → Type 0
+AreCleanSafe p = (bound : Bounds) → AreBounds p bound → NothingIsFound p → (n : ℕ) (w : World) → IsEntry p n → Run p bound n w → IsSafe p bound w
+
+-- the text of a program in which nothing is wrong is safe
+pub safe_text : (text : List ℕ) (p : ProgramSeen) (found : List Finding) → ((q : ProgramSeen) → HasProgram text q → p ≡ q) → found ≡ [] → AreExactly (IsWrong p) (map finding_parts found) → AreCleanSafe p → IsSafeText text
+safe_text text p found one none are safe = λ q has. subst RunsAreSafe (one q has) (record {
+  each = λ bound bounds n w entry run. safe bound bounds (nothing_found p found none are) n w entry run;
+})
+
+-- what is known of the bytes that are read is known of the text
+pub safe_front : (status : Status) (text : List ℕ) → (status ≡ Empty → IsSafeText (take MAX_READ text)) → status ≡ Empty → IsSafeText text
+safe_front status text told = of_front (λ t. status ≡ Empty → IsSafeText t) MAX_TEXT MAX_READ refl
+    (λ a b x y front e p has. no_program b y has.program.parsed.tokens has.program.parsed.lexed) text told
+
+pub safe_read : (a : Option (List ℕ)) (text : List ℕ) (status : Status) → IfSome a (λ xs. text ≡ take MAX_READ xs) → (status ≡ Empty → IsSafeText text) → IfSome a (λ xs. status ≡ Empty → IsSafeText xs)
+safe_read None text status is told = tt
+safe_read (Some x) text status is told = safe_front status x (subst (λ t. status ≡ Empty → IsSafeText t) is told)
+
+-- a report of findings is not empty
+pub found_unsafe : (safe : Type 0) (result : Result Report Memory) → IfOk result (λ r. r.status ≡ Found) → IfOk result (λ r. r.status ≡ Empty → safe)
+found_unsafe safe (Ok r) is = λ e. absurd (apart (sym is ∙ e))
+  where
+    apart : Found ≡ Empty → ⊥
+    apart e = cc
+found_unsafe safe (Err fault) is = tt
