@@ -64,37 +64,46 @@ def problems_of_vs_code(_):
     return ([] if given == FINDING else ['read as %r' % (given,)]) + ([] if task['problemMatcher'] == '$' + matcher['name'] else ['another matcher'])
 
 
-def vim(script, folder):
-    """The lines that a script leaves in the file `said`, run by Vim with these settings in a text of Sing#."""
-    (folder / 'script.vim').write_text(script)
-    (folder / 'found').write_text('%s:%s:%s: %s %s\n' % FINDING)
-    (folder / 'a.sg').write_text('\n'.join(reserved() + NAMES + ['// class', '/*/ class', '*/ zz', 'e.SendAsk();', '']))
-    start = ['set runtimepath^=' + str(VIM), 'filetype plugin on', 'syntax on', 'edit a.sg', 'source script.vim', 'qall!']
-    words = [word for command in start for word in ('-c', command)]
-    subprocess.run(['vim', '-N', '-u', 'NONE', '-i', 'NONE', '-n', '-es', *words], cwd=folder, timeout=60, stdin=subprocess.DEVNULL,
-                   stdout=subprocess.DEVNULL, stderr=subprocess.DEVNULL)
-    return (folder / 'said').read_text().splitlines()
+def vim(runtime, text, script):
+    """What a script leaves in the file `said`, run by Vim with these settings over a text."""
+    with tempfile.TemporaryDirectory() as made:
+        folder = pathlib.Path(made)
+        (folder / 'script.vim').write_text(script)
+        (folder / 'a b.sg').write_text(text)
+        start = [r"execute 'set runtimepath^=' . escape('%s', '\ ,')" % runtime, 'filetype plugin on', 'syntax on', r'edit a\ b.sg']
+        words = [word for command in start + ['source script.vim', 'qall!'] for word in ('-c', command)]
+        subprocess.run(['vim', '-N', '-u', 'NONE', '-i', 'NONE', '-n', '-es', *words], cwd=folder, timeout=60, stdin=subprocess.DEVNULL,
+                       stdout=subprocess.DEVNULL, stderr=subprocess.DEVNULL)
+        return (folder / 'said').read_text().splitlines()
 
 
-def vim_itself(_):
-    """Vim with these files, where it is there: the colour of each word, and a finding that it reads."""
+def colours_of_vim(_):
+    """The colour that Vim gives to the last letter of each line, where Vim is there."""
     if not shutil.which('vim'):
         return []
-    script = """let said = map(range(1, line('$')), 'synIDattr(synID(v:val, col([v:val, "$"]) - 1, 1), "name")')
-cgetfile found
-let one = getqflist()[0]
-call writefile(said + [bufname(one.bufnr), one.lnum . ':' . one.col, one.text, &makeprg], 'said')
-"""
-    with tempfile.TemporaryDirectory() as folder:
-        said = vim(script, pathlib.Path(folder))
-    colours, rest = said[:-4], said[-4:]
-    words, names, others = colours[:len(reserved())], colours[len(reserved()):-4], colours[-4:]
+    lines = reserved() + NAMES + ['// class', '/*/ class', '*/ zz', 'e.SendAsk']
+    said = vim(VIM, '\n'.join(lines) + '\n', """
+call writefile(map(range(1, line('$')), 'synIDattr(synID(v:val, col([v:val, "$"]) - 1, 1), "name")'), 'said')""")
+    words, names, others = said[:len(reserved())], said[len(reserved()):-4], said[-4:]
     found = ['%s has no colour' % word for word, colour in zip(reserved(), words) if not colour]
     found += ['%s is %s' % (name, colour) for name, colour in zip(NAMES, names) if colour]
-    found += [] if others == ['singComment', 'singComment', '', ''] else ['others: %s' % others]
-    check = "'%s/singcheck' check %%:p:S | '%s/tools/show' --plain %%:p:S" % (TOP, TOP)
-    return found + ([] if rest == [FINDING[0], '12:5', 'A01 note not owned', check] else ['read as %s' % rest])
+    return found + ([] if others == ['singComment', 'singComment', '', 'singSend'] else ['others: %s' % others])
+
+
+def make_in_vim(program):
+    """`:make` with the program in a repository with a blank in its path, where Vim is there."""
+    if not shutil.which('vim'):
+        return []
+    with tempfile.TemporaryDirectory() as made:
+        top = pathlib.Path(made) / 'a repository'
+        shutil.copytree(VIM, top / 'editors' / 'vim')
+        (top / 'tools').symlink_to(TOP / 'tools')
+        (top / 'singcheck').symlink_to(program)
+        said = vim(top / 'editors' / 'vim', (TOP / 'examples/note.sg').read_text(), """silent make!
+let one = getqflist()[0]
+call writefile([one.lnum . ':' . one.col, one.text, fnamemodify(bufname(one.bufnr), ':t'), len(getqflist())], 'said')""")
+    return [] if said == ['7:5', 'A01 note not owned', 'a b.sg', '1'] else ['read as %s' % said]
 
 
 TESTS = [('editors/' + test.__name__, test) for test in
-         (words_of_the_pages, words_of_vim, words_of_vs_code, parts_of_vs_code, problems_of_vs_code, vim_itself)]
+         (words_of_the_pages, words_of_vim, words_of_vs_code, parts_of_vs_code, problems_of_vs_code, colours_of_vim, make_in_vim)]

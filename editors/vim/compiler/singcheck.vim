@@ -11,5 +11,6 @@ endif
 let s:top = fnamemodify(resolve(expand('<sfile>:p')), ':h:h:h:h')
 let s:check = escape(shellescape(s:top . '/singcheck'), '%#') . ' check %:p:S'
 let s:show = escape(shellescape(s:top . '/tools/show'), '%#') . ' --plain %:p:S'
-execute 'CompilerSet makeprg=' . escape(s:check . ' | ' . s:show, ' \|"')
+" `:make` takes a bare | for the end of its command.
+execute 'CompilerSet makeprg=' . escape(s:check . ' \| ' . s:show, ' \|"')
 CompilerSet errorformat=%f:%l:%c:\ %m
