@@ -26,7 +26,8 @@ def unlike(what, given):
 
 def words_of_the_pages(_):
     text = (TOP / 'docs/LANGUAGE.md').read_text()
-    return unlike('docs/LANGUAGE.md', re.search(r'reserved words: `([^`]*)`', text)[1].split()) + ([] if len(reserved()) > 30 else ['few words'])
+    words = re.search(r'reserved words: `([^`]*)`', text)[1].split()
+    return unlike('docs/LANGUAGE.md', words) + ([] if len(words) > 30 else ['few words'])
 
 
 def words_of_vim(_):
@@ -42,8 +43,8 @@ def words_of_vs_code(_):
     patterns = [pattern['match'] for pattern in grammar()['repository']['words']['patterns']]
     found = [word for pattern in patterns for word in re.findall(r'\w+', pattern.replace('\\b', ''))]
     matched = [word for word in reserved() if sum(bool(re.fullmatch(pattern, word)) for pattern in patterns) != 1]
-    others = [name for name in NAMES for pattern in patterns if re.search(pattern, name)]
-    return unlike('sing.tmLanguage.json', found) + ['not matched once: ' + word for word in matched] + ['a name: ' + name for name in others]
+    others = ['a name: ' + name for name in NAMES for pattern in patterns if re.search(pattern, name)]
+    return unlike('sing.tmLanguage.json', found) + ['not matched once: ' + word for word in matched] + others
 
 
 def parts_of_vs_code(_):
@@ -61,7 +62,8 @@ def problems_of_vs_code(_):
     match = re.match(pattern['regexp'], '%s:%s:%s: %s %s' % FINDING)
     given = tuple(match[pattern[part]] for part in ('file', 'line', 'column', 'code', 'message'))
     task = json.loads(re.search(r'```json\n(.*?)```', (TOP / 'editors/README.md').read_text(), re.S)[1])['tasks'][0]
-    return ([] if given == FINDING else ['read as %r' % (given,)]) + ([] if task['problemMatcher'] == '$' + matcher['name'] else ['another matcher'])
+    named = task['problemMatcher'] == '$' + matcher['name']
+    return ([] if given == FINDING else ['read as %r' % (given,)]) + ([] if named else ['the task names another matcher'])
 
 
 def vim(runtime, text, script):

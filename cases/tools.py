@@ -38,7 +38,8 @@ def one(text, finding, line, caret):
 def a_finding(_):
     text = b'rep struct D { int n; }\nclass K {\n  static void F() {\n    D* in ExHeap p;\n    delete p;\n  }\n}\n'
     help_line = next(line for line in (TOP / 'docs/codes/A01.md').read_text().splitlines() if line.startswith('Repair: '))[8:]
-    asked = 'a.sg:5:12: A01 p not owned\n  |\n5 |     delete p;\n  |            ^\n  = help: %s (tools/explain A01)\n\nfindings: 1\n' % help_line
+    asked = ('a.sg:5:12: A01 p not owned\n  |\n5 |     delete p;\n  |            ^\n'
+             '  = help: %s (tools/explain A01)\n\nfindings: 1\n' % help_line)
     return differs(show(text, b'5:12 A01 p not owned\nfindings: 1\n'), asked.encode())
 
 
