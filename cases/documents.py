@@ -48,4 +48,12 @@ def commands():
     return made
 
 
-TESTS = commands()
+def first_page_is_short(_):
+    """The first page is read as a whole, so it is short, and so is each cell of its tables."""
+    lines = (TOP / 'README.md').read_text().splitlines()
+    cells = [cell.strip() for line in lines if line.startswith('|') for cell in line.strip('|').split(' | ')]
+    found = ['a cell of %d characters: %s' % (len(cell), cell) for cell in cells if len(cell) > 160]
+    return found + (['%d lines' % len(lines)] if len(lines) > 200 else [])
+
+
+TESTS = commands() + [('documents/first_page_is_short', first_page_is_short)]
