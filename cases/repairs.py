@@ -7,7 +7,8 @@ import tempfile
 
 TOP = pathlib.Path(__file__).resolve().parent.parent
 # The pieces of text that the tour says to put into a program.
-PIECES = re.findall(r'^```\n(.*?)^```$', (TOP / 'docs/TOUR.md').read_text(), re.M | re.S)
+BLOCKS = re.findall(r'^```(\w*)\n(.*?)^```$', (TOP / 'docs/TOUR.md').read_text(), re.M | re.S)
+PIECES = [body for kind, body in BLOCKS if not kind]
 
 
 def lines_of(name):
@@ -37,7 +38,7 @@ REPAIRS = {
     'state_forgotten': (functools.partial(with_piece, word='customer.Price'), 22, 'ok: 1 contracts, 2 methods\n'),
     'used_after_sent': (exchanged, 20, 'ok: 1 contracts, 2 methods\n'),
     'missing_case': (functools.partial(with_piece, word='numbers.Done'), 28, 'ok: 1 contracts, 3 methods\n'),
-    'leak_on_one_way': (functools.partial(put, text='delete sheet;\n'), 74, 'ok: 1 contracts, 3 methods\n'),
+    'leak_on_one_way': (functools.partial(put, text='            delete sheet;\n'), 74, 'ok: 1 contracts, 3 methods\n'),
 }
 
 
