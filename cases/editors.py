@@ -2,6 +2,7 @@
 import json
 import pathlib
 import re
+import shlex
 import shutil
 import subprocess
 import tempfile
@@ -100,7 +101,8 @@ def make_in_vim(program):
         top = pathlib.Path(made) / 'a repository'
         shutil.copytree(VIM, top / 'editors' / 'vim')
         (top / 'tools').symlink_to(TOP / 'tools')
-        (top / 'singcheck').symlink_to(program)
+        (top / 'singcheck').write_text('#!/bin/sh\nexec %s "$@"\n' % shlex.quote(program))
+        (top / 'singcheck').chmod(0o755)
         said = vim(top / 'editors' / 'vim', (TOP / 'examples/note.sg').read_text(), """silent make!
 let one = getqflist()[0]
 call writefile([one.lnum . ':' . one.col, one.text, fnamemodify(bufname(one.bufnr), ':t'), len(getqflist())], 'said')""")
