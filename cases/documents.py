@@ -1,24 +1,59 @@
 """The examples of the documents: each block marked `sing` is a text. A block marked `text` that follows it before the next
-text is what `bounds` prints of it, and one marked `check` what `check` prints."""
+text is what `bounds` prints of it, and one marked `check` what `check` prints. A block marked `sh` has commands, run at the top of
+the repository, and a block marked `text` that follows it is what they print, also on standard error."""
+import functools
+import os
 import pathlib
 import re
+import shlex
+import subprocess
 
 TOP = pathlib.Path(__file__).resolve().parent.parent
-BLOCK = re.compile(r'^```(sing|text|check)\n(.*?)^```$', re.M | re.S)
+BLOCK = re.compile(r'^```(sing|text|check|sh)\n(.*?)^```$', re.M | re.S)
+PAGES = [TOP / 'README.md', *sorted(TOP.glob('docs/**/*.md')), *sorted(TOP.glob('*/README.md'))]
 
 
 def cases(folder):
     """The cases, whose inputs are written to this folder: (name, folder, arguments, stdout, stderr, status)."""
     made = []
-    pages = [TOP / 'README.md', *sorted(TOP.glob('docs/**/*.md'))]
-    for page in pages:
+    for page in PAGES:
         text = None
         for number, block in enumerate(BLOCK.finditer(page.read_text())):
             kind, body = block.groups()
-            if kind != 'sing' and text is not None:
+            if kind in ('text', 'check') and text is not None:
                 name = '%s_%d.sg' % (page.stem, number)
                 (folder / name).write_text(text)
                 status = 1 if '\nfindings: ' in '\n' + body else 0
                 made.append(('documents/' + name, folder, ['check' if kind == 'check' else 'bounds', name], body.encode(), b'', status))
             text = body if kind == 'sing' else None
     return made
+
+
+def printed(commands, asked, program):
+    """What the commands print, where the program stands for the script of its name."""
+    commands = commands.replace('./singcheck', shlex.quote(program))
+    ran = subprocess.run(['bash', '-c', commands], cwd=TOP, stdin=subprocess.DEVNULL, stdout=subprocess.PIPE, stderr=subprocess.STDOUT,
+                         timeout=60, env=dict(os.environ, PYTHONDONTWRITEBYTECODE='1'))
+    return [] if ran.stdout.decode() == asked else ['expected %r, given %r' % (asked, ran.stdout.decode())]
+
+
+def commands():
+    """A test for each block of commands and what they print."""
+    made = []
+    for page in PAGES:
+        blocks = [block.groups() for block in BLOCK.finditer(page.read_text())]
+        for number, ((kind, body), (after, asked)) in enumerate(zip(blocks, blocks[1:])):
+            if (kind, after) == ('sh', 'text'):
+                made.append(('documents/%s_%d' % (page.stem, number), functools.partial(printed, body, asked)))
+    return made
+
+
+def first_page_is_short(_):
+    """The first page is read as a whole, so it is short, and so is each cell of its tables."""
+    lines = (TOP / 'README.md').read_text().splitlines()
+    cells = [cell.strip() for line in lines if line.startswith('|') for cell in line.strip('|').split(' | ')]
+    found = ['a cell of %d characters: %s' % (len(cell), cell) for cell in cells if len(cell) > 160]
+    return found + (['%d lines' % len(lines)] if len(lines) > 200 else [])
+
+
+TESTS = commands() + [('documents/first_page_is_short', first_page_is_short)]

@@ -1,0 +1,38 @@
+"""The page of the manual: what reads such pages has nothing to say against it, and it knows the commands and options of the help."""
+import os
+import pathlib
+import re
+import shutil
+import subprocess
+
+PAGE = pathlib.Path(__file__).resolve().parent.parent / 'docs' / 'singcheck.1'
+READERS = {'man': ['man', '--warnings', '-l', PAGE], 'groff': ['groff', '-man', '-Tutf8', '-ww', PAGE]}
+
+
+def without_warnings(_):
+    """Nothing is said of the page by the readers that are there."""
+    found = []
+    for name, words in READERS.items():
+        if shutil.which(name):
+            ran = subprocess.run(words, capture_output=True, timeout=60, stdin=subprocess.DEVNULL, env=dict(os.environ, LC_ALL='C.UTF-8'))
+            found += ['%s: %d %r' % (name, ran.returncode, ran.stderr)] if ran.returncode or ran.stderr else []
+    return found
+
+
+def helped(program, *words):
+    return subprocess.run([program, *words, '--help'], capture_output=True, timeout=60, stdin=subprocess.DEVNULL).stdout.decode()
+
+
+def commands_and_options_of_the_help(program):
+    """Each command and each long option that the help names stands on the page, and the page names no others."""
+    text = PAGE.read_text().replace('\\-', '-')
+    known = set(re.findall(r'^  (\w+)\b', helped(program).partition('Commands:')[2].partition('\n\n')[0], re.M)) - {'help'}
+    options = {option for words in ([], *([command] for command in known)) for option in re.findall(r'--\w+', helped(program, *words))}
+    section = text.partition('.SH COMMANDS')[2].partition('.SH OUTPUT')[0]
+    named = set(re.findall(r'^\.BI (\w+) " FILE', section, re.M))
+    given = set(re.findall(r'--\w+', section))
+    return ([] if known and known == named else ['commands: help %s, page %s' % (sorted(known), sorted(named))]) + (
+        [] if options == given else ['options: help %s, page %s' % (sorted(options), sorted(given))])
+
+
+TESTS = [('manual/' + test.__name__, test) for test in (without_warnings, commands_and_options_of_the_help)]

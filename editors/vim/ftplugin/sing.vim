@@ -1,0 +1,9 @@
+" Settings for a text of Sing#: how comments are written, and `:make` as a check.
+if exists('b:did_ftplugin')
+  finish
+endif
+let b:did_ftplugin = 1
+
+setlocal commentstring=//\ %s comments=s1:/*,mb:*,ex:*/,://
+compiler singcheck
+let b:undo_ftplugin = 'setlocal commentstring< comments< makeprg< errorformat<'
