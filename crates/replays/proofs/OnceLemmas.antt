@@ -1,5 +1,6 @@
 -- Bytes are one schedule, or have one first malformed line.
-use Rattle.std.proofs.Common.{◌≡◌, ◌<◌, ◌≤◌, ◌+◌, ◌⊎◌, inl, inr, ℕ, List, [], ◌∷◌, ◌++◌, length, take, refl, ap, ap₂, sym, ◌∙◌, subst, arith, length-append, take_all, append_assoc, suc, ◌==◌, Bool, true, false, leb, leb-true, leb-false}
+use Rattle.std.proofs.Common.{◌≡◌, ◌<◌, ◌≤◌, ◌+◌, ◌⊎◌, inl, inr, ℕ, List, [], ◌∷◌, ◌++◌, length, take, refl, ap, ap₂, sym, ◌∙◌, subst, arith, length-append, take_all, length-take, ⊎_elim, append_assoc, suc, ◌==◌, Bool, true, false, leb, leb-true, leb-false}
+use Rattle.std.proofs.lemmas.List.{take-take}
 use Rattle.std.proofs.lemmas.List.Splits.{length-slice_split}
 use Rattle.std.specs.List.{slice_split}
 use Rattle.machine.specs.declared.halts.Event.{Event}
@@ -139,3 +140,25 @@ each_read bytes none all = by (leb (length bytes) MOST_SCHEDULE) refl
     by : (b : Bool) → leb (length bytes) MOST_SCHEDULE ≡ b → ⊥
     by true e = short (leb-true (length bytes) MOST_SCHEDULE e)
     by false e = long (omega (arith, leb-false (length bytes) MOST_SCHEDULE e))
+
+-- one byte past the most tells as much as all that follow
+pub front_events : (bytes : List ℕ) (events : List Event) → IsSchedule (take (MOST_SCHEDULE + 1) bytes) events → IsSchedule bytes events
+front_events bytes events s =
+    let size = length-take (MOST_SCHEDULE + 1) bytes in
+    let short : length bytes ≤ MOST_SCHEDULE = omega (arith, size, s.short) in
+    subst (λ l. IsSchedule l events) (take_all (MOST_SCHEDULE + 1) bytes (omega (arith, short))) s
+
+pub front_line : (bytes : List ℕ) (n : ℕ) → IsFirstMalformed (take (MOST_SCHEDULE + 1) bytes) n → IsFirstMalformed bytes n
+front_line bytes n m =
+    let size = length-take (MOST_SCHEDULE + 1) bytes in
+    let same : take MOST_SCHEDULE (take (MOST_SCHEDULE + 1) bytes) ≡ take MOST_SCHEDULE bytes = take-take MOST_SCHEDULE (MOST_SCHEDULE + 1) bytes (omega arith) in
+    record {
+      before = m.before;
+      line = m.line;
+      behind = m.behind;
+      lines = ap lines_of (sym same) ∙ m.lines;
+      counted = m.counted;
+      events = m.events;
+      told = m.told;
+      wrong = ⊎_elim (λ w. inl w) (λ (w : (MOST_SCHEDULE < length (take (MOST_SCHEDULE + 1) bytes)) × (m.behind ≡ [])). inr (omega (arith, size, w.0), w.1)) m.wrong;
+    }

@@ -1,6 +1,6 @@
 //! Laws of schedules.
 
-ghost use Rattle.std.specs.Prelude.{◌≡◌, ℕ, List};
+ghost use Rattle.std.specs.Prelude.{◌≡◌, ◌+◌, ℕ, List, take};
 ghost use Rattle.machine.specs.declared.halts.Event.{Event};
 ghost use Rattle.replays.specs.Schedules.{IsFirstMalformed, IsSchedule};
 ghost use Rattle.replays.specs.declared.limits.TheConstants.{MOST_NUMBER, MOST_SCHEDULE};
@@ -15,6 +15,12 @@ pub fn one_reading()
 /// All bytes are a schedule or have a first malformed line.
 pub fn each_schedule_is_read()
     ensures { (bytes : List ℕ) → ((events : List Event) → ¬ IsSchedule bytes events) → ((n : ℕ) → ¬ IsFirstMalformed bytes n) → ⊥ }
+{}
+
+/// Who has read one byte past the most of a schedule knows as much as who has read all of it.
+pub fn a_front_tells_all()
+    ensures events { (bytes : List ℕ) (events : List Event) → IsSchedule (take (MOST_SCHEDULE + 1) bytes) events → IsSchedule bytes events }
+    ensures line { (bytes : List ℕ) (n : ℕ) → IsFirstMalformed (take (MOST_SCHEDULE + 1) bytes) n → IsFirstMalformed bytes n }
 {}
 
 /// The limits in digits.

@@ -1,0 +1,25 @@
+use Rattle.std.proofs.Common.{◌∙◌, List, ap, map, ℕ}
+use Rattle.std.specs.Prelude.{string_bytes}
+use Rattle.machine.specs.Views.{world_seen}
+use Rattle.rules.specs.Programs.{seen_of}
+use Rattle.replays.specs.WorldLines.{replay_lines}
+use Rattle.singcheck.proofs.replaying.replayed.Goals as goal
+
+pub returns : goal.returns
+returns c = λ text entry schedule begun told.
+    let came = c.in_ok-came.came in
+    let p = seen_of c.args.begun.now.program in
+    record {
+      items = begun.items;
+      program = p;
+      comes = begun.comes;
+      n = c.args.begun.now.method.0;
+      at = begun.at;
+      events = c.args.events.now;
+      told = told;
+      replayed = came;
+      led = c.in_ok-came.ensures;
+      are = c.in_ok-bytes.ensures
+          ∙ ap (λ (s : List (List ℕ)). replay_lines (record { program = p; structs = s }) c.args.events.now came.steps came.halt (world_seen came.world)) (ap (map string_bytes) c.deref.ensures.value ∙ begun.structs);
+      is = c.status_of.ensures;
+    }

@@ -1,0 +1,97 @@
+-- What `replay` answers for a text, an entry and a schedule.
+use Rattle.std.specs.Prelude.{◌≡◌, ◌≢◌, ℕ, List, [], ◌∷◌, ◌++◌, length, map, Option, None, Some, IsSomeAnd, slice_get, true, codes}
+use Rattle.std.specs.List.{flat_map}
+use Rattle.source.specs.declared.token.Span.{Span}
+use Rattle.tree.specs.Trees.{DefinitionTree, Contract, Struct, Class, ItemTree, MethodTree}
+use Rattle.names.specs.Resolution.{printed}
+use Rattle.names.specs.Words.{word_at}
+use Rattle.program.specs.Lists.{Each}
+use Rattle.program.specs.Programs.{ProgramSeen}
+use Rattle.resolving.specs.Brought.{messages_told}
+use Rattle.resolving.specs.Methods.{methods_told}
+use Rattle.rules.specs.Programs.{is_entry}
+use Rattle.machine.specs.Outcomes.{Bounds}
+use Rattle.machine.specs.Replays.{IsReplay}
+use Rattle.machine.specs.Runs.{AreBounds}
+use Rattle.machine.specs.Views.{world_seen}
+use Rattle.machine.specs.declared.halts.Event.{Event}
+use Rattle.machine.specs.declared.halts.Halt.{Halt}
+use Rattle.machine.specs.declared.replaying.Replayed.{Replayed}
+use Rattle.replays.specs.Schedules.{IsSchedule}
+use Rattle.replays.specs.WorldLines.{replay_lines}
+use Rattle.singcheck.specs.Answers.{IsReported}
+use Rattle.singcheck.specs.Checks.{IsSoundProgram}
+use Rattle.singcheck.specs.declared.fault.Status.{Status}
+use Rattle.singcheck.specs.declared.fault.Status.TheVariants.{Empty, Found}
+
+-- `Class.Method`
+abbrev pub full_name : List ℕ → Span → MethodTree → List ℕ
+full_name text class m = word_at text class ++ (codes "." ++ word_at text m.name)
+
+-- the names of the methods of a class, if it is one
+abbrev pub names_in : List ℕ → DefinitionTree → List (List ℕ)
+names_in text (Class c) = map (full_name text c.name) c.methods
+names_in text _ = []
+
+-- the names of all methods, in order of the text
+abbrev pub method_names : List ℕ → List ItemTree → List (List ℕ)
+method_names text items = flat_map (λ i. names_in text i.definition) items
+
+-- the name of a struct, if it is one
+abbrev pub struct_in : List ℕ → DefinitionTree → List (List ℕ)
+struct_in text (Struct s) = printed text s.name ∷ []
+struct_in text _ = []
+
+-- how all structs are printed, in order of the text
+abbrev pub struct_names : List ℕ → List ItemTree → List (List ℕ)
+struct_names text items = flat_map (λ i. struct_in text i.definition) items
+
+-- so many of these stand before the first that is this one
+pub record IsFirstAt (names : List (List ℕ)) (name : List ℕ) (n : ℕ) : Type 0 where
+  pub before : List (List ℕ)
+  pub behind : List (List ℕ)
+  pub are : names ≡ before ++ name ∷ behind
+  pub counted : n ≡ length before
+  pub others : Each (λ x. x ≢ name) before
+
+-- the text is a program of these items, nothing is wrong with it but in its methods, and this is what it comes to
+pub record ComesTo (text : List ℕ) (items : List ItemTree) (p : ProgramSeen) : Type 0 where
+  pub program : IsSoundProgram text items p.contracts
+  pub messages : p.messages ≡ messages_told (record { text = text; items = items })
+  pub methods : p.methods ≡ methods_told (record { text = text; items = items })
+
+-- the entry is the name of this method, with which a run may begin
+pub record IsEntryAt (text entry : List ℕ) (items : List ItemTree) (p : ProgramSeen) (n : ℕ) : Type 0 where
+  pub named : IsFirstAt (method_names text items) entry n
+  pub begins : IsSomeAnd (slice_get p.methods n) (λ m. is_entry m ≡ true)
+
+-- nothing is wrong with the text but in its methods, and the entry is the name of none with which a run may begin
+pub record LacksEntry (text entry : List ℕ) : Type 0 where
+  pub items : List ItemTree
+  pub program : ProgramSeen
+  pub comes : ComesTo text items program
+  pub none : (n : ℕ) → ¬ IsEntryAt text entry items program n
+
+-- the status of a run: whether an event was no step
+abbrev pub stop_status : Option Halt → Status
+stop_status None = Empty
+stop_status (Some why) = Found
+
+-- the events of the schedule lead from the entry to what is printed
+pub record IsRan (text entry schedule bytes : List ℕ) (status : Status) : Type 0 where
+  pub items : List ItemTree
+  pub program : ProgramSeen
+  pub comes : ComesTo text items program
+  pub n : ℕ
+  pub at : IsEntryAt text entry items program n
+  pub events : List Event
+  pub told : IsSchedule schedule events
+  pub replayed : Replayed
+  pub led : (bound : Bounds) → AreBounds program bound → IsReplay program bound n events replayed
+  pub are : bytes ≡ replay_lines (record { program = program; structs = struct_names text items }) events replayed.steps replayed.halt (world_seen replayed.world)
+  pub is : status ≡ stop_status replayed.halt
+
+-- what `replay` answers: the findings of the text before its methods, or what the events of the schedule come to
+pub data Replays (text entry schedule bytes : List ℕ) (status : Status) : Type 0 where
+  OfFindings : IsReported text bytes → status ≡ Found → Replays text entry schedule bytes status
+  OfRun : IsRan text entry schedule bytes status → Replays text entry schedule bytes status
