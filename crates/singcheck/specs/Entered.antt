@@ -1,5 +1,5 @@
 -- For proofs within the crate: what a text and an entry come to.
-use Rattle.std.specs.Prelude.{◌≡◌, ℕ, List, Option, None, Some, IsSomeAnd, map, slice_get, string_bytes, true}
+use Rattle.std.specs.Prelude.{◌≡◌, ℕ, List, IsSomeAnd, map, slice_get, string_bytes, true}
 use Rattle.source.specs.Findings.{finding_parts}
 use Rattle.tree.specs.Trees.{ItemTree}
 use Rattle.program.specs.Programs.{ProgramSeen}

@@ -2,7 +2,7 @@
 use Rattle.std.specs.Prelude.{◌≡◌, ◌≢◌, ℕ, List, [], ◌∷◌, ◌++◌, length, map, Option, None, Some, IsSomeAnd, slice_get, true, codes}
 use Rattle.std.specs.List.{flat_map}
 use Rattle.source.specs.declared.token.Span.{Span}
-use Rattle.tree.specs.Trees.{DefinitionTree, Contract, Struct, Class, ItemTree, MethodTree}
+use Rattle.tree.specs.Trees.{DefinitionTree, Struct, Class, ItemTree, MethodTree}
 use Rattle.names.specs.Resolution.{printed}
 use Rattle.names.specs.Words.{word_at}
 use Rattle.program.specs.Lists.{Each}
@@ -88,7 +88,9 @@ pub record IsRan (text entry schedule bytes : List ℕ) (status : Status) : Type
   pub told : IsSchedule schedule events
   pub replayed : Replayed
   pub led : (bound : Bounds) → AreBounds program bound → IsReplay program bound n events replayed
-  pub are : bytes ≡ replay_lines (record { program = program; structs = struct_names text items }) events replayed.steps replayed.halt (world_seen replayed.world)
+  pub are : bytes
+      ≡ replay_lines (record { program = program; structs = struct_names text items }) events replayed.steps replayed.halt
+      (world_seen replayed.world)
   pub is : status ≡ stop_status replayed.halt
 
 -- what `replay` answers: the findings of the text before its methods, or what the events of the schedule come to

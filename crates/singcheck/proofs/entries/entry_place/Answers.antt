@@ -1,4 +1,4 @@
-use Rattle.std.proofs.Common.{◌≡◌, ◌≢◌, ◌∙◌, ◌+◌, ◌++◌, List, ℕ, ap, ap₂, arith, drop, length, length-append, map, subst, subst₂, suc, sym, take, take_all}
+use Rattle.std.proofs.Common.{◌≡◌, ◌≢◌, ◌∙◌, ◌+◌, List, ℕ, ap, ap₂, arith, drop, length, length-append, subst, subst₂, suc, sym, take, take_all}
 use Rattle.std.proofs.lemmas.List.Folds.{flat_map-map}
 use Rattle.std.specs.List.{flat_map}
 use Rattle.program.specs.Lists.{Each}

@@ -1,4 +1,4 @@
-use Rattle.std.proofs.Common.{◌≡◌, ◌≢◌, ◌∙◌, List, ℕ, ap, arith, map, subst, sym, take, take_all}
+use Rattle.std.proofs.Common.{◌≢◌, ◌∙◌, List, ℕ, ap, arith, map, subst, sym, take, take_all}
 use Rattle.std.proofs.lemmas.List.{length-map, length-take-le}
 use Rattle.program.specs.Lists.{Each}
 use Rattle.tree.specs.Trees.{method_tree}

@@ -1,4 +1,4 @@
-use Rattle.std.proofs.Common.{◌≡◌, ◌∙◌, ap, arith, length, map, subst, sym}
+use Rattle.std.proofs.Common.{◌∙◌, ap, arith, length, map, subst, sym}
 use Rattle.tree.specs.Trees.{program_tree}
 use Rattle.names.specs.Program.{program_of}
 use Rattle.program.specs.Parts.{ContractSeen}
