@@ -201,14 +201,7 @@ fn reads_nothing_where_the_numbers_do_not_fit(rt: HostRuntime) -> Result<(), Fai
     for (workers, slots, wanted) in rows.iter() {
         let mut reader = Text::new(rt.alloc(), HANDED_ON, 10, 1)?;
         let mut writer = Page::new(rt.alloc(), 100, NEVER);
-        match run_check(
-            &rt,
-            &mut reader,
-            &mut writer,
-            *workers,
-            *slots,
-            &Open,
-        ) {
+        match run_check(&rt, &mut reader, &mut writer, *workers, *slots, &Open) {
             Err(fault) => assert!(rt; fault == *wanted),
             Ok(_) => assert!(rt; false),
         }

@@ -1,7 +1,7 @@
 //! Checks that a gate holds up, and what other threads see of them.
 
-use singcheck::{Gate, Status, check, check_onto};
 use shelf::Shelf;
+use singcheck::{Gate, Status, check, check_onto};
 use std::sync::atomic::{AtomicU64, Ordering};
 use std::test::Fail;
 

@@ -9,7 +9,7 @@ use Rattle.source.specs.declared.fault.TextFault.{TextFault}
 use Rattle.source.specs.declared.fault.TextFault.TheVariants.{Stray, OpenComment, TooLong, TooDeep, TooLarge, Memory}
 use Rattle.source.specs.declared.lexer.TheConstants.{MAX_TEXT}
 use Rattle.source.specs.declared.token.Token.{Token}
-use Rattle.singcheck.specs.Answers.{AreFindings, OfText, OfSyntax, OfNames, OfContracts, Answers, IsProgram}
+use Rattle.singcheck.specs.Answers.{AreFindings, OfText, OfSyntax, OfNames, OfContracts, Answers}
 use Rattle.singcheck.specs.Checks.{AreCheckFindings, Before, OfMethods, Checks}
 use Rattle.singcheck.specs.declared.fault.Status.{Status}
 use Rattle.singcheck.specs.declared.fault.Status.TheVariants.{Empty, Found}

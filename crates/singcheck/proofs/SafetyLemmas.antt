@@ -1,5 +1,5 @@
 -- Why an empty report is safe.
-use Rattle.std.proofs.Common.{◌≡◌, ℕ, ◌<◌, List, [], map, length, take, Option, Some, None, refl, sym, subst, inl, ◌∙◌}
+use Rattle.std.proofs.Common.{◌≡◌, ℕ, List, [], map, take, Option, Some, None, refl, sym, subst, inl, ◌∙◌}
 use Rattle.std.specs.Prelude.{Contains, Err, IfOk, IfSome, Ok, Result}
 use Rattle.source.specs.Findings.{FindingParts, finding_parts}
 use Rattle.source.specs.declared.fault.Memory.{Memory}

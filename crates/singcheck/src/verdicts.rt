@@ -79,11 +79,7 @@ fn found_in(
 }
 
 /// Adds copies of these findings.
-fn add_copies(
-    alloc: Global,
-    findings: &[Finding],
-    found: &mut Vec<Finding>,
-) -> Result<(), Memory>
+fn add_copies(alloc: Global, findings: &[Finding], found: &mut Vec<Finding>) -> Result<(), Memory>
     ensures { OnOk result (map finding_parts found.new.items
         ≡ map finding_parts found.old.items ++ map finding_parts findings.now) }
 {

@@ -22,8 +22,13 @@ field_sync : (T : RattleType) → IsSync T → IsSync (as_row (vec.the_field T g
 field_sync T s = search (crosses, sendable) depth 20
 
 pub returns : goal.returns
-returns c = declared_sync program.the_type
-    (c.threads_share_methods.ensures.methods,
-    (field_sync sound.the_row c.threads_share_a_contract.ensures,
-    (field_sync graph.the_row c.threads_share_a_graph.ensures,
-    (field_sync (vec.the_row kind.the_row global.the_row ghosts) (list_sync kind.the_row c.threads_share_methods.ensures.kinds), tt))))
+returns c = declared_sync program.the_type (
+  c.threads_share_methods.ensures.methods,
+  (
+    field_sync sound.the_row c.threads_share_a_contract.ensures,
+    (
+      field_sync graph.the_row c.threads_share_a_graph.ensures,
+      (field_sync (vec.the_row kind.the_row global.the_row ghosts) (list_sync kind.the_row c.threads_share_methods.ensures.kinds), tt),
+    ),
+  ),
+)

@@ -1,5 +1,5 @@
 use Rattle.std.specs.Thread.{IsSync}
-use Rattle.std.proofs.Common.{◌≡◌, ℕ, map, length, ap, ◌∙◌}
+use Rattle.std.proofs.Common.{map, ap, ◌∙◌}
 use Rattle.std.proofs.Crossing.{crosses}
 use Rattle.std.proofs.lemmas.Result.{IfOk-weaker}
 use denote.Param.Send.{sendable}
@@ -8,7 +8,6 @@ use Rattle.rules.specs.Programs.{seen_of}
 use Rattle.rules.specs.contracts.lowered.Program as program
 use Rattle.intern.specs.contracts.rows.Rows as rows
 use Rattle.shelf.specs.contracts.shelf.Shelf as shelf
-use Rattle.analyse.specs.Tasks.{number_of}
 use Rattle.pool.specs.Counts.{method_of, times}
 use Rattle.singcheck.proofs.VerdictLemmas.{of_all_methods, task_there}
 use Rattle.singcheck.proofs.verdicts.analyse_methods.Goals as goal
