@@ -13,8 +13,8 @@ mod steps;
 mod table;
 mod token;
 
-pub use fault::{InternFault, InternNew};
-pub use layout::{MOST_SLOTS, word_of};
+pub use fault::{Far, InternFault, InternNew};
+pub use layout::{MOST_LOOKS, MOST_SLOTS, word_of};
 pub use rows::Rows;
 pub use seat::Seat;
 pub use token::Token;
