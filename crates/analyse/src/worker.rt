@@ -10,7 +10,7 @@ use rules::Row;
 #[derive(Drop)]
 pub struct Worker {
     pub(crate) seat: Seat,
-    /// Whether it keeps all rows itself, since the table was full.
+    /// Whether it keeps all rows itself, since the table of all had no place near for one.
     pub(crate) alone: bool,
     pub(crate) own: IndexSet<Row>,
     pub(crate) seen: IndexSet<Pair>,
