@@ -1,12 +1,27 @@
 """Devices that fail or that are no ordinary files."""
+import functools
 import os
 import pathlib
 import subprocess
 import tempfile
 
-PING = pathlib.Path(__file__).resolve().parent / 'bounds' / 'ping' / 'input.sg'
+HERE = pathlib.Path(__file__).resolve().parent
+PING = HERE / 'bounds' / 'ping' / 'input.sg'
 ANSWER = b'Ping: to Exp 1, to Imp 1\nok: 1 contracts\n'
+SERVER = HERE / 'replays' / 'server_waits'
+# What a replay of no events of the server comes to, and what one of its schedule comes to.
+STARTED = b'steps 0\nstop: end of schedule\nprocess 0 at 5:6, frames 1\n'
+WAITS = (SERVER / 'stdout').read_bytes()
+FOUND = b'1:10 S05 unexpected end\nfindings: 1\n'
 CANNOT_WRITE = b'singcheck: cannot write\n'
+# Each command with words of which it has an answer.
+WORDS = {
+    'bounds': ['bounds', PING],
+    'check': ['check', PING],
+    'replay': ['replay', SERVER / 'input.sg', 'K.Main', SERVER / 'schedule'],
+    'help': ['--help'],
+    'version': ['--version'],
+}
 
 
 def compared(ran, stdout, stderr, status):
@@ -19,69 +34,112 @@ def run(program, *words, **more):
     return subprocess.run([program, *map(str, words)], stdin=subprocess.DEVNULL, stderr=subprocess.PIPE, timeout=60, **more)
 
 
-def full_device(program):
+def cannot_read(name):
+    return b'singcheck: cannot read %s\n' % str(name).encode()
+
+
+def full_device(command, program):
     with open('/dev/full', 'wb') as full:
-        return compared(run(program, 'bounds', PING, stdout=full), None, CANNOT_WRITE, 3)
+        return compared(run(program, *WORDS[command], stdout=full), None, CANNOT_WRITE, 3)
 
 
-def closed_pipe(program):
+def closed_pipe(command, program):
     read, write = os.pipe()
     os.close(read)
     try:
-        return compared(run(program, 'bounds', PING, stdout=write), None, CANNOT_WRITE, 3)
+        return compared(run(program, *WORDS[command], stdout=write), None, CANNOT_WRITE, 3)
     finally:
         os.close(write)
 
 
-def closed_output(program):
-    return compared(subprocess.run(['bash', '-c', '"$0" bounds "$1" >&-', program, str(PING)], stdin=subprocess.DEVNULL,
-                                   stderr=subprocess.PIPE, timeout=60), None, CANNOT_WRITE, 3)
+def closed_output(command, program):
+    return compared(run('bash', '-c', '"$0" "$@" >&-', program, *WORDS[command], stdout=None), None, CANNOT_WRITE, 3)
 
 
-def help_to_full_device(program):
-    with open('/dev/full', 'wb') as full:
-        return compared(run(program, '--help', stdout=full), None, CANNOT_WRITE, 3)
-
-
-def check_to_full_device(program):
-    with open('/dev/full', 'wb') as full:
-        return compared(run(program, 'check', PING, stdout=full), None, CANNOT_WRITE, 3)
+def closed_error(command, program):
+    """The answer and the status stay the same, and where there is a line for standard error, the status does."""
+    shut = ['bash', '-c', '"$0" "$@" 2>&-', program]
+    ran = run(*shut, *WORDS[command])
+    found = compared(ran, run(program, *WORDS[command]).stdout, b'', ran.returncode)
+    return found + compared(run(*shut, command, 'nowhere.sg', *WORDS[command][2:]), b'', b'', 3)
 
 
 def check_of_nothing(program):
-    return compared(run(program, 'check', 'nowhere.sg', '--workers', '0'), b'', b'singcheck: cannot read nowhere.sg\n', 3)
+    return compared(run(program, 'check', 'nowhere.sg', '--workers', '0'), b'', cannot_read('nowhere.sg'), 3)
 
 
-def folder(program):
+def folder(command, program):
+    """A folder can be opened and not read."""
     with tempfile.TemporaryDirectory() as made:
-        return compared(run(program, 'bounds', made), b'', b'singcheck: cannot read %s\n' % made.encode(), 3)
+        return compared(run(program, command, made, *WORDS[command][2:]), b'', cannot_read(made), 3)
 
 
 def null(program):
-    return compared(run(program, 'bounds', '/dev/null'), b'ok: 0 contracts\n', b'', 0)
+    found = compared(run(program, 'bounds', '/dev/null'), b'ok: 0 contracts\n', b'', 0)
+    return found + compared(run(program, *WORDS['replay'][:3], '/dev/null'), STARTED, b'', 0)
 
 
-def pipe_by_name(program):
+def without_end(program):
+    """Reading stops one byte past the most that a text and a schedule may have."""
+    found = compared(run(program, 'check', '/dev/zero'), b'1:1 S03 text too long\nfindings: 1\n', b'', 1)
+    return found + compared(run(program, *WORDS['replay'][:3], '/dev/zero'), b'', b'singcheck: schedule line 1\n', 2)
+
+
+def piped(program, words, place, answer):
+    """The answer where the file at this place of the words comes through a pipe that has a name, after a while."""
     with tempfile.TemporaryDirectory() as made:
         path = os.path.join(made, 'pipe')
         os.mkfifo(path)
-        feeder = subprocess.Popen(['bash', '-c', 'for part in 1 2 3; do sleep 0.05; done; cat "$0" > "$1"', str(PING), path])
-        found = compared(run(program, 'bounds', path), ANSWER, b'', 0)
+        feeder = subprocess.Popen(['bash', '-c', 'sleep 0.15; cat "$0" > "$1"', str(words[place]), path])
+        found = compared(run(program, *words[:place], path, *words[place + 1:]), *answer)
         feeder.wait()
         return found
+
+
+def pipes_by_name(program):
+    found = piped(program, WORDS['bounds'], 1, (ANSWER, b'', 0))
+    return found + [other for place in (1, 3) for other in piped(program, WORDS['replay'], place, (WAITS, b'', 1))]
+
+
+def standard_input(program):
+    """A schedule from another program, by the name of standard input."""
+    ran = subprocess.run([program, *map(str, WORDS['replay'][:3]), '/dev/stdin'], input=(SERVER / 'schedule').read_bytes(),
+                         capture_output=True, timeout=60)
+    return compared(ran, WAITS, b'', 1)
+
+
+def schedule_that_is_a_folder(program):
+    """It is read last: where something is found in the text, or the entry is none, it is opened and left alone."""
+    with tempfile.TemporaryDirectory() as made:
+        short = pathlib.Path(made) / 'short.sg'
+        short.write_bytes(b'class K {')
+        found = compared(run(program, *WORDS['replay'][:3], made), b'', cannot_read(made), 3)
+        found += compared(run(program, 'replay', short, 'K.Main', made), FOUND, b'', 1)
+        return found + compared(run(program, *WORDS['replay'][:2], 'K.None', made), b'', b'singcheck: no entry K.None\n', 2)
+
+
+def text_that_is_a_folder_and_no_schedule(program):
+    """Both are opened before either is read."""
+    with tempfile.TemporaryDirectory() as made:
+        return compared(run(program, 'replay', made, 'K.Main', 'nowhere'), b'', cannot_read('nowhere'), 3)
 
 
 def unreadable(program):
     """Root reads every file, so this case only says something for another user."""
     with tempfile.TemporaryDirectory() as made:
-        path = pathlib.Path(made) / 'closed.sg'
+        path = pathlib.Path(made) / 'closed'
         path.write_bytes(b'')
         path.chmod(0)
         if os.access(path, os.R_OK):
             return []
-        return compared(run(program, 'bounds', path), b'', b'singcheck: cannot read %s\n' % str(path).encode(), 3)
+        found = compared(run(program, 'bounds', path), b'', cannot_read(path), 3)
+        return found + compared(run(program, *WORDS['replay'][:3], path), b'', cannot_read(path), 3)
 
 
-TESTS = [('devices/' + test.__name__, test) for test in
-         (full_device, closed_pipe, closed_output, help_to_full_device, check_to_full_device,
-          check_of_nothing, folder, null, pipe_by_name, unreadable)]
+READERS = ('bounds', 'check', 'replay')
+EACH = {full_device: WORDS, closed_pipe: WORDS, closed_output: WORDS, closed_error: READERS, folder: READERS}
+TESTS = [('devices/%s/%s' % (test.__name__, command), functools.partial(test, command))
+         for test, commands in EACH.items() for command in commands]
+TESTS += [('devices/' + test.__name__, test) for test in
+          (check_of_nothing, null, without_end, pipes_by_name, standard_input, schedule_that_is_a_folder,
+           text_that_is_a_folder_and_no_schedule, unreadable)]

@@ -56,4 +56,30 @@ def first_page_is_short(_):
     return found + (['%d lines' % len(lines)] if len(lines) > 200 else [])
 
 
-TESTS = commands() + [('documents/first_page_is_short', first_page_is_short)]
+def texts_of_the_tour_are_examples(_):
+    """Who reads the first page or the tour finds the texts there among the examples, with the same lines."""
+    examples = {path.read_text() for path in TOP.glob('examples/*.sg')}
+    shown = [body for page in ('README.md', 'docs/TOUR.md') for kind, body in BLOCK.findall((TOP / page).read_text()) if kind == 'sing']
+    return ['no example has this text: %r' % body for body in shown if body not in examples]
+
+
+def anchors(page):
+    """The anchors of a page's headings."""
+    lines = re.sub(r'^```.*?^```$', '', page.read_text(), flags=re.M | re.S).splitlines()
+    titles = [re.sub(r'[`*]|\]\([^)]*\)|\[', '', line.lstrip('#').strip()).lower() for line in lines if re.match('#+ ', line)]
+    return {re.sub(r'[^\w -]', '', title).replace(' ', '-') for title in titles}
+
+
+def links_lead_somewhere(_):
+    found = []
+    for page in PAGES:
+        for link in re.findall(r'\]\(([^)\s]*)\)', page.read_text()):
+            path, _, anchor = link.partition('#')
+            target = (page.parent / path).resolve() if path else page
+            there = '://' in link or target.exists() and (not anchor or anchor in anchors(target))
+            found += [] if there else ['%s: %s' % (page.relative_to(TOP), link)]
+    return found
+
+
+TESTS = commands() + [('documents/' + test.__name__, test) for test in
+                      (first_page_is_short, texts_of_the_tour_are_examples, links_lead_somewhere)]

@@ -1,5 +1,5 @@
-"""Cases whose inputs are big: at the limits of a text, of a program's states, methods and variables, and brackets as deep
-as they may be."""
+"""Cases whose inputs are big: at the limits of a text, of a program's states, methods and variables, of a schedule, and brackets as
+deep as they may be."""
 
 TEXT = 4194304
 NOTHING = b'ok: 0 contracts\n'
@@ -34,9 +34,30 @@ def maybe_freed(count):
     return b'rep struct D { int n; }\nclass K {\nstatic void F(bool b) {\n' + declared + b'}\n}\n'
 
 
+def kept(*numbers):
+    """What is found where these blocks of such a method are kept."""
+    return b''.join(b'16:1 A08 p%d still owned\n' % k for k in numbers)
+
+
 def within(statement):
     """A method with this statement, which stands behind two open brackets."""
     return b'class K { static void F(bool b, int[] in ExHeap a) { ' + statement + b' } }\n'
+
+
+def schedules():
+    """Schedules at the limit of their bytes: (name, bytes, stdout, stderr, status). An event has four bytes and goes round a loop."""
+    rounds = b'0 0\n' * 262143
+    steps = b'steps %d\nstop: end of schedule\nprocess 0 at 1:32, frames 1\n'
+    refused = b'singcheck: schedule line %d\n'
+    return [
+        ('schedule_1048576', rounds + b'0 0\n', steps % 262144, b'', 0),
+        ('schedule_1048576_without_an_end', rounds + b'0  0', steps % 262144, b'', 0),
+        ('schedule_1048577', rounds + b'0 0\n0', b'', refused % 262145, 2),
+        ('schedule_1048577_of_whole_lines', rounds + b'0 0\n\n', b'', refused % 262145, 2),
+        # The end of a line belongs to that line, also where it is the first byte past the limit.
+        ('schedule_1048577_at_an_end', rounds + b'0  0\n', b'', refused % 262144, 2),
+        ('schedule_1048577_after_a_malformed_line', b'x\n' + rounds + b'0 0\n', b'', refused % 1, 2),
+    ]
 
 
 def cases(folder):
@@ -62,7 +83,7 @@ def cases(folder):
         ('pairs_20000', uses(19999), b'ok: 0 contracts, 1 methods\n', 0),
         ('pairs_20001', uses(20000), b'3:13 A14 too many pairs\nfindings: 1\n', 1),
         # Of twelve blocks 16,381 pairs are reached, of thirteen 32,765; text is sorted by bytes.
-        ('blocks_12_maybe_freed', maybe_freed(12), b''.join(b'16:1 A08 p%d still owned\n' % k for k in (1, 10, 11, 12, 2, 3, 4, 5, 6, 7, 8, 9)) + b'findings: 12\n', 1),
+        ('blocks_12_maybe_freed', maybe_freed(12), kept(1, 10, 11, 12, 2, 3, 4, 5, 6, 7, 8, 9) + b'findings: 12\n', 1),
         ('blocks_13_maybe_freed', maybe_freed(13), b'3:13 A14 too many pairs\nfindings: 1\n', 1),
         # In each of the methods as many pairs as there may be, but not more in any.
         ('pairs_40000_in_two_methods', uses(19999) + uses(19999).replace(b'rep struct D', b'rep struct E').replace(b'class K', b'class L'),
@@ -75,4 +96,8 @@ def cases(folder):
         for name, text, stdout, status in given:
             (folder / name).write_bytes(text)
             made.append(('large/' + name, folder, [command, name], stdout, b'', status))
+    (folder / 'loop.sg').write_bytes(b'class K { static void Main() { while (true) { } } }\n')
+    for name, schedule, stdout, stderr, status in schedules():
+        (folder / name).write_bytes(schedule)
+        made.append(('large/' + name, folder, ['replay', 'loop.sg', 'K.Main', name], stdout, stderr, status))
     return made

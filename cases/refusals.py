@@ -76,4 +76,5 @@ def each_refused(name, program):
 TESTS = [('refusals/' + name, functools.partial(each_refused, name)) for name in
          ('bounds/ping', 'bounds/burst', 'bounds/two_contracts', 'conditions/one_direction_round',
           'conditions/both_directions_and_twice', 'names/unknown_everywhere', 'text/comment_not_closed', 'text/trailing_comma',
-          'ownership/all_owned_and_given_back', 'ownership/a_finding_in_each_of_two_methods')]
+          'ownership/all_owned_and_given_back', 'ownership/a_finding_in_each_of_two_methods',
+          'replays/endpoint_in_its_own_queue', 'replays/sent_to_a_freed_peer', 'replays/finding_of_names')]

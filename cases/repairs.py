@@ -1,9 +1,12 @@
-"""The repairs of the tour: behind each one nothing is found in the example."""
+"""The repairs of the tour: after each one nothing is found in the example, and no run of it meets a fault."""
 import functools
 import pathlib
+import random
 import re
 import subprocess
 import tempfile
+
+import refusals
 
 TOP = pathlib.Path(__file__).resolve().parent.parent
 # The pieces of text that the tour says to put into a program.
@@ -40,6 +43,9 @@ REPAIRS = {
     'missing_case': (functools.partial(with_piece, word='numbers.Done'), 28, 'ok: 1 contracts, 3 methods\n'),
     'leak_on_one_way': (functools.partial(put, text='            delete sheet;\n'), 74, 'ok: 1 contracts, 3 methods\n'),
 }
+ENTRIES = {'note': 'Desk.Write', 'state_forgotten': 'Street.Main', 'used_after_sent': 'Desk.Main', 'missing_case': 'Adder.Main',
+           'leak_on_one_way': 'Mill.Main'}
+WALKS, EVENTS = 4, 40
 
 
 def nothing_found(name, program):
@@ -52,4 +58,39 @@ def nothing_found(name, program):
     return [] if (given, ran.returncode) == (asked, 0) else ['expected %r, given %r and status %d' % (asked, given, ran.returncode)]
 
 
-TESTS = [('repairs/' + name, functools.partial(nothing_found, name)) for name in REPAIRS]
+def replayed(program, folder, entry, events):
+    """What `replay` prints of the program in this folder along these events."""
+    (folder / 'schedule').write_text(''.join(events))
+    words = [program, 'replay', folder / 'repaired.sg', entry, folder / 'schedule']
+    return subprocess.run(words, capture_output=True, timeout=60, stdin=subprocess.DEVNULL).stdout.decode()
+
+
+def walked(program, folder, entry, chance):
+    """What is printed of a run that meets a fault. Its events are taken by chance, and those at which it would wait are left out."""
+    events = []
+    for _ in range(EVENTS):
+        events.append('%d %d\n' % (chance.choice([0, 0, 1, 2]), chance.choice([0, 0, 0, 1])))
+        given = replayed(program, folder, entry, events)
+        if 'fault' in given or not given.startswith('steps '):
+            return [given]
+        if 'stop: end of schedule' not in given:
+            events.pop()
+    return []
+
+
+def no_fault(name, program):
+    """The schedule that meets the fault of the example meets none after the repair, and no other one does."""
+    repair, line, _ = REPAIRS[name]
+    program, entry = refusals.itself(program), ENTRIES[name]
+    with tempfile.TemporaryDirectory() as made:
+        folder = pathlib.Path(made)
+        (folder / 'repaired.sg').write_text((TOP / 'examples' / (name + '.sg')).read_text())
+        schedule = (TOP / 'examples' / (name + '.schedule')).read_text().splitlines(keepends=True)
+        before = replayed(program, folder, entry, schedule)
+        (folder / 'repaired.sg').write_text(''.join(repair(name, line)))
+        after = replayed(program, folder, entry, schedule)
+        found = [] if 'stop: fault ' in before and after.startswith('steps ') and 'fault' not in after else [before + after]
+        return found + [given for seed in range(WALKS) for given in walked(program, folder, entry, random.Random(seed))]
+
+
+TESTS = [('repairs/%s/%s' % (test.__name__, name), functools.partial(test, name)) for test in (nothing_found, no_fault) for name in REPAIRS]

@@ -114,6 +114,18 @@ def report_not_whole(_):
     return [found for report in cut for found in differs(show(b'', report), b'', NOT_WHOLE, 3)]
 
 
+def run_of_a_schedule(program):
+    """What `replay` prints of a run is no report, be it whole or not. The report that it prints in place of a run is one."""
+    words = [program, 'replay', 'examples/hand_over.sg', 'Desk.Main', 'examples/hand_over.schedule']
+    printed = subprocess.run(words, cwd=TOP, capture_output=True, timeout=60).stdout
+    refused = b'show: this is a run, printed by replay; a report of check or bounds is asked for\n'
+    runs = [printed, b'steps 0\nstop: fault F1 at 1:1 in process 0\nprocess 0 at 1:1, frames 1\n', b'steps 12\nstop: ']
+    found = [found for report in runs for words in ([], ['--plain']) for found in differs(show(b'', report, *words), b'', refused, 3)]
+    words = [program, 'replay', 'input.sg', 'K.Main', '/dev/null']
+    report = subprocess.run(words, cwd=TOP / 'cases/text/trailing_comma', capture_output=True, timeout=60).stdout
+    return found + differs(show(b'', report, '--plain'), b'a.sg:1:33: S05 unexpected token\n')
+
+
 def text_not_there(_):
     return differs(run('show', 'nowhere.sg', report=OK), b'', b'show: cannot read nowhere.sg\n', 3)
 
@@ -153,4 +165,5 @@ def program_in_front(program):
 TESTS = [('tools/' + test.__name__, test) for test in
          (a_finding, two_findings_plain, plain_needs_no_text, tabs, columns_count_bytes, carriage_return, byte_order_mark, end_of_the_text,
           end_of_a_line, what_a_terminal_obeys, long_line, long_line_cut_at_letters, no_such_place, nothing_found, bounds, report_not_whole,
-          text_not_there, words_of_show, each_page_is_printed, words_of_explain, each_code_has_a_page_with_one_repair, program_in_front)]
+          run_of_a_schedule, text_not_there, words_of_show, each_page_is_printed, words_of_explain, each_code_has_a_page_with_one_repair,
+          program_in_front)]

@@ -7,7 +7,7 @@ use Rattle.program.specs.Lists.{is_among}
 use Rattle.machine.specs.Blocks.{handed, received_block, sent_block}
 use Rattle.machine.specs.Answers.{in_state, left_in, queued}
 use Rattle.machine.specs.declared.worlds.Owner.TheVariants.{Process, Queue, Channel}
-use Rattle.machine.specs.Views.{block_seen, blocks_seen, held_seen}
+use Rattle.machine.specs.BlockViews.{block_seen, blocks_seen, held_seen}
 use Rattle.machine.specs.World.{Block, MessageHeld, block_at, changed}
 use Rattle.machine.specs.declared.worlds as made
 use Rattle.machine.specs.declared.worlds.Owner.{Owner}
@@ -190,6 +190,17 @@ both to given a j b = ap (with_owner b) (or_owner (is_among given j) (is_among (
 
 pub handed_more : (to : Owner) (given : List ℕ) (a : ℕ) (old : List Block) → changed (handed to (a ∷ [])) (changed (handed to given) old) ≡ changed (handed to (given ++ a ∷ [])) old
 handed_more to given a old = changed_twice (handed to given) (handed to (a ∷ [])) old ∙ changed_same (λ j b. handed to (a ∷ []) j (handed to given j b)) (handed to (given ++ a ∷ [])) (λ j b. both to given a j b) old
+
+among_both : (xs ys : List ℕ) (n : ℕ) → is_among (xs ++ ys) n ≡ (is_among xs n || (is_among ys n))
+among_both [] ys n = refl
+among_both (x ∷ xs) ys n = ap (λ t. (x == n) || t) (among_both xs ys n) ∙ or_assoc (x == n) (is_among xs n) (is_among ys n)
+
+both_lists : (to : Owner) (xs ys : List ℕ) (j : ℕ) (b : Block) → handed to ys j (handed to xs j b) ≡ handed to (xs ++ ys) j b
+unfolding with_owner
+both_lists to xs ys j b = ap (with_owner b) (or_owner (is_among xs j) (is_among ys j) to b.owner ∙ ap (λ t. if t then to else b.owner) (sym (among_both xs ys j)))
+
+pub handed_both : (to : Owner) (xs ys : List ℕ) (old : List Block) → changed (handed to ys) (changed (handed to xs) old) ≡ changed (handed to (xs ++ ys)) old
+handed_both to xs ys old = changed_twice (handed to xs) (handed to ys) old ∙ changed_same (λ j b. handed to ys j (handed to xs j b)) (handed to (xs ++ ys)) (λ j b. both_lists to xs ys j b) old
 
 pub changed_length : (f : ℕ → Block → Block) (bs : List Block) → length (changed f bs) ≡ length bs
 changed_length f [] = refl

@@ -1,8 +1,12 @@
 pub mod BoundLemmas
 pub mod CallLemmas
 pub mod ChangeLemmas
+pub mod CountLemmas
 pub mod FrameLemmas
 pub mod GiveLemmas
+pub mod HeapLemmas
+pub mod PassLemmas
+pub mod ReplayLemmas
 pub mod ScopeLemmas
 pub mod SmallRuns
 pub mod StandLemmas

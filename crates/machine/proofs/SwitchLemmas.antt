@@ -1,5 +1,5 @@
 -- A switch: what is at the front of a queue, and where it goes.
-use Rattle.std.proofs.Common.{◌≡◌, ℕ, List, [], ◌∷◌, Some, None, refl, sym, ap, ◌∙◌, slice_get}
+use Rattle.std.proofs.Common.{◌≡◌, ℕ, ◌<◌, List, [], ◌∷◌, Some, None, refl, sym, ap, ◌∙◌, slice_get, length, arith}
 use Rattle.source.specs.declared.place.Place.{Place}
 use Rattle.program.specs.Programs.{ProgramSeen}
 use Rattle.program.specs.declared.statement.Mention.{Mention}
@@ -21,6 +21,11 @@ no_front (m ∷ ms) is = absurd (cc)
 pub front_there : (q : List MessageHeld) (n : ℕ) → front_of q ≡ Some n → (m : MessageHeld) × (ms : List MessageHeld) × (q ≡ m ∷ ms) × (n ≡ m.message)
 front_there [] n is = absurd (cc)
 front_there (m ∷ ms) n is = let same : n ≡ m.message = cc in (m, ms, refl, same)
+
+-- a queue with something at its front is not empty
+pub some_there : (q : List MessageHeld) (n : ℕ) → front_of q ≡ Some n → 0 < length q
+some_there [] n is = absurd (cc)
+some_there (m ∷ ms) n is = omega arith
 
 -- what a slice of mentions is read as past its end
 abbrev pub no_mention : Mention

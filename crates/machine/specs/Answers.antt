@@ -5,7 +5,7 @@ use Rattle.std.specs.Option.{option_map_or}
 use Rattle.source.specs.declared.place.Place.{Place}
 use Rattle.program.specs.Methods.{MethodSeen, VariableSeen}
 use Rattle.program.specs.Programs.{ProgramSeen}
-use Rattle.flow.specs.Graphs.{Instruction, Call, Start, Return, Stop}
+use Rattle.flow.specs.Graphs.{Instruction, New, NewChannel, Delete, Send, Switch, Call, Start, Return, Stop}
 use Rattle.program.specs.declared.call.Argument.{Argument}
 use Rattle.program.specs.declared.statement.Mention.{Mention}
 use Rattle.machine.specs.Frames.{put}
@@ -84,6 +84,19 @@ is_of_frame (Start place method arguments next) = false
 is_of_frame (Return place value scope) = false
 is_of_frame (Stop place) = false
 is_of_frame _ = true
+
+-- of these, those that make or free blocks
+abbrev pub is_of_heap : Instruction → Bool
+is_of_heap (New v arguments next) = true
+is_of_heap (NewChannel c next) = true
+is_of_heap (Delete v next) = true
+is_of_heap _ = false
+
+-- and those that send or receive
+abbrev pub is_of_channel : Instruction → Bool
+is_of_channel (Send place e message payloads next) = true
+is_of_channel (Switch place cases) = true
+is_of_channel _ = false
 
 -- and those that change no other process
 abbrev pub is_of_process : Instruction → Bool

@@ -1,4 +1,6 @@
 pub mod World
+pub mod BlockViews
+pub mod Heaps
 pub mod Views
 pub mod Outcomes
 pub mod Frames

@@ -10,6 +10,7 @@ use Rattle.machine.specs.Views.{world_seen}
 use Rattle.machine.specs.World.{World}
 use Rattle.machine.specs.declared.halts.Event.{Event}
 use Rattle.machine.specs.declared.halts.Halt.{Halt}
+use Rattle.machine.specs.declared.halts.Halt.TheVariants as halt
 use Rattle.machine.specs.declared.replaying.Replayed.{Replayed}
 
 -- an event is no step of a world, and this is why
@@ -23,7 +24,23 @@ abbrev pub EndsWith : ProgramSeen → Bounds → World → List Event → (steps
 EndsWith p bound w events steps None = steps ≡ length events
 EndsWith p bound w events steps (Some why) = Halts p bound w events steps why
 
+-- what may end a replay; want of memory is no answer
+abbrev pub IsKnown : Option Halt → Type 0
+IsKnown None = Unit {0}
+IsKnown (Some halt.NoSuchProcess) = Unit {0}
+IsKnown (Some halt.NoSuchChoice) = Unit {0}
+IsKnown (Some (halt.Fault fault at)) = Unit {0}
+IsKnown (Some halt.Waits) = Unit {0}
+IsKnown (Some halt.Memory) = ⊥
+
 -- so many events lead from the beginning of a method to the world, and then they end with this
 pub record IsReplay (p : ProgramSeen) (bound : Bounds) (m : ℕ) (events : List Event) (r : Replayed) : Type 0 where
   pub leads : Leads p bound (start_of p m) (take r.steps events) (world_seen r.world)
   pub ends : EndsWith p bound (world_seen r.world) events r.steps r.halt
+  pub known : IsKnown r.halt
+
+-- they have the same steps, the same end and the same world
+pub record AreSame (r s : Replayed) : Type 0 where
+  pub steps : r.steps ≡ s.steps
+  pub halt : r.halt ≡ s.halt
+  pub world : world_seen r.world ≡ world_seen s.world

@@ -1,19 +1,8 @@
 -- Worlds without where they lie in memory.
 use Rattle.std.specs.Prelude.{List, [], ◌∷◌, Option, Some, None, map, reverse}
-use Rattle.machine.specs.World.{MessageHeld, Block, Frame, World}
+pub use Rattle.machine.specs.BlockViews.{held_seen, block_seen, blocks_seen}
+use Rattle.machine.specs.World.{Frame, World}
 use Rattle.machine.specs.declared.worlds as made
-
--- a message in a queue
-abbrev pub held_seen : made.Held.Held → MessageHeld
-held_seen h = record { message = h.message.0; payload = h.payload.items }
-
--- a block
-abbrev pub block_seen : made.Block.Block → Block
-block_seen b = record { kind = b.kind; owner = b.owner; peer = b.peer; state = b.state.0; queue = map held_seen b.queue.items }
-
--- all blocks, by their addresses
-abbrev pub blocks_seen : List made.Block.Block → List Block
-blocks_seen blocks = map block_seen blocks
 
 -- a frame
 abbrev pub frame_seen : made.Frame.Frame → Frame
@@ -30,4 +19,4 @@ stack_seen p = stack_of p.top p.waiting.items
 
 -- a world
 abbrev pub world_seen : made.World.World → World
-world_seen w = record { processes = map stack_seen w.processes.items; blocks = blocks_seen w.blocks.items }
+world_seen w = record { processes = map stack_seen w.processes.items; blocks = blocks_seen w.heap.blocks.items }

@@ -1,52 +1,79 @@
-//! What becomes of blocks.
+//! What becomes of blocks, and of the counts of those that processes have.
 
-ghost use Rattle.std.specs.Prelude.{◌≡◌, IsFalse, IsTrue, List, Some, [], ◌∷◌, option_map};
+ghost use Rattle.std.specs.Prelude.{◌≡◌, ◌+◌, ◌<◌, ◌^◌, IsFalse, IsTrue, List, Some, [], ◌∷◌, get_or, length, map, option_map, true, ℕ};
 ghost use Rattle.machine.specs.Answers.{in_state, left_in, queued};
-ghost use Rattle.machine.specs.Blocks.{freed_block, handed, received_block};
-ghost use Rattle.machine.specs.Views.{block_seen, blocks_seen, held_seen};
-ghost use Rattle.machine.specs.World.{MessageHeld, block_at, changed};
+ghost use Rattle.machine.specs.Blocks.{handed};
+ghost use Rattle.machine.specs.Heaps.{IsCounted, IsListed, brings, one_if};
+ghost use Rattle.machine.specs.BlockViews.{blocks_seen, held_seen};
+ghost use Rattle.machine.specs.World.{MessageHeld, block_at, changed, is_process};
 
 use crate::worlds::{Block, Held, Owner};
 use program::StateId;
+use std::alloc::Global;
+use std::collections::VecDeque;
+use std::mem::replace;
 
-impl Block {
-    /// What becomes of it, at address j, where the block at a is freed.
-    fn freed(&mut self, j: usize, a: usize)
-        ensures { block_seen self.new ≡ freed_block a j (block_seen self.old) }
-    {
-        if j == a {
-            self.owner = Owner::Freed;
-            self.queue.clear();
-        } else if self.owner.is_queue(a) {
-            self.owner = Owner::Channel;
-        }
+/// An owner has one block less.
+fn count_less(counts: &mut Vec<usize>, owner: Owner)
+    requires some { (q : ℕ) → is_process owner q ≡ true → 0 < get_or counts.old.items q 0 }
+    ensures less { (q : ℕ) → get_or counts.new.items q 0 + one_if (is_process owner q) ≡ get_or counts.old.items q 0 }
+    ensures listed { length counts.new.items ≡ length counts.old.items }
+{
+    if let Owner::Process(q) = owner {
+        counts[q] -= 1;
     }
 }
 
-/// Frees a block. Its queue is emptied, and what that had goes to the channel.
-pub(crate) fn free(blocks: &mut Vec<Block>, a: usize)
-    ensures { blocks_seen blocks.new.items ≡ changed (freed_block a) (blocks_seen blocks.old.items) }
+/// An owner has one block more.
+pub(crate) fn count_more(counts: &mut Vec<usize>, owner: Owner)
+    requires listed { IsListed counts.old.items owner }
+    requires room { (q : ℕ) → get_or counts.old.items q 0 < 2 ^ 63 }
+    ensures more { (q : ℕ) → get_or counts.new.items q 0 ≡ get_or counts.old.items q 0 + one_if (is_process owner q) }
+    ensures listed { length counts.new.items ≡ length counts.old.items }
 {
-    for j in 0..blocks.len() {
-        blocks[j].freed(j, a);
+    if let Owner::Process(q) = owner {
+        counts[q] += 1;
     }
 }
 
 /// A block goes to an owner.
-fn hand_one(blocks: &mut Vec<Block>, a: usize, to: Owner)
-    ensures { blocks_seen blocks.new.items ≡ changed (handed to (a ∷ [])) (blocks_seen blocks.old.items) }
+pub(crate) fn hand_one(blocks: &mut Vec<Block>, counts: &mut Vec<usize>, a: usize, to: Owner)
+    requires counted { IsCounted (blocks_seen blocks.old.items) counts.old.items }
+    requires listed { IsListed counts.old.items to }
+    ensures handed { blocks_seen blocks.new.items ≡ changed (handed to (a ∷ [])) (blocks_seen blocks.old.items) }
+    ensures counted { IsCounted (blocks_seen blocks.new.items) counts.new.items }
+    ensures listed { length counts.new.items ≡ length counts.old.items }
 {
     if a < blocks.len() {
+        let from = blocks[a].owner;
         blocks[a].owner = to;
+        count_less(counts, from);
+        count_more(counts, to);
     }
 }
 
 /// These blocks go to an owner.
-pub(crate) fn hand(blocks: &mut Vec<Block>, given: &[usize], to: Owner)
-    ensures { blocks_seen blocks.new.items ≡ changed (handed to given.now) (blocks_seen blocks.old.items) }
+pub(crate) fn hand(blocks: &mut Vec<Block>, counts: &mut Vec<usize>, given: &[usize], to: Owner)
+    requires counted { IsCounted (blocks_seen blocks.old.items) counts.old.items }
+    requires listed { IsListed counts.old.items to }
+    ensures handed { blocks_seen blocks.new.items ≡ changed (handed to given.now) (blocks_seen blocks.old.items) }
+    ensures counted { IsCounted (blocks_seen blocks.new.items) counts.new.items }
+    ensures listed { length counts.new.items ≡ length counts.old.items }
 {
     for a in given {
-        hand_one(blocks, *a, to);
+        hand_one(blocks, counts, *a, to);
+    }
+}
+
+/// What these messages bring goes to the channel.
+pub(crate) fn lose(blocks: &mut Vec<Block>, counts: &mut Vec<usize>, queue: &VecDeque<Held>)
+    requires counted { IsCounted (blocks_seen blocks.old.items) counts.old.items }
+    ensures lost { blocks_seen blocks.new.items
+        ≡ changed (handed Owner.Channel (brings (map held_seen queue.now.items))) (blocks_seen blocks.old.items) }
+    ensures counted { IsCounted (blocks_seen blocks.new.items) counts.new.items }
+{
+    for number in 0..queue.len() {
+        hand(blocks, counts, &queue[number].payload, Owner::Channel);
     }
 }
 
@@ -83,21 +110,14 @@ pub(crate) fn take_front(blocks: &mut Vec<Block>, at: usize) -> Option<Held>
     None
 }
 
-/// The endpoint receives the front of its queue for a process, and is in a state then. What the message brings is answered.
-pub(crate) fn receive(
-    blocks: &mut Vec<Block>,
-    at: usize,
-    state: StateId,
-    process: usize,
-) -> Option<Vec<usize>>
-    ensures brings { (m : MessageHeld) (ms : List MessageHeld) → (block_at (blocks_seen blocks.old.items) at).queue ≡ m ∷ ms →
-        option_map (λ v. v.items) result ≡ Some m.payload }
-    ensures received { (m : MessageHeld) (ms : List MessageHeld) → (block_at (blocks_seen blocks.old.items) at).queue ≡ m ∷ ms →
-        blocks_seen blocks.new.items ≡ changed (received_block process at state.0 m ms) (blocks_seen blocks.old.items) }
+/// The whole queue of an endpoint is taken.
+pub(crate) fn take_queue(alloc: Global, blocks: &mut Vec<Block>, at: usize) -> VecDeque<Held>
+    ensures taken { map held_seen result.items ≡ (block_at (blocks_seen blocks.old.items) at).queue }
+    ensures left { blocks_seen blocks.new.items ≡ changed (left_in at []) (blocks_seen blocks.old.items) }
 {
-    let held = take_front(blocks, at)?;
-    let Held { payload, .. } = held;
-    hand(blocks, &payload, Owner::Process(process));
-    set_state(blocks, at, state);
-    Some(payload)
+    let mut queue = VecDeque::new(alloc);
+    if at < blocks.len() {
+        queue = replace(&mut blocks[at].queue, queue);
+    }
+    queue
 }

@@ -1,6 +1,7 @@
 //! What the contract of an endpoint says of its channel.
 
-ghost use Rattle.std.specs.Prelude.{◌≡◌, ◌||◌, IfErr, IfOk, MatchOption, Some, false, if◌then◌else◌, is_some, true, unwrap_or, ℕ};
+ghost use Rattle.std.specs.Prelude.{◌≡◌, ◌<◌, ◌||◌, IfErr, IfOk, IsTrue, MatchOption, Some, false, if◌then◌else◌};
+ghost use Rattle.std.specs.Prelude.{is_some, length, true, unwrap_or, ℕ};
 ghost use Rattle.program.specs.Programs.{ProgramSeen};
 ghost use Rattle.contracts.specs.Bounds.{sign_to};
 ghost use Rattle.contracts.specs.Leaving.{sign_from};
@@ -12,7 +13,7 @@ ghost use Rattle.machine.specs.Blocks.{edge_in_in, edge_out_in, has_room_in, sen
 ghost use Rattle.machine.specs.Outcomes.{Bounds};
 ghost use Rattle.machine.specs.Runs.{AreBounds};
 ghost use Rattle.machine.specs.Views.{blocks_seen};
-ghost use Rattle.machine.specs.World.{block_at, cut_off, freed};
+ghost use Rattle.machine.specs.World.{block_at, cut_off, freed, no_kind};
 
 use crate::halts::{Fault, Refusal};
 use crate::reading::{is_cut_off, is_freed, kind_of, peer_of, queued, state_of};
@@ -41,7 +42,8 @@ fn bound_at(program: &Program, contract: ContractId, side: Side) -> u32
 
 /// How many messages the queue to an endpoint of this kind may hold.
 fn bound_of(program: &Program, kind: Kind) -> u32
-    ensures { (bound : Bounds) → AreBounds (seen_of program.now) bound → result ≡ told.bound_of bound kind }
+    ensures bound { (bound : Bounds) → AreBounds (seen_of program.now) bound → result ≡ told.bound_of bound kind }
+    ensures none { kind ≡ no_kind → result ≡ 0 }
 {
     match kind {
         Kind::Endpoint { contract, side, .. } => bound_at(program, contract, side),
@@ -51,7 +53,8 @@ fn bound_of(program: &Program, kind: Kind) -> u32
 
 /// Whether the queue of an endpoint may take one more message, unless it is freed.
 fn has_room(program: &Program, blocks: &[Block], to: usize) -> bool
-    ensures { (bound : Bounds) → AreBounds (seen_of program.now) bound → result ≡ has_room_in bound (blocks_seen blocks.now) to }
+    ensures room { (bound : Bounds) → AreBounds (seen_of program.now) bound → result ≡ has_room_in bound (blocks_seen blocks.now) to }
+    ensures there { IsTrue result → freed (blocks_seen blocks.now) to ≡ false → to < length (blocks_seen blocks.now) }
 {
     is_freed(blocks, to) || queued(blocks, to) < bound_of(program, kind_of(blocks, to)) as usize
 }
@@ -95,6 +98,7 @@ pub(crate) fn way_out(
         (block_at (blocks_seen blocks.now) at).state
         else unwrap_or (edge_out_in (seen_of program.now) (blocks_seen blocks.now) at message.0)
         (block_at (blocks_seen blocks.now) at).state)) }
+    ensures there { IfOk result (λ way. way.gone ≡ false → way.peer < length (blocks_seen blocks.now)) }
     ensures refusal { IfErr result (λ refusal. (bound : Bounds) → AreBounds (seen_of program.now) bound → IsRefusal refusal
         (send_tests_in bound (blocks_seen blocks.now) at (edge_out_in (seen_of program.now) (blocks_seen blocks.now) at message.0))) }
 {

@@ -3,7 +3,7 @@
 ghost use Rattle.std.specs.Prelude.{◌≡◌, ◌<◌, IsSome, List, OnErr, get_or, length, true};
 ghost use Rattle.flow.specs.Graphs.{instruction_seen};
 ghost use Rattle.rules.specs.Programs.{seen_of};
-ghost use Rattle.machine.specs.Answers.{Tells, is_of_frame, is_of_process, on_stack, on_top, with_stack};
+ghost use Rattle.machine.specs.Answers.{Tells, is_of_channel, is_of_frame, is_of_heap, is_of_process, on_stack, on_top, with_stack};
 ghost use Rattle.machine.specs.Frames as told;
 ghost use Rattle.machine.specs.Machine.{event_of};
 ghost use Rattle.machine.specs.Outcomes.{Bounds};
@@ -15,13 +15,14 @@ ghost use Rattle.machine.specs.declared.worlds.Process.{Process};
 
 use crate::calling::call;
 use crate::halts::Refusal;
+use crate::heaps::Heap;
 use crate::owning::{Turn, delete, new, new_channel};
 use crate::quiet::{branch, forget_, move_, use_};
 use crate::returning::{end, return_};
 use crate::sending::send;
 use crate::starting::start;
 use crate::switching::switch;
-use crate::worlds::{Block, Frame, Process, World};
+use crate::worlds::{Frame, Process, World};
 use flow::{Branches, Instr};
 use rules::Program;
 use std::alloc::Global;
@@ -47,57 +48,99 @@ pub(crate) struct Chosen {
     pub(crate) choice: usize,
 }
 
-/// An instruction that changes the innermost frame and blocks alone.
-fn on_frame(
+/// An instruction that makes or frees blocks.
+fn on_heap(
     alloc: Global,
     program: &Program,
     frame: &mut Frame,
-    blocks: &mut Vec<Block>,
+    heap: &mut Heap,
     chosen: Chosen,
     instr: &Instr,
 ) -> Result<(), Refusal>
-    requires of { is_of_frame (instruction_seen instr.now) ≡ true }
-    requires there { chosen.choice < told.choices (instruction_seen instr.now) }
+    requires of { is_of_heap (instruction_seen instr.now) ≡ true }
     ensures tells { (bound : Bounds) (w : seen.World) (rest : List seen.Frame) → AreBounds (seen_of program.now) bound →
-        w.blocks ≡ blocks_seen blocks.old.items →
+        w.blocks ≡ blocks_seen heap.old.blocks.items →
         Tells result (event_of (seen_of program.now) bound w chosen.process (frame_seen frame.old) rest (instruction_seen instr.now)
         chosen.choice)
-        (on_top w.processes chosen.process rest (frame_seen frame.new) (blocks_seen blocks.new.items)) }
+        (on_top w.processes chosen.process rest (frame_seen frame.new) (blocks_seen heap.new.blocks.items)) }
     ensures same { OnErr result (frame_seen frame.new ≡ frame_seen frame.old) }
-    ensures same_blocks { OnErr result (blocks_seen blocks.new.items ≡ blocks_seen blocks.old.items) }
+    ensures same_blocks { OnErr result (blocks_seen heap.new.blocks.items ≡ blocks_seen heap.old.blocks.items) }
 {
     let process = chosen.process;
     match instr {
-        Instr::Use { at, next } => use_(frame, blocks, process, *at, *next),
         Instr::New { target, next, .. } => {
             let turn = Turn {
                 process,
                 next: *next,
             };
-            new(alloc, program, frame, blocks, turn, *target)
+            new(alloc, program, frame, heap, turn, *target)
         }
         Instr::NewChannel { channel, next } => {
             let turn = Turn {
                 process,
                 next: *next,
             };
-            new_channel(alloc, program, frame, blocks, turn, *channel)
+            new_channel(alloc, program, frame, heap, turn, *channel)
         }
+        Instr::Delete { at, next } => delete(alloc, frame, heap, process, *at, *next),
+        _ => unreachable!(),
+    }
+}
+
+/// An instruction that sends or receives.
+fn on_channel(
+    alloc: Global,
+    program: &Program,
+    frame: &mut Frame,
+    heap: &mut Heap,
+    chosen: Chosen,
+    instr: &Instr,
+) -> Result<(), Refusal>
+    requires of { is_of_channel (instruction_seen instr.now) ≡ true }
+    requires there { chosen.choice < told.choices (instruction_seen instr.now) }
+    ensures tells { (bound : Bounds) (w : seen.World) (rest : List seen.Frame) → AreBounds (seen_of program.now) bound →
+        w.blocks ≡ blocks_seen heap.old.blocks.items →
+        Tells result (event_of (seen_of program.now) bound w chosen.process (frame_seen frame.old) rest (instruction_seen instr.now)
+        chosen.choice)
+        (on_top w.processes chosen.process rest (frame_seen frame.new) (blocks_seen heap.new.blocks.items)) }
+    ensures same { OnErr result (frame_seen frame.new ≡ frame_seen frame.old) }
+    ensures same_blocks { OnErr result (blocks_seen heap.new.blocks.items ≡ blocks_seen heap.old.blocks.items) }
+{
+    let process = chosen.process;
+    match instr {
+        Instr::Send(sending) => send(alloc, program, frame, heap, process, sending),
+        Instr::Switch { cases, .. } => switch(program, frame, heap, process, cases, chosen.choice),
+        _ => unreachable!(),
+    }
+}
+
+/// An instruction that changes the innermost frame and blocks alone.
+fn on_frame(
+    alloc: Global,
+    program: &Program,
+    frame: &mut Frame,
+    heap: &mut Heap,
+    chosen: Chosen,
+    instr: &Instr,
+) -> Result<(), Refusal>
+    requires of { is_of_frame (instruction_seen instr.now) ≡ true }
+    requires there { chosen.choice < told.choices (instruction_seen instr.now) }
+    ensures tells { (bound : Bounds) (w : seen.World) (rest : List seen.Frame) → AreBounds (seen_of program.now) bound →
+        w.blocks ≡ blocks_seen heap.old.blocks.items →
+        Tells result (event_of (seen_of program.now) bound w chosen.process (frame_seen frame.old) rest (instruction_seen instr.now)
+        chosen.choice)
+        (on_top w.processes chosen.process rest (frame_seen frame.new) (blocks_seen heap.new.blocks.items)) }
+    ensures same { OnErr result (frame_seen frame.new ≡ frame_seen frame.old) }
+    ensures same_blocks { OnErr result (blocks_seen heap.new.blocks.items ≡ blocks_seen heap.old.blocks.items) }
+{
+    let process = chosen.process;
+    match instr {
+        Instr::Use { at, next } => use_(frame, heap.blocks(), process, *at, *next),
         Instr::Move {
             target,
             source,
             next,
-        } => move_(frame, blocks, process, *target, *source, *next),
-        Instr::Delete { at, next } => delete(frame, blocks, process, *at, *next),
-        Instr::Send(sending) => send(alloc, program, frame, blocks, process, sending),
-        Instr::Switch { cases, .. } => switch(
-            program,
-            frame,
-            blocks,
-            process,
-            cases,
-            chosen.choice,
-        ),
+        } => { move_(frame, heap.blocks(), process, *target, *source, *next) }
         Instr::Branch { branches, .. } => {
             branch(frame, *branches, chosen.choice);
             Ok(())
@@ -106,7 +149,10 @@ fn on_frame(
             forget_(frame, program, *forget, *next);
             Ok(())
         }
-        _ => unreachable!(),
+        Instr::Send(_) | Instr::Switch { .. } => on_channel(
+            alloc, program, frame, heap, chosen, instr,
+        ),
+        _ => on_heap(alloc, program, frame, heap, chosen, instr),
     }
 }
 
@@ -115,35 +161,37 @@ fn on_stack(
     alloc: Global,
     program: &Program,
     stack: &mut Process,
-    blocks: &mut Vec<Block>,
+    heap: &mut Heap,
     chosen: Chosen,
     instr: &Instr,
 ) -> Result<(), Refusal>
     requires of { is_of_process (instruction_seen instr.now) ≡ true }
     requires there { chosen.choice < told.choices (instruction_seen instr.now) }
     requires top { IsSome stack.old.top }
-    ensures tells { (bound : Bounds) (w : seen.World) → AreBounds (seen_of program.now) bound → w.blocks ≡ blocks_seen blocks.old.items →
+    ensures tells { (bound : Bounds) (w : seen.World) → AreBounds (seen_of program.now) bound →
+        w.blocks ≡ blocks_seen heap.old.blocks.items →
         Tells result (on_stack (seen_of program.now) bound w chosen.process (instruction_seen instr.now) chosen.choice
         (stack_seen stack.old))
-        (with_stack w chosen.process (stack_seen stack.new) (blocks_seen blocks.new.items)) }
+        (with_stack w chosen.process (stack_seen stack.new) (blocks_seen heap.new.blocks.items)) }
     ensures same { OnErr result (stack_seen stack.new ≡ stack_seen stack.old) }
-    ensures same_blocks { OnErr result (blocks_seen blocks.new.items ≡ blocks_seen blocks.old.items) }
+    ensures same_blocks { OnErr result (blocks_seen heap.new.blocks.items ≡ blocks_seen heap.old.blocks.items) }
 {
     match instr {
-        Instr::Call(calling) => call(alloc, program, stack, blocks, chosen.process, calling),
-        Instr::Return(returning) => return_(
+        Instr::Call(calling) => call(
+            alloc,
             program,
             stack,
-            blocks,
+            heap.blocks(),
             chosen.process,
-            returning.value,
+            calling,
         ),
-        Instr::Stop { .. } => end(program, stack, blocks, chosen.process, None),
+        Instr::Return(returning) => return_(program, stack, heap, chosen.process, returning.value),
+        Instr::Stop { .. } => end(program, stack, heap, chosen.process, None),
         _ => {
             let Some(frame) = &mut stack.top else {
                 unreachable!()
             };
-            on_frame(alloc, program, frame, blocks, chosen, instr)
+            on_frame(alloc, program, frame, heap, chosen, instr)
         }
     }
 }
@@ -170,7 +218,7 @@ impl World {
             Instr::Start(starting) => start(alloc, program, self, chosen.process, starting),
             _ => {
                 let stack = &mut self.processes[chosen.process];
-                on_stack(alloc, program, stack, &mut self.blocks, chosen, instr)
+                on_stack(alloc, program, stack, &mut self.heap, chosen, instr)
             }
         }
     }

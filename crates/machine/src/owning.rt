@@ -14,8 +14,8 @@ ghost use Rattle.machine.specs.Outcomes.{Bounds};
 ghost use Rattle.machine.specs.Views.{block_seen, blocks_seen, frame_seen};
 ghost use Rattle.machine.specs.World as seen;
 
-use crate::changing::free;
 use crate::halts::{Fault, Refusal};
+use crate::heaps::Heap;
 use crate::reading::own;
 use crate::variables::kind_at;
 use crate::worlds::{Block, Frame, Owner};
@@ -36,18 +36,18 @@ pub(crate) fn new(
     alloc: Global,
     program: &Program,
     frame: &mut Frame,
-    blocks: &mut Vec<Block>,
+    heap: &mut Heap,
     turn: Turn,
     target: Mention,
 ) -> Result<(), Refusal>
     ensures tells { (bound : Bounds) (w : seen.World) (rest : List seen.Frame) (arguments : List named.Mention) →
-        w.blocks ≡ blocks_seen blocks.old.items →
+        w.blocks ≡ blocks_seen heap.old.blocks.items →
         Tells result (event_of (seen_of program.now) bound w turn.process (frame_seen frame.old) rest (New target arguments turn.next) 0)
-        (on_top w.processes turn.process rest (frame_seen frame.new) (blocks_seen blocks.new.items)) }
+        (on_top w.processes turn.process rest (frame_seen frame.new) (blocks_seen heap.new.blocks.items)) }
     ensures same { OnErr result (frame_seen frame.new ≡ frame_seen frame.old) }
-    ensures same_blocks { OnErr result (blocks_seen blocks.new.items ≡ blocks_seen blocks.old.items) }
+    ensures same_blocks { OnErr result (blocks_seen heap.new.blocks.items ≡ blocks_seen heap.old.blocks.items) }
 {
-    let address = blocks.len();
+    let address = heap.blocks().len();
     let kind = kind_at(program, frame.method, target.variable);
     let block = Block {
         kind,
@@ -56,9 +56,7 @@ pub(crate) fn new(
         state: StateId(0),
         queue: VecDeque::new(alloc),
     };
-    if blocks.push(block).is_err() {
-        return Err(Refusal::Memory);
-    }
+    heap.add(turn.process, block)?;
     frame.put(target, Some(address));
     frame.point = turn.next;
     Ok(())
@@ -66,22 +64,24 @@ pub(crate) fn new(
 
 /// Frees a block.
 pub(crate) fn delete(
+    alloc: Global,
     frame: &mut Frame,
-    blocks: &mut Vec<Block>,
+    heap: &mut Heap,
     process: usize,
     at: Mention,
     next: usize,
 ) -> Result<(), Refusal>
-    ensures tells { (p : ProgramSeen) (bound : Bounds) (w : seen.World) (rest : List seen.Frame) → w.blocks ≡ blocks_seen blocks.old.items →
+    ensures tells { (p : ProgramSeen) (bound : Bounds) (w : seen.World) (rest : List seen.Frame) →
+        w.blocks ≡ blocks_seen heap.old.blocks.items →
         Tells result (event_of p bound w process (frame_seen frame.old) rest (Delete at next) 0)
-        (on_top w.processes process rest (frame_seen frame.new) (blocks_seen blocks.new.items)) }
+        (on_top w.processes process rest (frame_seen frame.new) (blocks_seen heap.new.blocks.items)) }
     ensures same { OnErr result (frame_seen frame.new ≡ frame_seen frame.old) }
-    ensures same_blocks { OnErr result (blocks_seen blocks.new.items ≡ blocks_seen blocks.old.items) }
+    ensures same_blocks { OnErr result (blocks_seen heap.new.blocks.items ≡ blocks_seen heap.old.blocks.items) }
 {
-    let Some(a) = own(blocks, process, frame.has(at)) else {
+    let Some(a) = own(heap.blocks(), process, frame.has(at)) else {
         return Err(Refusal::Fault(Fault::F2));
     };
-    free(blocks, a);
+    heap.free(alloc, a);
     frame.put(at, None);
     frame.point = next;
     Ok(())
@@ -127,19 +127,18 @@ fn end_kind(channel: Channel, side: Side) -> Kind
 /// Two new ends in a state, the importing one first.
 fn open(
     alloc: Global,
-    blocks: &mut Vec<Block>,
+    heap: &mut Heap,
     process: usize,
     channel: Channel,
     state: StateId,
 ) -> Result<(), Refusal>
-    ensures opened { OnOk result (blocks_seen blocks.new.items ≡ blocks_seen blocks.old.items
-        ++ new_block (end_kind channel Imp) process (length (blocks_seen blocks.old.items) + 1) state.0
-        ∷ new_block (end_kind channel Exp) process (length (blocks_seen blocks.old.items)) state.0 ∷ []) }
-    ensures same { OnErr result (blocks_seen blocks.new.items ≡ blocks_seen blocks.old.items) }
+    ensures opened { OnOk result (blocks_seen heap.new.blocks.items ≡ blocks_seen heap.old.blocks.items
+        ++ new_block (end_kind channel Imp) process (length (blocks_seen heap.old.blocks.items) + 1) state.0
+        ∷ new_block (end_kind channel Exp) process (length (blocks_seen heap.old.blocks.items)) state.0 ∷ []) }
+    ensures same { OnErr result (blocks_seen heap.new.blocks.items ≡ blocks_seen heap.old.blocks.items) }
     ensures memory { IfErr result (λ refusal. refusal ≡ Refusal.Memory) }
 {
-    blocks.reserve(2)?;
-    let address = blocks.len();
+    let address = heap.blocks().len();
     let imp = new_end(
         alloc,
         process,
@@ -148,9 +147,7 @@ fn open(
         state,
     );
     let exp = new_end(alloc, process, end_kind(channel, Side::Exp), address, state);
-    blocks.push(imp)?;
-    blocks.push(exp)?;
-    Ok(())
+    heap.add_two(process, imp, exp)
 }
 
 /// Two variables take the two ends of a new channel.
@@ -158,19 +155,19 @@ pub(crate) fn new_channel(
     alloc: Global,
     program: &Program,
     frame: &mut Frame,
-    blocks: &mut Vec<Block>,
+    heap: &mut Heap,
     turn: Turn,
     channel: Channel,
 ) -> Result<(), Refusal>
-    ensures tells { (bound : Bounds) (w : seen.World) (rest : List seen.Frame) → w.blocks ≡ blocks_seen blocks.old.items →
+    ensures tells { (bound : Bounds) (w : seen.World) (rest : List seen.Frame) → w.blocks ≡ blocks_seen heap.old.blocks.items →
         Tells result (event_of (seen_of program.now) bound w turn.process (frame_seen frame.old) rest (NewChannel channel turn.next) 0)
-        (on_top w.processes turn.process rest (frame_seen frame.new) (blocks_seen blocks.new.items)) }
+        (on_top w.processes turn.process rest (frame_seen frame.new) (blocks_seen heap.new.blocks.items)) }
     ensures same { OnErr result (frame_seen frame.new ≡ frame_seen frame.old) }
-    ensures same_blocks { OnErr result (blocks_seen blocks.new.items ≡ blocks_seen blocks.old.items) }
+    ensures same_blocks { OnErr result (blocks_seen heap.new.blocks.items ≡ blocks_seen heap.old.blocks.items) }
 {
-    let address = blocks.len();
+    let address = heap.blocks().len();
     let state = program.first_state(channel.contract);
-    open(alloc, blocks, turn.process, channel, state)?;
+    open(alloc, heap, turn.process, channel, state)?;
     let first_is_imp = is_imp(kind_at(program, frame.method, channel.first.variable));
     let (first, second) = if first_is_imp {
         (address, address + 1)

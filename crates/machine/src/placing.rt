@@ -73,6 +73,6 @@ impl World {
     pub fn blocks(&self) -> &[Block]
         ensures { blocks_seen result.now ≡ (world_seen self.now).blocks }
     {
-        &self.blocks
+        self.heap.blocks()
     }
 }

@@ -1,10 +1,10 @@
 //! Runs.
 
-ghost use Rattle.std.specs.Prelude.{◌≡◌, ◌<◌, IfOk, length};
+ghost use Rattle.std.specs.Prelude.{◌≡◌, ◌<◌, IfOk, Some, length};
 ghost use Rattle.rules.specs.Programs.{seen_of};
 ghost use Rattle.machine.specs.Outcomes.{Bounds};
 ghost use Rattle.machine.specs.Runs.{AreBounds};
-ghost use Rattle.machine.specs.Replays.{IsReplay};
+ghost use Rattle.machine.specs.Replays.{IsKnown, IsReplay};
 
 use crate::halts::{Event, Halt};
 use crate::worlds::World;
@@ -22,9 +22,20 @@ pub struct Replayed {
     pub halt: Option<Halt>,
 }
 
+/// Want of memory is no answer, and every other halt is.
+fn known(halt: Halt) -> Result<Halt, Memory>
+    ensures same { IfOk result (λ answer. answer ≡ halt) }
+    ensures known { IfOk result (λ answer. IsKnown (Some answer)) }
+{
+    match halt {
+        Halt::Memory => Err(Memory),
+        Halt::NoSuchProcess | Halt::NoSuchChoice | Halt::Fault(..) | Halt::Waits => Ok(halt),
+    }
+}
+
 /// Takes these events, one after the other, from the beginning of a method until one is no step.
 ///
-/// `Memory` is answered where a growth was refused, also in a step.
+/// `Memory` is answered where a growth was refused, also in a step: no replay has that as its halt.
 pub fn replay(
     alloc: Global,
     program: &Program,
@@ -39,8 +50,8 @@ pub fn replay(
     for steps in 0..events.len() {
         match world.step(alloc, program, events[steps]) {
             Ok(()) => {}
-            Err(Halt::Memory) => return Err(Memory),
             Err(halt) => {
+                let halt = known(halt)?;
                 return Ok(Replayed {
                     world,
                     steps,

@@ -7,30 +7,18 @@ ghost use Rattle.source.specs.declared.place.Place.{Place};
 ghost use Rattle.flow.specs.Graphs.{Return};
 ghost use Rattle.rules.specs.Programs.{seen_of};
 ghost use Rattle.machine.specs.Answers.{Tells, ended, given_back, on_stack, with_stack, with_variables};
-ghost use Rattle.machine.specs.Blocks as told;
 ghost use Rattle.machine.specs.Outcomes.{Bounds, Faulty};
 ghost use Rattle.machine.specs.Views.{blocks_seen, frame_seen, stack_seen};
 ghost use Rattle.machine.specs.World as seen;
 ghost use Rattle.machine.specs.declared.halts.Fault.TheVariants.{F3};
 
 use crate::halts::{Fault, Refusal};
+use crate::heaps::Heap;
 use crate::reading::own;
 use crate::standing::behind_call;
 use crate::worlds::{Block, Frame, Process};
 use program::Mention;
 use rules::Program;
-
-/// Whether a process owns nothing.
-fn owns_none(blocks: &[Block], process: usize) -> bool
-    ensures { result ≡ told.owns_none (blocks_seen blocks.now) process }
-{
-    for block in blocks {
-        if block.owner.is_process(process) {
-            return false;
-        }
-    }
-    true
-}
 
 /// Whether the innermost frame may give what a variable has, if there is one.
 fn can_give(stack: &Process, blocks: &[Block], process: usize, value: Option<Mention>) -> bool
@@ -63,18 +51,18 @@ fn give_back(stack: &Process, value: Option<Mention>, target: Option<Mention>, c
 pub(crate) fn end(
     program: &Program,
     stack: &mut Process,
-    blocks: &[Block],
+    heap: &Heap,
     process: usize,
     value: Option<Mention>,
 ) -> Result<(), Refusal>
     requires top { IsSome stack.old.top }
-    ensures tells { (bound : Bounds) (w : seen.World) → w.blocks ≡ blocks_seen blocks.now →
+    ensures tells { (bound : Bounds) (w : seen.World) → w.blocks ≡ blocks_seen heap.now.blocks.items →
         Tells result (ended (seen_of program.now) bound w process value (stack_seen stack.old))
-        (with_stack w process (stack_seen stack.new) (blocks_seen blocks.now)) }
+        (with_stack w process (stack_seen stack.new) (blocks_seen heap.now.blocks.items)) }
     ensures same { OnErr result (stack_seen stack.new ≡ stack_seen stack.old) }
 {
     let Some(mut caller) = stack.waiting.pop() else {
-        if !owns_none(blocks, process) {
+        if !heap.owns_none(process) {
             return Err(Refusal::Fault(Fault::F7));
         }
         stack.top = None;
@@ -91,18 +79,19 @@ pub(crate) fn end(
 pub(crate) fn return_(
     program: &Program,
     stack: &mut Process,
-    blocks: &[Block],
+    heap: &Heap,
     process: usize,
     value: Option<Mention>,
 ) -> Result<(), Refusal>
     requires top { IsSome stack.old.top }
-    ensures tells { (bound : Bounds) (w : seen.World) (place : Place) (scope : Option VarId) → w.blocks ≡ blocks_seen blocks.now →
+    ensures tells { (bound : Bounds) (w : seen.World) (place : Place) (scope : Option VarId) →
+        w.blocks ≡ blocks_seen heap.now.blocks.items →
         Tells result (on_stack (seen_of program.now) bound w process (Return place value scope) 0 (stack_seen stack.old))
-        (with_stack w process (stack_seen stack.new) (blocks_seen blocks.now)) }
+        (with_stack w process (stack_seen stack.new) (blocks_seen heap.now.blocks.items)) }
     ensures same { OnErr result (stack_seen stack.new ≡ stack_seen stack.old) }
 {
-    if !can_give(stack, blocks, process, value) {
+    if !can_give(stack, heap.blocks(), process, value) {
         return Err(Refusal::Fault(Fault::F3));
     }
-    end(program, stack, blocks, process, value)
+    end(program, stack, heap, process, value)
 }

@@ -11,11 +11,10 @@ ghost use Rattle.machine.specs.World.{stack_at};
 ghost use Rattle.machine.specs.declared.worlds.Process.{Process};
 
 use crate::calling::enter;
-use crate::changing::hand;
 use crate::giving::given;
 use crate::halts::Refusal;
 use crate::variables::lets_go;
-use crate::worlds::{Owner, Process, World};
+use crate::worlds::{Process, World};
 use flow::Starting;
 use program::Argument;
 use rules::Program;
@@ -50,14 +49,21 @@ pub(crate) fn start(
     let Some(frame) = &world.processes[process].top else {
         unreachable!()
     };
-    let owned = given(alloc, frame, &world.blocks, process, &starting.arguments)?;
+    let owned = given(
+        alloc,
+        frame,
+        world.heap.blocks(),
+        process,
+        &starting.arguments,
+    )?;
     let begun = enter(alloc, program, frame, starting.method, &starting.arguments)?;
     let number = world.processes.len();
+    world.heap.list(number)?;
     world.processes.push(Process {
         top: Some(begun),
         waiting: Vec::new(alloc),
     })?;
-    hand(&mut world.blocks, &owned, Owner::Process(number));
+    world.heap.hand_over(&owned, number);
     go_on(
         &mut world.processes[process],
         &starting.arguments,

@@ -14,6 +14,7 @@ ghost use Rattle.machine.specs.declared.worlds.Process.{Process};
 
 use crate::calling::enter;
 use crate::halts::{Event, Halt, Refusal};
+use crate::heaps::Heap;
 use crate::instructing::{Chosen, choices};
 use crate::placing::place_of;
 use crate::standing::instruction_at;
@@ -72,7 +73,7 @@ impl World {
         })?;
         Ok(World {
             processes,
-            blocks: Vec::new(alloc),
+            heap: Heap::new(alloc),
         })
     }
 

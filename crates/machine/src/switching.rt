@@ -1,6 +1,6 @@
 //! A switch.
 
-ghost use Rattle.std.specs.Prelude.{◌≡◌, ◌<◌, ◌∷◌, [], IfErr, List, OnErr, OnOk, Some, length, map, ℕ};
+ghost use Rattle.std.specs.Prelude.{◌≡◌, ◌<◌, ◌∷◌, [], IfErr, List, OnErr, OnOk, Some, length, map, true, ℕ};
 ghost use Rattle.flow.specs.Cases.{entrance_seen, first_mentions};
 ghost use Rattle.flow.specs.Graphs as graphs;
 ghost use Rattle.flow.specs.Graphs.{cases_seen};
@@ -12,12 +12,12 @@ ghost use Rattle.machine.specs.Machine.{event_of, receives, receives_at};
 ghost use Rattle.machine.specs.Outcomes.{Bounds, Moved, test};
 ghost use Rattle.machine.specs.Views.{blocks_seen, frame_seen};
 ghost use Rattle.machine.specs.World as seen;
-ghost use Rattle.machine.specs.World.{MessageHeld, block_at, is_own_in, read};
+ghost use Rattle.machine.specs.World.{MessageHeld, block_at, is_own_in, owns, read};
 ghost use Rattle.machine.specs.declared.halts.Fault.TheVariants.{F1};
 
-use crate::changing::receive;
 use crate::edges::state_received;
 use crate::halts::{Fault, Refusal};
+use crate::heaps::Heap;
 use crate::reading::{front, is_freed, own, peer_of};
 use crate::variables::bind;
 use crate::worlds::{Block, Frame};
@@ -83,21 +83,21 @@ struct Arrival {
 fn receive_at(
     program: &Program,
     frame: &mut Frame,
-    blocks: &mut Vec<Block>,
+    heap: &mut Heap,
     process: usize,
     case: &Entrance,
     arrival: Arrival,
 )
+    requires owned { owns (blocks_seen heap.old.blocks.items) process arrival.at ≡ true }
+    requires some { 0 < length (block_at (blocks_seen heap.old.blocks.items) arrival.at).queue }
     ensures { (bound : Bounds) (w : seen.World) (rest : List seen.Frame) (m : MessageHeld) (ms : List MessageHeld) →
-        w.blocks ≡ blocks_seen blocks.old.items →
-        (block_at (blocks_seen blocks.old.items) arrival.at).queue ≡ m ∷ ms → arrival.message.0 ≡ m.message →
+        w.blocks ≡ blocks_seen heap.old.blocks.items →
+        (block_at (blocks_seen heap.old.blocks.items) arrival.at).queue ≡ m ∷ ms → arrival.message.0 ≡ m.message →
         receives_at (seen_of program.now) bound w process (frame_seen frame.old) rest (Some (entrance_seen case.now)) arrival.at m ms
-        ≡ Moved (on_top w.processes process rest (frame_seen frame.new) (blocks_seen blocks.new.items)) }
+        ≡ Moved (on_top w.processes process rest (frame_seen frame.new) (blocks_seen heap.new.blocks.items)) }
 {
-    let state = state_received(program, blocks, arrival.at, arrival.message);
-    let Some(payload) = receive(blocks, arrival.at, state, process) else {
-        return;
-    };
+    let state = state_received(program, heap.blocks(), arrival.at, arrival.message);
+    let payload = heap.receive(arrival.at, state, process);
     bind(&mut frame.variables, &case.bound, &payload);
     frame.point = case.next;
 }
@@ -106,20 +106,21 @@ fn receive_at(
 fn come(
     program: &Program,
     frame: &mut Frame,
-    blocks: &mut Vec<Block>,
+    heap: &mut Heap,
     process: usize,
     cases: &Cases,
     gate: Gate,
 ) -> Result<(), Refusal>
-    ensures tells { (bound : Bounds) (w : seen.World) (rest : List seen.Frame) → w.blocks ≡ blocks_seen blocks.old.items →
+    requires owned { owns (blocks_seen heap.old.blocks.items) process gate.at ≡ true }
+    ensures tells { (bound : Bounds) (w : seen.World) (rest : List seen.Frame) → w.blocks ≡ blocks_seen heap.old.blocks.items →
         Tells result (receives (seen_of program.now) bound w process (frame_seen frame.old) rest (cases_seen cases.now)
-        gate.variable.0 gate.at (block_at (blocks_seen blocks.old.items) gate.at).queue)
-        (on_top w.processes process rest (frame_seen frame.new) (blocks_seen blocks.new.items)) }
+        gate.variable.0 gate.at (block_at (blocks_seen heap.old.blocks.items) gate.at).queue)
+        (on_top w.processes process rest (frame_seen frame.new) (blocks_seen heap.new.blocks.items)) }
     ensures same { OnErr result (frame_seen frame.new ≡ frame_seen frame.old) }
-    ensures same_blocks { OnErr result (blocks_seen blocks.new.items ≡ blocks_seen blocks.old.items) }
+    ensures same_blocks { OnErr result (blocks_seen heap.new.blocks.items ≡ blocks_seen heap.old.blocks.items) }
 {
-    let Some(message) = front(blocks, gate.at) else {
-        return close(frame, blocks, cases, gate);
+    let Some(message) = front(heap.blocks(), gate.at) else {
+        return close(frame, heap.blocks(), cases, gate);
     };
     let Some(case) = cases.find(gate.variable, Some(message)) else {
         return Err(Refusal::Fault(Fault::F5));
@@ -128,7 +129,7 @@ fn come(
         at: gate.at,
         message,
     };
-    receive_at(program, frame, blocks, process, case, arrival);
+    receive_at(program, frame, heap, process, case, arrival);
     Ok(())
 }
 
@@ -136,26 +137,27 @@ fn come(
 pub(crate) fn switch(
     program: &Program,
     frame: &mut Frame,
-    blocks: &mut Vec<Block>,
+    heap: &mut Heap,
     process: usize,
     cases: &Cases,
     choice: usize,
 ) -> Result<(), Refusal>
     requires there { choice < length (first_mentions [] (cases_seen cases.now)) }
-    ensures tells { (bound : Bounds) (w : seen.World) (rest : List seen.Frame) (place : Place) → w.blocks ≡ blocks_seen blocks.old.items →
+    ensures tells { (bound : Bounds) (w : seen.World) (rest : List seen.Frame) (place : Place) →
+        w.blocks ≡ blocks_seen heap.old.blocks.items →
         Tells result (event_of (seen_of program.now) bound w process (frame_seen frame.old) rest
         (graphs.Switch place (cases_seen cases.now)) choice)
-        (on_top w.processes process rest (frame_seen frame.new) (blocks_seen blocks.new.items)) }
+        (on_top w.processes process rest (frame_seen frame.new) (blocks_seen heap.new.blocks.items)) }
     ensures same { OnErr result (frame_seen frame.new ≡ frame_seen frame.old) }
-    ensures same_blocks { OnErr result (blocks_seen blocks.new.items ≡ blocks_seen blocks.old.items) }
+    ensures same_blocks { OnErr result (blocks_seen heap.new.blocks.items ≡ blocks_seen heap.old.blocks.items) }
 {
     let endpoints = cases.endpoints();
-    are_own(frame, blocks, process, endpoints)?;
+    are_own(frame, heap.blocks(), process, endpoints)?;
     let endpoint = endpoints[choice];
     let at = frame.has(endpoint).unwrap_or(0);
     let gate = Gate {
         variable: endpoint.variable,
         at,
     };
-    come(program, frame, blocks, process, cases, gate)
+    come(program, frame, heap, process, cases, gate)
 }

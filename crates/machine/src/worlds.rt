@@ -1,5 +1,6 @@
 //! Worlds as they lie in memory.
 
+use crate::heaps::Heap;
 use program::{Kind, MessageId, MethodId, StateId};
 use std::collections::VecDeque;
 
@@ -52,5 +53,5 @@ pub struct Process {
 #[derive(Drop)]
 pub struct World {
     pub(crate) processes: Vec<Process>,
-    pub(crate) blocks: Vec<Block>,
+    pub(crate) heap: Heap,
 }

@@ -22,13 +22,14 @@ use Rattle.program.specs.declared.method.Role.{Role}
 use Rattle.resolving.specs.Brought.{messages_told}
 use Rattle.resolving.specs.Kinds.{kind_held, result_held, state_in, type_held}
 use Rattle.resolving.specs.Locals.{Frame, declared, declared_as, number_of}
-use Rattle.resolving.specs.Methods.{body_told, method_told, methods_told, no_variables, parameter_declaration, parameters_frame, role_of}
+use Rattle.resolving.specs.Methods.{body_told, method_told, methods_told, no_variables, parameter_declaration, parameters_frame, role_of, takes_some}
 use Rattle.resolving.specs.Told.{stays_here}
 use Rattle.program.specs.Lists.{Each}
 use Rattle.program.specs.WellFormed.{AreStatements, AreWellFormed, IsKind, IsWellFormed, Setting, is_parameter, setting}
 use Rattle.program.specs.Scopes.{IsInScope}
 use Rattle.program.specs.declared.limits.TheConstants.{MOST_VARIABLES}
 use Rattle.program.specs.declared.method.Role.TheVariants as role
+use Rattle.wellformed.specs.Bare.{IsBare}
 use Rattle.wellformed.proofs.BroughtLemmas.{brought_kinds}
 use Rattle.wellformed.proofs.GrowthLemmas.{Nests, declared_nests, declared_within, statements_grow, statements_nest, within_before}
 use Rattle.wellformed.proofs.KindLemmas.{heap_block, held_as, held_kind, type_known}
@@ -145,6 +146,19 @@ parameter_before : (p : Program) (first more : List VariableSeen) (n : ℕ) (v :
 parameter_before p [] more n v local at param = absurd (no_parameter p more n v local at param)
 parameter_before p (x ∷ first) more zero v local at param = omega arith
 parameter_before p (x ∷ first) more (suc n) v local at param = let before = parameter_before p first more n v local at param in omega arith
+
+-- a method without parameters has none of the exchange heap
+no_parameters : (p : Program) (class : ℕ) (params : List Parameter) (b : BlockTree) (n : ℕ) (v : VariableSeen) (is : Bool) → takes_some params ≡ false
+    → slice_get (body_told p class b (parameters_frame p params no_variables)).frame.variables n ≡ Some v → is_parameter v.role ≡ is → is ≡ false
+no_parameters p class params b n v false none there is = refl
+no_parameters p class (x ∷ params) b n v true none there is = cc
+no_parameters p class [] b n v true none there is =
+    let grows = body_grows p class b no_variables in
+    let before = parameter_before p [] grows.more n v grows.local (subst (λ l. slice_get l n ≡ Some v) grows.is there) is in
+    absurd (omega (arith, before))
+
+pub all_bare : (p : Program) → Each IsBare (methods_told p)
+all_bare p = every_method IsBare p (λ class c m place there at. λ none n v is. no_parameters p class m.params m.body n v (is_parameter v.role) none is refl)
 
 result_kind : (p : Program) (t : Option tree.Type.Type) (o : Option Kind) → result_held p t ≡ o → IfSome o (IsKind (contracts p))
 result_kind p t None is = tt

@@ -10,6 +10,8 @@ ghost use Rattle.names.specs.Resolution.{resolved_contracts};
 ghost use Rattle.program.specs.declared.limits.TheConstants.{MOST_METHODS};
 ghost use Rattle.resolving.specs.Brought.{messages_told};
 ghost use Rattle.resolving.specs.Methods.{methods_told};
+ghost use Rattle.program.specs.Lists.{Each};
+ghost use Rattle.wellformed.specs.Bare.{IsBare};
 
 use program::{Methods, Resolved};
 use resolving::{Program, resolve_methods};
@@ -19,7 +21,8 @@ use tree::Tree;
 
 /// The methods of a program with whose names and kinds nothing is wrong, and of which these are the contracts.
 ///
-/// `Memory` is answered where a growth was refused; the contracts are lost then.
+/// A method that takes nothing has no parameter of the exchange heap either. `Memory` is answered where a growth was refused; the contracts
+/// are lost then.
 pub fn well_formed_methods(
     alloc: Global,
     tree: &Tree,
@@ -32,6 +35,7 @@ pub fn well_formed_methods(
     ensures contracts { IfOk result (λ m. contracts_seen m ≡ map contract_seen contracts.contracts.items) }
     ensures messages { IfOk result (λ m. messages_seen m ≡ messages_told (program_of tokens.now.text.items tree.now)) }
     ensures methods { IfOk result (λ m. methods_seen m ≡ methods_told (program_of tokens.now.text.items tree.now)) }
+    ensures bare { IfOk result (λ m. Each IsBare (methods_seen m)) }
     ensures few { IfOk result (λ m. length (methods_seen m) ≤ MOST_METHODS) }
 {
     let Program { messages, methods } = resolve_methods(alloc, tree, tokens, &contracts)?;

@@ -1,20 +1,24 @@
-use Rattle.std.proofs.Common.{sym, ap, ◌∙◌, ◌∷◌, [], take}
+use Rattle.std.proofs.Common.{refl, sym, ap, ◌∙◌, ◌∷◌, [], take}
 use Rattle.std.specs.Prelude.{get_or}
 use Rattle.std.proofs.lemmas.List.{take_more}
 use Rattle.machine.specs.Blocks.{handed}
-use Rattle.machine.specs.Views.{blocks_seen}
+use Rattle.machine.specs.BlockViews.{blocks_seen}
 use Rattle.machine.specs.World.{changed}
 use Rattle.machine.proofs.ChangeLemmas.{handed_nothing, handed_more}
 use Rattle.machine.proofs.changing.hand.Goals as goal
 
 pub loop-a-init : goal.loop-a-init
-loop-a-init c = sym (handed_nothing c.args.to (blocks_seen c.args.blocks.now.items))
+loop-a-init c = record { seen = sym (handed_nothing c.args.to (blocks_seen c.args.blocks.now.items)); counted = c.requires.counted; listed = refl }
 
 pub loop-a-preserved : goal.loop-a-preserved
 loop-a-preserved c =
     let a = get_or c.args.given.now c.loop-a.a-index 0 in
     let so_far = take c.loop-a.a-index c.args.given.now in
-    c.hand_one.ensures
-    ∙ (ap (changed (handed c.args.to (a ∷ []))) c.loop-a.invariant
-    ∙ (handed_more c.args.to so_far a (blocks_seen c.args.blocks.now.items)
-    ∙ ap (λ g. changed (handed c.args.to g) (blocks_seen c.args.blocks.now.items)) (sym (take_more c.args.given.now c.loop-a.a-index 0 c.loop-a-test.true))))
+    record {
+      seen = c.hand_one.ensures.handed
+          ∙ (ap (changed (handed c.args.to (a ∷ []))) c.loop-a.invariant.seen
+          ∙ (handed_more c.args.to so_far a (blocks_seen c.args.blocks.now.items)
+          ∙ ap (λ g. changed (handed c.args.to g) (blocks_seen c.args.blocks.now.items)) (sym (take_more c.args.given.now c.loop-a.a-index 0 c.loop-a-test.true))));
+      counted = c.hand_one.ensures.counted;
+      listed = c.hand_one.ensures.listed ∙ c.loop-a.invariant.listed;
+    }

@@ -1,5 +1,5 @@
 use Rattle.std.proofs.Common.{ap, sym, ◌∙◌}
-use Rattle.flow.specs.Graphs.{Use, New, Move, Delete, NewChannel, Switch, cases_seen, instruction_seen}
+use Rattle.flow.specs.Graphs.{Use, Move, instruction_seen}
 use Rattle.rules.specs.Programs.{seen_of}
 use Rattle.machine.specs.Machine.{event_of}
 use Rattle.machine.specs.Outcomes.{Moved}
@@ -15,8 +15,8 @@ returns-in-Use-clause-tells c = λ bound w rest are is.
     let i = Use c.in-Use.at c.in-Use.next in
     let self = c.args.chosen.process in
     frame_tells _ c.use_.result p bound w self f rest (instruction_seen c.args.instr.now) i c.args.chosen.choice _ (ap instruction_seen c.in-Use.is)
-    (slice_tells _ c.use_.result (event_of p bound w self f rest i 0) w.processes self rest (frame_seen c.use_.new.frame) c.deref.result.now c.args.blocks.now.items c.deref.ensures.value
-    (c.use_.ensures.tells p bound w rest (is ∙ ap blocks_seen (sym c.deref.ensures.value))))
+    (slice_tells _ c.use_.result (event_of p bound w self f rest i 0) w.processes self rest (frame_seen c.use_.new.frame) c.blocks-in-Use.result.now c.args.heap.now.blocks.items c.blocks-in-Use.ensures
+    (c.use_.ensures.tells p bound w rest (is ∙ ap blocks_seen (sym c.blocks-in-Use.ensures))))
 
 pub returns-in-Move-clause-tells : goal.returns-in-Move-clause-tells
 returns-in-Move-clause-tells c = λ bound w rest are is.
@@ -25,36 +25,8 @@ returns-in-Move-clause-tells c = λ bound w rest are is.
     let i = Move c.in-Move.target c.in-Move.source c.in-Move.next in
     let self = c.args.chosen.process in
     frame_tells _ c.move_.result p bound w self f rest (instruction_seen c.args.instr.now) i c.args.chosen.choice _ (ap instruction_seen c.in-Move.is)
-    (slice_tells _ c.move_.result (event_of p bound w self f rest i 0) w.processes self rest (frame_seen c.move_.new.frame) c.deref-in-Move.result.now c.args.blocks.now.items c.deref-in-Move.ensures.value
-    (c.move_.ensures.tells p bound w rest (is ∙ ap blocks_seen (sym c.deref-in-Move.ensures.value))))
-
-pub returns-in-New-clause-tells : goal.returns-in-New-clause-tells
-returns-in-New-clause-tells c = λ bound w rest are is.
-    let p = seen_of c.args.program.now in
-    let f = frame_seen c.args.frame.now in
-    frame_tells _ c.new.result p bound w c.args.chosen.process f rest (instruction_seen c.args.instr.now) (New c.in-New.target c.in-New.arguments.items c.in-New.next) c.args.chosen.choice _ (ap instruction_seen c.in-New.is)
-    (c.new.ensures.tells bound w rest c.in-New.arguments.items is)
-
-pub returns-in-NewChannel-clause-tells : goal.returns-in-NewChannel-clause-tells
-returns-in-NewChannel-clause-tells c = λ bound w rest are is.
-    let p = seen_of c.args.program.now in
-    let f = frame_seen c.args.frame.now in
-    frame_tells _ c.new_channel.result p bound w c.args.chosen.process f rest (instruction_seen c.args.instr.now) (NewChannel c.in-NewChannel.channel c.in-NewChannel.next) c.args.chosen.choice _ (ap instruction_seen c.in-NewChannel.is)
-    (c.new_channel.ensures.tells bound w rest is)
-
-pub returns-in-Delete-clause-tells : goal.returns-in-Delete-clause-tells
-returns-in-Delete-clause-tells c = λ bound w rest are is.
-    let p = seen_of c.args.program.now in
-    let f = frame_seen c.args.frame.now in
-    frame_tells _ c.delete.result p bound w c.args.chosen.process f rest (instruction_seen c.args.instr.now) (Delete c.in-Delete.at c.in-Delete.next) c.args.chosen.choice _ (ap instruction_seen c.in-Delete.is)
-    (c.delete.ensures.tells p bound w rest is)
-
-pub returns-in-Switch-clause-tells : goal.returns-in-Switch-clause-tells
-returns-in-Switch-clause-tells c = λ bound w rest are is.
-    let p = seen_of c.args.program.now in
-    let f = frame_seen c.args.frame.now in
-    frame_tells _ c.switch.result p bound w c.args.chosen.process f rest (instruction_seen c.args.instr.now) (Switch c.in-Switch.place (cases_seen c.in-Switch.cases)) c.args.chosen.choice _ (ap instruction_seen c.in-Switch.is)
-    (c.switch.ensures.tells bound w rest c.in-Switch.place is)
+    (slice_tells _ c.move_.result (event_of p bound w self f rest i 0) w.processes self rest (frame_seen c.move_.new.frame) c.blocks-in-Move.result.now c.args.heap.now.blocks.items c.blocks-in-Move.ensures
+    (c.move_.ensures.tells p bound w rest (is ∙ ap blocks_seen (sym c.blocks-in-Move.ensures))))
 
 pub returns-in-Branch-clause-tells : goal.returns-in-Branch-clause-tells
 returns-in-Branch-clause-tells c = λ bound w rest are is.

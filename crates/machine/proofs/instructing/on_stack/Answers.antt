@@ -1,4 +1,4 @@
-use Rattle.std.proofs.Common.{ap, sym, ◌∙◌, None}
+use Rattle.std.proofs.Common.{ap, refl, None}
 use Rattle.flow.specs.Graphs.{instruction_seen}
 use Rattle.rules.specs.Programs.{seen_of}
 use Rattle.machine.specs.Answers.{ended}
@@ -11,7 +11,7 @@ returns-in-Stop-clause-tells c = λ bound w are is.
     let p = seen_of c.args.program.now in
     let self = c.args.chosen.process in
     let stack = stack_seen c.args.stack.now in
-    tells_at c.end.result _ (ended p bound w self None stack) w self (stack_seen c.end.new.stack) (blocks_seen c.deref-in-Stop.result.now) (blocks_seen c.args.blocks.now.items)
+    let blocks = blocks_seen c.args.heap.now.blocks.items in
+    tells_at c.end.result _ (ended p bound w self None stack) w self (stack_seen c.end.new.stack) blocks blocks
     (stop_is p bound w self (instruction_seen c.args.instr.now) c.in-Stop.place c.args.chosen.choice stack (ap instruction_seen c.in-Stop.is))
-    (ap blocks_seen c.deref-in-Stop.ensures.value)
-    (c.end.ensures.tells bound w (is ∙ ap blocks_seen (sym c.deref-in-Stop.ensures.value)))
+    refl (c.end.ensures.tells bound w is)

@@ -41,6 +41,8 @@ returns-in-Err c = λ bound are.
       ends = record {
         event = e;
         there = slice_get-get_or events n no_event c.loop-steps-test.true;
-        tells = subst (λ w. TellsStep {X = Unit {0}} (Err c.in-Err.halt) (event_outcome p bound w e) (process_place p w e.process) (world_seen c.step.new.self)) same (c.in-Err.ensures.tells bound are);
+        tells = subst (λ h. TellsStep {X = Unit {0}} (Err h) (event_outcome p bound (world_seen c.step.new.self) e) (process_place p (world_seen c.step.new.self) e.process) (world_seen c.step.new.self)) (sym c.in_ok-halt-in-Err.ensures.same)
+            (subst (λ w. TellsStep {X = Unit {0}} (Err c.in-Err.halt) (event_outcome p bound w e) (process_place p w e.process) (world_seen c.step.new.self)) same (c.in-Err.ensures.tells bound are));
       };
+      known = c.in_ok-halt-in-Err.ensures.known;
     }

@@ -1,11 +1,14 @@
-use Rattle.std.proofs.Common.{◌≡◌, [], Some, sym, ap, ◌∙◌, length, map, reverse}
+use Rattle.std.proofs.Common.{◌≡◌, [], Some, sym, subst, ap, ◌∙◌, length, map, reverse}
 use Rattle.std.proofs.lemmas.List.{get_or-map}
 use Rattle.rules.specs.Programs.{seen_of}
-use Rattle.machine.specs.Blocks.{argument_tests_in}
+use Rattle.machine.specs.Blocks.{argument_tests_in, handed}
 use Rattle.machine.specs.Frames.{addresses}
 use Rattle.machine.specs.Views.{blocks_seen, frame_seen, stack_of, stack_seen, world_seen}
-use Rattle.machine.specs.World.{stack_at}
+use Rattle.machine.specs.World.{changed, stack_at}
+use Rattle.machine.specs.declared.worlds.Owner.TheVariants.{Process}
 use Rattle.machine.proofs.CallLemmas.{pass_alone, passed_on, told_alone}
+use Rattle.machine.specs.Heaps.{AreOwned}
+use Rattle.machine.proofs.PassLemmas.{pass_owned}
 use Rattle.machine.proofs.StartLemmas.{start_is, started_is, started_to}
 use Rattle.machine.proofs.starting.start.Goals as goal
 
@@ -19,9 +22,9 @@ returns-in_err-owned-clause-tells c = λ bound.
     let x = c.in_err-owned.field-0.0 in
     let start = c.args.starting.now in
     let here : stack_seen s ≡ stack_at (map stack_seen ps) c.args.process = ap stack_seen c.index.ensures ∙ sym (get_or-map stack_seen ps c.args.process s [] c.requires.there) in
-    told_alone _ c.from_residual.result x (argument_tests_in (blocks_seen c.deref.result.now) c.args.process f.variables.items [] c.deref-2.result.now)
+    told_alone _ c.from_residual.result x (argument_tests_in (blocks_seen c.blocks-2.result.now) c.args.process f.variables.items [] c.deref.result.now)
     (started_to p w c.args.process f (map frame_seen (reverse s.waiting.items)) start.method start.arguments.items start.next) _ _ (passed_on _ c.from_residual.result x c.from_residual.ensures.1) c.in_err-owned.ensures.refusal
-    (start_is p bound w c.args.process start.place start.method start.arguments.items c.deref-2.result.now start.next _ s f (blocks_seen c.deref.result.now) here c.in-Some.is (ap blocks_seen c.deref.ensures.value) c.deref-2.ensures.value)
+    (start_is p bound w c.args.process start.place start.method start.arguments.items c.deref.result.now start.next _ s f (blocks_seen c.blocks-2.result.now) here c.in-Some.is (ap blocks_seen c.blocks-2.ensures) c.deref.ensures.value)
 
 pub returns-clause-tells : goal.returns-clause-tells
 returns-clause-tells c = λ bound.
@@ -33,9 +36,19 @@ returns-clause-tells c = λ bound.
     let start = c.args.starting.now in
     let here : stack_seen s ≡ stack_at (map stack_seen ps) c.args.process = ap stack_seen c.index.ensures ∙ sym (get_or-map stack_seen ps c.args.process s [] c.requires.there) in
     let many : c.len-number.result ≡ length ps = c.len-number.ensures ∙ c.args.world.now.processes.ok.0 in
-    start_is p bound w c.args.process start.place start.method start.arguments.items c.deref-2.result.now start.next _ s f (blocks_seen c.deref.result.now) here c.in-Some.is (ap blocks_seen c.deref.ensures.value) c.deref-2.ensures.value
-    ∙ (pass_alone (argument_tests_in (blocks_seen c.deref.result.now) c.args.process f.variables.items [] c.deref-2.result.now) _ c.in_ok-owned.ensures.pass
-    ∙ started_is p ps c.args.process s f start.method start.arguments.items c.deref-3.result.now c.deref-5.result.now start.next c.in_ok-begun.begun _ c.push.new.self.items c.index_mut.result.now c.go_on.new.stack c.len-number.result c.deref-4.result.now
-    (blocks_seen c.args.world.now.blocks.items) (blocks_seen c.hand.new.blocks.items)
-    c.requires.there c.index.ensures c.in-Some.is c.deref-3.ensures.value c.in_ok-begun.ensures.entered (ap (λ ws. stack_of (Some c.in_ok-begun.begun) ws) c.new.ensures.items) c.in_ok-push.ensures.items c.index_mut.ensures.value c.deref-5.ensures.value c.go_on.ensures many
-    (c.deref-4.ensures.value ∙ (c.in_ok-owned.ensures.value ∙ ap (λ l. addresses f.variables.items l) c.deref-2.ensures.value)) c.hand.ensures)
+    start_is p bound w c.args.process start.place start.method start.arguments.items c.deref.result.now start.next _ s f (blocks_seen c.blocks-2.result.now) here c.in-Some.is (ap blocks_seen c.blocks-2.ensures) c.deref.ensures.value
+    ∙ (pass_alone (argument_tests_in (blocks_seen c.blocks-2.result.now) c.args.process f.variables.items [] c.deref.result.now) _ c.in_ok-owned.ensures.pass
+    ∙ started_is p ps c.args.process s f start.method start.arguments.items c.deref-2.result.now c.deref-4.result.now start.next c.in_ok-begun.begun _ c.push.new.self.items c.index_mut.result.now c.go_on.new.stack c.len-number.result c.deref-3.result.now
+    (blocks_seen c.args.world.now.heap.blocks.items) (blocks_seen c.hand_over.new.self.blocks.items)
+    c.requires.there c.index.ensures c.in-Some.is c.deref-2.ensures.value c.in_ok-begun.ensures.entered (ap (λ ws. stack_of (Some c.in_ok-begun.begun) ws) c.new.ensures.items) c.in_ok-push.ensures.items c.index_mut.ensures.value c.deref-4.ensures.value c.go_on.ensures many
+    (c.deref-3.ensures.value ∙ (c.in_ok-owned.ensures.value ∙ ap (λ l. addresses f.variables.items l) c.deref.ensures.value)) (c.hand_over.ensures ∙ ap (changed (handed (Process c.len-number.result) c.deref-3.result.now)) c.list.ensures.same))
+
+pub hand_over-requires-clause-owned : goal.hand_over-requires-clause-owned
+hand_over-requires-clause-owned c =
+    let variables = c.in-Some.frame.variables.items in
+    let blocks = blocks_seen c.blocks-2.result.now in
+    let arguments = c.deref.result.now in
+    let given : c.deref-3.result.now ≡ addresses variables arguments = c.deref-3.ensures.value ∙ c.in_ok-owned.ensures.value in
+    let same : blocks ≡ blocks_seen c.list.new.self.blocks.items = ap blocks_seen c.blocks-2.ensures ∙ sym c.list.ensures.same in
+    subst (λ bs. AreOwned bs c.deref-3.result.now) same
+    (subst (AreOwned blocks) (sym given) (pass_owned blocks c.args.process variables [] arguments c.in_ok-owned.ensures.pass))

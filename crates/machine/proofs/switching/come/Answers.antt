@@ -7,32 +7,37 @@ use Rattle.machine.specs.Answers.{Tells, front_of, on_top}
 use Rattle.machine.specs.Machine.{receives, receives_at}
 use Rattle.machine.specs.Views.{blocks_seen, frame_seen}
 use Rattle.machine.specs.World.{block_at}
-use Rattle.machine.proofs.SwitchLemmas.{front_there, no_front}
+use Rattle.machine.proofs.SwitchLemmas.{front_there, no_front, some_there}
 use Rattle.machine.proofs.switching.come.Goals as goal
 
 pub returns-in_default-clause-tells : goal.returns-in_default-clause-tells
 returns-in_default-clause-tells c = λ bound w rest is.
     let p = seen_of c.args.program.now in
-    let bs = blocks_seen c.args.blocks.now.items in
+    let bs = blocks_seen c.args.heap.now.blocks.items in
     let at = c.args.gate.at in
     let q = (block_at bs at).queue in
-    let empty : q ≡ [] = no_front q (ap (λ l. front_of (block_at (blocks_seen l) at).queue) (sym c.deref.ensures.value) ∙ (sym c.front.ensures ∙ ap (option_map (λ m. m.0)) c.in_default.is)) in
+    let empty : q ≡ [] = no_front q (ap (λ l. front_of (block_at (blocks_seen l) at).queue) (sym c.blocks-2.ensures) ∙ (sym c.front.ensures ∙ ap (option_map (λ m. m.0)) c.in_default.is)) in
     subst (λ x. Tells c.close.result (receives p bound w c.args.process (frame_seen c.args.frame.now) rest (cases_seen c.args.cases.now) c.args.gate.variable.0 at x) (on_top w.processes c.args.process rest (frame_seen c.close.new.frame) bs)) (sym empty)
-    (subst (λ l. Tells c.close.result (receives p bound w c.args.process (frame_seen c.args.frame.now) rest (cases_seen c.args.cases.now) c.args.gate.variable.0 at []) (on_top w.processes c.args.process rest (frame_seen c.close.new.frame) (blocks_seen l))) c.deref-in_default.ensures.value
-    (c.close.ensures.tells p bound w c.args.process rest (is ∙ ap blocks_seen (sym c.deref-in_default.ensures.value))))
+    (subst (λ l. Tells c.close.result (receives p bound w c.args.process (frame_seen c.args.frame.now) rest (cases_seen c.args.cases.now) c.args.gate.variable.0 at []) (on_top w.processes c.args.process rest (frame_seen c.close.new.frame) (blocks_seen l))) c.blocks-in_default.ensures
+    (c.close.ensures.tells p bound w c.args.process rest (is ∙ ap blocks_seen (sym c.blocks-in_default.ensures))))
 
 pub returns-clause-tells : goal.returns-clause-tells
 returns-clause-tells c = λ bound w rest is.
     let p = seen_of c.args.program.now in
-    let bs = blocks_seen c.args.blocks.now.items in
+    let bs = blocks_seen c.args.heap.now.blocks.items in
     let at = c.args.gate.at in
     let q = (block_at bs at).queue in
     let cs = cases_seen c.args.cases.now in
     let f = frame_seen c.args.frame.now in
     let v = c.args.gate.variable.0 in
-    let there = front_there q c.in-Some.message.0 (ap (λ l. front_of (block_at (blocks_seen l) at).queue) (sym c.deref.ensures.value) ∙ sym c.in-Some.ensures) in
+    let there = front_there q c.in-Some.message.0 (ap (λ l. front_of (block_at (blocks_seen l) at).queue) (sym c.blocks-2.ensures) ∙ sym c.in-Some.ensures) in
     let m = there.0 in
     let ms = there.1 in
     ap (receives p bound w c.args.process f rest cs v at) there.2
     ∙ (ap (λ k. receives_at p bound w c.args.process f rest k at m ms) (ap (λ n. case_for cs v (Some n)) (sym there.3) ∙ sym c.in-Some-find.ensures)
     ∙ c.receive_at.ensures bound w rest m ms is there.2 there.3)
+
+pub receive_at-requires-clause-some : goal.receive_at-requires-clause-some
+receive_at-requires-clause-some c =
+    let at = c.args.gate.at in
+    some_there (block_at (blocks_seen c.args.heap.now.blocks.items) at).queue c.in-Some.message.0 (ap (λ l. front_of (block_at (blocks_seen l) at).queue) (sym c.blocks-2.ensures) ∙ sym c.in-Some.ensures)

@@ -1,4 +1,4 @@
-use Rattle.std.proofs.Common.{map, sym, subst}
+use Rattle.std.proofs.Common.{◌∙◌, map, sym, subst}
 use Rattle.tree.specs.Trees.{contracts_of}
 use Rattle.names.specs.Program.{program_of}
 use Rattle.names.specs.Resolution.{resolved_contracts}
@@ -6,7 +6,9 @@ use Rattle.program.specs.Methods.{method_seen}
 use Rattle.resolving.specs.Brought.{messages_told}
 use Rattle.program.specs.Programs.{rows}
 use Rattle.program.specs.WellFormed.{AreWellFormed}
-use Rattle.wellformed.proofs.MethodLemmas.{well_formed}
+use Rattle.program.specs.Lists.{Each}
+use Rattle.wellformed.specs.Bare.{IsBare}
+use Rattle.wellformed.proofs.MethodLemmas.{all_bare, well_formed}
 use Rattle.wellformed.proofs.methods.well_formed_methods.Goals as goal
 
 pub new-requires : goal.new-requires
@@ -18,3 +20,6 @@ new-requires c =
     record {
       well_formed = subst (λ cs. AreWellFormed cs (rows c.in_ok-messages.field-0.messages.items) (map method_seen c.in_ok-messages.field-0.methods.items)) (sym c.requires.contracts) brings;
     }
+
+pub returns-clause-bare : goal.returns-clause-bare
+returns-clause-bare c = subst (Each IsBare) (sym (c.new.ensures.methods ∙ c.in_ok-messages.ensures.resolved)) (all_bare (program_of c.args.tokens.now.text.items c.args.tree.now))

@@ -1,0 +1,27 @@
+use Rattle.std.proofs.Common.{ap}
+use Rattle.flow.specs.Graphs.{New, Delete, NewChannel, instruction_seen}
+use Rattle.rules.specs.Programs.{seen_of}
+use Rattle.machine.specs.Views.{frame_seen}
+use Rattle.machine.proofs.StepLemmas.{frame_tells}
+use Rattle.machine.proofs.instructing.on_heap.Goals as goal
+
+pub returns-in-New-clause-tells : goal.returns-in-New-clause-tells
+returns-in-New-clause-tells c = λ bound w rest are is.
+    let p = seen_of c.args.program.now in
+    let f = frame_seen c.args.frame.now in
+    frame_tells _ c.new.result p bound w c.args.chosen.process f rest (instruction_seen c.args.instr.now) (New c.in-New.target c.in-New.arguments.items c.in-New.next) c.args.chosen.choice _ (ap instruction_seen c.in-New.is)
+    (c.new.ensures.tells bound w rest c.in-New.arguments.items is)
+
+pub returns-in-NewChannel-clause-tells : goal.returns-in-NewChannel-clause-tells
+returns-in-NewChannel-clause-tells c = λ bound w rest are is.
+    let p = seen_of c.args.program.now in
+    let f = frame_seen c.args.frame.now in
+    frame_tells _ c.new_channel.result p bound w c.args.chosen.process f rest (instruction_seen c.args.instr.now) (NewChannel c.in-NewChannel.channel c.in-NewChannel.next) c.args.chosen.choice _ (ap instruction_seen c.in-NewChannel.is)
+    (c.new_channel.ensures.tells bound w rest is)
+
+pub returns-in-Delete-clause-tells : goal.returns-in-Delete-clause-tells
+returns-in-Delete-clause-tells c = λ bound w rest are is.
+    let p = seen_of c.args.program.now in
+    let f = frame_seen c.args.frame.now in
+    frame_tells _ c.delete.result p bound w c.args.chosen.process f rest (instruction_seen c.args.instr.now) (Delete c.in-Delete.at c.in-Delete.next) c.args.chosen.choice _ (ap instruction_seen c.in-Delete.is)
+    (c.delete.ensures.tells p bound w rest is)

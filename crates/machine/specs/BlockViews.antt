@@ -1,0 +1,17 @@
+-- Blocks without where they lie in memory.
+use Rattle.std.specs.Prelude.{List, map}
+use Rattle.machine.specs.World.{MessageHeld, Block}
+use Rattle.machine.specs.declared.worlds.Block as made_block
+use Rattle.machine.specs.declared.worlds.Held as made_held
+
+-- a message in a queue
+abbrev pub held_seen : made_held.Held → MessageHeld
+held_seen h = record { message = h.message.0; payload = h.payload.items }
+
+-- a block
+abbrev pub block_seen : made_block.Block → Block
+block_seen b = record { kind = b.kind; owner = b.owner; peer = b.peer; state = b.state.0; queue = map held_seen b.queue.items }
+
+-- all blocks, by their addresses
+abbrev pub blocks_seen : List made_block.Block → List Block
+blocks_seen blocks = map block_seen blocks

@@ -1,0 +1,57 @@
+-- What a heap keeps true of its blocks, so that no step has to go over all of them.
+use Rattle.std.specs.Prelude.{◌≡◌, ℕ, ◌+◌, ◌<◌, ◌==◌, Bool, true, false, List, [], ◌∷◌, ◌++◌, get_or, length}
+use Rattle.program.specs.Lists.{is_among}
+use Rattle.machine.specs.World.{Block, MessageHeld, block_at, is_process, is_queue}
+use Rattle.machine.specs.declared.worlds.Owner.{Owner}
+use Rattle.machine.specs.declared.worlds.Owner.TheVariants.{Process}
+
+-- 1 where it is so, and else 0
+abbrev pub one_if : Bool → ℕ
+one_if true = 1
+one_if false = 0
+
+-- how many blocks a process has
+abbrev pub owned_by : List Block → ℕ → ℕ
+owned_by [] q = 0
+owned_by (b ∷ blocks) q = one_if (is_process b.owner q) + owned_by blocks q
+
+-- how often a number stands in a list
+abbrev pub occurs : List ℕ → ℕ → ℕ
+occurs [] n = 0
+occurs (x ∷ xs) n = one_if (x == n) + occurs xs n
+
+-- the addresses that the messages of a queue bring
+abbrev pub brings : List MessageHeld → List ℕ
+brings [] = []
+brings (m ∷ ms) = m.payload ++ brings ms
+
+-- Each process has as many blocks as its count says. One without a count has none.
+pub record IsCounted (blocks : List Block) (counts : List ℕ) : Type 0 where
+  pub counts_are : (q : ℕ) → get_or counts q 0 ≡ owned_by blocks q
+
+-- The messages of a queue bring each block that it owns once, and no other.
+pub record IsBrought (blocks : List Block) : Type 0 where
+  pub brings_are : (a j : ℕ) → occurs (brings (block_at blocks a).queue) j ≡ one_if (is_queue (block_at blocks j).owner a)
+
+-- what a heap keeps true
+pub record IsHeap (blocks : List Block) (counts : List ℕ) : Type 0 where
+  pub counted : IsCounted blocks counts
+  pub brought : IsBrought blocks
+
+-- an owner that may be given a block: a process needs a count
+abbrev pub IsListed : List ℕ → Owner → Type 0
+IsListed counts (Process q) = q < length counts
+IsListed counts _ = Unit {0}
+
+-- whether it is a process
+abbrev pub of_process : Owner → Bool
+of_process (Process q) = true
+of_process _ = false
+
+-- each of these blocks is a process's
+pub record AreOwned (blocks : List Block) (given : List ℕ) : Type 0 where
+  pub own : (j : ℕ) → is_among given j ≡ true → of_process (block_at blocks j).owner ≡ true
+
+-- none of these is there twice
+pub record AreOnce (given : List ℕ) : Type 0 where
+  pub once : (j : ℕ) → occurs given j ≡ one_if (is_among given j)

@@ -1,0 +1,182 @@
+//! Blocks, with what is kept of them so that no step has to go over all of them.
+
+ghost use Rattle.std.specs.Prelude.{◌≡◌, ◌<◌, ◌++◌, ◌∷◌, [], IfErr, IsFalse, IsTrue, List, OnErr, OnOk, false, length, true};
+ghost use Rattle.machine.specs.BlockViews.{block_seen, blocks_seen};
+ghost use Rattle.machine.specs.Blocks.{freed_block, handed, owns_none, received_block, sent_block};
+ghost use Rattle.machine.specs.Heaps.{AreOnce, AreOwned, IsHeap, of_process};
+ghost use Rattle.machine.specs.World.{MessageHeld, block_at, changed, owns};
+
+use crate::changing::{
+    count_more, enqueue, hand, hand_one, lose, set_state, take_front, take_queue,
+};
+use crate::edges::Way;
+use crate::halts::Refusal;
+use crate::worlds::{Block, Held, Owner};
+use program::{MessageId, StateId};
+use std::alloc::Global;
+
+/// Blocks by their addresses, and by its number how many of them each process has.
+#[derive(Drop)]
+pub(crate) struct Heap {
+    blocks: Vec<Block>,
+    counts: Vec<usize>,
+    ghost kept: { IsHeap (blocks_seen blocks.items) counts.items },
+}
+
+impl Heap {
+    /// A heap of no block.
+    pub(crate) fn new(alloc: Global) -> Heap
+        ensures { blocks_seen result.blocks.items ≡ [] }
+    {
+        Heap {
+            blocks: Vec::new(alloc),
+            counts: Vec::new(alloc),
+        }
+    }
+
+    /// Its blocks, by their addresses.
+    pub(crate) fn blocks(&self) -> &[Block]
+        ensures { result.now ≡ self.now.blocks.items }
+    {
+        &self.blocks
+    }
+
+    /// Whether a process owns nothing.
+    pub(crate) fn owns_none(&self, process: usize) -> bool
+        ensures { result ≡ owns_none (blocks_seen self.now.blocks.items) process }
+    {
+        process >= self.counts.len() || self.counts[process] == 0
+    }
+
+    /// There is a count for a process from now on. It is asked for before the process is first given a block.
+    pub(crate) fn list(&mut self, process: usize) -> Result<(), Refusal>
+        ensures same { blocks_seen self.new.blocks.items ≡ blocks_seen self.old.blocks.items }
+        ensures listed { OnOk result (process < length self.new.counts.items) }
+        ensures memory { IfErr result (λ refusal. refusal ≡ Refusal.Memory) }
+    {
+        while self.counts.len() <= process {
+            self.counts.push(0)?;
+        }
+        Ok(())
+    }
+
+    /// A process has a new block, of which the queue is empty.
+    pub(crate) fn add(&mut self, process: usize, block: Block) -> Result<(), Refusal>
+        requires owner { block.owner ≡ Owner.Process process }
+        requires empty { block.queue.items ≡ [] }
+        ensures added { OnOk result (blocks_seen self.new.blocks.items ≡ blocks_seen self.old.blocks.items ++ block_seen block ∷ []) }
+        ensures same { OnErr result (blocks_seen self.new.blocks.items ≡ blocks_seen self.old.blocks.items) }
+        ensures memory { IfErr result (λ refusal. refusal ≡ Refusal.Memory) }
+    {
+        self.list(process)?;
+        self.blocks.push(block)?;
+        count_more(&mut self.counts, Owner::Process(process));
+        Ok(())
+    }
+
+    /// A process has two new blocks, of which the queues are empty.
+    pub(crate) fn add_two(
+        &mut self,
+        process: usize,
+        first: Block,
+        second: Block,
+    ) -> Result<(), Refusal>
+        requires owner { first.owner ≡ Owner.Process process }
+        requires owner_too { second.owner ≡ Owner.Process process }
+        requires empty { first.queue.items ≡ [] }
+        requires empty_too { second.queue.items ≡ [] }
+        ensures added { OnOk result (blocks_seen self.new.blocks.items
+            ≡ blocks_seen self.old.blocks.items ++ block_seen first ∷ block_seen second ∷ []) }
+        ensures same { OnErr result (blocks_seen self.new.blocks.items ≡ blocks_seen self.old.blocks.items) }
+        ensures memory { IfErr result (λ refusal. refusal ≡ Refusal.Memory) }
+    {
+        self.list(process)?;
+        self.blocks.reserve(2)?;
+        self.blocks.push(first)?;
+        self.blocks.push(second)?;
+        count_more(&mut self.counts, Owner::Process(process));
+        count_more(&mut self.counts, Owner::Process(process));
+        Ok(())
+    }
+
+    /// Frees a block of a process. Its queue is emptied, and what that had goes to the channel.
+    pub(crate) fn free(&mut self, alloc: Global, a: usize)
+        requires owned { of_process (block_at (blocks_seen self.old.blocks.items) a).owner ≡ true }
+        ensures { blocks_seen self.new.blocks.items ≡ changed (freed_block a) (blocks_seen self.old.blocks.items) }
+    {
+        let queue = take_queue(alloc, &mut self.blocks, a);
+        lose(&mut self.blocks, &mut self.counts, &queue);
+        hand_one(&mut self.blocks, &mut self.counts, a, Owner::Freed);
+    }
+
+    /// What processes have goes to a process.
+    pub(crate) fn hand_over(&mut self, given: &[usize], process: usize)
+        requires owned { AreOwned (blocks_seen self.old.blocks.items) given.now }
+        requires listed { process < length self.old.counts.items }
+        ensures { blocks_seen self.new.blocks.items
+            ≡ changed (handed (Owner.Process process) given.now) (blocks_seen self.old.blocks.items) }
+    {
+        hand(
+            &mut self.blocks,
+            &mut self.counts,
+            given,
+            Owner::Process(process),
+        );
+    }
+
+    /// The endpoint sends what processes have: it goes on to a state, and the message goes to its peer, or what it brings to the channel
+    /// where the peer is gone. False where there is no memory for the message.
+    pub(crate) fn send(
+        &mut self,
+        alloc: Global,
+        way: Way,
+        message: MessageId,
+        given: &[usize],
+    ) -> bool
+        requires owned { AreOwned (blocks_seen self.old.blocks.items) given.now }
+        requires once { AreOnce given.now }
+        requires there { way.gone ≡ false → way.peer < length (blocks_seen self.old.blocks.items) }
+        ensures done { IsTrue result → blocks_seen self.new.blocks.items
+            ≡ changed (sent_block way.at way.state.0 way.peer way.gone record { message = message.0; payload = given.now })
+            (blocks_seen self.old.blocks.items) }
+        ensures same { IsFalse result → blocks_seen self.new.blocks.items ≡ blocks_seen self.old.blocks.items }
+    {
+        if way.gone {
+            hand(&mut self.blocks, &mut self.counts, given, Owner::Channel);
+            set_state(&mut self.blocks, way.at, way.state);
+            return true;
+        }
+        let Ok(payload) = Vec::from_slice(alloc, given) else {
+            return false;
+        };
+        if !enqueue(&mut self.blocks, way.peer, Held { message, payload }) {
+            return false;
+        }
+        let queue = Owner::Queue(way.peer);
+        hand(&mut self.blocks, &mut self.counts, given, queue);
+        set_state(&mut self.blocks, way.at, way.state);
+        true
+    }
+
+    /// The endpoint of a process receives the front of its queue, and is in a state then. What the message brings is answered.
+    pub(crate) fn receive(&mut self, at: usize, state: StateId, process: usize) -> Vec<usize>
+        requires owned { owns (blocks_seen self.old.blocks.items) process at ≡ true }
+        requires some { 0 < length (block_at (blocks_seen self.old.blocks.items) at).queue }
+        ensures brings { (m : MessageHeld) (ms : List MessageHeld) → (block_at (blocks_seen self.old.blocks.items) at).queue ≡ m ∷ ms →
+            result.items ≡ m.payload }
+        ensures received { (m : MessageHeld) (ms : List MessageHeld) → (block_at (blocks_seen self.old.blocks.items) at).queue ≡ m ∷ ms →
+            blocks_seen self.new.blocks.items ≡ changed (received_block process at state.0 m ms) (blocks_seen self.old.blocks.items) }
+    {
+        let Some(Held { payload, .. }) = take_front(&mut self.blocks, at) else {
+            unreachable!()
+        };
+        hand(
+            &mut self.blocks,
+            &mut self.counts,
+            &payload,
+            Owner::Process(process),
+        );
+        set_state(&mut self.blocks, at, state);
+        payload
+    }
+}
