@@ -88,6 +88,15 @@ pub of_read : (P : List ℕ → Type 0) (q : Option (List ℕ)) (bytes : List �
 of_read P None bytes front is told = tt
 of_read P (Some x) bytes front is told = front x (subst P is told)
 
+pub some_map : (q : Option (List ℕ)) (P Q : List ℕ → Type 0) → ((xs : List ℕ) → P xs → Q xs) → IfSome q P → IfSome q Q
+some_map None P Q more told = tt
+some_map (Some x) P Q more told = more x told
+
+-- what holds whatever a schedule has
+pub some_always : (q : Option (List ℕ)) (P : List ℕ → Type 0) → ((xs : List ℕ) → P xs) → IfSome q P
+some_always None P all = tt
+some_always (Some x) P all = all x
+
 -- a world to which events lead is one of a run
 run_of : (p : ProgramSeen) (bound : Bounds) (n : ℕ) (events : List Event) (w : World) → Leads p bound (start_of p n) events w → Run p bound n w
 run_of p bound n events w stays = begins
