@@ -23,6 +23,12 @@ fn ends_with_a_line_and_a_status(rt: HostRuntime) -> Result<(), Fail> {
     let mut slots = Page::new(rt.alloc(), 100, NEVER);
     assert!(rt; ending(&RunFault::Slots, "a.sg", &mut slots) == 2);
     assert!(rt; slots.bytes.as_slice() == b"singcheck: slots not 1 to 16777216\n".as_slice());
+    let mut entry = Page::new(rt.alloc(), 4, NEVER);
+    assert!(rt; ending(&RunFault::Entry, "K.None", &mut entry) == 2);
+    assert!(rt; entry.bytes.as_slice() == b"singcheck: no entry K.None\n".as_slice());
+    let mut line = Page::new(rt.alloc(), 100, NEVER);
+    assert!(rt; ending(&RunFault::Schedule(2), "a.sg", &mut line) == 2);
+    assert!(rt; line.bytes.as_slice() == b"singcheck: schedule line 2\n".as_slice());
     let mut closed = Page::new(rt.alloc(), 100, 1);
     assert!(rt; ending(&RunFault::Memory, "a.sg", &mut closed) == 4);
     Ok(())
@@ -58,6 +64,21 @@ fn asks_for_a_check_of_a_file(rt: HostRuntime) -> Result<(), Fail> {
         slots: 65_536,
     };
     assert!(rt; asked == usual);
+    Ok(())
+}
+
+#[test]
+fn asks_for_a_replay(rt: HostRuntime) -> Result<(), Fail> {
+    let words = ["singcheck", "replay", "a.sg", "K.Main", "a.txt"];
+    let asked = ask(rt.alloc(), words.as_slice())?;
+    let wanted = Ask::Replay {
+        file: "a.sg",
+        entry: "K.Main",
+        schedule: "a.txt",
+    };
+    assert!(rt; asked == wanted);
+    let missing = ["singcheck", "replay", "a.sg", "K.Main"];
+    assert!(rt; ask(rt.alloc(), missing.as_slice()).is_err());
     Ok(())
 }
 

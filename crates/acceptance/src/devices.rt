@@ -106,19 +106,19 @@ impl Sink for Page {
     }
 }
 
-/// What was taken, at most 128 bytes in all. It takes no memory.
+/// What was taken, at most 512 bytes in all. It takes no memory.
 #[derive(Drop)]
 pub struct Card {
-    bytes: [u8; 128],
+    bytes: [u8; 512],
     len: usize,
     failures: u64,
-    ghost within: { len ≤ 128 },
+    ghost within: { len ≤ 512 },
 }
 
 impl Card {
     pub fn new() -> Card {
         Card {
-            bytes: [0; 128],
+            bytes: [0; 512],
             len: 0,
             failures: 0,
         }

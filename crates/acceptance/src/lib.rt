@@ -26,6 +26,8 @@ mod parsing;
 #[cfg(test)]
 mod resolution;
 #[cfg(test)]
+mod schedules;
+#[cfg(test)]
 mod sharing;
 #[cfg(test)]
 mod shelves;

@@ -10,7 +10,9 @@ use Rattle.clap.specs.declared.parser.matches.ArgMatches.TheViews.{out-ArgMatche
 use Rattle.clap.specs.declared.parser.matches.SubCommand.{SubCommand}
 use Rattle.clap.proofs.OnLiterals.{clap_on_literals}
 use Rattle.clap.proofs.WalkLemmas.{first_value-rows}
-use Rattle.singcheck.specs.Asking.{AsksOf, whole_command}
+use Rattle.singcheck.specs.Asking.{Asks, AsksOf, Gives, GivesReplay, IsReplayOf, whole_command}
+use Rattle.singcheck.specs.declared.request.Ask.{Ask}
+use Rattle.singcheck.specs.declared.request.Ask.TheVariants.{Bounds, Check, Replay}
 
 whole_is_simple : is_simple whole_command ≡ true
 unfolding clap_on_literals
@@ -20,9 +22,21 @@ both_of : {Z : Type 0} (found : Option (Box SubCommand Z)) (name : Text) (rows :
 both_of None name rows e f = absurd (cc)
 both_of (Some b) name rows e f = cc
 
-pub asks_of : (words : List Text) (m inner : ArgMatches) (subcommand file : Text) (command : App) → command ≡ whole_command → HasMatchesOf command words m → subcommand_name_of m ≡ Some subcommand → option_map (λ p. p.1) (subcommand_rows (out-ArgMatches m).subcommand) ≡ Some (rows_of (found_of inner)) → first_value (found_of inner) (codes "FILE") ≡ Some file → AsksOf words subcommand file
-asks_of words m inner subcommand file command is has name rows first = record {
+pub asks_of : (words : List Text) (m inner : ArgMatches) (subcommand : Text) (command : App) (Holds : List Row → Type 0) → command ≡ whole_command → HasMatchesOf command words m → subcommand_name_of m ≡ Some subcommand
+    → option_map (λ p. p.1) (subcommand_rows (out-ArgMatches m).subcommand) ≡ Some (rows_of (found_of inner)) → Holds (rows_of (found_of inner)) → AsksOf words subcommand Holds
+asks_of words m inner subcommand command Holds is has name rows holds = record {
   rows = rows_of (found_of inner);
   named = sym (ap (λ a. subcommand_of a words) is) ∙ sym (has (ap is_simple is ∙ whole_is_simple)).1 ∙ both_of (out-ArgMatches m).subcommand subcommand (rows_of (found_of inner)) name rows;
-  first = sym (first_value-rows (found_of inner) (codes "FILE")) ∙ first;
+  given = holds;
 }
+
+-- the first text of a name
+pub gives : (inner : ArgMatches) (name text : Text) → first_value (found_of inner) name ≡ Some text → Gives (rows_of (found_of inner)) name text
+gives inner name text first = sym (first_value-rows (found_of inner) name) ∙ first
+
+-- a replay that the arguments give is one that the words ask for
+pub asks_replay : (words : List Text) (m inner : ArgMatches) (command : App) (asked : Ask) → command ≡ whole_command → HasMatchesOf command words m → subcommand_name_of m ≡ Some (codes "replay")
+    → option_map (λ p. p.1) (subcommand_rows (out-ArgMatches m).subcommand) ≡ Some (rows_of (found_of inner)) → IsReplayOf (rows_of (found_of inner)) asked → Asks words asked
+asks_replay words m inner command (Replay file entry schedule) is has name rows holds = asks_of words m inner (codes "replay") command (GivesReplay file.now entry.now schedule.now) is has name rows holds
+asks_replay words m inner command (Bounds file) is has name rows holds = absurd holds
+asks_replay words m inner command (Check file workers slots) is has name rows holds = absurd holds

@@ -43,7 +43,7 @@ findings_long text other found long (OfSyntax is) = no_program text long.one is.
 findings_long text other found long (OfNames is) = no_program text long.one is.parsed.tokens is.parsed.lexed
 findings_long text other found long (OfContracts is) = no_program text long.one is.resolved.parsed.tokens is.resolved.parsed.lexed
 
-answers_long : (text other bytes : List ℕ) (status : Status) → AreLong text other → Answers text bytes status → Answers other bytes status
+pub answers_long : (text other bytes : List ℕ) (status : Status) → AreLong text other → Answers text bytes status → Answers other bytes status
 answers_long text other bytes Empty long told = no_program text long.one told.resolved.parsed.tokens told.resolved.parsed.lexed
 answers_long text other bytes Found long told = record { found = told.found; are = findings_long text other told.found long told.are; told = told.told }
 

@@ -15,7 +15,7 @@ use Rattle.singcheck.specs.declared.fault.Status.TheVariants.{Empty, Found}
 use Rattle.singcheck.proofs.OnlyLemmas.{Laws, found_or_sound, one_findings, one_program, some_in}
 use Rattle.singcheck.proofs.SameLemmas.{AreAlike, alike_exactly, one_report}
 
-one_items : Laws → (text : List ℕ) (p q : ProgramSeen) (one : HasProgram text p) (other : HasProgram text q) → one.items ≡ other.items
+pub one_items : Laws → (text : List ℕ) (p q : ProgramSeen) (one : HasProgram text p) (other : HasProgram text q) → one.items ≡ other.items
 one_items laws text p q one other = one_program laws text one.items other.items one.program.parsed other.program.parsed
 
 one_contracts : Laws → (text : List ℕ) (p q : ProgramSeen) → HasProgram text p → HasProgram text q → p.contracts ≡ q.contracts
@@ -35,7 +35,7 @@ one_seen laws text p q one other =
     λ i. record { contracts = contracts i; messages = messages i; methods = methods i }
 
 -- what an earlier stage found is not found in a program with which nothing is wrong so far
-before_or_methods : Laws → (text : List ℕ) (found : List FindingParts) (p : ProgramSeen) → AreFindings text found → HasProgram text p → ⊥
+pub before_or_methods : Laws → (text : List ℕ) (found : List FindingParts) (p : ProgramSeen) → AreFindings text found → HasProgram text p → ⊥
 before_or_methods laws text found p are has = found_or_sound laws text found p.contracts are (record { items = has.items; parsed = has.program.parsed; clean = has.program.clean; are = has.program.are }) has.program.sound
 
 one_found : Laws → (text : List ℕ) (a b : List FindingParts) → AreCheckFindings text a → AreCheckFindings text b → AreAlike a b

@@ -14,6 +14,7 @@ use Rattle.analyse.specs.Verdicts.{IsFoundIn, IsMethodVerdict, place_of_method, 
 use Rattle.sound.specs.Premises.{IsEntry, NothingIsFound}
 use Rattle.sound.specs.Safe.{IsSafe}
 use Rattle.singcheck.specs.Checks.{HasProgram, IsWrong}
+use Rattle.singcheck.specs.Entered.{AreCleanSafe}
 use Rattle.singcheck.specs.Safety.{IsSafeText, RunsAreSafe}
 use Rattle.singcheck.specs.declared.fault.Status.{Status}
 use Rattle.singcheck.specs.declared.fault.Status.TheVariants.{Empty, Found}
@@ -23,7 +24,7 @@ use Rattle.singcheck.proofs.JudgeLemmas.{none_of}
 use Rattle.singcheck.proofs.LongLemmas.{no_program, of_front}
 
 -- where no finding is found in a method, that is its verdict
-empty_verdict : (p : ProgramSeen) (n : ℕ) → ((f : FindingParts) → IsFoundIn p n f → ⊥) → IsMethodVerdict p n []
+pub empty_verdict : (p : ProgramSeen) (n : ℕ) → ((f : FindingParts) → IsFoundIn p n f → ⊥) → IsMethodVerdict p n []
 empty_verdict p n none = record {
   exactly = λ f. (λ h. absurd (none_of f h), λ w. absurd (none f w));
   once = λ many. absurd (none (too_many_pairs (place_of_method p n)) (inl (many, refl)));
@@ -32,10 +33,6 @@ empty_verdict p n none = record {
 -- where all that is wrong is nothing, nothing is found in any method
 nothing_found : (p : ProgramSeen) (found : List Finding) → found ≡ [] → AreExactly (IsWrong p) (map finding_parts found) → NothingIsFound p
 nothing_found p found none are = λ n lt. empty_verdict p n (λ f w. none_of f (subst (λ l. Contains (map finding_parts l) f) none (are.all f (n, lt, w))))
-
--- what is shown of a program whose methods are clean
-abbrev pub AreCleanSafe : ProgramSeen → Type 0
-AreCleanSafe p = (bound : Bounds) → AreBounds p bound → NothingIsFound p → (n : ℕ) (w : World) → IsEntry p n → Run p bound n w → IsSafe p bound w
 
 -- the text of a program in which nothing is wrong is safe
 pub safe_text : (text : List ℕ) (p : ProgramSeen) (found : List Finding) → ((q : ProgramSeen) → HasProgram text q → p ≡ q) → found ≡ [] → AreExactly (IsWrong p) (map finding_parts found) → AreCleanSafe p → IsSafeText text

@@ -5,46 +5,68 @@ use Rattle.clap.specs.declared.builder.ArgAction.TheVariants.{Set}
 use Rattle.clap.specs.declared.builder.command.Command.{Command}
 use Rattle.clap.specs.declared.builder.command.Command.TheViews.{out-Command}
 use Rattle.singcheck.specs.declared.request.Ask.{Ask}
-use Rattle.singcheck.specs.declared.request.Ask.TheVariants.{Bounds, Check}
+use Rattle.singcheck.specs.declared.request.Ask.TheVariants.{Bounds, Check, Replay}
 
--- FILE, which has to be given
-abbrev pub file_rule : Rule
-file_rule = record (new_rule (codes "FILE")) { required = true; action = Some Set }
-
--- `bounds FILE`
-abbrev pub bounds_command : App
-bounds_command = with_rule (new_app (codes "bounds")) file_rule
+-- a text that has to be given
+abbrev pub text_rule : Text → Rule
+text_rule name = record (new_rule name) { required = true; action = Some Set }
 
 -- an option with a number, which need not be given
 abbrev pub number_rule : Text → Rule
-number_rule name = record (new_rule name) { long = Some name; action = Some Set }
+number_rule name = record (new_rule name) { long = Some name; value_names = 1; action = Some Set }
+
+-- a subcommand with a file
+abbrev pub file_command : Text → App
+file_command name = with_rule (new_app name) (text_rule (codes "FILE"))
+
+-- `bounds FILE`
+abbrev pub bounds_command : App
+bounds_command = file_command (codes "bounds")
 
 -- `check FILE [--workers N] [--slots N]`
 abbrev pub check_command : App
-check_command = with_rule (with_rule (with_rule (new_app (codes "check")) file_rule) (number_rule (codes "workers"))) (number_rule (codes "slots"))
+check_command = with_rule (with_rule (file_command (codes "check")) (number_rule (codes "workers"))) (number_rule (codes "slots"))
 
--- `singcheck` with nothing yet, where a subcommand has to be given
+-- `replay FILE ENTRY SCHEDULE`
+abbrev pub replay_command : App
+replay_command = with_rule (with_rule (file_command (codes "replay")) (text_rule (codes "ENTRY"))) (text_rule (codes "SCHEDULE"))
+
+-- `singcheck` with nothing yet, where a subcommand has to be given; it has a version
 abbrev pub bare_command : App
 bare_command = record (new_app (codes "singcheck")) {
-  top = record (new_app (codes "singcheck")).top { subcommand_required = true; arg_required_else_help = true };
+  top = record (new_app (codes "singcheck")).top { has_version = true; subcommand_required = true; arg_required_else_help = true };
 }
 
--- `singcheck bounds FILE` and `singcheck check FILE`
+-- `singcheck bounds FILE`, `singcheck check FILE` and `singcheck replay FILE ENTRY SCHEDULE`
 abbrev pub whole_command : App
-whole_command = with_subcommand (with_subcommand bare_command bounds_command.top) check_command.top
+whole_command = with_subcommand (with_subcommand (with_subcommand bare_command bounds_command.top) check_command.top) replay_command.top
 
 -- a command in memory is this one, and has no arguments that its subcommands share
 pub record IsCommand (app : App) (c : Command) : Type 0 where
   pub same : app_of c ≡ app
   pub local : (out-Command c).has_globals ≡ false
 
--- the words name this subcommand, and its first FILE is this text
-pub record AsksOf (words : List Text) (subcommand file : Text) : Type 0 where
+-- the first text of this name among arguments is this one
+abbrev pub Gives : List Row → (name text : Text) → Type 0
+Gives rows name text = first_of name rows ≡ Some text
+
+-- the words name this subcommand, and this holds of its arguments
+pub record AsksOf (words : List Text) (subcommand : Text) (Holds : List Row → Type 0) : Type 0 where
   pub rows : List Row
   pub named : subcommand_of whole_command words ≡ Some (subcommand, rows)
-  pub first : first_of (codes "FILE") rows ≡ Some file
+  pub given : Holds rows
+
+-- the arguments give these three texts
+abbrev pub GivesReplay : (file entry schedule : Text) → List Row → Type 0
+GivesReplay file entry schedule rows = Gives rows (codes "FILE") file × Gives rows (codes "ENTRY") entry × Gives rows (codes "SCHEDULE") schedule
 
 -- this is what the words ask for; of the numbers nothing is said
 abbrev pub Asks : List Text → Ask → Type 0
-Asks words (Bounds file) = AsksOf words (codes "bounds") file.now
-Asks words (Check file workers slots) = AsksOf words (codes "check") file.now
+Asks words (Bounds file) = AsksOf words (codes "bounds") (λ rows. Gives rows (codes "FILE") file.now)
+Asks words (Check file workers slots) = AsksOf words (codes "check") (λ rows. Gives rows (codes "FILE") file.now)
+Asks words (Replay file entry schedule) = AsksOf words (codes "replay") (GivesReplay file.now entry.now schedule.now)
+
+-- the arguments of `replay` give what is asked for
+abbrev pub IsReplayOf : List Row → Ask → Type 0
+IsReplayOf rows (Replay file entry schedule) = GivesReplay file.now entry.now schedule.now rows
+IsReplayOf rows _ = ⊥

@@ -2,6 +2,7 @@
 use Rattle.std.specs.Prelude.{◌≡◌, ℕ, Bool, true, false, ◌&&◌, leb}
 use Rattle.singcheck.specs.declared.fault.CheckFault.{CheckFault}
 use Rattle.singcheck.specs.declared.fault.CheckFault.TheVariants.{Workers, Slots, Memory}
+use Rattle.singcheck.specs.declared.fault.Input.TheVariants.{Schedule}
 use Rattle.singcheck.specs.declared.fault.RunFault.{RunFault}
 use Rattle.singcheck.specs.declared.fault.RunFault.TheVariants as run
 use Rattle.singcheck.specs.declared.limits.TheConstants.{MOST_WORKERS, MOST_SLOTS}
@@ -32,8 +33,11 @@ run_fault_of Workers = run.Workers
 run_fault_of Slots = run.Slots
 run_fault_of Memory = run.Memory
 
--- why a run gave up: as of a check
+-- why a run gave up: as of a check, which has no entry and no schedule
 abbrev pub RunExplains : ℕ → ℕ → RunFault → Type 0
 RunExplains workers slots run.Workers = workers_fit workers ≡ false
 RunExplains workers slots run.Slots = (workers_fit workers ≡ true) × (slots_fit slots ≡ false)
+RunExplains workers slots run.Entry = ⊥
+RunExplains workers slots (run.Schedule line) = ⊥
+RunExplains workers slots (run.Read Schedule) = ⊥
 RunExplains workers slots _ = (workers_fit workers ≡ true) × (slots_fit slots ≡ true)

@@ -1,27 +1,59 @@
 -- For proofs within the crate: what a text and an entry come to.
 use Rattle.std.specs.Prelude.{◌≡◌, ℕ, List, IsSomeAnd, map, slice_get, string_bytes, true}
 use Rattle.source.specs.Findings.{finding_parts}
-use Rattle.tree.specs.Trees.{ItemTree}
 use Rattle.program.specs.Programs.{ProgramSeen}
 use Rattle.rules.specs.Programs.{is_entry, seen_of}
+use Rattle.machine.specs.Outcomes.{Bounds}
+use Rattle.machine.specs.Runs.{AreBounds, Run}
+use Rattle.machine.specs.World.{World}
+use Rattle.sound.specs.Premises.{IsEntry, NothingIsFound}
+use Rattle.sound.specs.Safe.{IsSafe}
 use Rattle.singcheck.specs.Answers.{AreFindings}
-use Rattle.singcheck.specs.Replays.{ComesTo, IsEntryAt, LacksEntry, struct_names}
-use Rattle.singcheck.specs.declared.replaying.Begun.{Begun}
-use Rattle.singcheck.specs.declared.replaying.Entered.{Entered}
-use Rattle.singcheck.specs.declared.replaying.Entered.TheVariants as entered
+use Rattle.singcheck.specs.Checks.{HasProgram}
+use Rattle.singcheck.specs.Replays.{HasEntry, LacksEntry, struct_names}
+use Rattle.singcheck.specs.declared.entering.Begun.{Begun}
+use Rattle.singcheck.specs.declared.entering.Entered.{Entered}
+use Rattle.singcheck.specs.declared.entering.Entered.TheVariants as entered
+use Rattle.singcheck.specs.declared.fault.Input.TheVariants as input
+use Rattle.singcheck.specs.declared.fault.RunFault.{RunFault}
+use Rattle.singcheck.specs.declared.fault.RunFault.TheVariants.{Read, Entry, Schedule, Memory}
 
 -- a run may begin with this method of a program
 abbrev pub Begins : ProgramSeen → ℕ → Type 0
 Begins p n = IsSomeAnd (slice_get p.methods n) (λ m. is_entry m ≡ true)
 
+-- where nothing is found in the methods of a program, its runs are safe
+abbrev pub AreCleanSafe : ProgramSeen → Type 0
+AreCleanSafe p = (bound : Bounds) → AreBounds p bound → NothingIsFound p → (n : ℕ) (w : World) → IsEntry p n → Run p bound n w → IsSafe p bound w
+
+-- and so are those that `replay` begins
+pub record AreReplaysSafe (p : ProgramSeen) : Type 0 where
+  pub safe : AreCleanSafe p
+  pub begin : (n : ℕ) → Begins p n → IsEntry p n
+
 -- this is what the text comes to, and the entry is its method
 pub record IsBegun (text entry : List ℕ) (b : Begun) : Type 0 where
-  pub items : List ItemTree
-  pub comes : ComesTo text items (seen_of b.program)
-  pub at : IsEntryAt text entry items (seen_of b.program) b.method.0
-  pub structs : map string_bytes b.structs.items ≡ struct_names text items
+  pub entered : HasEntry text entry (seen_of b.program) b.method.0
+  pub structs : map string_bytes b.structs.items ≡ struct_names text entered.has.items
 
 abbrev pub IsEntered : List ℕ → List ℕ → Entered → Type 0
 IsEntered text entry (entered.Found findings) = AreFindings text (map finding_parts findings.items)
 IsEntered text entry entered.Lacking = LacksEntry text entry
 IsEntered text entry (entered.Begun b) = IsBegun text entry b
+
+-- where a run may begin, it is one of a program of which this is known
+abbrev pub IsKeptSafe : List ℕ → Entered → Type 0
+IsKeptSafe text (entered.Begun b) = (p : ProgramSeen) → HasProgram text p → AreReplaysSafe p
+IsKeptSafe text _ = Unit {0}
+
+-- what a schedule comes to is not known where it cannot be read, where a line is malformed, or for want of memory
+abbrev pub IsScheduledFault : RunFault → Type 0
+IsScheduledFault (Read input.Schedule) = Unit {0}
+IsScheduledFault (Schedule line) = Unit {0}
+IsScheduledFault Memory = Unit {0}
+IsScheduledFault _ = ⊥
+
+-- or there is no entry
+abbrev pub IsAnswerFault : RunFault → Type 0
+IsAnswerFault Entry = Unit {0}
+IsAnswerFault fault = IsScheduledFault fault

@@ -7,8 +7,6 @@ use Rattle.names.specs.Resolution.{printed}
 use Rattle.names.specs.Words.{word_at}
 use Rattle.program.specs.Lists.{Each}
 use Rattle.program.specs.Programs.{ProgramSeen}
-use Rattle.resolving.specs.Brought.{messages_told}
-use Rattle.resolving.specs.Methods.{methods_told}
 use Rattle.rules.specs.Programs.{is_entry}
 use Rattle.machine.specs.Outcomes.{Bounds}
 use Rattle.machine.specs.Replays.{IsReplay}
@@ -17,10 +15,10 @@ use Rattle.machine.specs.Views.{world_seen}
 use Rattle.machine.specs.declared.halts.Event.{Event}
 use Rattle.machine.specs.declared.halts.Halt.{Halt}
 use Rattle.machine.specs.declared.replaying.Replayed.{Replayed}
-use Rattle.replays.specs.Schedules.{IsSchedule}
+use Rattle.replays.specs.Schedules.{IsFirstMalformed, IsSchedule}
 use Rattle.replays.specs.WorldLines.{replay_lines}
 use Rattle.singcheck.specs.Answers.{IsReported}
-use Rattle.singcheck.specs.Checks.{IsSoundProgram}
+use Rattle.singcheck.specs.Checks.{HasProgram}
 use Rattle.singcheck.specs.declared.fault.Status.{Status}
 use Rattle.singcheck.specs.declared.fault.Status.TheVariants.{Empty, Found}
 
@@ -54,23 +52,28 @@ pub record IsFirstAt (names : List (List ℕ)) (name : List ℕ) (n : ℕ) : Typ
   pub counted : n ≡ length before
   pub others : Each (λ x. x ≢ name) before
 
--- the text is a program of these items, nothing is wrong with it but in its methods, and this is what it comes to
-pub record ComesTo (text : List ℕ) (items : List ItemTree) (p : ProgramSeen) : Type 0 where
-  pub program : IsSoundProgram text items p.contracts
-  pub messages : p.messages ≡ messages_told (record { text = text; items = items })
-  pub methods : p.methods ≡ methods_told (record { text = text; items = items })
-
 -- the entry is the name of this method, with which a run may begin
 pub record IsEntryAt (text entry : List ℕ) (items : List ItemTree) (p : ProgramSeen) (n : ℕ) : Type 0 where
   pub named : IsFirstAt (method_names text items) entry n
   pub begins : IsSomeAnd (slice_get p.methods n) (λ m. is_entry m ≡ true)
 
+-- nothing is wrong with the text but in its methods, and a run may begin with this one, whose name the entry is
+pub record HasEntry (text entry : List ℕ) (p : ProgramSeen) (n : ℕ) : Type 0 where
+  pub has : HasProgram text p
+  pub at : IsEntryAt text entry has.items p n
+
 -- nothing is wrong with the text but in its methods, and the entry is the name of none with which a run may begin
 pub record LacksEntry (text entry : List ℕ) : Type 0 where
-  pub items : List ItemTree
   pub program : ProgramSeen
-  pub comes : ComesTo text items program
-  pub none : (n : ℕ) → ¬ IsEntryAt text entry items program n
+  pub has : HasProgram text program
+  pub none : (n : ℕ) → ¬ IsEntryAt text entry has.items program n
+
+-- a run may begin, and this line of the schedule is the first malformed one
+pub record LacksSchedule (text entry schedule : List ℕ) (line : ℕ) : Type 0 where
+  pub program : ProgramSeen
+  pub n : ℕ
+  pub entered : HasEntry text entry program n
+  pub malformed : IsFirstMalformed schedule line
 
 -- the status of a run: whether an event was no step
 abbrev pub stop_status : Option Halt → Status
@@ -78,22 +81,20 @@ stop_status None = Empty
 stop_status (Some why) = Found
 
 -- the events of the schedule lead from the entry to what is printed
-pub record IsRan (text entry schedule bytes : List ℕ) (status : Status) : Type 0 where
-  pub items : List ItemTree
+pub record IsRan (entry schedule text bytes : List ℕ) (status : Status) : Type 0 where
   pub program : ProgramSeen
-  pub comes : ComesTo text items program
   pub n : ℕ
-  pub at : IsEntryAt text entry items program n
+  pub entered : HasEntry text entry program n
   pub events : List Event
   pub told : IsSchedule schedule events
   pub replayed : Replayed
   pub led : (bound : Bounds) → AreBounds program bound → IsReplay program bound n events replayed
   pub are : bytes
-      ≡ replay_lines (record { program = program; structs = struct_names text items }) events replayed.steps replayed.halt
+      ≡ replay_lines (record { program = program; structs = struct_names text entered.has.items }) events replayed.steps replayed.halt
       (world_seen replayed.world)
   pub is : status ≡ stop_status replayed.halt
 
 -- what `replay` answers: the findings of the text before its methods, or what the events of the schedule come to
-pub data Replays (text entry schedule bytes : List ℕ) (status : Status) : Type 0 where
-  OfFindings : IsReported text bytes → status ≡ Found → Replays text entry schedule bytes status
-  OfRun : IsRan text entry schedule bytes status → Replays text entry schedule bytes status
+pub data Replays (entry schedule text bytes : List ℕ) (status : Status) : Type 0 where
+  OfFindings : IsReported text bytes → status ≡ Found → Replays entry schedule text bytes status
+  OfRun : IsRan entry schedule text bytes status → Replays entry schedule text bytes status

@@ -2,8 +2,6 @@
 use Rattle.std.specs.Prelude.{◌≡◌, ℕ, ◌≤◌, List, length, drop, Option, Some, IfSome}
 use Rattle.std.specs.Io.KnownBytes.{Appends, Consumes}
 use Rattle.singcheck.specs.Devices.{Begins}
-use Rattle.singcheck.specs.declared.fault.RunFault.{RunFault}
-use Rattle.singcheck.specs.declared.fault.RunFault.TheVariants.{Read, Memory}
 use Rattle.singcheck.specs.declared.fault.Status.{Status}
 
 -- the answer to the text was written; by this it is known what answers a text
@@ -28,9 +26,3 @@ pub record TakesAtMost (most : ℕ) (old new : Option (List ℕ)) : Type 0 where
 -- so many bytes were taken, or all, and the rest is left
 abbrev pub LeavesRest : ℕ → Option (List ℕ) → Option (List ℕ) → Type 0
 LeavesRest most old new = IfSome old (λ bytes. new ≡ Some (drop most bytes))
-
--- reading gives up for its device, or for want of memory
-abbrev pub IsReadFault : RunFault → Type 0
-IsReadFault (Read input) = Unit {0}
-IsReadFault Memory = Unit {0}
-IsReadFault _ = ⊥

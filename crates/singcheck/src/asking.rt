@@ -1,11 +1,12 @@
 //! What a command line asks for.
 
-ghost use Rattle.std.specs.Prelude.{map, IfOk};
-ghost use Rattle.singcheck.specs.Asking.{Asks};
+ghost use Rattle.std.specs.Prelude.{map, IfOk, IfSome};
+ghost use Rattle.clap.specs.Words.{found_of, rows_of};
+ghost use Rattle.singcheck.specs.Asking.{Asks, IsReplayOf};
 
 use crate::commands::whole_of;
 use crate::request::Ask;
-use clap::Error;
+use clap::{ArgMatches, Error};
 use clap::error::ErrorKind;
 use std::alloc::Global;
 
@@ -33,7 +34,7 @@ pub fn ask<'a>(alloc: Global, words: &'a [&'a str]) -> Result<Ask<'a>, Error>
             let workers = number(inner.get_str("workers"), WORKERS);
             let slots = number(inner.get_str("slots"), SLOTS);
             let (Some(workers), Some(slots)) = (workers, slots) else {
-                return Err(command.error(ErrorKind::InvalidValue, "a number is required")?);
+                return Err(command.error(ErrorKind::InvalidValue, "--workers and --slots take a number")?);
             };
             return Ok(Ask::Check {
                 file,
@@ -42,7 +43,26 @@ pub fn ask<'a>(alloc: Global, words: &'a [&'a str]) -> Result<Ask<'a>, Error>
             });
         }
     }
+    if let Some(("replay", inner)) = matches.subcommand() {
+        if let Some(asked) = replay_asked(inner) {
+            return Ok(asked);
+        }
+    }
     Err(command.error(ErrorKind::MissingSubcommand, "a subcommand is required")?)
+}
+
+/// What the arguments of `replay` ask for.
+fn replay_asked<'a>(inner: &ArgMatches<'a>) -> Option<Ask<'a>>
+    ensures { IfSome result (IsReplayOf (rows_of (found_of inner.now))) }
+{
+    let file = inner.get_str("FILE")?;
+    let entry = inner.get_str("ENTRY")?;
+    let schedule = inner.get_str("SCHEDULE")?;
+    Some(Ask::Replay {
+        file,
+        entry,
+        schedule,
+    })
 }
 
 /// The number that an option has, or this one where the option is not given. None where it is no number that fits.

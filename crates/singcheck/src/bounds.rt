@@ -1,9 +1,10 @@
 //! Queue bounds of the contracts of a text.
 
-ghost use Rattle.std.specs.Prelude.{◌≡◌, ◌≢◌, ℕ, List, IfOk, IfSome, IsErrOf, OnOk, OnErr, string_bytes};
+ghost use Rattle.std.specs.Prelude.{◌≡◌, ◌≢◌, ℕ, List, IfErr, IfOk, IfSome, IsErrOf, OnOk, OnErr, string_bytes};
 ghost use Rattle.std.specs.Io.KnownBytes.{Keeps};
 ghost use Rattle.contracts.specs.Sounds.{sound_parts};
 ghost use Rattle.singcheck.specs.Answers.{Answers, AreBounds};
+ghost use Rattle.singcheck.specs.RunFaults.{IsBoundsFault};
 ghost use Rattle.singcheck.specs.Runs.{Writes, BeginsAnswer, LeavesRest, TakesAtMost};
 ghost use Rattle.singcheck.specs.Stages.{IsClean, AddsLine};
 
@@ -40,6 +41,7 @@ pub fn run_bounds<R: Source, W: Sink>(
     ensures read { IsErrOf result (RunFault.Read Input.Text) → R.failed reader.new ≢ R.failed reader.old }
     ensures write { IsErrOf result RunFault.Write → W.failed writer.new ≢ W.failed writer.old }
     ensures unwritten { OnErr result ((IsErrOf result RunFault.Write → ⊥) → Keeps (W.contents writer.old) (W.contents writer.new)) }
+    ensures fault { IfErr result IsBoundsFault }
 {
     let text = read_text(alloc, reader)?;
     let answer = bounds_of(alloc, &text)?;

@@ -1,21 +1,52 @@
 //! The command line, as `clap` is told of it.
 
-ghost use Rattle.std.specs.Prelude.{◌≡◌, false, IfOk};
+ghost use Rattle.std.specs.Prelude.{◌≡◌, codes, false, IfOk};
 ghost use Rattle.clap.specs.Words.{rule_of};
-ghost use Rattle.singcheck.specs.Asking.{file_rule, number_rule, bounds_command, check_command, whole_command, IsCommand};
+ghost use Rattle.singcheck.specs.Asking.{text_rule, number_rule, bounds_command, check_command, replay_command, whole_command, IsCommand};
 
 use clap::{Arg, ArgAction, Command};
 use std::alloc::{AllocError, Global};
 
-/// FILE, which has to be given.
-fn file_of<'a>(alloc: Global) -> Arg<'a>
-    ensures rule { rule_of result ≡ file_rule }
+/// The version that `--version` prints.
+const VERSION: &str = "0.1.0";
+
+/// What help says behind the commands.
+const STATUSES: &str = "\
+Exit status:
+  0  nothing found, or each event of the schedule was a step
+  1  something found, or an event was no step
+  2  the command line, the entry or the schedule is refused
+  3  a file cannot be read, or the answer cannot be written
+  4  memory is out
+
+Example: singcheck check shop.sg";
+
+/// What help says behind the arguments of `bounds`.
+const BOUNDS_EXAMPLE: &str = "Example: singcheck bounds shop.sg";
+
+/// What help says behind the arguments of `check`.
+const CHECK_EXAMPLE: &str = "Example: singcheck check --workers 8 shop.sg";
+
+/// What help says behind the arguments of `replay`.
+const REPLAY_EXAMPLE: &str = "Example: singcheck replay shop.sg Market.Main turns.txt";
+
+/// A text that has to be given.
+fn text_of<'a>(alloc: Global, name: &'a str, help: &'a str) -> Arg<'a>
+    ensures rule { rule_of result ≡ text_rule name.now }
     ensures local { result.global ≡ false }
 {
-    Arg::new(alloc, "FILE")
+    Arg::new(alloc, name)
         .required(true)
-        .help("The program text")
+        .help(help)
         .action(ArgAction::Set)
+}
+
+/// FILE, which has to be given.
+fn file_of<'a>(alloc: Global) -> Arg<'a>
+    ensures rule { rule_of result ≡ text_rule (codes "FILE") }
+    ensures local { result.global ≡ false }
+{
+    text_of(alloc, "FILE", "The file with the program's text")
 }
 
 /// An option with a number.
@@ -25,6 +56,7 @@ fn number_of<'a>(alloc: Global, name: &'a str, help: &'a str) -> Arg<'a>
 {
     Arg::new(alloc, name)
         .long(name)
+        .value_name("N")
         .help(help)
         .action(ArgAction::Set)
 }
@@ -35,6 +67,7 @@ fn bounds_of<'a>(alloc: Global) -> Result<Command<'a>, AllocError>
 {
     Command::new(alloc, "bounds")
         .about("Prints how long the queues of each contract can be")
+        .after_help(BOUNDS_EXAMPLE)
         .arg(file_of(alloc))
 }
 
@@ -44,9 +77,30 @@ fn check_of<'a>(alloc: Global) -> Result<Command<'a>, AllocError>
 {
     Command::new(alloc, "check")
         .about("Prints what is wrong in a program")
+        .after_help(CHECK_EXAMPLE)
         .arg(file_of(alloc))?
-        .arg(number_of(alloc, "workers", "How many threads share the methods"))?
-        .arg(number_of(alloc, "slots", "How many rows of methods they share"))
+        .arg(number_of(alloc, "workers", "How many threads share the methods, 1 to 64, default 4"))?
+        .arg(number_of(
+            alloc,
+            "slots",
+            "Size of the shared table in words of 8 bytes, 1 to 16777216, default 65536",
+        ))
+}
+
+/// `replay FILE ENTRY SCHEDULE`.
+fn replay_of<'a>(alloc: Global) -> Result<Command<'a>, AllocError>
+    ensures { IfOk result (IsCommand replay_command) }
+{
+    Command::new(alloc, "replay")
+        .about("Prints what the events of a schedule come to")
+        .after_help(REPLAY_EXAMPLE)
+        .arg(file_of(alloc))?
+        .arg(text_of(alloc, "ENTRY", "The method with which the run begins, as Class.Method"))?
+        .arg(text_of(
+            alloc,
+            "SCHEDULE",
+            "The file with the events, a line each: the number of a process and a choice",
+        ))
 }
 
 /// The whole command line.
@@ -55,8 +109,12 @@ pub(crate) fn whole_of<'a>(alloc: Global) -> Result<Command<'a>, AllocError>
 {
     Command::new(alloc, "singcheck")
         .about("Checks channel contracts and exchange-heap ownership of Sing# programs")
+        .version(VERSION)
+        .after_help(STATUSES)
         .subcommand_required(true)
         .arg_required_else_help(true)
+        .bin_name("singcheck")?
         .subcommand(bounds_of(alloc)?)?
-        .subcommand(check_of(alloc)?)
+        .subcommand(check_of(alloc)?)?
+        .subcommand(replay_of(alloc)?)
 }

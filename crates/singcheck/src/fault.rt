@@ -17,6 +17,7 @@ pub enum Status {
 #[derive(Clone, Copy, Debug, PartialEq, Eq)]
 pub enum Input {
     Text,
+    Schedule,
 }
 
 /// Why there is no report.
@@ -48,6 +49,13 @@ pub enum RunFault {
     /// The slots are not 1 to 16,777,216. Nothing was read or written.
     #[error("slots not 1 to 16777216")]
     Slots,
+    /// The text has no method of the entry's name, or a run may not begin with it. Nothing was read of the schedule, and nothing was
+    /// written.
+    #[error("no such entry")]
+    Entry,
+    /// This line of the schedule, counted from 1, is the first malformed one. Nothing was written.
+    #[error("malformed line of the schedule")]
+    Schedule(u32),
     /// A growth of memory was refused. Nothing was written.
     #[error("out of memory")]
     Memory,

@@ -1,16 +1,21 @@
 //! Laws of the answers: they hold of every text, whatever a run does.
 
 ghost use Rattle.std.specs.Prelude.{◌≡◌, ℕ, List};
-ghost use Rattle.singcheck.specs.Answers.{Answers};
+ghost use Rattle.machine.specs.Outcomes.{Bounds};
+ghost use Rattle.machine.specs.Runs.{AreBounds};
+ghost use Rattle.source.specs.Findings.{FindingParts};
+ghost use Rattle.singcheck.specs.Answers.{Answers, AreFindings};
 ghost use Rattle.program.specs.Programs.{ProgramSeen};
 ghost use Rattle.singcheck.specs.Checks.{Checks, HasProgram};
+ghost use Rattle.singcheck.specs.Replays.{LacksEntry, LacksSchedule, Replays};
 ghost use Rattle.singcheck.specs.declared.fault.Status.{Status};
 ghost use Rattle.singcheck.specs.declared.limits.TheConstants.{MOST_SLOTS, MOST_WORKERS};
-ghost use Rattle.singcheck.specs.declared.reading.TheConstants.{MAX_READ};
+ghost use Rattle.singcheck.specs.declared.reading.TheConstants.{MAX_READ, MAX_SCHEDULE_READ};
 
 use analyse::laws::each_method_has_a_verdict;
 use contracts::laws::each_contract_is_judged;
 use names::laws::clean_contracts_are_whole;
+use replays::laws::one_reading;
 use source::laws::{each_text_is_cut, one_cutting, one_fault};
 use syntax::{one_tree_a_spelling, tokens_are_parsed};
 
@@ -38,6 +43,26 @@ pub fn one_check()
     one_tree_a_spelling();
 }
 
+/// A text, an entry and a schedule have one answer of `replay`, and one status. They have none where there is no such entry, or where a
+/// line of the schedule is malformed.
+pub fn one_replay()
+    ensures bytes { (entry lines text a b : List ℕ) (s t : Status)
+        → Replays entry lines text a s → Replays entry lines text b t → a ≡ b }
+    ensures status { (entry lines text a b : List ℕ) (s t : Status)
+        → Replays entry lines text a s → Replays entry lines text b t → s ≡ t }
+    ensures entry { (entry lines text bytes : List ℕ) (status : Status)
+        → LacksEntry text entry → Replays entry lines text bytes status → ⊥ }
+    ensures line { (entry lines text bytes : List ℕ) (status : Status) (n : ℕ)
+        → LacksSchedule text entry lines n → Replays entry lines text bytes status → ⊥ }
+{
+    one_cutting();
+    one_fault();
+    one_tree_a_spelling();
+    each_program_has_bounds();
+    one_reading();
+    machine::laws::one_replay();
+}
+
 /// A text comes to one program, or to none.
 pub fn one_program()
     ensures { (text : List ℕ) (p q : ProgramSeen) → HasProgram text p → HasProgram text q → p ≡ q }
@@ -45,6 +70,23 @@ pub fn one_program()
     one_cutting();
     one_fault();
     one_tree_a_spelling();
+}
+
+/// A text in whose text, names or contracts something is found comes to no program.
+pub fn findings_or_program()
+    ensures { (text : List ℕ) (found : List FindingParts) (p : ProgramSeen) → AreFindings text found → HasProgram text p → ⊥ }
+{
+    one_cutting();
+    one_fault();
+    one_tree_a_spelling();
+}
+
+/// The contracts of what a text comes to have bounds: it is refuted that no bounds are theirs.
+pub fn each_program_has_bounds()
+    ensures { (text : List ℕ) (p : ProgramSeen) → HasProgram text p → ((bound : Bounds) → AreBounds p bound → ⊥) → ⊥ }
+{
+    clean_contracts_are_whole();
+    each_contract_is_judged();
 }
 
 /// Each text has an answer of `bounds` and one of `check`, so `Memory` is never the only one allowed.
@@ -66,4 +108,5 @@ pub fn limits()
     ensures workers { MOST_WORKERS ≡ 64 }
     ensures slots { MOST_SLOTS ≡ 16777216 }
     ensures read { MAX_READ ≡ 4194305 }
+    ensures schedule { MAX_SCHEDULE_READ ≡ 1048577 }
 {}

@@ -1,16 +1,21 @@
-//! Reads a text whole.
+//! Reads an input whole.
 
 ghost use Rattle.std.specs.Prelude.{◌≡◌, ◌≢◌, ◌<◌, ◌≤◌, length, IfOk, IfErr, OnErr, IsErrOf};
 ghost use Rattle.std.specs.Io.KnownBytes.{Consumes, IsAtEnd};
-ghost use Rattle.singcheck.specs.Runs.{IsReadFault, TakesAtMost};
+ghost use Rattle.singcheck.specs.RunFaults.{IsReadFault};
+ghost use Rattle.singcheck.specs.Runs.{TakesAtMost};
 
 use crate::device::{Failed, Source};
 use crate::fault::{Input, RunFault};
+use replays::MOST_SCHEDULE;
 use source::MAX_TEXT;
 use std::alloc::Global;
 
 /// How many bytes of a text are read at most: one more than it may have.
 pub const MAX_READ: usize = MAX_TEXT + 1;
+
+/// How many bytes of a schedule are read at most: one more than it may have.
+pub const MAX_SCHEDULE_READ: usize = MOST_SCHEDULE + 1;
 
 /// How many bytes are asked for at a time.
 const PART: usize = 4096;
@@ -23,18 +28,36 @@ pub(crate) fn read_text<R: Source>(alloc: Global, reader: &mut R) -> Result<Vec<
     ensures most { OnErr result (TakesAtMost MAX_READ (R.remaining reader.old) (R.remaining reader.new)) }
     ensures read { IsErrOf result (RunFault.Read Input.Text) → R.failed reader.new ≢ R.failed reader.old }
     ensures no_write { IsErrOf result RunFault.Write → R.failed reader.old ≢ R.failed reader.old }
-    ensures only { IfErr result IsReadFault }
+    ensures only { IfErr result (IsReadFault Input.Text) }
 {
-    let mut text = Vec::new(alloc);
+    read_up_to(alloc, reader, MAX_READ, Input::Text)
+}
+
+/// What this input has, up to its end or so many bytes. The rest is left unread.
+pub(crate) fn read_up_to<R: Source>(
+    alloc: Global,
+    reader: &mut R,
+    most: usize,
+    input: Input,
+) -> Result<Vec<u8>, RunFault>
+    ensures bytes { IfOk result (λ bytes. Consumes (R.remaining reader.old) (R.remaining reader.new) bytes.items) }
+    ensures long { IfOk result (λ bytes. length bytes.items ≤ most) }
+    ensures end { IfOk result (λ bytes. length bytes.items < most → IsAtEnd (R.remaining reader.new)) }
+    ensures most { OnErr result (TakesAtMost most (R.remaining reader.old) (R.remaining reader.new)) }
+    ensures read { IsErrOf result (RunFault.Read input) → R.failed reader.new ≢ R.failed reader.old }
+    ensures no_write { IsErrOf result RunFault.Write → R.failed reader.old ≢ R.failed reader.old }
+    ensures only { IfErr result (IsReadFault input) }
+{
+    let mut bytes = Vec::new(alloc);
     let mut buffer = [0; PART];
-    'reads: while text.len() < MAX_READ {
-        let room = buffer.len().min(MAX_READ - text.len());
+    'reads: while bytes.len() < most {
+        let room = buffer.len().min(most - bytes.len());
         let part = &mut buffer[..room];
         match reader.read(part) {
-            Ok(0) => return Ok(text),
-            Ok(n) => text.extend_from_slice(&part[..n])?,
-            Err(Failed) => return Err(RunFault::Read(Input::Text)),
+            Ok(0) => return Ok(bytes),
+            Ok(n) => bytes.extend_from_slice(&part[..n])?,
+            Err(Failed) => return Err(RunFault::Read(input)),
         }
     }
-    Ok(text)
+    Ok(bytes)
 }

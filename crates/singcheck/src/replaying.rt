@@ -1,128 +1,133 @@
-//! A replay of a program from an entry.
+//! A run that replays a schedule.
 
-ghost use Rattle.std.specs.Prelude.{◌≡◌, ◌<◌, ◌^◌, ℕ, List, IfNone, IfOk, IfSome, Some, length, map};
-ghost use Rattle.source.specs.Tokens.{AreTokens};
-ghost use Rattle.tree.specs.Spelled.{Spells};
-ghost use Rattle.tree.specs.Programs.{program};
-ghost use Rattle.tree.specs.Trees.{program_tree};
-ghost use Rattle.contracts.specs.Sounds.{sound_parts};
-ghost use Rattle.program.specs.Parts.{contract_seen};
+ghost use Rattle.std.specs.Prelude.{◌≡◌, ◌≢◌, ◌<◌, ℕ, List, IfErr, IfOk, IfSome, IsErrOf, OnOk, OnErr, length};
+ghost use Rattle.std.specs.Io.KnownBytes.{Keeps};
 ghost use Rattle.rules.specs.Programs.{seen_of};
-ghost use Rattle.replays.specs.Schedules.{IsSchedule};
-ghost use Rattle.singcheck.specs.Checks.{IsSoundProgram};
-ghost use Rattle.singcheck.specs.Entered.{Begins, IsBegun, IsEntered};
-ghost use Rattle.singcheck.specs.Replays.{IsRan, stop_status};
+ghost use Rattle.replays.specs.Schedules.{IsFirstMalformed, IsSchedule};
+ghost use Rattle.singcheck.specs.Entered.{IsAnswerFault, IsBegun, IsScheduledFault};
+ghost use Rattle.singcheck.specs.Replays.{IsRan, LacksEntry, LacksSchedule, Replays, stop_status};
+ghost use Rattle.singcheck.specs.RunFaults.{IsReplayFault};
+ghost use Rattle.singcheck.specs.Runs.{BeginsAnswer, LeavesRest, TakesAtMost, Writes};
+ghost use Rattle.singcheck.specs.Safety.{HasEmptyReport, RunsSafely};
 
-use crate::entries::{entry_place, struct_names};
-use crate::fault::Status;
-use crate::reports::Report;
-use crate::stages::{Clean, Parsed, Staged, named, parse_text};
+use crate::device::{Sink, Source};
+use crate::entering::{Begun, Entered, enter};
+use crate::fault::{Input, RunFault, Status};
+use crate::laws::{each_program_has_bounds, findings_or_program};
+use crate::reading::{MAX_READ, MAX_SCHEDULE_READ, read_text, read_up_to};
+use crate::reports::{Report, report_of};
+use crate::writing::write_all;
 use machine::{Event, Halt, replay};
-use program::MethodId;
-use replays::lines_of;
-use rules::Program;
-use source::{Finding, Memory, Tokens};
+use replays::laws::a_front_tells_all;
+use replays::{ScheduleFault, lines_of, read_schedule};
+use source::Memory;
 use std::alloc::Global;
-use tree::Tree;
-use wellformed::well_formed_methods;
 
-/// A run that may begin: its program, the method with which it begins, and the names of the structs, in order of the text.
-#[derive(Drop)]
-pub(crate) struct Begun {
-    pub(crate) program: Program,
-    pub(crate) method: MethodId,
-    pub(crate) structs: Vec<String>,
-}
-
-/// What a text and an entry come to.
-#[derive(Drop)]
-pub(crate) enum Entered {
-    /// The findings of the first stage before the methods that has some.
-    Found(Vec<Finding>),
-    /// The text has no such method, or a run may not begin with it.
-    Lacking,
-    /// A run may begin.
-    Begun(Begun),
-}
-
-/// The text, up to its methods, and then the entry.
-pub(crate) fn enter(alloc: Global, text: &[u8], entry: &[u8]) -> Result<Entered, Memory>
-    ensures { IfOk result (IsEntered text.now entry.now) }
-{
-    match parse_text(alloc, text)? {
-        Parsed::Found(findings) => Ok(Entered::Found(findings)),
-        Parsed::Program(tokens, tree) => enter_program(alloc, &tokens, &tree, entry),
-    }
-}
-
-/// The names and the contracts of a program, and then the entry.
-fn enter_program(
+/// Reads a program text, an entry's name being given, and a schedule, and writes what the events of the schedule come to.
+///
+/// The text is read first. Where its text, its names or its contracts have findings, the report of the first of these stages that has
+/// some is written, with status `Found`, and nothing is read of the schedule; what is found in methods is no bar. Else `Entry` is
+/// answered where no method is called `entry` (`Class.Method`), or where the first that is gives something or takes something, numbers
+/// included. Then the schedule is read, and `Schedule` names its first malformed line. Then the events are taken one after the other,
+/// from the beginning of the method, until one is no step. How many were steps, why it stopped and the world behind them are
+/// written, with status `Empty` where each event was a step, and `Found` where one was not.
+///
+/// At most `MAX_READ` bytes of the text and `MAX_SCHEDULE_READ` of the schedule are read. `Read` and `Write` are answered only where that
+/// device failed, and `Memory` only where a growth was refused; nothing is written before the answer is known whole, and after `Write` a
+/// beginning of it went out.
+///
+/// Where `check` finds nothing in the text, no schedule ends with a fault.
+pub fn run_replay<R: Source, Q: Source, W: Sink>(
     alloc: Global,
-    tokens: &Tokens,
-    tree: &Tree,
+    reader: &mut R,
     entry: &[u8],
-) -> Result<Entered, Memory>
-    requires lexed { AreTokens tokens.now.text.items tokens.now.list.items }
-    requires spelled { Spells program (program_tree tree.now) tokens.now.list.items }
-    requires few { length tokens.now.list.items < 2 ^ 32 }
-    ensures { IfOk result (IsEntered tokens.now.text.items entry.now) }
+    schedule: &mut Q,
+    writer: &mut W,
+) -> Result<Status, RunFault>
+    ensures written { IfOk result (λ status. IfSome (R.remaining reader.old) (λ text. IfSome (Q.remaining schedule.old) (λ lines.
+        Writes (Replays entry.now lines) text (W.contents writer.old) (W.contents writer.new) status))) }
+    ensures safe { IfOk result (λ status. IfSome (R.remaining reader.old) (λ text. IfSome (Q.remaining schedule.old) (λ lines.
+        HasEmptyReport text → Writes (RunsSafely entry.now lines) text (W.contents writer.old) (W.contents writer.new) status))) }
+    ensures begun { IsErrOf result RunFault.Write → IfSome (R.remaining reader.old) (λ text. IfSome (Q.remaining schedule.old) (λ lines.
+        BeginsAnswer (Replays entry.now lines) text (W.contents writer.old) (W.contents writer.new))) }
+    ensures entry { IsErrOf result RunFault.Entry → IfSome (R.remaining reader.old) (λ text. LacksEntry text entry.now) }
+    ensures line { (n : ℕ) → IsErrOf result (RunFault.Schedule n) → IfSome (R.remaining reader.old) (λ text.
+        IfSome (Q.remaining schedule.old) (λ lines. LacksSchedule text entry.now lines n)) }
+    ensures rest { OnOk result (LeavesRest MAX_READ (R.remaining reader.old) (R.remaining reader.new)) }
+    ensures most { TakesAtMost MAX_READ (R.remaining reader.old) (R.remaining reader.new) }
+    ensures most_of_schedule { TakesAtMost MAX_SCHEDULE_READ (Q.remaining schedule.old) (Q.remaining schedule.new) }
+    ensures unread { IsErrOf result RunFault.Entry → Q.remaining schedule.new ≡ Q.remaining schedule.old }
+    ensures read { IsErrOf result (RunFault.Read Input.Text) → R.failed reader.new ≢ R.failed reader.old }
+    ensures read_schedule { IsErrOf result (RunFault.Read Input.Schedule) → Q.failed schedule.new ≢ Q.failed schedule.old }
+    ensures write { IsErrOf result RunFault.Write → W.failed writer.new ≢ W.failed writer.old }
+    ensures unwritten { OnErr result ((IsErrOf result RunFault.Write → ⊥) → Keeps (W.contents writer.old) (W.contents writer.new)) }
+    ensures fault { IfErr result IsReplayFault }
 {
-    match named(alloc, tree, tokens)? {
-        Staged::Found(findings) => Ok(Entered::Found(findings)),
-        Staged::Clean(clean) => enter_method(alloc, tokens, tree, clean, entry),
-    }
+    let text = read_text(alloc, reader)?;
+    let answer = answer_to(alloc, &text, entry, schedule)?;
+    write_all(&answer.bytes, writer)?;
+    Ok(answer.status)
 }
 
-/// The entry in a program of these contracts, with which nothing is wrong but in its methods.
-fn enter_method(
+/// The answer to a text, an entry and a schedule.
+fn answer_to<Q: Source>(
     alloc: Global,
-    tokens: &Tokens,
-    tree: &Tree,
-    clean: Clean,
+    text: &[u8],
     entry: &[u8],
-) -> Result<Entered, Memory>
-    requires sound { IsSoundProgram tokens.now.text.items (program_tree tree.now) (map contract_seen clean.resolved.contracts.items) }
-    requires judged { map sound_parts clean.sounds.items ≡ map (λ c. c.parts) (map contract_seen clean.resolved.contracts.items) }
-    requires room { length clean.resolved.contracts.items < 2 ^ 32 }
-    ensures { IfOk result (IsEntered tokens.now.text.items entry.now) }
+    schedule: &mut Q,
+) -> Result<Report, RunFault>
+    ensures replays { IfOk result (λ answer. IfSome (Q.remaining schedule.old) (λ lines.
+        Replays entry.now lines text.now answer.bytes.items answer.status)) }
+    ensures safe { IfOk result (λ answer. IfSome (Q.remaining schedule.old) (λ lines.
+        HasEmptyReport text.now → RunsSafely entry.now lines text.now answer.bytes.items answer.status)) }
+    ensures entry { IsErrOf result RunFault.Entry → LacksEntry text.now entry.now }
+    ensures line { (n : ℕ) → IsErrOf result (RunFault.Schedule n) → IfSome (Q.remaining schedule.old) (λ lines.
+        LacksSchedule text.now entry.now lines n) }
+    ensures most { TakesAtMost MAX_SCHEDULE_READ (Q.remaining schedule.old) (Q.remaining schedule.new) }
+    ensures unread { IsErrOf result RunFault.Entry → Q.remaining schedule.new ≡ Q.remaining schedule.old }
+    ensures read { IsErrOf result (RunFault.Read Input.Schedule) → Q.failed schedule.new ≢ Q.failed schedule.old }
+    ensures fault { IfErr result IsAnswerFault }
 {
-    let Clean { resolved, sounds } = clean;
-    let methods = well_formed_methods(alloc, tree, tokens, resolved)?;
-    let program = Program::new(alloc, methods, sounds)?;
-    let Some(method) = entry_of(&program, entry_place(tokens, tree, entry)) else {
-        return Ok(Entered::Lacking);
-    };
-    let structs = struct_names(alloc, tokens, tree)?;
-    Ok(Entered::Begun(Begun {
-        program,
-        method,
-        structs,
-    }))
+    each_program_has_bounds();
+    findings_or_program();
+    match enter(alloc, text, entry)? {
+        Entered::Found(findings) => Ok(Report {
+            bytes: report_of(alloc, findings)?,
+            status: Status::Found,
+        }),
+        Entered::Lacking => Err(RunFault::Entry),
+        Entered::Begun(begun) => scheduled(alloc, &begun, schedule),
+    }
 }
 
-/// The method at a place, if there is one and a run may begin with it.
-fn entry_of(program: &Program, place: Option<usize>) -> Option<MethodId>
-    requires few { length (seen_of program.now).methods < 2 ^ 32 }
-    ensures some { IfSome result (λ id. (place ≡ Some id.0) × Begins (seen_of program.now) id.0) }
-    ensures none { IfNone result ((n : ℕ) → place ≡ Some n → ¬ Begins (seen_of program.now) n) }
+/// What a schedule comes to from there.
+fn scheduled<Q: Source>(
+    alloc: Global,
+    begun: &Begun,
+    schedule: &mut Q,
+) -> Result<Report, RunFault>
+    requires there { begun.now.method.0 < length (seen_of begun.now.program).methods }
+    ensures ran { IfOk result (λ answer. IfSome (Q.remaining schedule.old) (λ lines. (text entry : List ℕ)
+        → IsBegun text entry begun.now → IsRan entry lines text answer.bytes.items answer.status)) }
+    ensures line { (n : ℕ) → IsErrOf result (RunFault.Schedule n) → IfSome (Q.remaining schedule.old) (λ lines. IsFirstMalformed lines n) }
+    ensures most { TakesAtMost MAX_SCHEDULE_READ (Q.remaining schedule.old) (Q.remaining schedule.new) }
+    ensures read { IsErrOf result (RunFault.Read Input.Schedule) → Q.failed schedule.new ≢ Q.failed schedule.old }
+    ensures fault { IfErr result IsScheduledFault }
 {
-    let place = place?;
-    if place >= program.methods().len() {
-        return None;
-    }
-    let method = MethodId(place as u32);
-    if program.is_entry(method) {
-        Some(method)
-    } else {
-        None
+    a_front_tells_all();
+    let bytes = read_up_to(alloc, schedule, MAX_SCHEDULE_READ, Input::Schedule)?;
+    match read_schedule(alloc, &bytes) {
+        Ok(events) => Ok(replayed(alloc, begun, &events)?),
+        Err(ScheduleFault::Malformed(line)) => Err(RunFault::Schedule(line)),
+        Err(ScheduleFault::Memory) => Err(RunFault::Memory),
     }
 }
 
 /// What these events come to from there, line by line.
-pub(crate) fn replayed(alloc: Global, begun: &Begun, events: &[Event]) -> Result<Report, Memory>
+fn replayed(alloc: Global, begun: &Begun, events: &[Event]) -> Result<Report, Memory>
     requires there { begun.now.method.0 < length (seen_of begun.now.program).methods }
     ensures { IfOk result (λ r. (text entry schedule : List ℕ) → IsBegun text entry begun.now → IsSchedule schedule events.now
-        → IsRan text entry schedule r.bytes.items r.status) }
+        → IsRan entry schedule text r.bytes.items r.status) }
 {
     let came = replay(alloc, &begun.program, begun.method, events)?;
     let bytes = lines_of(alloc, &begun.program, &begun.structs, events, &came)?;

@@ -13,4 +13,10 @@ pub enum Ask<'a> {
         workers: usize,
         slots: usize,
     },
+    /// What the events of a schedule, which stands in a file, come to in this file from an entry, `Class.Method`.
+    Replay {
+        file: &'a str,
+        entry: &'a str,
+        schedule: &'a str,
+    },
 }

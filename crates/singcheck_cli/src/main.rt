@@ -4,6 +4,7 @@
 use clap::error::ErrorKind;
 use singcheck::{
     Ask, Counted, Input, Open, RunFault, Sink, Status, ask, ending, run_bounds, run_check,
+    run_replay,
 };
 use std::alloc::{AllocError, Global};
 use std::fs::File;
@@ -72,6 +73,13 @@ fn answer<R: AllocGlobal + Files + Print + Eprint + Threads + Wait + Sync, O: Si
                 slots,
             },
         ) => check(rt, file, workers, slots, output, errors),
+        Ok(
+            Ask::Replay {
+                file,
+                entry,
+                schedule,
+            },
+        ) => replayed(rt, file, entry, schedule, output, errors),
         Err(refusal) if refusal.kind() == ErrorKind::OutOfMemory => {
             ending(&RunFault::Memory, "", errors)
         }
@@ -110,6 +118,31 @@ fn check<R: AllocGlobal + Files + Threads + Wait + Sync, O: Sink, E: Sink>(
     let mut text = Counted::new(text);
     let answered = run_check(rt, &mut text, output, workers, slots, &Open);
     status(answered, file, errors)
+}
+
+fn replayed<R: AllocGlobal + Files, O: Sink, E: Sink>(
+    rt: &R,
+    file: &str,
+    entry: &str,
+    schedule: &str,
+    output: &mut O,
+    errors: &mut E,
+) -> u8 {
+    let Ok(text) = fs::open(rt, file) else {
+        return ending(&RunFault::Read(Input::Text), file, errors);
+    };
+    let Ok(events) = fs::open(rt, schedule) else {
+        return ending(&RunFault::Read(Input::Schedule), schedule, errors);
+    };
+    let mut text = Counted::new(text);
+    let mut events = Counted::new(events);
+    let answered = run_replay(rt.alloc(), &mut text, entry.as_bytes(), &mut events, output);
+    let name = match answered {
+        Err(RunFault::Entry) => entry,
+        Err(RunFault::Read(Input::Schedule)) => schedule,
+        _ => file,
+    };
+    status(answered, name, errors)
 }
 
 /// The exit status of a run.

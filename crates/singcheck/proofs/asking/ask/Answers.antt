@@ -1,10 +1,13 @@
 use Rattle.std.proofs.Common.{◌∙◌, map, Some, sym, ap, codes}
 use Rattle.clap.specs.Words.{app_of}
-use Rattle.singcheck.proofs.AskLemmas.{asks_of}
+use Rattle.singcheck.specs.Asking.{Gives}
+use Rattle.singcheck.proofs.AskLemmas.{asks_of, asks_replay, gives}
 use Rattle.singcheck.proofs.asking.ask.Goals as goal
 
 pub returns-in-Some : goal.returns-in-Some
-returns-in-Some c = asks_of (map (λ w. w.now) c.args.words.now) c.in_ok-matches.matches c.in-Some-bounds-default.inner.now (codes "bounds") c.in-Some.file.now (app_of c.in_ok-command.command) c.in_ok-command.ensures.same c.in_ok-matches.ensures.ok.2 (sym c.in-Some-bounds-default.ensures.name ∙ ap Some c.in-Some-bounds-default.is-bounds) (sym c.in-Some-bounds-default.ensures.rows) (sym c.in-Some.ensures)
+returns-in-Some c = asks_of (map (λ w. w.now) c.args.words.now) c.in_ok-matches.matches c.in-Some-bounds-default.inner.now (codes "bounds") (app_of c.in_ok-command.command) (λ rows. Gives rows (codes "FILE") c.in-Some.file.now) c.in_ok-command.ensures.same c.in_ok-matches.ensures.ok.2 (sym c.in-Some-bounds-default.ensures.name ∙ ap Some c.in-Some-bounds-default.is-bounds) (sym c.in-Some-bounds-default.ensures.rows)
+    (gives c.in-Some-bounds-default.inner.now (codes "FILE") c.in-Some.file.now (sym c.in-Some.ensures))
 
 pub returns-in-Some-get_str : goal.returns-in-Some-get_str
-returns-in-Some-get_str c = asks_of (map (λ w. w.now) c.args.words.now) c.in_ok-matches.matches c.in-Some-check-default.inner.now (codes "check") c.in-Some-get_str.file.now (app_of c.in_ok-command.command) c.in_ok-command.ensures.same c.in_ok-matches.ensures.ok.2 (sym c.in-Some-check-default.ensures.name ∙ ap Some c.in-Some-check-default.is-check) (sym c.in-Some-check-default.ensures.rows) (sym c.in-Some-get_str.ensures)
+returns-in-Some-get_str c = asks_of (map (λ w. w.now) c.args.words.now) c.in_ok-matches.matches c.in-Some-check-default.inner.now (codes "check") (app_of c.in_ok-command.command) (λ rows. Gives rows (codes "FILE") c.in-Some-get_str.file.now) c.in_ok-command.ensures.same c.in_ok-matches.ensures.ok.2 (sym c.in-Some-check-default.ensures.name ∙ ap Some c.in-Some-check-default.is-check) (sym c.in-Some-check-default.ensures.rows)
+    (gives c.in-Some-check-default.inner.now (codes "FILE") c.in-Some-get_str.file.now (sym c.in-Some-get_str.ensures))

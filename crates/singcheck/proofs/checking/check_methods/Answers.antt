@@ -12,7 +12,8 @@ use Rattle.singcheck.specs.Lines.{clear_line}
 use Rattle.singcheck.proofs.CheckLemmas.{reported_ok, has_program, misowned, clear_is}
 use Rattle.singcheck.specs.Safety.{IsSafeText}
 use Rattle.singcheck.proofs.JudgeLemmas.{no_items}
-use Rattle.singcheck.proofs.SafetyLemmas.{AreCleanSafe, found_unsafe, safe_text}
+use Rattle.singcheck.specs.Entered.{AreCleanSafe}
+use Rattle.singcheck.proofs.SafetyLemmas.{found_unsafe, safe_text}
 use Rattle.singcheck.proofs.checking.check_methods.Goals as goal
 
 pub new-requires : goal.new-requires

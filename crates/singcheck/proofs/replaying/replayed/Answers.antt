@@ -10,11 +10,9 @@ returns c = λ text entry schedule begun told.
     let came = c.in_ok-came.came in
     let p = seen_of c.args.begun.now.program in
     record {
-      items = begun.items;
       program = p;
-      comes = begun.comes;
       n = c.args.begun.now.method.0;
-      at = begun.at;
+      entered = begun.entered;
       events = c.args.events.now;
       told = told;
       replayed = came;

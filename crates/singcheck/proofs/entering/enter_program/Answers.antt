@@ -3,7 +3,7 @@ use Rattle.tree.specs.Trees.{program_tree}
 use Rattle.program.specs.Parts.{contract_seen}
 use Rattle.singcheck.specs.Stages.{IsStaged, IsSoundTree}
 use Rattle.singcheck.proofs.FewLemmas.{few_contracts}
-use Rattle.singcheck.proofs.replaying.enter_program.Goals as goal
+use Rattle.singcheck.proofs.entering.enter_program.Goals as goal
 
 pub enter_method-requires-clause-sound : goal.enter_method-requires-clause-sound
 enter_method-requires-clause-sound c = subst (IsSoundTree c.args.tokens.now.text.items (program_tree c.args.tree.now)) c.in-Clean.is c.in_ok-findings.ensures.sound
