@@ -1,4 +1,5 @@
-"""The page of the manual: what reads such pages has nothing to say against it, and it knows the commands and options of the help."""
+"""The page of the manual: what reads such pages has nothing to say against it, and it knows the commands and options of the help. The
+help itself has the program's name, the range and the default of each number, the exit statuses, and an example a command."""
 import os
 import pathlib
 import re
@@ -35,4 +36,13 @@ def commands_and_options_of_the_help(program):
         [] if options == given else ['options: help %s, page %s' % (sorted(options), sorted(given))])
 
 
-TESTS = [('manual/' + test.__name__, test) for test in (without_warnings, commands_and_options_of_the_help)]
+def what_the_help_says(program):
+    said = {command: helped(program, *command.split()) for command in ('', 'bounds', 'check', 'replay')}
+    asked = [(command, word) for command in said for word in ('Usage: singcheck %s' % command, 'Example: singcheck %s' % command)]
+    asked += [('', word) for word in ['Exit status:'] + ['\n  %d  ' % status for status in range(5)]]
+    asked += [('replay', '<FILE> <ENTRY> <SCHEDULE>'), ('replay', 'Class.Method'), ('check', '--workers <N>'), ('check', '--slots <N>')]
+    asked += [('check', '1 to 64, default 4'), ('check', '1 to 16777216, default 65536')]
+    return ['help of %r lacks %r' % (command, word) for command, word in asked if word not in said[command]]
+
+
+TESTS = [('manual/' + test.__name__, test) for test in (without_warnings, commands_and_options_of_the_help, what_the_help_says)]
