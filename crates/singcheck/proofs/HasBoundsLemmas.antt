@@ -42,6 +42,7 @@ in_front c cs to_imp to_exp bound imp exp of = record { are = are; past = past }
     are zero x Imp there = let same : c ≡ x = cc in subst (λ y. IsBound y.parts.edges y.parts.first (sign_to Imp) to_imp) same imp
     are zero x Exp there = let same : c ≡ x = cc in subst (λ y. IsBound y.parts.edges y.parts.first (sign_to Exp) to_exp) same exp
     are (suc n) x side there = of.are n x side there
+
     past : (n : ℕ) (side : Side) → length (c ∷ cs) ≤ n → front to_imp to_exp bound n side ≡ 0
     past zero side le = absurd (omega (arith, le))
     past (suc n) side le = of.past n side (omega (arith, le))

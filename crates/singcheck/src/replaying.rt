@@ -102,11 +102,7 @@ fn answer_to<Q: Source>(
 }
 
 /// What a schedule comes to from there.
-fn scheduled<Q: Source>(
-    alloc: Global,
-    begun: &Begun,
-    schedule: &mut Q,
-) -> Result<Report, RunFault>
+fn scheduled<Q: Source>(alloc: Global, begun: &Begun, schedule: &mut Q) -> Result<Report, RunFault>
     requires there { begun.now.method.0 < length (seen_of begun.now.program).methods }
     ensures ran { IfOk result (λ answer. IfSome (Q.remaining schedule.old) (λ lines. (text entry : List ℕ)
         → IsBegun text entry begun.now → IsRan entry lines text answer.bytes.items answer.status)) }
