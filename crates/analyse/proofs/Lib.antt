@@ -3,6 +3,7 @@ pub mod AddLemmas
 pub mod ZipLemmas
 pub mod EqualLemmas
 pub mod KeyLemmas
+pub mod KeyedLemmas
 pub mod VerdictLemmas
 pub mod NameLemmas
 pub mod WorkerLemmas

@@ -1,6 +1,8 @@
 pub mod Hashes
+pub mod Kept
 pub mod Names
 pub mod Reach
+pub mod RowKeys
 pub mod Searches
 pub mod Tasks
 pub mod Verdicts

@@ -23,7 +23,7 @@ pub const MOST_PAIRS: usize = 20_000;
 
 /// The verdict of a task's method: what is found at the pairs that can be reached from its entry, or, where more than
 /// `MOST_PAIRS` can, that alone. All pairs are looked at, and no two rows are joined. Rows are kept in the table of all. Once that has
-/// no room for one, the worker keeps all rows of this method and of each later one itself; the verdict is the same.
+/// no place near for one, the worker keeps all rows of this method and of each later one itself; the verdict is the same.
 ///
 /// `Memory` is answered where a growth was refused, and gives the task back. The worker's seat knows all that it had seen, also then.
 pub fn analyse(

@@ -2,9 +2,11 @@
 #![tactic(auto)]
 
 mod analysing;
+mod keys;
 pub mod laws;
 mod naming;
 mod noting;
+mod own;
 mod pair;
 mod searching;
 mod seating;

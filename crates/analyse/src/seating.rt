@@ -3,6 +3,7 @@
 ghost use Rattle.std.specs.Prelude.{◌≡◌};
 ghost use Rattle.analyse.specs.Workers.{seat_of};
 
+use crate::own::OwnRows;
 use crate::worker::Worker;
 use indexmap::IndexSet;
 use intern::Seat;
@@ -16,7 +17,7 @@ impl Worker {
         Worker {
             seat,
             alone: false,
-            own: IndexSet::new(alloc),
+            own: OwnRows::new(alloc),
             seen: IndexSet::new(alloc),
         }
     }

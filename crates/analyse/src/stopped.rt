@@ -5,8 +5,8 @@ use std::alloc::{AllocError, AllocFailed};
 
 /// Why a search did not come to its end.
 pub(crate) enum Stopped {
-    /// The table of all has no room for a row.
-    Full,
+    /// The table of all has no place near for a row: the search for one of its words passed as many slots as it may, or all.
+    Far,
     /// A growth of memory was refused.
     Memory,
 }

@@ -1,17 +1,17 @@
 //! What a worker keeps from method to method.
 
+use crate::own::OwnRows;
 use crate::pair::Pair;
 use indexmap::IndexSet;
 use intern::Seat;
-use rules::Row;
 
 /// What a worker keeps from method to method: its seat at the table of all rows, and tables of its own. These are emptied for each
 /// method, and keep their memory.
 #[derive(Drop)]
 pub struct Worker {
     pub(crate) seat: Seat,
-    /// Whether it keeps all rows itself, since the table was full.
+    /// Whether it keeps all rows itself, since the table of all had no place near for one.
     pub(crate) alone: bool,
-    pub(crate) own: IndexSet<Row>,
+    pub(crate) own: OwnRows,
     pub(crate) seen: IndexSet<Pair>,
 }

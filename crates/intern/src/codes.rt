@@ -11,8 +11,8 @@ use rules::Leaf;
 /// The numbers of leaves are below this: one each for nothing, a block and an endpoint that is cut off, and one for each state.
 pub const LEAF_CODES: u64 = MOST_STATES as u64 + 3;
 
-/// The number of a leaf.
-pub(crate) fn code_of(leaf: Leaf) -> u64
+/// The number of a leaf. No two leaves have one number.
+pub fn code_of(leaf: Leaf) -> u64
     requires { IsNumbered leaf }
     ensures value { result ≡ code leaf }
     ensures below { result < LEAF_CODES }

@@ -13,6 +13,11 @@ pub enum InternFault {
     Memory,
 }
 
+/// A word of the row has no place near the beginning of its search.
+#[derive(Clone, Copy, Debug, PartialEq, Eq, Error)]
+#[error("a word of the row has no place near")]
+pub struct Far;
+
 /// Why there is no table.
 #[derive(Clone, Copy, Debug, PartialEq, Eq, Error)]
 pub enum InternNew {

@@ -11,7 +11,7 @@ ghost use Rattle.intern.specs.Seats.{IsSeatOf, slots_of, view};
 ghost use Rattle.intern.specs.Tokens.{HasNoRoom, IsFaithful, IsKnown, Names};
 ghost use Rattle.intern.specs.View.{Grows, IsInside, IsSound, IsWalk, View};
 ghost use Rattle.intern.specs.contracts.rows.Rows as rows;
-ghost use Rattle.intern.specs.declared.layout.TheConstants.{LEAVES, LENGTHS, MOST_SLOTS};
+ghost use Rattle.intern.specs.declared.layout.TheConstants.{LEAVES, LENGTHS, MOST_LOOKS, MOST_SLOTS};
 ghost use Rattle.intern.specs.declared.rows.Rows.{Rows};
 ghost use Rattle.intern.specs.declared.seat.Seat.{Seat};
 ghost use Rattle.intern.specs.declared.token.Token.{Token};
@@ -22,6 +22,7 @@ use crate::rows::Rows;
 /// The limits in digits, and the word.
 pub fn limits()
     ensures slots { MOST_SLOTS ≡ 16777216 }
+    ensures looks { MOST_LOOKS ≡ 64 }
     ensures lengths { MOST_VARIABLES < LENGTHS }
     ensures word { (n leaf tail : ℕ) → word n leaf tail ≡ n + 1024 * leaf + 1073741824 * tail }
 {}

@@ -13,8 +13,9 @@ mod steps;
 mod table;
 mod token;
 
-pub use fault::{InternFault, InternNew};
-pub use layout::{MOST_SLOTS, word_of};
+pub use codes::code_of;
+pub use fault::{Far, InternFault, InternNew};
+pub use layout::{MOST_LOOKS, MOST_SLOTS, word_of};
 pub use rows::Rows;
 pub use seat::Seat;
 pub use token::Token;
