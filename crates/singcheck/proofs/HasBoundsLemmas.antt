@@ -26,11 +26,11 @@ record BoundsOf (contracts : List ContractSeen) (bound : Bounds) : Type 0 where
   pub are : (n : ℕ) (c : ContractSeen) (side : Side) → slice_get contracts n ≡ Some c → IsBound c.parts.edges c.parts.first (sign_to side) (bound n side)
   pub past : (n : ℕ) (side : Side) → length contracts ≤ n → bound n side ≡ 0
 
-none_bounds : Bounds
+abbrev none_bounds : Bounds
 none_bounds n side = 0
 
 -- the bounds of one contract more, in front of others
-front : ℕ → ℕ → Bounds → Bounds
+abbrev front : ℕ → ℕ → Bounds → Bounds
 front to_imp to_exp bound zero Imp = to_imp
 front to_imp to_exp bound zero Exp = to_exp
 front to_imp to_exp bound (suc n) side = bound n side
@@ -42,6 +42,7 @@ in_front c cs to_imp to_exp bound imp exp of = record { are = are; past = past }
     are zero x Imp there = let same : c ≡ x = cc in subst (λ y. IsBound y.parts.edges y.parts.first (sign_to Imp) to_imp) same imp
     are zero x Exp there = let same : c ≡ x = cc in subst (λ y. IsBound y.parts.edges y.parts.first (sign_to Exp) to_exp) same exp
     are (suc n) x side there = of.are n x side there
+
     past : (n : ℕ) (side : Side) → length (c ∷ cs) ≤ n → front to_imp to_exp bound n side ≡ 0
     past zero side le = absurd (omega (arith, le))
     past (suc n) side le = of.past n side (omega (arith, le))

@@ -68,7 +68,7 @@ module _ (known : ReplayLaws) (entry lines text a b : List ℕ) (s t : Status) (
   same_some differ = known.bounds text y.program y.entered.has (λ bound are.
       differ (known.replays y.program bound y.n y.events x.replayed y.replayed (moved bound are) (y.led bound are)))
 
-  printed : List (List ℕ) → ProgramSeen → List Event → Replayed → List ℕ
+  abbrev printed : List (List ℕ) → ProgramSeen → List Event → Replayed → List ℕ
   printed structs p events r = replay_lines (record { program = p; structs = structs }) events r.steps r.halt (world_seen r.world)
 
   same_bytes : AreSame x.replayed y.replayed → a ≡ b

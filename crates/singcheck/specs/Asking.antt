@@ -58,7 +58,8 @@ pub record AsksOf (words : List Text) (subcommand : Text) (Holds : List Row → 
 
 -- the arguments give these three texts
 abbrev pub GivesReplay : (file entry schedule : Text) → List Row → Type 0
-GivesReplay file entry schedule rows = Gives rows (codes "FILE") file × Gives rows (codes "ENTRY") entry × Gives rows (codes "SCHEDULE") schedule
+GivesReplay file entry schedule rows =
+    Gives rows (codes "FILE") file × Gives rows (codes "ENTRY") entry × Gives rows (codes "SCHEDULE") schedule
 
 -- this is what the words ask for; of the numbers nothing is said
 abbrev pub Asks : List Text → Ask → Type 0

@@ -24,7 +24,8 @@ Begins p n = IsSomeAnd (slice_get p.methods n) (λ m. is_entry m ≡ true)
 
 -- where nothing is found in the methods of a program, its runs are safe
 abbrev pub AreCleanSafe : ProgramSeen → Type 0
-AreCleanSafe p = (bound : Bounds) → AreBounds p bound → NothingIsFound p → (n : ℕ) (w : World) → IsEntry p n → Run p bound n w → IsSafe p bound w
+AreCleanSafe p =
+    (bound : Bounds) → AreBounds p bound → NothingIsFound p → (n : ℕ) (w : World) → IsEntry p n → Run p bound n w → IsSafe p bound w
 
 -- and so are those that `replay` begins
 pub record AreReplaysSafe (p : ProgramSeen) : Type 0 where

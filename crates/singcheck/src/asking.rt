@@ -6,8 +6,8 @@ ghost use Rattle.singcheck.specs.Asking.{Asks, IsReplayOf};
 
 use crate::commands::whole_of;
 use crate::request::Ask;
-use clap::{ArgMatches, Error};
 use clap::error::ErrorKind;
+use clap::{ArgMatches, Error};
 use std::alloc::Global;
 
 /// How many workers there are where the command line does not say.
@@ -34,7 +34,10 @@ pub fn ask<'a>(alloc: Global, words: &'a [&'a str]) -> Result<Ask<'a>, Error>
             let workers = number(inner.get_str("workers"), WORKERS);
             let slots = number(inner.get_str("slots"), SLOTS);
             let (Some(workers), Some(slots)) = (workers, slots) else {
-                return Err(command.error(ErrorKind::InvalidValue, "--workers and --slots take a number")?);
+                return Err(command.error(
+                    ErrorKind::InvalidValue,
+                    "--workers and --slots take a number",
+                )?);
             };
             return Ok(Ask::Check {
                 file,

@@ -79,7 +79,11 @@ fn check_of<'a>(alloc: Global) -> Result<Command<'a>, AllocError>
         .about("Prints what is wrong in a program")
         .after_help(CHECK_EXAMPLE)
         .arg(file_of(alloc))?
-        .arg(number_of(alloc, "workers", "How many threads share the methods, 1 to 64, default 4"))?
+        .arg(number_of(
+            alloc,
+            "workers",
+            "How many threads share the methods, 1 to 64, default 4",
+        ))?
         .arg(number_of(
             alloc,
             "slots",
@@ -95,7 +99,11 @@ fn replay_of<'a>(alloc: Global) -> Result<Command<'a>, AllocError>
         .about("Prints what the events of a schedule come to")
         .after_help(REPLAY_EXAMPLE)
         .arg(file_of(alloc))?
-        .arg(text_of(alloc, "ENTRY", "The method with which the run begins, as Class.Method"))?
+        .arg(text_of(
+            alloc,
+            "ENTRY",
+            "The method with which the run begins, as Class.Method",
+        ))?
         .arg(text_of(
             alloc,
             "SCHEDULE",

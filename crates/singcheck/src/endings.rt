@@ -14,8 +14,8 @@ use itoa::Buffer;
 /// Writes the line of a fault, and answers the exit status: 2 for what was asked and cannot be, 3 for a file or a device,
 /// 4 for want of memory.
 ///
-/// `name` is the name of the file, or of the entry where there is no such one. The line is written where the writer does not fail, and a beginning of it where it
-/// does. The status is answered also where the line cannot be written; no memory is taken.
+/// `name` is the name of the file, or of the entry where there is no such one. The line is written where the writer does not fail, and a
+/// beginning of it where it does. The status is answered also where the line cannot be written; no memory is taken.
 pub fn ending<W: Sink>(fault: &RunFault, name: &str, writer: &mut W) -> u8
     ensures status { result ≡ status_of fault.now }
     ensures begun { Begins (W.contents writer.old) (W.contents writer.new) (line_of fault.now name.now) }

@@ -13,7 +13,7 @@ ghost use Rattle.singcheck.specs.Safety.{HasEmptyReport, RunsSafely};
 use crate::device::{Sink, Source};
 use crate::entering::{Begun, Entered, enter};
 use crate::fault::{Input, RunFault, Status};
-use crate::laws::{each_program_has_bounds, findings_or_program};
+use crate::laws::{each_program_has_bounds, findings_or_program, one_program};
 use crate::reading::{MAX_READ, MAX_SCHEDULE_READ, read_text, read_up_to};
 use crate::reports::{Report, report_of};
 use crate::writing::write_all;
@@ -23,7 +23,7 @@ use replays::{ScheduleFault, lines_of, read_schedule};
 use source::Memory;
 use std::alloc::Global;
 
-/// Reads a program text, an entry's name being given, and a schedule, and writes what the events of the schedule come to.
+/// Reads a program text and a schedule, and writes what the events of the schedule come to from an entry.
 ///
 /// The text is read first. Where its text, its names or its contracts have findings, the report of the first of these stages that has
 /// some is written, with status `Found`, and nothing is read of the schedule; what is found in methods is no bar. Else `Entry` is
@@ -88,6 +88,7 @@ fn answer_to<Q: Source>(
     ensures read { IsErrOf result (RunFault.Read Input.Schedule) → Q.failed schedule.new ≢ Q.failed schedule.old }
     ensures fault { IfErr result IsAnswerFault }
 {
+    one_program();
     each_program_has_bounds();
     findings_or_program();
     match enter(alloc, text, entry)? {
@@ -101,11 +102,7 @@ fn answer_to<Q: Source>(
 }
 
 /// What a schedule comes to from there.
-fn scheduled<Q: Source>(
-    alloc: Global,
-    begun: &Begun,
-    schedule: &mut Q,
-) -> Result<Report, RunFault>
+fn scheduled<Q: Source>(alloc: Global, begun: &Begun, schedule: &mut Q) -> Result<Report, RunFault>
     requires there { begun.now.method.0 < length (seen_of begun.now.program).methods }
     ensures ran { IfOk result (λ answer. IfSome (Q.remaining schedule.old) (λ lines. (text entry : List ℕ)
         → IsBegun text entry begun.now → IsRan entry lines text answer.bytes.items answer.status)) }

@@ -11,3 +11,6 @@ returns-in-Some c = asks_of (map (λ w. w.now) c.args.words.now) c.in_ok-matches
 pub returns-in-Some-get_str : goal.returns-in-Some-get_str
 returns-in-Some-get_str c = asks_of (map (λ w. w.now) c.args.words.now) c.in_ok-matches.matches c.in-Some-check-default.inner.now (codes "check") (app_of c.in_ok-command.command) (λ rows. Gives rows (codes "FILE") c.in-Some-get_str.file.now) c.in_ok-command.ensures.same c.in_ok-matches.ensures.ok.2 (sym c.in-Some-check-default.ensures.name ∙ ap Some c.in-Some-check-default.is-check) (sym c.in-Some-check-default.ensures.rows)
     (gives c.in-Some-check-default.inner.now (codes "FILE") c.in-Some-get_str.file.now (sym c.in-Some-get_str.ensures))
+
+pub returns-in-Some-replay_asked : goal.returns-in-Some-replay_asked
+returns-in-Some-replay_asked c = asks_replay (map (λ w. w.now) c.args.words.now) c.in_ok-matches.matches c.in-Some-replay-default.inner.now (app_of c.in_ok-command.command) c.in-Some-replay_asked.asked c.in_ok-command.ensures.same c.in_ok-matches.ensures.ok.2 (sym c.in-Some-replay-default.ensures.name ∙ ap Some c.in-Some-replay-default.is-replay) (sym c.in-Some-replay-default.ensures.rows) c.in-Some-replay_asked.ensures

@@ -1,5 +1,6 @@
 use Rattle.std.proofs.Common.{◌≡◌, List, ℕ, subst, sym}
-use Rattle.replays.specs.Schedules.{IsFirstMalformed, IsSchedule}
+use Rattle.std.specs.Prelude.{Err}
+use Rattle.replays.specs.Schedules.{IsFirstMalformed, IsSchedule, Reads}
 use Rattle.singcheck.specs.declared.reading.TheConstants.{MAX_SCHEDULE_READ}
 use Rattle.singcheck.proofs.ReplayLemmas.{of_read, some_map}
 use Rattle.singcheck.proofs.Texts.{text_is}
@@ -9,10 +10,10 @@ pub returns-in-Ok-clause-ran : goal.returns-in-Ok-clause-ran
 returns-in-Ok-clause-ran g c =
     let bytes = c.in_ok-bytes.bytes.items in
     let events = c.in-Ok.events.items in
-    let is = text_is (g.Q.Source.remaining c.args.schedule.now) (g.Q.Source.remaining c.read_up_to.new.schedule) bytes MAX_SCHEDULE_READ c.in_ok-bytes.ensures.bytes c.in_ok-bytes.ensures.long c.in_ok-bytes.ensures.end in
+    let is = text_is (g.Q.Source.remaining c.args.schedule.now) (g.Q.Source.remaining c.read_up_to.new.reader) bytes MAX_SCHEDULE_READ c.in_ok-bytes.ensures.bytes c.in_ok-bytes.ensures.long c.in_ok-bytes.ensures.end in
     let told = subst (λ (b : List ℕ). IsSchedule b events) c.deref.ensures.value c.in-Ok.ensures in
     some_map (g.Q.Source.remaining c.args.schedule.now) (λ lines. IsSchedule lines events) _
-    (λ lines is_told text entry begun. c.in_ok-replayed.ensures text entry lines begun (subst (IsSchedule lines) (sym c.deref-2.ensures.value) is_told))
+    (λ lines is_told text entry begun. c.in_ok-replayed-in-Ok.ensures text entry lines begun (subst (IsSchedule lines) (sym c.deref-in-Ok.ensures.value) is_told))
     (of_read (λ xs. IsSchedule xs events) (g.Q.Source.remaining c.args.schedule.now) bytes (λ xs. c.a_front_tells_all.ensures.events xs events) is told)
 
 pub returns-in-Err-Malformed-clause-line : goal.returns-in-Err-Malformed-clause-line
@@ -20,6 +21,6 @@ returns-in-Err-Malformed-clause-line g c = λ n told.
     let bytes = c.in_ok-bytes.bytes.items in
     let line = c.in-Err-Malformed.line in
     let same : line ≡ n = cc in
-    let is = text_is (g.Q.Source.remaining c.args.schedule.now) (g.Q.Source.remaining c.read_up_to.new.schedule) bytes MAX_SCHEDULE_READ c.in_ok-bytes.ensures.bytes c.in_ok-bytes.ensures.long c.in_ok-bytes.ensures.end in
-    let wrong = subst (λ (b : List ℕ). IsFirstMalformed b line) c.deref.ensures.value c.in-Err-Malformed.ensures in
+    let is = text_is (g.Q.Source.remaining c.args.schedule.now) (g.Q.Source.remaining c.read_up_to.new.reader) bytes MAX_SCHEDULE_READ c.in_ok-bytes.ensures.bytes c.in_ok-bytes.ensures.long c.in_ok-bytes.ensures.end in
+    let wrong = subst (λ (b : List ℕ). IsFirstMalformed b line) c.deref.ensures.value (subst (λ f. Reads c.deref.result.now (Err f)) c.in-Err-Malformed.field-0-is c.in-Err-Malformed.ensures) in
     of_read (λ xs. IsFirstMalformed xs n) (g.Q.Source.remaining c.args.schedule.now) bytes (λ xs. c.a_front_tells_all.ensures.line xs n) is (subst (IsFirstMalformed bytes) same wrong)
