@@ -19,16 +19,17 @@ Exit status:
   3  a file cannot be read, or the answer cannot be written
   4  memory is out
 
-Example: singcheck check shop.sg";
+Example: singcheck check examples/shop.sg";
 
 /// What help says behind the arguments of `bounds`.
-const BOUNDS_EXAMPLE: &str = "Example: singcheck bounds shop.sg";
+const BOUNDS_EXAMPLE: &str = "Example: singcheck bounds examples/shop.sg";
 
 /// What help says behind the arguments of `check`.
-const CHECK_EXAMPLE: &str = "Example: singcheck check --workers 8 shop.sg";
+const CHECK_EXAMPLE: &str = "Example: singcheck check --workers 8 examples/shop.sg";
 
 /// What help says behind the arguments of `replay`.
-const REPLAY_EXAMPLE: &str = "Example: singcheck replay shop.sg Market.Main turns.txt";
+const REPLAY_EXAMPLE: &str =
+    "Example: singcheck replay examples/shop.sg Street.Main examples/shop.schedule";
 
 /// A text that has to be given.
 fn text_of<'a>(alloc: Global, name: &'a str, help: &'a str) -> Arg<'a>
