@@ -2,6 +2,7 @@
 import functools
 import os
 import pathlib
+import select
 import subprocess
 import tempfile
 
@@ -44,8 +45,12 @@ def full_device(command, program):
 
 
 def closed_pipe(command, program):
+    """A process that another test is just starting has a copy of the reading end for a moment, so its end is waited for."""
     read, write = os.pipe()
     os.close(read)
+    ended = select.poll()
+    ended.register(write, 0)
+    ended.poll(60_000)
     try:
         return compared(run(program, *WORDS[command], stdout=write), None, CANNOT_WRITE, 3)
     finally:
