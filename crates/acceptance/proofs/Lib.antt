@@ -1,2 +1,0 @@
-pub mod ContractLemmas
-pub mod ListLemmas

@@ -1,0 +1,11 @@
+//! Tests of what no clause says, against the crates of steps, rows and runs.
+#![tactic(auto)]
+
+#[cfg(test)]
+mod channels;
+#[cfg(test)]
+mod interning;
+#[cfg(test)]
+mod steps;
+#[cfg(test)]
+mod worlds;
