@@ -8,6 +8,7 @@ ghost use Rattle.syntax.specs.StatementParts.{case_front, case_front_tree, typed
 ghost use Rattle.syntax.specs.StatementParts.{opens_tail, bind_on, bind_at, binds_on, binds_at};
 
 use crate::cursor::{Cursor, Stuck};
+use crate::fitted::fitted;
 use crate::fronts::{NamedTail, NamedType};
 use crate::types::{is_type, named_tail, scalar_type};
 use source::{Kind, Span};
@@ -76,7 +77,7 @@ fn bind_list(alloc: Global, cursor: &mut Cursor<'_>) -> Result<Vec<Bind>, Stuck>
     'more: while cursor.is_next(Kind::Comma) {
         all.push(comma_bind(cursor)?)?;
     }
-    Ok(all)
+    Ok(fitted(all))
 }
 
 /// "," bind

@@ -13,6 +13,7 @@ ghost use Rattle.syntax.specs.ClassParts.{result_at};
 
 use crate::access::access;
 use crate::cursor::{Cursor, Stuck};
+use crate::fitted::fitted;
 use crate::statements::block;
 use crate::types::value_type;
 use source::{Kind, Span};
@@ -130,7 +131,7 @@ fn parameter_list(alloc: Global, cursor: &mut Cursor<'_>) -> Result<Vec<Paramete
     'more: while cursor.is_next(Kind::Comma) {
         all.push(comma_parameter(cursor)?)?;
     }
-    Ok(all)
+    Ok(fitted(all))
 }
 
 /// "," parameter

@@ -15,6 +15,7 @@ ghost use Rattle.tree.specs.ExpressionTrees.{relation_tree, relation_step_tree, 
 ghost use Rattle.tree.specs.ExpressionTrees.{term_tree, unary_tree, atom_tree, target_tree, unmarked};
 
 use crate::cursor::{Cursor, Stuck};
+use crate::fitted::fitted;
 use crate::operators::{
     equality_operator, is_equality, is_prefix, is_relation, is_sum, prefix, relation_operator,
     sum_operator,
@@ -79,7 +80,7 @@ fn conjunctions(alloc: Global, cursor: &mut Cursor<'_>) -> Result<Vec<Conjunctio
     'each: while cursor.is_next(Kind::OrOr) {
         all.push(or_conjunction(alloc, cursor)?)?;
     }
-    Ok(all)
+    Ok(fitted(all))
 }
 
 /// "||" conjunction
@@ -119,7 +120,7 @@ fn equalities(alloc: Global, cursor: &mut Cursor<'_>) -> Result<Vec<Equality>, S
     'each: while cursor.is_next(Kind::AndAnd) {
         all.push(and_equality(alloc, cursor)?)?;
     }
-    Ok(all)
+    Ok(fitted(all))
 }
 
 /// "&&" equality
@@ -154,7 +155,7 @@ fn equality_steps(alloc: Global, cursor: &mut Cursor<'_>) -> Result<Vec<Equality
     'each: while is_equality(cursor.peek()) {
         all.push(equality_step(alloc, cursor)?)?;
     }
-    Ok(all)
+    Ok(fitted(all))
 }
 
 /// ( "==" | "!=" ) relation
@@ -191,7 +192,7 @@ fn relation_steps(alloc: Global, cursor: &mut Cursor<'_>) -> Result<Vec<Relation
     'each: while is_relation(cursor.peek()) {
         all.push(relation_step(alloc, cursor)?)?;
     }
-    Ok(all)
+    Ok(fitted(all))
 }
 
 /// ( "<" | "<=" | ">" | ">=" ) sum
@@ -227,7 +228,7 @@ fn sum_steps(alloc: Global, cursor: &mut Cursor<'_>) -> Result<Vec<SumStep>, Stu
     'each: while is_sum(cursor.peek()) {
         all.push(sum_step(alloc, cursor)?)?;
     }
-    Ok(all)
+    Ok(fitted(all))
 }
 
 /// ( "+" | "-" ) term
@@ -265,7 +266,7 @@ fn factors(alloc: Global, cursor: &mut Cursor<'_>) -> Result<Vec<Unary>, Stuck>
     'each: while cursor.is_next(Kind::Star) {
         all.push(times_unary(alloc, cursor)?)?;
     }
-    Ok(all)
+    Ok(fitted(all))
 }
 
 /// "*" unary
@@ -285,7 +286,7 @@ fn prefixes(alloc: Global, cursor: &mut Cursor<'_>) -> Result<Vec<Prefix>, Stuck
     'each: while is_prefix(cursor.peek()) {
         all.push(prefix(cursor)?)?;
     }
-    Ok(all)
+    Ok(fitted(all))
 }
 
 /// unary = { "!" | "-" } atom .

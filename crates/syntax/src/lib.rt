@@ -8,6 +8,7 @@ mod contracts;
 mod cursor;
 mod expressions;
 mod fault;
+mod fitted;
 mod fronts;
 mod items;
 mod laws;

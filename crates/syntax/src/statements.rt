@@ -13,6 +13,7 @@ ghost use Rattle.syntax.specs.StatementParts.{if_parts, if_at, switch_parts};
 use crate::cases::case_front;
 use crate::cursor::{Cursor, Stuck};
 use crate::expressions::read_parens;
+use crate::fitted::fitted;
 use crate::leads::{Lead, lead_of};
 use crate::simple::simple_statement;
 use source::Kind;
@@ -29,7 +30,7 @@ fn statements(alloc: Global, cursor: &mut Cursor<'_>) -> Result<Vec<Statement>, 
     'each: while let Some(lead) = lead_of(cursor.peek()) {
         all.push(statement(alloc, cursor, lead)?)?;
     }
-    Ok(all)
+    Ok(fitted(all))
 }
 
 /// statement = block | if | "while" test | switch | simple statement .
@@ -128,7 +129,7 @@ fn cases(alloc: Global, cursor: &mut Cursor<'_>) -> Result<Vec<Case>, Stuck>
     'each: while cursor.is_next(Kind::Case) {
         all.push(case(alloc, cursor)?)?;
     }
-    Ok(all)
+    Ok(fitted(all))
 }
 
 /// case = case_front { statement } .

@@ -16,6 +16,7 @@ use crate::cursor::{Cursor, Stuck};
 use crate::expressions::{
     dot_name, expression_from, is_expression, read_expression, read_index, target_from,
 };
+use crate::fitted::fitted;
 use crate::types::scalar;
 use program::Scalar;
 use source::{Kind, Span};
@@ -183,7 +184,7 @@ fn expression_list(alloc: Global, cursor: &mut Cursor<'_>) -> Result<Vec<Express
     'more: while cursor.is_next(Kind::Comma) {
         all.push(comma_expression(alloc, cursor)?)?;
     }
-    Ok(all)
+    Ok(fitted(all))
 }
 
 /// "," expression
