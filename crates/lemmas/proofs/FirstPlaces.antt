@@ -2,6 +2,7 @@
 use Rattle.std.proofs.Common.{◌≡◌, ℕ, zero, suc, ◌+◌, ◌<◌, ◌≤◌, List, [], ◌∷◌, ◌++◌, length, get_or, Option, Some, None, Bool, true, false, not, cond, ltb, eqb, sym, refl, ap, ◌∙◌, arith, ⊎_elim}
 use Rattle.std.specs.Prelude.{is_some, position, Contains}
 use Rattle.std.specs.List.{position_or_len}
+use Rattle.std.specs.Option.{unwrap_or}
 use Rattle.std.specs.Ordering.{is_eq, nat_cmp}
 use Rattle.std.specs.Cmp.{IsEquivalence, unsigned_tied}
 use Rattle.std.proofs.Math.ListN.{length-append}
@@ -123,3 +124,21 @@ pub number_there : (ids : List ℕ) (x : ℕ) → Contains ids x → (i : ℕ) �
 number_there ids x c =
     let s = position_there (λ y. is_eq (nat_cmp x y)) ids x c (is_equal x) in
     (s.at, s.is, s.within, sym (equal_is x (get_or ids s.at x) s.passes))
+
+-- A key that is entered with the length of the list where it is not there yet, and else keeps what it has: the positions are those of
+-- the list with the key behind it.
+pub position_entered : {K : Type 0} (e : K → K → Bool) → IsEquivalence e → (xs : List K) (y q : K) (w : ℕ)
+    → w ≡ unwrap_or (position (e y) xs) (length xs) → cond (e y q) (Some w) (position (e q) xs) ≡ position (e q) (xs ++ y ∷ [])
+position_entered {K} e laws xs y q w is = by (position (e y) xs) refl
+  where
+    by : (o : Option ℕ) → position (e y) xs ≡ o → cond (e y q) (Some w) (position (e q) xs) ≡ position (e q) (xs ++ y ∷ [])
+    by None at = ap (λ n. cond (e y q) (Some n) (position (e q) xs)) (is ∙ ap (λ o. unwrap_or o (length xs)) at)
+        ∙ sym (position_added e laws xs y q (ap is_some at))
+    by (Some j) at = ⊎_elim
+        (λ yes. cond-true (e y q) (Some w) (position (e q) xs) yes ∙ ap Some (is ∙ ap (λ o. unwrap_or o (length xs)) at) ∙ sym at
+        ∙ same_position (e y) (e q) (λ x. laws.congr y q x yes) xs ∙ kept)
+        (λ other. cond-false (e y q) (Some w) (position (e q) xs) other ∙ kept)
+        (cases_Bool (e y q))
+      where
+        kept : position (e q) xs ≡ position (e q) (xs ++ y ∷ [])
+        kept = sym (position_kept e laws xs y q (ap is_some at))

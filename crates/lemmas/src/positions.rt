@@ -1,7 +1,9 @@
 //! Where keys stand in a list.
 
-ghost use Rattle.std.specs.Prelude.{◌≡◌, IfOk};
+ghost use Rattle.std.specs.Prelude.{◌≡◌, IfOk, OnOk, Some, cond};
 ghost use Rattle.std.specs.BTreeMap.{get};
+ghost use Rattle.std.specs.Option.{unwrap_or};
+ghost use Rattle.std.specs.Ordering.{eq_by_cmp};
 ghost use Rattle.lemmas.specs.Places.{first_position};
 
 use std::alloc::{AllocError, Global};
@@ -16,9 +18,20 @@ pub fn first_positions<K: Ord + Copy>(
 {
     let mut positions = BTreeMap::new(alloc);
     for (i, key) in keys.iter().enumerate() {
-        if !positions.contains_key(key) {
-            positions.insert(*key, i)?;
-        }
+        enter(&mut positions, *key, i)?;
     }
     Ok(positions)
+}
+
+/// Enters a key with this place, unless it has one.
+fn enter<K: Ord + Copy>(
+    positions: &mut BTreeMap<K, usize>,
+    key: K,
+    place: usize,
+) -> Result<(), AllocError>
+    ensures { OnOk result ((k : K) → get K.cmp positions.new k
+        ≡ cond (eq_by_cmp K.cmp key k) (Some (unwrap_or (get K.cmp positions.old key) place)) (get K.cmp positions.old k)) }
+{
+    positions.entry(key)?.or_insert(place);
+    Ok(())
 }
