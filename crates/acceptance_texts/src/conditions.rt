@@ -88,9 +88,9 @@ pub(crate) fn ping(alloc: Global) -> Result<Edges, AllocError> {
     add_message(alloc, &mut ping, 3, "Req", Direction::In)?;
     add_message(alloc, &mut ping, 4, "Rep", Direction::Out)?;
     add_state(alloc, &mut ping, 7, "Start", 1)?;
-    add_state(alloc, &mut ping, 5, "Pend", 2)?;
-    add_edge(&mut ping, 7, 3, Sign::Receive, 5, 3)?;
-    add_edge(&mut ping, 5, 4, Sign::Send, 7, 4)?;
+    add_state(alloc, &mut ping, 8, "Pend", 2)?;
+    add_edge(&mut ping, 7, 3, Sign::Receive, 8, 3)?;
+    add_edge(&mut ping, 8, 4, Sign::Send, 7, 4)?;
     Ok(ping)
 }
 
@@ -115,8 +115,8 @@ fn ping_is_sound(rt: HostRuntime) -> Result<(), Fail> {
     let sound = Sound::new(alloc, ping)?;
     assert_eq!(rt; sound.bound(Side::Exp), 1);
     assert_eq!(rt; sound.bound(Side::Imp), 1);
-    assert_eq!(rt; sound.next(StateId(7), MessageId(3)), Some(StateId(5)));
-    assert_eq!(rt; sound.next(StateId(5), MessageId(4)), Some(StateId(7)));
+    assert_eq!(rt; sound.next(StateId(7), MessageId(3)), Some(StateId(8)));
+    assert_eq!(rt; sound.next(StateId(8), MessageId(4)), Some(StateId(7)));
     assert_eq!(rt; sound.next(StateId(7), MessageId(4)), None);
     assert_eq!(rt; sound.next(StateId(9), MessageId(3)), None);
     assert_eq!(rt; sound.edges().first, StateId(7));
@@ -127,7 +127,7 @@ fn ping_is_sound(rt: HostRuntime) -> Result<(), Fail> {
 fn a_missing_state_is_seen(rt: HostRuntime) -> Result<(), Fail> {
     let alloc = rt.alloc();
     let mut ping = ping(alloc)?;
-    add_edge(&mut ping, 5, 4, Sign::Send, 6, 5)?;
+    add_edge(&mut ping, 8, 4, Sign::Send, 6, 5)?;
     assert!(rt; !is_whole(alloc, &ping)?);
     two_ends();
     Ok(())
@@ -264,16 +264,16 @@ fn signs_count_as_written(rt: HostRuntime) -> Result<(), Fail> {
     Ok(())
 }
 
-/// A contract with one message, and edges from each state to the next; the numbers fall along the list.
+/// A contract with one message, and edges from each state to the next; the last edge comes first.
 fn long_path(alloc: Global, count: u32) -> Result<Edges, AllocError> {
-    let mut path = empty(alloc, count);
+    let mut path = empty(alloc, 0);
     add_message(alloc, &mut path, 0, "M", Direction::Out)?;
     for i in 0..count {
-        add_state(alloc, &mut path, count - i, "S", 1)?;
+        add_state(alloc, &mut path, i, "S", 1)?;
     }
-    add_state(alloc, &mut path, 0, "E", 1)?;
+    add_state(alloc, &mut path, count, "E", 1)?;
     for i in 0..count {
-        add_edge(&mut path, count - i, 0, Sign::Send, count - i - 1, 2)?;
+        add_edge(&mut path, count - i - 1, 0, Sign::Send, count - i, 2)?;
     }
     Ok(path)
 }
@@ -291,7 +291,7 @@ fn two_thousand_states_on_a_path(rt: HostRuntime) -> Result<(), Fail> {
 fn two_thousand_states_on_a_ring(rt: HostRuntime) -> Result<(), Fail> {
     let alloc = rt.alloc();
     let mut ring = long_path(alloc, 2_000)?;
-    add_edge(&mut ring, 0, 0, Sign::Send, 2_000, 2)?;
+    add_edge(&mut ring, 2_000, 0, Sign::Send, 0, 2)?;
     let ring = whole(&rt, alloc, ring)?;
     assert_eq!(rt; faults(alloc, &ring)?.len(), 2_001);
     Ok(())

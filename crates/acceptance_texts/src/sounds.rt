@@ -11,7 +11,7 @@ use std::test::Fail;
 
 const START: StateId = StateId(7);
 
-const PEND: StateId = StateId(5);
+const PEND: StateId = StateId(8);
 
 const REQUEST: MessageId = MessageId(3);
 

@@ -2,7 +2,6 @@ pub mod ArcLemmas
 pub mod BoundLemmas
 pub mod CandidateLemmas
 pub mod ConditionLemmas
-pub mod CountLemmas
 pub mod EndLemmas
 pub mod FoundLemmas
 pub mod GraphLemmas

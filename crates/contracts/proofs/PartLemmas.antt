@@ -1,15 +1,17 @@
 -- Numbers of states and messages in the lists of a contract.
-use Rattle.std.proofs.Common.{◌≡◌, ◌≢◌, ℕ, zero, suc, ◌<◌, List, [], ◌∷◌, length, map, get_or, sym, refl, ap, ◌∙◌, subst, arith, ⊎_elim}
+use Rattle.std.proofs.Common.{◌≡◌, ◌≢◌, ℕ, zero, suc, ◌+◌, ◌<◌, ◌≤◌, List, [], ◌∷◌, length, map, get_or, sym, refl, ap, ◌∙◌, subst, arith, ⊎_elim}
 use Rattle.std.specs.Prelude.{Contains, All, AllPairs}
 use Rattle.std.proofs.lemmas.List.{length-map, get_or-map}
+use Rattle.std.proofs.lemmas.List.Elements.{All-get_or, All-map}
 use Rattle.std.proofs.lemmas.Bool.{cases_order}
+use Rattle.program.specs.declared.limits.TheConstants.{MOST_STATES}
 use Rattle.program.specs.declared.contract.State.{State}
 use Rattle.program.specs.declared.number.StateId.{StateId}
 use Rattle.program.specs.declared.contract.Message.{Message}
 use Rattle.program.specs.declared.number.MessageId.{MessageId}
 use Rattle.contracts.specs.declared.parts.Edges.{Edges}
 use Rattle.contracts.specs.Arcs.{EndsListed}
-use Rattle.contracts.specs.Parts.{StateParts, MessageParts, state_parts, message_parts, parts_of, IsWhole}
+use Rattle.contracts.specs.Parts.{StateParts, MessageParts, state_parts, message_parts, parts_of, state_ids, IsWhole}
 
 pub get_again : {A : Type 0} (xs : List A) (k : ℕ) (d e : A) → k < length xs → get_or xs k e ≡ get_or xs k d
 get_again [] k d e lt = absurd (omega (arith, lt))
@@ -87,6 +89,21 @@ ends_listed e numbers whole is x c = (
   subst (λ l. Contains l x.to.0) (sym is) (state_number_in e.states.items x.to (whole.to x c)),
 )
 
--- numbers that stand once each differ
-pub apart : (numbers : List ℕ) → IsOnce numbers → AllPairs (λ x y. x ≢ y) numbers
-apart numbers once = λ i j d less lt same. let e = once.same i j (omega (arith, less, lt)) lt (get_again numbers i d 0 (omega (arith, less, lt)) ∙ same ∙ get_again numbers j 0 d lt) in omega (arith, e, less)
+-- there are no more states than numbers that a state may have
+pub few_numbers : (e : Edges) → IsWhole (parts_of e) → length e.states.items ≤ MOST_STATES
+few_numbers e whole = walk e.states.items refl
+  where
+    numbers : List ℕ
+    numbers = map (λ (i : StateId). i.0) (state_ids (parts_of e))
+
+    size : length numbers ≡ length e.states.items
+    size = ap length (state_numbers_are e.states.items) ∙ length-map e.states.items (λ (s : State). s.id.0)
+
+    walk : (states : List State) → e.states.items ≡ states → length e.states.items ≤ MOST_STATES
+    walk [] is = let none = ap length is in omega (arith, none)
+    walk (s ∷ rest) is =
+        let many = ap length is in
+        let last : ℕ = length rest in
+        let at = whole.states_in_row last (omega (arith, many, size)) in
+        let below = All-get_or (λ q. q < MOST_STATES) numbers last 0 (omega (arith, many, size)) (All-map (λ q. q < MOST_STATES) (λ (i : StateId). i.0) (state_ids (parts_of e)) whole.numbered) in
+        omega (arith, at, below, many)

@@ -1,15 +1,49 @@
--- Positions of the keys of a contract.
-use Rattle.std.proofs.Common.{◌≡◌, ℕ, ◌<◌, Bool, List, length, get_or, Some, true, sym, ap, ◌∙◌, arith, ⊎_elim}
-use Rattle.std.specs.Prelude.{position}
-use Rattle.std.specs.List.{position_or_len}
+-- Positions of the numbers and the keys of a contract.
+use Rattle.std.proofs.Common.{◌≡◌, ℕ, suc, ◌+◌, ◌-◌, ◌<◌, ◌≤◌, Bool, leb, List, [], ◌∷◌, length, get_or, Some, true, sym, refl, ap, ◌∙◌, arith, ⊎_elim}
+use Rattle.std.specs.Prelude.{◌↔◌, position, Contains, IsTrue, nat_lt}
+use Rattle.std.specs.List.{position_or_len, range_with_len}
+use Rattle.std.proofs.lemmas.List.FromFn.{length-range_with_len, get_or-range_with_len}
 use Rattle.std.specs.Ordering.{is_eq, nat_cmp, ordering_then}
 use Rattle.std.specs.Cmp.{Equal-is}
-use Rattle.std.proofs.lemmas.Bool.{cases_eq}
+use Rattle.std.proofs.lemmas.Bool.{cases_eq, leb-true, ltb-true, lt-ltb}
 use Rattle.std.proofs.lemmas.List.Quantifiers.{position-Some}
 use Rattle.std.proofs.lemmas.Map.Lookups.{exact_pairs, exact_unsigned}
 use Rattle.lemmas.proofs.FirstPlaces.{found_lt, first_by, is_equal}
+use Rattle.contracts.specs.Parts.{AreInRow}
 use Rattle.contracts.specs.Positions.{pair_cmp}
 use Rattle.contracts.proofs.PartLemmas.{get_again}
+
+-- numbers that go up by one are known by the first and their count
+pub row_is : (first : ℕ) (numbers : List ℕ) → AreInRow first numbers → range_with_len first (length numbers) ≡ numbers
+row_is first [] row = refl
+row_is first (n ∷ ns) row =
+    let head : n ≡ first + 0 = row 0 (omega arith) in
+    let rest = row_is (first + 1) ns (λ i lt. let e = row (suc i) (omega (arith, lt)) in omega (arith, e)) in
+    ap (λ l. first ∷ l) rest ∙ ap (λ k. k ∷ ns) (omega (arith, head))
+
+-- the numbers of a row
+pub from_row : (first count n : ℕ) → Contains (range_with_len first count) n → (first ≤ n) × (n < first + count)
+from_row first count n c =
+    let size = length-range_with_len first count in
+    let lt = c.1 in
+    let at = get_or-range_with_len first count c.0 n (omega (arith, lt, size)) in
+    let is = c.2 in
+    (omega (arith, at, is), omega (arith, at, is, lt, size))
+
+pub in_row : (first count n : ℕ) → first ≤ n → n < first + count → Contains (range_with_len first count) n
+in_row first count n low high =
+    let size = length-range_with_len first count in
+    (n - first, omega (arith, low, high, size), get_or-range_with_len first count (n - first) n (omega (arith, low, high)) ∙ omega (arith, low))
+
+-- whether a number is in a row, by its distance from the first
+pub has_row : (first count n : ℕ) → first ≤ n → IsTrue (nat_lt (n - first) count) ↔ Contains (range_with_len first count) n
+has_row first count n low = (
+  λ yes. in_row first count n low (let lt = ltb-true (n - first) count yes in omega (arith, lt, low)),
+  λ c. lt-ltb (n - first) count (let row = from_row first count n c in omega (arith, row.0, row.1)),
+)
+
+pub before_row : (first count n : ℕ) → n < first → IsTrue (leb first n) ↔ Contains (range_with_len first count) n
+before_row first count n less = (λ yes. let low = leb-true first n yes in absurd (omega (arith, low, less)), λ c. let row = from_row first count n c in absurd (omega (arith, row.0, less)))
 
 -- where an element isn't the first that passes, one before it passes
 pub not_first : {X : Type 0} (p : X → Bool) (xs : List X) (i : ℕ) (d : X) → i < length xs → p (get_or xs i d) ≡ true → (position p xs ≡ Some i → ⊥) → (j : ℕ) × (j < i) × (p (get_or xs j d) ≡ true)

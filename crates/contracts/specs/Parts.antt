@@ -1,7 +1,7 @@
 -- The parts of a contract, as names gives them, and those that a value has.
 use Rattle.std.specs.Prelude.{map}
 pub use Rattle.program.specs.Parts.{StateParts, MessageParts, Parts, state_parts, message_parts}
-pub use Rattle.program.specs.Parts.{contract_parts, state_ids, message_ids, IsWhole}
+pub use Rattle.program.specs.Parts.{contract_parts, state_ids, message_ids, AreInRow, IsWhole}
 use Rattle.contracts.specs.declared.parts.Edges.{Edges}
 
 -- the parts that a value has

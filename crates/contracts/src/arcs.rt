@@ -3,6 +3,7 @@
 ghost use Rattle.std.specs.Prelude.{◌≡◌, ◌==◌, ◌<◌, length, not, IfOk};
 ghost use Rattle.contracts.specs.Graphs.{rows, row_at};
 ghost use Rattle.contracts.specs.Arcs.{AllWithin, AreRows, AreArcs, IsDrawn, EndsListed};
+ghost use Rattle.contracts.specs.Positions.{listed};
 
 use crate::positions::Listing;
 use program::{Edge, Sign};
@@ -27,15 +28,15 @@ impl SignGraph {
     pub fn new(
         alloc: Global,
         edges: &[Edge],
-        states: &Listing,
+        states: Listing,
         sign: Sign,
     ) -> Result<SignGraph, AllocError>
-        requires listed { EndsListed states.now.numbers.items edges.now }
+        requires listed { EndsListed (listed states) edges.now }
         ensures range { IfOk result (λ graph. AllWithin
-            (length states.now.numbers.items) graph.arcs.items) }
+            (length (listed states)) graph.arcs.items) }
         ensures rows { IfOk result (λ graph. AreRows
-            (length states.now.numbers.items) graph.arcs.items (rows graph.rows.items)) }
-        ensures drawn { IfOk result (λ graph. IsDrawn states.now.numbers.items edges.now
+            (length (listed states)) graph.arcs.items (rows graph.rows.items)) }
+        ensures drawn { IfOk result (λ graph. IsDrawn (listed states) edges.now
             (λ e. e.sign ≡ sign) (rows graph.rows.items)) }
     {
         let arcs = arcs_of(alloc, edges, states, sign)?;
@@ -56,12 +57,12 @@ impl SignGraph {
 fn arcs_of(
     alloc: Global,
     edges: &[Edge],
-    states: &Listing,
+    states: Listing,
     sign: Sign,
 ) -> Result<Vec<Arc>, AllocError>
-    requires listed { EndsListed states.now.numbers.items edges.now }
+    requires listed { EndsListed (listed states) edges.now }
     ensures arcs { IfOk result
-        (λ arcs. AreArcs states.now.numbers.items edges.now sign arcs.items) }
+        (λ arcs. AreArcs (listed states) edges.now sign arcs.items) }
 {
     let mut arcs = Vec::new(alloc);
     for edge in edges {

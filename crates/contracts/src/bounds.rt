@@ -1,6 +1,6 @@
 //! How many messages a queue can hold.
 
-ghost use Rattle.std.specs.Prelude.{◌≡◌, ◌≢◌, ◌<◌, ◌≤◌, ◌++◌, ◌⊎◌, ℕ, length, IfOk, AllPairs, get_or, false};
+ghost use Rattle.std.specs.Prelude.{◌≡◌, ◌<◌, ◌≤◌, ◌++◌, ◌⊎◌, ℕ, length, IfOk, get_or, false};
 ghost use Rattle.contracts.specs.Arcs.{AllWithin};
 ghost use Rattle.contracts.specs.Bounds.{IsBound};
 ghost use Rattle.contracts.specs.Conditions.{IsSound};
@@ -9,14 +9,14 @@ ghost use Rattle.contracts.specs.Marking.{IsMarked};
 ghost use Rattle.contracts.specs.Parts.{IsWhole, parts_of};
 ghost use Rattle.contracts.specs.Reached.{AreReached, IsLongest, counted_height};
 ghost use Rattle.program.specs.declared.contract.Sign.TheVariants.{Send, Receive};
+ghost use Rattle.program.specs.declared.limits.TheConstants.{MOST_STATES};
 
 use crate::arcs::{Arc, SignGraph, rows_of};
 use crate::heights::all_heights;
-use crate::keys::state_numbers;
+use crate::keys::states_of;
 use crate::marking::marked;
 use crate::numbering::finishing;
 use crate::parts::Edges;
-use crate::positions::Listing;
 use program::Sign;
 use std::alloc::{AllocError, Global};
 
@@ -36,16 +36,16 @@ pub fn bounds_of(alloc: Global, edges: &Edges) -> Result<Bounds, AllocError>
     ensures to_exp { IfOk result
         (λ bounds. IsBound edges.now.edges.items edges.now.first Receive bounds.to_exp) }
 {
-    let states = Listing::new(alloc, state_numbers(alloc, &edges.states)?)?;
-    let sends = SignGraph::new(alloc, &edges.edges, &states, Sign::Send)?;
-    let receives = SignGraph::new(alloc, &edges.edges, &states, Sign::Receive)?;
+    let states = states_of(edges);
+    let sends = SignGraph::new(alloc, &edges.edges, states, Sign::Send)?;
+    let receives = SignGraph::new(alloc, &edges.edges, states, Sign::Receive)?;
     let first = states.position(edges.first.0);
     let reached = reached_from(alloc, states.len(), &sends.arcs, &receives.arcs, first)?;
     let to_imp = longest(alloc, &sends.rows, &reached)?;
     let to_exp = longest(alloc, &receives.rows, &reached)?;
     Ok(Bounds {
-        to_imp: narrowed(&states.numbers, to_imp),
-        to_exp: narrowed(&states.numbers, to_exp),
+        to_imp: narrowed(to_imp),
+        to_exp: narrowed(to_exp),
     })
 }
 
@@ -108,10 +108,9 @@ fn counted(height: Option<usize>, mark: bool) -> usize
     if mark { height.unwrap_or(0) } else { 0 }
 }
 
-/// A number below the count of some numbers that differ.
-fn narrowed(numbers: &[u32], n: usize) -> u32
-    requires once { AllPairs (λ x y. x ≢ y) numbers.now }
-    requires below { n < length numbers.now }
+/// A number below the most states.
+fn narrowed(n: usize) -> u32
+    requires { n < MOST_STATES }
     ensures { result ≡ n }
 {
     n as u32

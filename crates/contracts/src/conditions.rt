@@ -6,11 +6,12 @@ ghost use Rattle.contracts.specs.Conditions.{AreExactly, IsAgainst, IsTwice, IsB
 ghost use Rattle.contracts.specs.Conditions.{IsFault, finding_parts, sign_of as sign_of_direction};
 ghost use Rattle.contracts.specs.Found.{FoundBelow};
 ghost use Rattle.contracts.specs.Graphs.{rows};
+ghost use Rattle.contracts.specs.Positions.{listed};
 ghost use Rattle.contracts.specs.Parts.{IsWhole, parts_of, message_ids, state_parts, message_parts};
 ghost use Rattle.program.specs.declared.contract.Sign.TheVariants.{Send, Receive};
 
 use crate::arcs::SignGraph;
-use crate::keys::{edge_keys, message_numbers, state_numbers};
+use crate::keys::{edge_keys, messages_of, states_of};
 use crate::parts::Edges;
 use crate::positions::Listing;
 use crate::ringing::rings;
@@ -36,12 +37,12 @@ pub fn faults(alloc: Global, edges: &Edges) -> Result<Vec<Finding>, Memory>
     ensures exactly { IfOk result (λ found. AreExactly (IsFault (parts_of edges.now))
         (map finding_parts found.items)) }
 {
-    let states = Listing::new(alloc, state_numbers(alloc, &edges.states)?)?;
-    let messages = Listing::new(alloc, message_numbers(alloc, &edges.messages)?)?;
-    let sends = SignGraph::new(alloc, &edges.edges, &states, Sign::Send)?;
-    let receives = SignGraph::new(alloc, &edges.edges, &states, Sign::Receive)?;
-    let mut found = against_directions(alloc, edges, &messages)?;
-    let mut twice = twice_in_states(alloc, edges, &messages)?;
+    let states = states_of(edges);
+    let messages = messages_of(edges);
+    let sends = SignGraph::new(alloc, &edges.edges, states, Sign::Send)?;
+    let receives = SignGraph::new(alloc, &edges.edges, states, Sign::Receive)?;
+    let mut found = against_directions(alloc, edges, messages)?;
+    let mut twice = twice_in_states(alloc, edges, messages)?;
     let mut both = both_directions(alloc, edges, &sends, &receives)?;
     let mut round = one_direction(alloc, edges, &sends, &receives)?;
     found.append(&mut twice)?;
@@ -61,8 +62,8 @@ fn sign_of(direction: Direction) -> Sign
 }
 
 /// The message that has the number.
-fn message_of<'a>(edges: &'a Edges, messages: &Listing, id: MessageId) -> &'a Message
-    requires numbers { messages.now.numbers.items ≡ map (λ m. m.id.0) edges.now.messages.items }
+fn message_of(edges: &Edges, messages: Listing, id: MessageId) -> &Message
+    requires numbers { listed messages ≡ map (λ m. m.id.0) edges.now.messages.items }
     requires listed { Contains (message_ids (parts_of edges.now)) id }
     ensures its { result.now.id ≡ id }
     ensures listed { Contains edges.now.messages.items result.now }
@@ -74,10 +75,10 @@ fn message_of<'a>(edges: &'a Edges, messages: &Listing, id: MessageId) -> &'a Me
 fn against_directions(
     alloc: Global,
     edges: &Edges,
-    messages: &Listing,
+    messages: Listing,
 ) -> Result<Vec<Finding>, Memory>
     requires whole { IsWhole (parts_of edges.now) }
-    requires numbers { messages.now.numbers.items ≡ map (λ m. m.id.0) edges.now.messages.items }
+    requires numbers { listed messages ≡ map (λ m. m.id.0) edges.now.messages.items }
     ensures found { IfOk result (λ found. FoundBelow (IsAgainst
         (map message_parts edges.now.messages.items) edges.now.edges.items)
         (length edges.now.edges.items) (map finding_parts found.items)) }
@@ -94,9 +95,9 @@ fn against_directions(
 }
 
 /// The edges with the message of an earlier edge of their state.
-fn twice_in_states(alloc: Global, edges: &Edges, messages: &Listing) -> Result<Vec<Finding>, Memory>
+fn twice_in_states(alloc: Global, edges: &Edges, messages: Listing) -> Result<Vec<Finding>, Memory>
     requires whole { IsWhole (parts_of edges.now) }
-    requires numbers { messages.now.numbers.items ≡ map (λ m. m.id.0) edges.now.messages.items }
+    requires numbers { listed messages ≡ map (λ m. m.id.0) edges.now.messages.items }
     ensures found { IfOk result (λ found. FoundBelow (IsTwice
         (map message_parts edges.now.messages.items) edges.now.edges.items)
         (length edges.now.edges.items) (map finding_parts found.items)) }

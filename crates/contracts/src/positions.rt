@@ -1,56 +1,45 @@
-//! Where keys stand in a list.
+//! Where numbers stand that go up by one.
 
-ghost use Rattle.std.specs.Prelude.{◌≡◌, ◌<◌, IfOk, Contains, length, slice_index};
-ghost use Rattle.std.proofs.Props.{props};
-ghost use Rattle.contracts.specs.Positions.{AreInTable};
+ghost use Rattle.std.specs.Prelude.{◌≡◌, ◌<◌, ◌↔◌, IsTrue, Contains, length, slice_index};
+ghost use Rattle.contracts.specs.Positions.{listed};
 
-use indexmap::IndexMap;
-use std::alloc::{AllocError, Global};
-
-/// For each number of the list, the position at which it stands first. These numbers are handed out in order of the
-/// text, one after another, so no author of a text chooses which of them meet in the table.
-fn number_positions(alloc: Global, numbers: &[u32]) -> Result<IndexMap<u32, usize>, AllocError>
-    ensures { IfOk result (AreInTable numbers.now) }
-{
-    let mut positions = IndexMap::new(alloc);
-    for (i, number) in numbers.iter().enumerate() {
-        if !positions.contains_key(number) {
-            positions.insert(*number, i)?;
-        }
-    }
-    Ok(positions)
-}
-
-/// Numbers in a list, and the position at which each stands first.
-#[derive(Drop)]
+/// Numbers that go up by one: the first of them, and how many there are.
+#[derive(Clone, Copy)]
 pub struct Listing {
-    pub numbers: Vec<u32>,
-    positions: IndexMap<u32, usize>,
-    ghost right: { AreInTable numbers.items positions } by { Prim.hlevel props },
+    first: u32,
+    count: usize,
 }
 
 impl Listing {
-    /// The listing of these numbers.
-    pub fn new(alloc: Global, numbers: Vec<u32>) -> Result<Listing, AllocError>
-        ensures { IfOk result (λ listing. listing.numbers.items ≡ numbers.items) }
+    ghost use Rattle.std.specs.List.{range_with_len};
+
+    /// So many numbers from this one on.
+    pub fn new(first: u32, count: usize) -> Listing
+        ensures { listed result ≡ range_with_len first count }
     {
-        let positions = number_positions(alloc, &numbers)?;
-        Ok(Listing { numbers, positions })
+        Listing { first, count }
     }
 
     /// How many numbers there are.
-    pub fn len(&self) -> usize
-        ensures { result ≡ length self.now.numbers.items }
+    pub fn len(self) -> usize
+        ensures { result ≡ length (listed self) }
     {
-        self.numbers.len()
+        self.count
     }
 
-    /// The position of a number of the list.
-    pub fn position(&self, number: u32) -> usize
-        requires { Contains self.now.numbers.items number }
-        ensures within { result < length self.now.numbers.items }
-        ensures at { slice_index self.now.numbers.items result ≡ number }
+    /// Whether a number is one of them.
+    pub fn has(self, number: u32) -> bool
+        ensures { IsTrue result ↔ Contains (listed self) number }
     {
-        self.positions.get(&number).copied().unwrap()
+        number >= self.first && ((number - self.first) as usize) < self.count
+    }
+
+    /// The position of one of the numbers.
+    pub fn position(self, number: u32) -> usize
+        requires { Contains (listed self) number }
+        ensures within { result < length (listed self) }
+        ensures at { slice_index (listed self) result ≡ number }
+    {
+        (number - self.first) as usize
     }
 }

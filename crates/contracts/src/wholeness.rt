@@ -1,32 +1,38 @@
 //! Whether the lists of a contract have what its edges name.
 
-ghost use Rattle.std.specs.Prelude.{◌≢◌, ◌<◌, ◌↔◌, IfOk, IsTrue, AllPairs, All, IsSome};
-ghost use Rattle.std.specs.BTreeMap.{get};
-ghost use Rattle.std.specs.Ordering.{nat_cmp};
-ghost use Rattle.contracts.specs.Parts.{IsWhole, parts_of};
-ghost use Rattle.contracts.specs.Positions.{ArePositions, EndsHave};
+ghost use Rattle.std.specs.Prelude.{◌≡◌, ◌<◌, ◌↔◌, IfOk, IsTrue, All, get_or};
+ghost use Rattle.contracts.specs.Parts.{AreInRow, IsWhole, parts_of};
+ghost use Rattle.contracts.specs.Positions.{EndsHave, listed};
 ghost use Rattle.program.specs.declared.limits.TheConstants.{MOST_STATES};
 
 use crate::keys::{message_numbers, state_numbers};
 use crate::parts::Edges;
-use lemmas::first_positions;
+use crate::positions::Listing;
 use program::{Edge, MOST_STATES};
 use source::Memory;
 use std::alloc::Global;
-use std::collections::BTreeMap;
 
-/// Whether the first state, and the states and messages of the edges, stand in the lists, each number once there, and each number of
-/// a state is less than `MOST_STATES`. This is what `faults` and `Sound::new` ask for.
+/// Whether the first state, and the states and messages of the edges, stand in the lists, the numbers there go up by one from those
+/// of the first state and of the first message on, and each number of a state is less than `MOST_STATES`. This is what `faults` and
+/// `Sound::new` ask for.
 pub fn is_whole(alloc: Global, edges: &Edges) -> Result<bool, Memory>
     ensures { IfOk result (λ whole. IsTrue whole ↔ IsWhole (parts_of edges.now)) }
 {
     let states = state_numbers(alloc, &edges.states)?;
     let messages = message_numbers(alloc, &edges.messages)?;
-    let state_positions = first_positions(alloc, &states)?;
-    let message_positions = first_positions(alloc, &messages)?;
-    let once = stand_once(&states, &state_positions) & stand_once(&messages, &message_positions);
-    let listed = are_listed(&edges.edges, &state_positions, &message_positions);
-    Ok(once & listed & has(&state_positions, edges.first.0) & are_numbered(&states))
+    let first_message = first_or_0(&messages);
+    let in_row = are_in_row(&states, edges.first.0) & are_in_row(&messages, first_message);
+    let state_list = Listing::new(edges.first.0, states.len());
+    let message_list = Listing::new(first_message, messages.len());
+    let listed = are_listed(&edges.edges, state_list, message_list);
+    Ok(in_row & listed & state_list.has(edges.first.0) & are_numbered(&states))
+}
+
+/// The first of these, and 0 where there is none.
+fn first_or_0(numbers: &[u32]) -> u32
+    ensures { result ≡ get_or numbers.now 0 0 }
+{
+    numbers.first().copied().unwrap_or(0)
 }
 
 /// Whether each of these is a number that a state may have.
@@ -38,37 +44,25 @@ fn are_numbered(numbers: &[u32]) -> bool
         .all(|number| (*number as usize) < MOST_STATES)
 }
 
-/// Whether the map has the number.
-fn has(positions: &BTreeMap<u32, usize>, number: u32) -> bool
-    ensures { IsTrue result ↔ IsSome (get nat_cmp positions.now number) }
-{
-    positions.contains_key(&number)
-}
-
-/// Whether each number stands once.
-fn stand_once(numbers: &[u32], positions: &BTreeMap<u32, usize>) -> bool
-    requires positions { ArePositions numbers.now positions.now }
-    ensures { IsTrue result ↔ AllPairs (λ x y. x ≢ y) numbers.now }
+/// Whether the numbers go up by one, from this one on.
+fn are_in_row(numbers: &[u32], first: u32) -> bool
+    ensures { IsTrue result ↔ AreInRow first numbers.now }
 {
     for i in 0..numbers.len() {
-        if positions.get(&numbers[i]).copied() != Some(i) {
+        if numbers[i] as usize != first as usize + i {
             return false;
         }
     }
     true
 }
 
-/// Whether the maps have the states and the messages of the edges.
-fn are_listed(
-    edges: &[Edge],
-    states: &BTreeMap<u32, usize>,
-    messages: &BTreeMap<u32, usize>,
-) -> bool
-    ensures { IsTrue result ↔ All (EndsHave states.now messages.now) edges.now }
+/// Whether the states and the messages of the edges are listed.
+fn are_listed(edges: &[Edge], states: Listing, messages: Listing) -> bool
+    ensures { IsTrue result ↔ All (EndsHave (listed states) (listed messages)) edges.now }
 {
     for edge in edges {
-        let ends = has(states, edge.from.0) & has(states, edge.to.0);
-        if !(ends & has(messages, edge.message.0)) {
+        let ends = states.has(edge.from.0) & states.has(edge.to.0);
+        if !(ends & messages.has(edge.message.0)) {
             return false;
         }
     }

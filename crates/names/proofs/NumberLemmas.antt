@@ -2,7 +2,9 @@
 use Rattle.std.proofs.Common.{◌≡◌, ◌≢◌, ℕ, zero, suc, ◌+◌, ◌-◌, ◌<◌, ◌≤◌, List, [], ◌∷◌, ◌++◌, length, map, take, get_or, sym, refl, ap, ◌∙◌, subst, arith, append_assoc, append-nil}
 use Rattle.std.specs.Prelude.{All, AllPairs, Contains}
 use Rattle.std.specs.List.{enumerate_from}
+use Rattle.std.proofs.lemmas.List.{get_or-map, length-map}
 use Rattle.std.proofs.lemmas.List.Elements.{All-nil, All-append}
+use Rattle.program.specs.Parts.{AreInRow}
 use Rattle.names.specs.Resolution.{each_behind}
 
 -- the numbers of things in a row
@@ -49,6 +51,20 @@ once_numbered f id make value same back first ys = λ i j d less lt e.
     let right = number_at f id make same first ys j d (omega (arith, lt, size)) in
     let equal : first + i ≡ first + j = sym (back (first + i)) ∙ ap value (sym left ∙ e ∙ right) ∙ back (first + j) in
     absurd (omega (arith, less, equal))
+
+-- and they go up by one from the first on
+pub row_numbered : {Y Z I : Type 0} (f : ℕ → Y → Z) (id : Z → I) (make : ℕ → I) (value : I → ℕ) → ((n : ℕ) (y : Y) → id (f n y) ≡ make n) → ((n : ℕ) → value (make n) ≡ n) → (first : ℕ) (ys : List Y)
+    → AreInRow first (map value (map id (map (λ p. f p.0 p.1) (enumerate_from first ys))))
+row_numbered f id make value same back first ys = λ i lt.
+    let ids = map id (map (λ p. f p.0 p.1) (enumerate_from first ys)) in
+    let size = length-map ids value in
+    let many = numbers f id first ys in
+    get_or-map value ids i (make 0) 0 (omega (arith, lt, size))
+    ∙ ap value (number_at f id make same first ys i (make 0) (omega (arith, lt, size, many))) ∙ back (first + i)
+
+-- also from the one that stands first
+pub row_from_first : (first : ℕ) (ns : List ℕ) → AreInRow first ns → AreInRow (get_or ns 0 0) ns
+row_from_first first ns row = λ i lt. let start = row 0 (omega (arith, lt)) in let here = row i lt in omega (arith, start, here)
 
 -- what all that is added has, all have
 pub all_behind : {X Y : Type 0} (P : Y → Type 0) (f : List X → X → List Y) (before xs : List X) → ((i : ℕ) (x : X) → i < length xs → x ≡ get_or xs i x → All P (f (before ++ take i xs) x)) → All P (each_behind f before xs)

@@ -1,5 +1,5 @@
 -- A contract by its parts, without memory.
-use Rattle.std.specs.Prelude.{◌≢◌, ◌<◌, ℕ, List, map, All, Contains, AllPairs, string_bytes}
+use Rattle.std.specs.Prelude.{◌≡◌, ◌≢◌, ◌+◌, ◌<◌, ℕ, List, length, map, get_or, All, Contains, AllPairs, string_bytes}
 use Rattle.std.specs.List.{flat_map}
 use Rattle.source.specs.declared.place.Place.{Place}
 use Rattle.program.specs.declared.contract.Direction.{Direction}
@@ -50,7 +50,12 @@ state_ids parts = map (λ s. s.id) parts.states
 abbrev pub message_ids : Parts → List MessageId
 message_ids parts = map (λ m. m.id) parts.messages
 
--- The first state, and the states and messages of the edges, stand in the lists, and each number stands once there. The number of a
+-- the numbers go up by one, from this one on
+abbrev pub AreInRow : ℕ → List ℕ → Type 0
+AreInRow first numbers = (i : ℕ) → i < length numbers → get_or numbers i 0 ≡ first + i
+
+-- The first state, and the states and messages of the edges, stand in the lists, and each number stands once there: the numbers of the
+-- states go up by one from the first state's on, and likewise those of the messages from that of the first message on. The number of a
 -- state is one that a state may have.
 pub record IsWhole (parts : Parts) : Type 0 where
   pub first : Contains (state_ids parts) parts.first
@@ -59,6 +64,8 @@ pub record IsWhole (parts : Parts) : Type 0 where
   pub message : (e : Edge) → Contains parts.edges e → Contains (message_ids parts) e.message
   pub states_once : AllPairs (λ x y. x ≢ y) (state_ids parts)
   pub messages_once : AllPairs (λ x y. x ≢ y) (message_ids parts)
+  pub states_in_row : AreInRow parts.first.0 (map (λ q. q.0) (state_ids parts))
+  pub messages_in_row : AreInRow (get_or (map (λ m. m.0) (message_ids parts)) 0 0) (map (λ m. m.0) (message_ids parts))
   pub numbered : All (λ q. q.0 < MOST_STATES) (state_ids parts)
 
 -- No two states of a program have one number, and no two messages.

@@ -6,59 +6,51 @@ use Rattle.contracts.specs.Conditions.{AreExactly, IsFault, IsBoth, IsRound, fin
 use Rattle.contracts.specs.Found.{FoundBelow}
 use Rattle.contracts.specs.Graphs.{rows}
 use Rattle.contracts.specs.Parts.{parts_of, state_parts}
+use Rattle.contracts.specs.Positions.{listed}
 use Rattle.contracts.proofs.PartLemmas.{ends_listed}
 use Rattle.contracts.proofs.RoundLemmas.{all_found}
 use Rattle.contracts.proofs.conditions.faults.Goals as goal
-use Rattle.contracts.proofs.conditions.faults.Goals.{In_ok-states, In_ok-sends, In_ok-receives}
+use Rattle.contracts.proofs.conditions.faults.Goals.{After-states_of-states, In_ok-sends, In_ok-receives}
 
-numbers_are : (c : In_ok-states) → c.in_ok-states.states.numbers.items ≡ map (λ s. s.id.0) c.args.edges.now.states.items
-numbers_are c = c.in_ok-states.ensures ∙ c.in_ok-state_numbers.ensures ∙ ap (map (λ s. s.id.0)) c.deref.ensures.value
+size_is : (c : After-states_of-states) → length (listed c.states_of-states.result) ≡ length c.args.edges.now.states.items
+size_is c = ap length c.states_of-states.ensures ∙ length-map c.args.edges.now.states.items (λ s. s.id.0)
 
-size_is : (c : In_ok-states) → length c.in_ok-states.states.numbers.items ≡ length c.args.edges.now.states.items
-size_is c = ap length (numbers_are c) ∙ length-map c.args.edges.now.states.items (λ s. s.id.0)
+pub new-requires : goal.new-requires
+new-requires c = record { listed = subst (EndsListed (listed c.states_of-states.result)) (sym c.deref.ensures.value) (ends_listed c.args.edges.now (listed c.states_of-states.result) c.requires.whole c.states_of-states.ensures) }
 
-pub new-requires-3 : goal.new-requires-3
-new-requires-3 c =
-    let before = (goal.at.new-requires-3 c).In_ok-states in
-    record { listed = subst (EndsListed c.in_ok-states.states.numbers.items) (sym c.deref-3.ensures.value) (ends_listed c.args.edges.now c.in_ok-states.states.numbers.items c.requires.whole (numbers_are before)) }
+pub new-requires-2 : goal.new-requires-2
+new-requires-2 c = record { listed = subst (EndsListed (listed c.states_of-states.result)) (sym c.deref-2.ensures.value) (ends_listed c.args.edges.now (listed c.states_of-states.result) c.requires.whole c.states_of-states.ensures) }
 
-pub new-requires-4 : goal.new-requires-4
-new-requires-4 c =
-    let before = (goal.at.new-requires-4 c).In_ok-states in
-    record { listed = subst (EndsListed c.in_ok-states.states.numbers.items) (sym c.deref-4.ensures.value) (ends_listed c.args.edges.now c.in_ok-states.states.numbers.items c.requires.whole (numbers_are before)) }
-
-sends_drawn : (c : In_ok-sends) → c.in_ok-states.states.numbers.items ≡ map (λ s. s.id.0) c.args.edges.now.states.items → IsDrawn (map (λ s. s.id.0) c.args.edges.now.states.items) c.args.edges.now.edges.items (λ e. e.sign ≡ Send) (rows c.in_ok-sends.sends.rows.items)
+sends_drawn : (c : In_ok-sends) → listed c.states_of-states.result ≡ map (λ s. s.id.0) c.args.edges.now.states.items → IsDrawn (map (λ s. s.id.0) c.args.edges.now.states.items) c.args.edges.now.edges.items (λ e. e.sign ≡ Send) (rows c.in_ok-sends.sends.rows.items)
 sends_drawn c is = subst (λ n. IsDrawn n c.args.edges.now.edges.items (λ e. e.sign ≡ Send) (rows c.in_ok-sends.sends.rows.items)) is
-    (subst (λ l. IsDrawn c.in_ok-states.states.numbers.items l (λ e. e.sign ≡ Send) (rows c.in_ok-sends.sends.rows.items)) c.deref-3.ensures.value c.in_ok-sends.ensures.drawn)
+    (subst (λ l. IsDrawn (listed c.states_of-states.result) l (λ e. e.sign ≡ Send) (rows c.in_ok-sends.sends.rows.items)) c.deref.ensures.value c.in_ok-sends.ensures.drawn)
 
-receives_drawn : (c : In_ok-receives) → c.in_ok-states.states.numbers.items ≡ map (λ s. s.id.0) c.args.edges.now.states.items → IsDrawn (map (λ s. s.id.0) c.args.edges.now.states.items) c.args.edges.now.edges.items (λ e. e.sign ≡ Receive) (rows c.in_ok-receives.receives.rows.items)
+receives_drawn : (c : In_ok-receives) → listed c.states_of-states.result ≡ map (λ s. s.id.0) c.args.edges.now.states.items → IsDrawn (map (λ s. s.id.0) c.args.edges.now.states.items) c.args.edges.now.edges.items (λ e. e.sign ≡ Receive) (rows c.in_ok-receives.receives.rows.items)
 receives_drawn c is = subst (λ n. IsDrawn n c.args.edges.now.edges.items (λ e. e.sign ≡ Receive) (rows c.in_ok-receives.receives.rows.items)) is
-    (subst (λ l. IsDrawn c.in_ok-states.states.numbers.items l (λ e. e.sign ≡ Receive) (rows c.in_ok-receives.receives.rows.items)) c.deref-4.ensures.value c.in_ok-receives.ensures.drawn)
+    (subst (λ l. IsDrawn (listed c.states_of-states.result) l (λ e. e.sign ≡ Receive) (rows c.in_ok-receives.receives.rows.items)) c.deref-2.ensures.value c.in_ok-receives.ensures.drawn)
 
 pub against_directions-requires : goal.against_directions-requires
-against_directions-requires c = record { whole = c.requires.whole; numbers = c.in_ok-messages.ensures ∙ c.in_ok-message_numbers.ensures ∙ ap (map (λ m. m.id.0)) c.deref-2.ensures.value }
+against_directions-requires c = record { whole = c.requires.whole; numbers = c.messages_of-messages.ensures }
 
 pub both_directions-requires : goal.both_directions-requires
 both_directions-requires c =
-    let before = (goal.at.both_directions-requires c).In_ok-states in
     record {
       whole = c.requires.whole;
-      sends = sends_drawn (goal.at.both_directions-requires c).In_ok-sends (numbers_are before);
-      receives = receives_drawn (goal.at.both_directions-requires c).In_ok-receives (numbers_are before);
+      sends = sends_drawn (goal.at.both_directions-requires c).In_ok-sends c.states_of-states.ensures;
+      receives = receives_drawn (goal.at.both_directions-requires c).In_ok-receives c.states_of-states.ensures;
     }
 
 pub one_direction-requires : goal.one_direction-requires
 one_direction-requires c =
-    let before = (goal.at.one_direction-requires c).In_ok-states in
-    let size = size_is before in
+    let size = size_is (goal.at.one_direction-requires c).After-states_of-states in
     record {
       whole = c.requires.whole;
       send_arcs = subst (λ n. AllWithin n c.in_ok-sends.sends.arcs.items) size c.in_ok-sends.ensures.range;
       send_rows = subst (λ n. AreRows n c.in_ok-sends.sends.arcs.items (rows c.in_ok-sends.sends.rows.items)) size c.in_ok-sends.ensures.rows;
       receive_arcs = subst (λ n. AllWithin n c.in_ok-receives.receives.arcs.items) size c.in_ok-receives.ensures.range;
       receive_rows = subst (λ n. AreRows n c.in_ok-receives.receives.arcs.items (rows c.in_ok-receives.receives.rows.items)) size c.in_ok-receives.ensures.rows;
-      sends = sends_drawn (goal.at.one_direction-requires c).In_ok-sends (numbers_are before);
-      receives = receives_drawn (goal.at.one_direction-requires c).In_ok-receives (numbers_are before);
+      sends = sends_drawn (goal.at.one_direction-requires c).In_ok-sends c.states_of-states.ensures;
+      receives = receives_drawn (goal.at.one_direction-requires c).In_ok-receives c.states_of-states.ensures;
     }
 
 pub returns : goal.returns

@@ -1,19 +1,19 @@
-use Rattle.std.proofs.Common.{◌≢◌, ◌∙◌, ℕ, ◌<◌, List, map, ap, sym, subst}
-use Rattle.std.specs.Prelude.{All, AllPairs, Contains, IsSome}
-use Rattle.std.specs.BTreeMap.{get}
-use Rattle.std.specs.Ordering.{nat_cmp}
+use Rattle.std.proofs.Common.{◌≡◌, ◌∙◌, ℕ, ◌<◌, List, length, map, get_or, ap, sym, subst, arith}
+use Rattle.std.specs.Prelude.{All, Contains}
+use Rattle.std.specs.List.{range_with_len}
 use Rattle.std.proofs.lemmas.Bool.{and_parts, and_from}
 use Rattle.std.proofs.lemmas.List.Elements.{All-contains, All-map}
 use Rattle.program.specs.declared.contract.Edge.{Edge}
 use Rattle.program.specs.declared.limits.TheConstants.{MOST_STATES}
 use Rattle.program.specs.declared.number.MessageId.{MessageId}
 use Rattle.program.specs.declared.number.StateId.{StateId}
-use Rattle.contracts.specs.Parts.{state_ids, message_ids, parts_of}
-use Rattle.contracts.specs.Positions.{ArePositions, EndsHave}
-use Rattle.contracts.proofs.PartLemmas.{all_from, state_numbers_are, message_numbers_are}
-use Rattle.contracts.proofs.WholeLemmas.{number_in, number_has, ids_once, id_in, in_numbers, numbers_apart, unmapped}
+use Rattle.contracts.specs.Parts.{AreInRow, state_ids, message_ids, parts_of}
+use Rattle.contracts.specs.Positions.{EndsHave, listed}
+use Rattle.contracts.proofs.PartLemmas.{all_from, contains_map, state_numbers_are, message_numbers_are}
+use Rattle.contracts.proofs.PositionLemmas.{row_is}
+use Rattle.contracts.proofs.WholeLemmas.{ids_once, id_in, row_once, unmapped}
 use Rattle.contracts.proofs.wholeness.is_whole.Goals as goal
-use Rattle.contracts.proofs.wholeness.is_whole.Goals.{In_ok-message_positions}
+use Rattle.contracts.proofs.wholeness.is_whole.Goals.{After-new-message_list}
 
 abbrev state_of : ℕ → StateId
 state_of n = record { 0 = n }
@@ -21,35 +21,36 @@ state_of n = record { 0 = n }
 abbrev message_of : ℕ → MessageId
 message_of n = record { 0 = n }
 
-abbrev states_of : In_ok-message_positions → List StateId
+abbrev state_number : StateId → ℕ
+state_number q = q.0
+
+abbrev message_number : MessageId → ℕ
+message_number m = m.0
+
+abbrev states_of : After-new-message_list → List StateId
 states_of c = state_ids (parts_of c.args.edges.now)
 
-abbrev messages_of : In_ok-message_positions → List MessageId
+abbrev messages_of : After-new-message_list → List MessageId
 messages_of c = message_ids (parts_of c.args.edges.now)
 
--- the maps have the positions of the numbers
-state_positions : (c : In_ok-message_positions) → ArePositions (map (λ (i : StateId). i.0) (states_of c)) c.in_ok-state_positions.state_positions
-state_positions c =
-    let numbers = c.deref-3.ensures.value ∙ c.in_ok-states.ensures ∙ ap (map (λ s. s.id.0)) c.deref.ensures.value ∙ sym (state_numbers_are c.args.edges.now.states.items) in
-    subst (λ l. ArePositions l c.in_ok-state_positions.state_positions) numbers c.in_ok-state_positions.ensures
+-- the numbers that were read are those of the parts
+states_are : (c : After-new-message_list) → c.in_ok-states.states.items ≡ map state_number (states_of c)
+states_are c = c.in_ok-states.ensures ∙ ap (map (λ s. s.id.0)) c.deref.ensures.value ∙ sym (state_numbers_are c.args.edges.now.states.items)
 
-message_positions : (c : In_ok-message_positions) → ArePositions (map (λ (i : MessageId). i.0) (messages_of c)) c.in_ok-message_positions.message_positions
-message_positions c =
-    let numbers = c.deref-4.ensures.value ∙ c.in_ok-messages.ensures ∙ ap (map (λ m. m.id.0)) c.deref-2.ensures.value ∙ sym (message_numbers_are c.args.edges.now.messages.items) in
-    subst (λ l. ArePositions l c.in_ok-message_positions.message_positions) numbers c.in_ok-message_positions.ensures
+messages_are : (c : After-new-message_list) → c.in_ok-messages.messages.items ≡ map message_number (messages_of c)
+messages_are c = c.in_ok-messages.ensures ∙ ap (map (λ m. m.id.0)) c.deref-2.ensures.value ∙ sym (message_numbers_are c.args.edges.now.messages.items)
 
--- what has a position is one of the contract, and what is one of it has a position
-state_in : (c : In_ok-message_positions) → (x : StateId) → IsSome (get nat_cmp c.in_ok-state_positions.state_positions x.0) → Contains (states_of c) x
-state_in c x some = id_in (λ (i : StateId). i.0) (states_of c) x (λ a b e. ap state_of e) (number_in (map (λ (i : StateId). i.0) (states_of c)) c.in_ok-state_positions.state_positions (state_positions c) x.0 some)
+-- numbers that go up by one are listed by the first and their count
+states_listed : (c : After-new-message_list) → AreInRow c.args.edges.now.first.0 (map state_number (states_of c)) → listed c.new-state_list.result ≡ map state_number (states_of c)
+states_listed c row =
+    c.new-state_list.ensures ∙ ap (range_with_len c.args.edges.now.first.0) (c.len.ensures ∙ c.in_ok-states.states.ok.0 ∙ ap length (states_are c)) ∙ row_is c.args.edges.now.first.0 (map state_number (states_of c)) row
 
-state_has : (c : In_ok-message_positions) → (x : StateId) → Contains (states_of c) x → IsSome (get nat_cmp c.in_ok-state_positions.state_positions x.0)
-state_has c x there = number_has (map (λ (i : StateId). i.0) (states_of c)) c.in_ok-state_positions.state_positions (state_positions c) x.0 (in_numbers (λ (i : StateId). i.0) (states_of c) x there)
+messages_listed : (c : After-new-message_list) → AreInRow c.first_or_0-first_message.result (map message_number (messages_of c)) → listed c.new-message_list.result ≡ map message_number (messages_of c)
+messages_listed c row =
+    c.new-message_list.ensures ∙ ap (range_with_len c.first_or_0-first_message.result) (c.len-2.ensures ∙ c.in_ok-messages.messages.ok.0 ∙ ap length (messages_are c)) ∙ row_is c.first_or_0-first_message.result (map message_number (messages_of c)) row
 
-message_in : (c : In_ok-message_positions) → (x : MessageId) → IsSome (get nat_cmp c.in_ok-message_positions.message_positions x.0) → Contains (messages_of c) x
-message_in c x some = id_in (λ (i : MessageId). i.0) (messages_of c) x (λ a b e. ap message_of e) (number_in (map (λ (i : MessageId). i.0) (messages_of c)) c.in_ok-message_positions.message_positions (message_positions c) x.0 some)
-
-message_has : (c : In_ok-message_positions) → (x : MessageId) → Contains (messages_of c) x → IsSome (get nat_cmp c.in_ok-message_positions.message_positions x.0)
-message_has c x there = number_has (map (λ (i : MessageId). i.0) (messages_of c)) c.in_ok-message_positions.message_positions (message_positions c) x.0 (in_numbers (λ (i : MessageId). i.0) (messages_of c) x there)
+first_is : (c : After-new-message_list) → c.first_or_0-first_message.result ≡ get_or (map message_number (messages_of c)) 0 0
+first_is c = c.first_or_0-first_message.ensures ∙ ap (λ l. get_or l 0 0) (c.deref-3.ensures.value ∙ messages_are c)
 
 -- a number that a state may have
 abbrev Numbered : ℕ → Type 0
@@ -57,35 +58,46 @@ Numbered q = q < MOST_STATES
 
 pub returns : goal.returns
 returns c =
-    let before = (goal.at.returns c).In_ok-message_positions in
+    let before = (goal.at.returns c).After-new-message_list in
     let edges = c.args.edges.now.edges.items in
-    let Listed : Edge → Type 0 = EndsHave c.in_ok-state_positions.state_positions c.in_ok-message_positions.message_positions in
-    let states_are = c.deref-5.ensures.value ∙ c.in_ok-states.ensures ∙ ap (map (λ s. s.id.0)) c.deref.ensures.value ∙ sym (state_numbers_are c.args.edges.now.states.items) in
-    let numbers_are = c.deref-8.ensures.value ∙ c.in_ok-states.ensures ∙ ap (map (λ s. s.id.0)) c.deref.ensures.value ∙ sym (state_numbers_are c.args.edges.now.states.items) in
-    let messages_are = c.deref-6.ensures.value ∙ c.in_ok-messages.ensures ∙ ap (map (λ m. m.id.0)) c.deref-2.ensures.value ∙ sym (message_numbers_are c.args.edges.now.messages.items) in (
+    let first = c.args.edges.now.first.0 in
+    let states = states_of before in
+    let messages = messages_of before in
+    let Listed : Edge → Type 0 = EndsHave (listed c.new-state_list.result) (listed c.new-message_list.result) in (
       λ yes.
           let all = and_parts _ _ yes in
           let three = and_parts _ _ all.0 in
           let two = and_parts _ _ three.0 in
-          let once = and_parts _ _ two.0 in
-          let listed = subst (All Listed) c.deref-7.ensures.value (c.are_listed-listed.ensures.0 two.1) in
-          let each = λ (e : Edge) (c' : Contains edges e). All-contains Listed edges e listed c' in
+          let rows = and_parts _ _ two.0 in
+          let state_row = subst (AreInRow first) (c.deref-4.ensures.value ∙ states_are before) (c.are_in_row.ensures.0 rows.0) in
+          let message_row = subst (AreInRow c.first_or_0-first_message.result) (c.deref-5.ensures.value ∙ messages_are before) (c.are_in_row-2.ensures.0 rows.1) in
+          let listed_states = states_listed before state_row in
+          let listed_messages = messages_listed before message_row in
+          let each = λ (e : Edge) (h : Contains edges e). All-contains Listed edges e (subst (All Listed) c.deref-6.ensures.value (c.are_listed-listed.ensures.0 two.1)) h in
+          let state_in = λ (q : StateId) (h : Contains (listed c.new-state_list.result) q.0). id_in state_number states q (λ a b e. ap state_of e) (subst (λ l. Contains l q.0) listed_states h) in
+          let message_in = λ (m : MessageId) (h : Contains (listed c.new-message_list.result) m.0). id_in message_number messages m (λ a b e. ap message_of e) (subst (λ l. Contains l m.0) listed_messages h) in
           record {
-            first = state_in before c.args.edges.now.first (c.has.ensures.0 three.1);
-            from = λ e c'. state_in before e.from (each e c').from;
-            to = λ e c'. state_in before e.to (each e c').to;
-            message = λ e c'. message_in before e.message (each e c').message;
-            states_once = ids_once (λ (i : StateId). i.0) (states_of before) (subst (AllPairs (λ x y. x ≢ y)) states_are (c.stand_once.ensures.0 once.0));
-            messages_once = ids_once (λ (i : MessageId). i.0) (messages_of before) (subst (AllPairs (λ x y. x ≢ y)) messages_are (c.stand_once-2.ensures.0 once.1));
-            numbered = unmapped Numbered (λ (i : StateId). i.0) (states_of before) (subst (All Numbered) numbers_are (c.are_numbered.ensures.0 all.1));
+            first = state_in c.args.edges.now.first (c.has.ensures.0 three.1);
+            from = λ e h. state_in e.from (each e h).from;
+            to = λ e h. state_in e.to (each e h).to;
+            message = λ e h. message_in e.message (each e h).message;
+            states_once = ids_once state_number states (row_once first (map state_number states) state_row);
+            messages_once = ids_once message_number messages (row_once c.first_or_0-first_message.result (map message_number messages) message_row);
+            states_in_row = state_row;
+            messages_in_row = subst (λ n. AreInRow n (map message_number messages)) (first_is before) message_row;
+            numbered = unmapped Numbered state_number states (subst (All Numbered) (c.deref-7.ensures.value ∙ states_are before) (c.are_numbered.ensures.0 all.1));
           },
       λ whole.
-          let states_once = numbers_apart (λ (i : StateId). i.0) (states_of before) (state_of 0) (λ a b e. ap state_of e) whole.states_once in
-          let messages_once = numbers_apart (λ (i : MessageId). i.0) (messages_of before) (message_of 0) (λ a b e. ap message_of e) whole.messages_once in
-          let once = and_from _ _ (c.stand_once.ensures.1 (subst (AllPairs (λ x y. x ≢ y)) (sym states_are) states_once)) (c.stand_once-2.ensures.1 (subst (AllPairs (λ x y. x ≢ y)) (sym messages_are) messages_once)) in
-          let listed = all_from Listed edges (λ e c'. record { from = state_has before e.from (whole.from e c'); to = state_has before e.to (whole.to e c'); message = message_has before e.message (whole.message e c') }) in
-          let numbered = All-map Numbered (λ (i : StateId). i.0) (states_of before) whole.numbered in
+          let message_row = subst (λ n. AreInRow n (map message_number messages)) (sym (first_is before)) whole.messages_in_row in
+          let listed_states = states_listed before whole.states_in_row in
+          let listed_messages = messages_listed before message_row in
+          let rows = and_from _ _ (c.are_in_row.ensures.1 (subst (AreInRow first) (sym (c.deref-4.ensures.value ∙ states_are before)) whole.states_in_row))
+          (c.are_in_row-2.ensures.1 (subst (AreInRow c.first_or_0-first_message.result) (sym (c.deref-5.ensures.value ∙ messages_are before)) message_row)) in
+          let state_has = λ (q : StateId) (h : Contains states q). subst (λ l. Contains l q.0) (sym listed_states) (contains_map state_number states q h) in
+          let message_has = λ (m : MessageId) (h : Contains messages m). subst (λ l. Contains l m.0) (sym listed_messages) (contains_map message_number messages m h) in
+          let each = all_from Listed edges (λ e h. record { from = state_has e.from (whole.from e h); to = state_has e.to (whole.to e h); message = message_has e.message (whole.message e h) }) in
+          let numbered = All-map Numbered state_number states whole.numbered in
           and_from _ _
-          (and_from _ _ (and_from _ _ once (c.are_listed-listed.ensures.1 (subst (All Listed) (sym c.deref-7.ensures.value) listed))) (c.has.ensures.1 (state_has before c.args.edges.now.first whole.first)))
-          (c.are_numbered.ensures.1 (subst (All Numbered) (sym numbers_are) numbered)),
+          (and_from _ _ (and_from _ _ rows (c.are_listed-listed.ensures.1 (subst (All Listed) (sym c.deref-6.ensures.value) each))) (c.has.ensures.1 (state_has c.args.edges.now.first whole.first)))
+          (c.are_numbered.ensures.1 (subst (All Numbered) (sym (c.deref-7.ensures.value ∙ states_are before)) numbered)),
     )

@@ -1,5 +1,6 @@
 use Rattle.std.proofs.Common.{length, sym, subst}
 use Rattle.contracts.specs.Graphs.{rows}
+use Rattle.contracts.specs.Positions.{listed}
 use Rattle.contracts.specs.Arcs.{AllWithin, AreRows}
 use Rattle.contracts.proofs.ArcLemmas.{arcs_within, drawn}
 use Rattle.contracts.proofs.arcs.SignGraph.new.Goals as goal
@@ -7,12 +8,12 @@ use Rattle.contracts.proofs.arcs.SignGraph.new.Goals as goal
 pub rows_of-requires : goal.rows_of-requires
 rows_of-requires c = record {
   range = subst (λ n. AllWithin n c.deref.result.now) (sym c.len.ensures)
-      (subst (AllWithin (length c.args.states.now.numbers.items)) (sym c.deref.ensures.value) (arcs_within c.args.states.now.numbers.items c.args.edges.now c.args.sign c.in_ok-arcs.arcs.items c.in_ok-arcs.ensures.arcs));
+      (subst (AllWithin (length (listed c.args.states))) (sym c.deref.ensures.value) (arcs_within (listed c.args.states) c.args.edges.now c.args.sign c.in_ok-arcs.arcs.items c.in_ok-arcs.ensures.arcs));
 }
 
 pub returns : goal.returns
 returns c =
-    let numbers = c.args.states.now.numbers.items in
+    let numbers = listed c.args.states in
     let arcs = c.in_ok-arcs.arcs.items in
     let made = subst (λ n. AreRows n arcs (rows c.in_ok-rows.rows.items)) c.len.ensures (subst (λ l. AreRows c.len.result l (rows c.in_ok-rows.rows.items)) c.deref.ensures.value c.in_ok-rows.ensures.rows) in
     record {

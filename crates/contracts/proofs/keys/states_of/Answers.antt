@@ -1,0 +1,15 @@
+use Rattle.std.proofs.Common.{◌∙◌, length, map, ap, subst, sym}
+use Rattle.std.specs.List.{range_with_len}
+use Rattle.std.proofs.lemmas.List.{length-map}
+use Rattle.contracts.specs.Parts.{AreInRow}
+use Rattle.contracts.proofs.PartLemmas.{state_numbers_are}
+use Rattle.contracts.proofs.PositionLemmas.{row_is}
+use Rattle.contracts.proofs.keys.states_of.Goals as goal
+
+pub returns : goal.returns
+returns c =
+    let states = c.args.edges.now.states.items in
+    let first = c.args.edges.now.first.0 in
+    let row = subst (AreInRow first) (state_numbers_are states) c.requires.whole.states_in_row in
+    let long = c.args.edges.now.states.ok in
+    c.new.ensures ∙ ap (range_with_len first) (c.len.ensures ∙ long.0 ∙ sym (length-map states (λ s. s.id.0))) ∙ row_is first (map (λ s. s.id.0) states) row
