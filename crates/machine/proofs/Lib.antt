@@ -2,6 +2,7 @@ pub mod BoundLemmas
 pub mod CallLemmas
 pub mod ChangeLemmas
 pub mod CountLemmas
+pub mod EachReplayLemmas
 pub mod FrameLemmas
 pub mod GiveLemmas
 pub mod HeapLemmas

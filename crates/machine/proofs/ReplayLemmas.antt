@@ -1,19 +1,18 @@
 -- Of one list of events there is one replay.
-use Rattle.std.proofs.Common.{◌≡◌, ℕ, zero, suc, ◌<◌, ◌≤◌, List, [], ◌∷◌, ◌++◌, length, take, Option, None, Some, Err, refl, sym, ap, ◌∙◌, subst, arith, slice_get, ⊎_elim}
+use Rattle.std.proofs.Common.{◌≡◌, ℕ, zero, suc, ◌<◌, ◌≤◌, List, [], ◌∷◌, ◌++◌, length, take, Option, None, Some, Err, refl, sym, ap, ◌∙◌}
+use Rattle.std.proofs.Common.{subst, arith, slice_get, ⊎_elim}
 use Rattle.std.proofs.lemmas.Bool.{cases_lt}
 use Rattle.program.specs.Programs.{ProgramSeen}
 use Rattle.machine.specs.Answers.{TellsStep}
 use Rattle.machine.specs.Machine.{event_outcome}
 use Rattle.machine.specs.Outcomes.{Bounds, Outcome, Moved, Faulty, Waits, NoProcess, NoChoice}
 use Rattle.machine.specs.Places.{process_place}
-use Rattle.machine.specs.Replays.{AreSame, EndsWith, IsKnown, IsReplay}
+use Rattle.machine.specs.Replays.{EndsWith, IsKnown, IsReplay, ReplaySeen}
 use Rattle.machine.specs.Runs.{Leads, moves, start_of, stays}
-use Rattle.machine.specs.Views.{world_seen}
 use Rattle.machine.specs.World.{World}
 use Rattle.machine.specs.declared.halts.Event.{Event}
 use Rattle.machine.specs.declared.halts.Halt.{Halt}
 use Rattle.machine.specs.declared.halts.Halt.TheVariants as halt
-use Rattle.machine.specs.declared.replaying.Replayed.{Replayed}
 use Rattle.source.specs.declared.place.Place.{Place}
 
 -- what these events come to behind an outcome
@@ -22,7 +21,8 @@ after p bound o [] = o
 after p bound (Moved w) (e ∷ events) = after p bound (event_outcome p bound w e) events
 after p bound o (e ∷ events) = o
 
-after_both : (p : ProgramSeen) (bound : Bounds) (o : Outcome) (xs ys : List Event) → after p bound o (xs ++ ys) ≡ after p bound (after p bound o xs) ys
+after_both : (p : ProgramSeen) (bound : Bounds) (o : Outcome) (xs ys : List Event)
+    → after p bound o (xs ++ ys) ≡ after p bound (after p bound o xs) ys
 after_both p bound o [] ys = refl
 after_both p bound (Moved w) (e ∷ xs) ys = after_both p bound (event_outcome p bound w e) xs ys
 after_both p bound (Faulty f) (e ∷ xs) [] = refl
@@ -35,7 +35,8 @@ after_both p bound NoChoice (e ∷ xs) [] = refl
 after_both p bound NoChoice (e ∷ xs) (y ∷ ys) = refl
 
 -- events that lead to a world come to it
-leads_to : (p : ProgramSeen) (bound : Bounds) (w v : World) (events : List Event) → Leads p bound w events v → after p bound (Moved w) events ≡ Moved v
+leads_to : (p : ProgramSeen) (bound : Bounds) (w v : World) (events : List Event) → Leads p bound w events v
+    → after p bound (Moved w) events ≡ Moved v
 leads_to p bound w _ _ stays = refl
 leads_to p bound w _ _ (moves events v u e led is) =
     after_both p bound (Moved w) events (e ∷ []) ∙ (ap (λ o. after p bound o (e ∷ [])) (leads_to p bound w v events led) ∙ is)
@@ -44,7 +45,8 @@ moved_same : (w v : World) → Moved w ≡ Moved v → w ≡ v
 moved_same w v is = cc
 
 -- an outcome that goes on is a move
-went : (p : ProgramSeen) (bound : Bounds) (o : Outcome) (events : List Event) (v : World) → after p bound o events ≡ Moved v → (w : World) × (o ≡ Moved w)
+went : (p : ProgramSeen) (bound : Bounds) (o : Outcome) (events : List Event) (v : World) → after p bound o events ≡ Moved v
+    → (w : World) × (o ≡ Moved w)
 went p bound (Moved w) events v is = (w, refl)
 went p bound (Faulty f) [] v is = absurd (cc)
 went p bound (Faulty f) (e ∷ events) v is = absurd (cc)
@@ -56,7 +58,8 @@ went p bound NoChoice [] v is = absurd (cc)
 went p bound NoChoice (e ∷ events) v is = absurd (cc)
 
 -- no halt tells of a move
-halt_stays : (why : Halt) (w v : World) (o : Outcome) (place : Option Place) → IsKnown (Some why) → o ≡ Moved w → TellsStep {X = Unit {0}} (Err why) o place v → ⊥
+halt_stays : (why : Halt) (w v : World) (o : Outcome) (place : Option Place) → IsKnown (Some why) → o ≡ Moved w
+    → TellsStep {X = Unit {0}} (Err why) o place v → ⊥
 halt_stays halt.NoSuchProcess w v o place known is tells = absurd (let bad : NoProcess ≡ Moved w = sym tells ∙ is in cc)
 halt_stays halt.NoSuchChoice w v o place known is tells = absurd (let bad : NoChoice ≡ Moved w = sym tells ∙ is in cc)
 halt_stays (halt.Fault f at) w v o place known is tells = absurd (let bad : Faulty f ≡ Moved w = sym tells.0 ∙ is in cc)
@@ -69,12 +72,14 @@ some_short [] n e is = absurd (cc)
 some_short (x ∷ events) zero e is = omega arith
 some_short (x ∷ events) (suc n) e is = let less : n < length events = some_short events n e is in omega arith
 
-ends_within : (p : ProgramSeen) (bound : Bounds) (w : World) (events : List Event) (n : ℕ) (why : Option Halt) → EndsWith p bound w events n why → n ≤ length events
+ends_within : (p : ProgramSeen) (bound : Bounds) (w : World) (events : List Event) (n : ℕ) (why : Option Halt)
+    → EndsWith p bound w events n why → n ≤ length events
 ends_within p bound w events n None ends = let all : n ≡ length events = ends in omega arith
 ends_within p bound w events n (Some why) ends = let short : n < length events = some_short events n ends.event ends.there in omega arith
 
 -- more events begin with fewer
-take_apart : (events : List Event) (n k : ℕ) → n < k → k ≤ length events → (e : Event) × (more : List Event) × (slice_get events n ≡ Some e) × (take k events ≡ take n events ++ e ∷ more)
+take_apart : (events : List Event) (n k : ℕ) → n < k → k ≤ length events
+    → (e : Event) × (more : List Event) × (slice_get events n ≡ Some e) × (take k events ≡ take n events ++ e ∷ more)
 take_apart [] n k less short = absurd (omega arith)
 take_apart (x ∷ events) zero zero less short = absurd (omega arith)
 take_apart (x ∷ events) zero (suc k) less short = (x, take k events, refl, refl)
@@ -88,16 +93,19 @@ one_event o e d one two = let same : Some e ≡ Some d = sym one ∙ two in cc
 
 -- no replay goes on where another ends
 no_further : (p : ProgramSeen) (bound : Bounds) (o : Outcome) (w v : World) (events : List Event) (n k : ℕ) (why : Option Halt)
-    → after p bound o (take n events) ≡ Moved w → after p bound o (take k events) ≡ Moved v → n < k → k ≤ length events → EndsWith p bound w events n why → IsKnown why → ⊥
+    → after p bound o (take n events) ≡ Moved w → after p bound o (take k events) ≡ Moved v → n < k → k ≤ length events
+    → EndsWith p bound w events n why → IsKnown why → ⊥
 no_further p bound o w v events n k None one two less short ends known = absurd (let all : n ≡ length events = ends in omega arith)
 no_further p bound o w v events n k (Some why) one two less short ends known =
     let apart = take_apart events n k less short in
     let e = apart.0 in
     let on : after p bound (event_outcome p bound w e) apart.1 ≡ Moved v =
-    ap (λ t. after p bound t (e ∷ apart.1)) (sym one) ∙ (sym (after_both p bound o (take n events) (e ∷ apart.1)) ∙ (ap (after p bound o) (sym apart.3) ∙ two)) in
+    ap (λ t. after p bound t (e ∷ apart.1)) (sym one) ∙ (sym (after_both p bound o (take n events) (e ∷ apart.1))
+    ∙ (ap (after p bound o) (sym apart.3) ∙ two)) in
     let moved = went p bound (event_outcome p bound w e) apart.1 v on in
     let same : ends.event ≡ e = one_event (slice_get events n) ends.event e ends.there apart.2 in
-    halt_stays why moved.0 w (event_outcome p bound w ends.event) (process_place p w ends.event.process) known (ap (event_outcome p bound w) same ∙ moved.1) ends.tells
+    halt_stays why moved.0 w (event_outcome p bound w ends.event) (process_place p w ends.event.process) known
+    (ap (event_outcome p bound w) same ∙ moved.1) ends.tells
 
 -- an outcome has one halt
 one_halt : (x y : Halt) (o : Outcome) (place : Option Place) (v : World) → IsKnown (Some x) → IsKnown (Some y)
@@ -128,7 +136,8 @@ one_halt halt.Waits halt.Memory o place v kx ky tx ty = absurd ky
 one_halt halt.Memory y o place v kx ky tx ty = absurd kx
 
 -- two ends behind the same steps are the same
-one_end : (p : ProgramSeen) (bound : Bounds) (w : World) (events : List Event) (n : ℕ) (x y : Option Halt) → IsKnown x → IsKnown y → EndsWith p bound w events n x → EndsWith p bound w events n y → x ≡ y
+one_end : (p : ProgramSeen) (bound : Bounds) (w : World) (events : List Event) (n : ℕ) (x y : Option Halt) → IsKnown x → IsKnown y
+    → EndsWith p bound w events n x → EndsWith p bound w events n y → x ≡ y
 one_end p bound w events n None None kx ky ex ey = refl
 one_end p bound w events n None (Some y) kx ky ex ey =
     absurd (
@@ -145,21 +154,30 @@ one_end p bound w events n (Some x) (Some y) kx ky ex ey =
     ap (λ h. Some h) (one_halt x y (event_outcome p bound w ex.event) (process_place p w ex.event.process) w kx ky ex.tells
     (subst (λ (e : Event). TellsStep {X = Unit {0}} (Err y) (event_outcome p bound w e) (process_place p w e.process) w) same ey.tells))
 
+-- replays of the same steps, end and world are one
+same_parts : (r s : ReplaySeen) → r.world ≡ s.world → r.steps ≡ s.steps → r.halt ≡ s.halt → r ≡ s
+same_parts r s world steps halt = λ i. record { world = world i; steps = steps i; halt = halt i }
+
 -- two replays of one method and one list of events
-pub one_replay : (p : ProgramSeen) (bound : Bounds) (m : ℕ) (events : List Event) (r s : Replayed) → IsReplay p bound m events r → IsReplay p bound m events s → AreSame r s
+pub one_replay : (p : ProgramSeen) (bound : Bounds) (m : ℕ) (events : List Event) (r s : ReplaySeen)
+    → IsReplay p bound m events r → IsReplay p bound m events s → r ≡ s
 one_replay p bound m events r s one two =
     let begins = Moved (start_of p m) in
-    let first : after p bound begins (take r.steps events) ≡ Moved (world_seen r.world) = leads_to p bound (start_of p m) (world_seen r.world) (take r.steps events) one.leads in
-    let second : after p bound begins (take s.steps events) ≡ Moved (world_seen s.world) = leads_to p bound (start_of p m) (world_seen s.world) (take s.steps events) two.leads in
-    let all : r.steps ≤ length events = ends_within p bound (world_seen r.world) events r.steps r.halt one.ends in
-    let too : s.steps ≤ length events = ends_within p bound (world_seen s.world) events s.steps s.halt two.ends in
-    let less : s.steps ≤ r.steps = ⊎_elim (λ h. absurd (no_further p bound begins (world_seen r.world) (world_seen s.world) events r.steps s.steps r.halt first second h too one.ends one.known)) (λ h. h) (cases_lt r.steps s.steps) in
-    let more : r.steps ≤ s.steps = ⊎_elim (λ h. absurd (no_further p bound begins (world_seen s.world) (world_seen r.world) events s.steps r.steps s.halt second first h all two.ends two.known)) (λ h. h) (cases_lt s.steps r.steps) in
+    let first : after p bound begins (take r.steps events) ≡ Moved r.world =
+    leads_to p bound (start_of p m) r.world (take r.steps events) one.leads in
+    let second : after p bound begins (take s.steps events) ≡ Moved s.world =
+    leads_to p bound (start_of p m) s.world (take s.steps events) two.leads in
+    let all : r.steps ≤ length events = ends_within p bound r.world events r.steps r.halt one.ends in
+    let too : s.steps ≤ length events = ends_within p bound s.world events s.steps s.halt two.ends in
+    let less : s.steps ≤ r.steps = ⊎_elim
+    (λ h. absurd (no_further p bound begins r.world s.world events r.steps s.steps r.halt first second h too one.ends one.known))
+    (λ h. h) (cases_lt r.steps s.steps) in
+    let more : r.steps ≤ s.steps = ⊎_elim
+    (λ h. absurd (no_further p bound begins s.world r.world events s.steps r.steps s.halt second first h all two.ends two.known))
+    (λ h. h) (cases_lt s.steps r.steps) in
     let steps : r.steps ≡ s.steps = omega arith in
-    let world : world_seen r.world ≡ world_seen s.world = moved_same (world_seen r.world) (world_seen s.world) (sym first ∙ (ap (λ n. after p bound begins (take n events)) steps ∙ second)) in
-    record {
-      steps = steps;
-      world = world;
-      halt = one_end p bound (world_seen r.world) events r.steps r.halt s.halt one.known two.known one.ends
-          (subst (λ w. EndsWith p bound w events r.steps s.halt) (sym world) (subst (λ n. EndsWith p bound (world_seen s.world) events n s.halt) (sym steps) two.ends));
-    }
+    let world : r.world ≡ s.world =
+    moved_same r.world s.world (sym first ∙ (ap (λ n. after p bound begins (take n events)) steps ∙ second)) in
+    let ends = subst (λ w. EndsWith p bound w events r.steps s.halt) (sym world)
+    (subst (λ n. EndsWith p bound s.world events n s.halt) (sym steps) two.ends) in
+    same_parts r s world steps (one_end p bound r.world events r.steps r.halt s.halt one.known two.known one.ends ends)

@@ -33,14 +33,17 @@ IsKnown (Some (halt.Fault fault at)) = Unit {0}
 IsKnown (Some halt.Waits) = Unit {0}
 IsKnown (Some halt.Memory) = ⊥
 
--- so many events lead from the beginning of a method to the world, and then they end with this
-pub record IsReplay (p : ProgramSeen) (bound : Bounds) (m : ℕ) (events : List Event) (r : Replayed) : Type 0 where
-  pub leads : Leads p bound (start_of p m) (take r.steps events) (world_seen r.world)
-  pub ends : EndsWith p bound (world_seen r.world) events r.steps r.halt
-  pub known : IsKnown r.halt
+-- a replay, without where its world lies in memory
+pub record ReplaySeen : Type 0 where
+  pub world : World
+  pub steps : ℕ
+  pub halt : Option Halt
 
--- they have the same steps, the same end and the same world
-pub record AreSame (r s : Replayed) : Type 0 where
-  pub steps : r.steps ≡ s.steps
-  pub halt : r.halt ≡ s.halt
-  pub world : world_seen r.world ≡ world_seen s.world
+abbrev pub replay_seen : Replayed → ReplaySeen
+replay_seen r = record { world = world_seen r.world; steps = r.steps; halt = r.halt }
+
+-- so many events lead from the beginning of a method to the world, and then they end with this
+pub record IsReplay (p : ProgramSeen) (bound : Bounds) (m : ℕ) (events : List Event) (r : ReplaySeen) : Type 0 where
+  pub leads : Leads p bound (start_of p m) (take r.steps events) r.world
+  pub ends : EndsWith p bound r.world events r.steps r.halt
+  pub known : IsKnown r.halt

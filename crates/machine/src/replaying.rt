@@ -4,7 +4,7 @@ ghost use Rattle.std.specs.Prelude.{◌≡◌, ◌<◌, IfOk, Some, length};
 ghost use Rattle.rules.specs.Programs.{seen_of};
 ghost use Rattle.machine.specs.Outcomes.{Bounds};
 ghost use Rattle.machine.specs.Runs.{AreBounds};
-ghost use Rattle.machine.specs.Replays.{IsKnown, IsReplay};
+ghost use Rattle.machine.specs.Replays.{IsKnown, IsReplay, replay_seen};
 
 use crate::halts::{Event, Halt};
 use crate::worlds::World;
@@ -44,7 +44,7 @@ pub fn replay(
 ) -> Result<Replayed, Memory>
     requires there { method.0 < length (seen_of program.now).methods }
     ensures { IfOk result (λ replayed. (bound : Bounds) → AreBounds (seen_of program.now) bound
-        → IsReplay (seen_of program.now) bound method.0 events.now replayed) }
+        → IsReplay (seen_of program.now) bound method.0 events.now (replay_seen replayed)) }
 {
     let mut world = World::start(alloc, program, method)?;
     for steps in 0..events.len() {

@@ -75,7 +75,7 @@ module _ (laws : Answered) (text : List ℕ) (clean : (found : List FindingParts
       (λ some. clean found (OfContracts (record { contracts = contracts; resolved = resolved; some = some; are = are })))
       (empty_or_not found))
 
-  sound_some : ((items : List ItemTree) (contracts : List ContractSeen) → IsSoundProgram text items contracts → ⊥) → ⊥
+  pub sound_some : ((items : List ItemTree) (contracts : List ContractSeen) → IsSoundProgram text items contracts → ⊥) → ⊥
   sound_some none = program_some (λ items parsed.
       let contracts = resolved_contracts text (contracts_of items) in
       let names = names_clean items parsed in

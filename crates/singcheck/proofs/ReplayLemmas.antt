@@ -1,6 +1,6 @@
 -- A replay, from what is read to what is written; and why it meets no fault where nothing is found.
-use Rattle.std.proofs.Common.{◌≡◌, ℕ, zero, suc, ◌<◌, Bool, true, false, List, [], ◌∷◌, length, take, Option, Some, None, refl, sym, subst}
-use Rattle.std.specs.Prelude.{◌≢◌, ◌&&◌, IfSome, IsSomeAnd, not, slice_get}
+use Rattle.std.proofs.Common.{◌≡◌, ℕ, zero, suc, Bool, true, false, List, [], ◌∷◌, take, Option, Some, None, refl, subst}
+use Rattle.std.specs.Prelude.{◌&&◌, IfSome, IsSomeAnd, not, slice_get}
 use Rattle.std.specs.Io.KnownBytes.{Appends}
 use Rattle.source.specs.Findings.{FindingParts}
 use Rattle.source.specs.declared.lexer.TheConstants.{MAX_TEXT}
@@ -14,17 +14,15 @@ use Rattle.rules.specs.Programs.{is_entry}
 use Rattle.machine.specs.Outcomes.{Bounds}
 use Rattle.machine.specs.Replays.{EndsWith}
 use Rattle.machine.specs.Runs.{AreBounds, Leads, Run, begins, goes_on, moves, stays, start_of}
-use Rattle.machine.specs.Views.{world_seen}
 use Rattle.machine.specs.World.{World}
 use Rattle.machine.specs.declared.halts.Event.{Event}
 use Rattle.machine.specs.declared.halts.Fault.{Fault}
 use Rattle.machine.specs.declared.halts.Halt.TheVariants as halt
-use Rattle.replays.specs.Schedules.{IsFirstMalformed, IsSchedule}
 use Rattle.sound.specs.Premises.{IsEntry, NothingIsFound}
 use Rattle.singcheck.specs.Checks.{HasProgram, IsWrong}
 use Rattle.singcheck.specs.Devices.{Begins}
 use Rattle.singcheck.specs.Entered.{AreReplaysSafe, Begins as BeginsWith}
-use Rattle.singcheck.specs.Replays.{HasEntry, IsRan, LacksEntry, LacksSchedule, OfFindings, OfRun, Replays}
+use Rattle.singcheck.specs.Replays.{IsRan, LacksEntry, LacksSchedule, OfFindings, OfRun, Replays}
 use Rattle.singcheck.specs.Runs.{BeginsAnswer, Writes}
 use Rattle.singcheck.specs.Safety.{HasEmptyReport, RunsSafely}
 use Rattle.singcheck.specs.declared.fault.Status.{Status}
@@ -35,33 +33,44 @@ use Rattle.singcheck.proofs.SafetyLemmas.{empty_verdict}
 use Rattle.singcheck.proofs.Texts.{begins_is, writes_is}
 
 -- the answer to the bytes of a text that are read is the answer to the text
-replays_long : (entry lines text other bytes : List ℕ) (status : Status) → AreLong text other → Replays entry lines text bytes status → Replays entry lines other bytes status
+replays_long : (entry lines text other bytes : List ℕ) (status : Status) → AreLong text other → Replays entry lines text bytes status
+    → Replays entry lines other bytes status
 replays_long entry lines text other bytes status long (OfFindings told is) = OfFindings (answers_long text other bytes Found long told) is
-replays_long entry lines text other bytes status long (OfRun ran) = no_program text long.one ran.entered.has.program.parsed.tokens ran.entered.has.program.parsed.lexed
+replays_long entry lines text other bytes status long (OfRun ran) =
+    no_program text long.one ran.entered.has.program.parsed.tokens ran.entered.has.program.parsed.lexed
 
 replays_of_front : (entry lines : List ℕ) → IsOfFront (Replays entry lines) MAX_READ
 replays_of_front entry lines = record {
-  whole = λ text bytes status. of_front (λ t. Replays entry lines t bytes status) MAX_TEXT MAX_READ refl (λ a b x y. replays_long entry lines a b bytes status (record { one = x; two = y })) text;
+  whole = λ text bytes status. of_front (λ t. Replays entry lines t bytes status) MAX_TEXT MAX_READ refl
+      (λ a b x y. replays_long entry lines a b bytes status (record { one = x; two = y })) text;
 }
 
-pub replay_written : (entry : List ℕ) (a q w v : Option (List ℕ)) (text bytes : List ℕ) (status : Status) → IfSome a (λ xs. text ≡ take MAX_READ xs) → IfSome q (λ lines. Replays entry lines text bytes status) → Appends w v bytes
+pub replay_written : (entry : List ℕ) (a q w v : Option (List ℕ)) (text bytes : List ℕ) (status : Status)
+    → IfSome a (λ xs. text ≡ take MAX_READ xs) → IfSome q (λ lines. Replays entry lines text bytes status) → Appends w v bytes
     → IfSome a (λ xs. IfSome q (λ lines. Writes (Replays entry lines) xs w v status))
 replay_written entry None q w v text bytes status is answers done = tt
 replay_written entry (Some x) None w v text bytes status is answers done = tt
-replay_written entry (Some x) (Some l) w v text bytes status is answers done = writes_is (Replays entry l) (Some x) w v text bytes status MAX_READ (replays_of_front entry l) is answers done
+replay_written entry (Some x) (Some l) w v text bytes status is answers done =
+    writes_is (Replays entry l) (Some x) w v text bytes status MAX_READ (replays_of_front entry l) is answers done
 
-pub replay_begun : (entry : List ℕ) (a q w v : Option (List ℕ)) (text bytes : List ℕ) (status : Status) → IfSome a (λ xs. text ≡ take MAX_READ xs) → IfSome q (λ lines. Replays entry lines text bytes status) → Begins w v bytes
+pub replay_begun : (entry : List ℕ) (a q w v : Option (List ℕ)) (text bytes : List ℕ) (status : Status)
+    → IfSome a (λ xs. text ≡ take MAX_READ xs) → IfSome q (λ lines. Replays entry lines text bytes status) → Begins w v bytes
     → IfSome a (λ xs. IfSome q (λ lines. BeginsAnswer (Replays entry lines) xs w v))
 replay_begun entry None q w v text bytes status is answers begun = tt
 replay_begun entry (Some x) None w v text bytes status is answers begun = tt
-replay_begun entry (Some x) (Some l) w v text bytes status is answers begun = begins_is (Replays entry l) (Some x) w v text bytes status MAX_READ (replays_of_front entry l) is answers begun
+replay_begun entry (Some x) (Some l) w v text bytes status is answers begun =
+    begins_is (Replays entry l) (Some x) w v text bytes status MAX_READ (replays_of_front entry l) is answers begun
 
 -- a text that is too long has no empty report
-safely_front : (entry lines text bytes : List ℕ) (status : Status) → (HasEmptyReport (take MAX_READ text) → RunsSafely entry lines (take MAX_READ text) bytes status) → HasEmptyReport text → RunsSafely entry lines text bytes status
+safely_front : (entry lines text bytes : List ℕ) (status : Status)
+    → (HasEmptyReport (take MAX_READ text) → RunsSafely entry lines (take MAX_READ text) bytes status) → HasEmptyReport text
+    → RunsSafely entry lines text bytes status
 safely_front entry lines text bytes status = of_front (λ t. HasEmptyReport t → RunsSafely entry lines t bytes status) MAX_TEXT MAX_READ refl
     (λ a b x y front empty. no_program b y empty.1.has.program.parsed.tokens empty.1.has.program.parsed.lexed) text
 
-pub replay_safe : (entry : List ℕ) (a q w v : Option (List ℕ)) (text bytes : List ℕ) (status : Status) → IfSome a (λ xs. text ≡ take MAX_READ xs) → IfSome q (λ lines. HasEmptyReport text → RunsSafely entry lines text bytes status) → Appends w v bytes
+pub replay_safe : (entry : List ℕ) (a q w v : Option (List ℕ)) (text bytes : List ℕ) (status : Status)
+    → IfSome a (λ xs. text ≡ take MAX_READ xs) → IfSome q (λ lines. HasEmptyReport text → RunsSafely entry lines text bytes status)
+    → Appends w v bytes
     → IfSome a (λ xs. IfSome q (λ lines. HasEmptyReport xs → Writes (RunsSafely entry lines) xs w v status))
 replay_safe entry None q w v text bytes status is answers done = tt
 replay_safe entry (Some x) None w v text bytes status is answers done = tt
@@ -71,20 +80,26 @@ replay_safe entry (Some x) (Some l) w v text bytes status is answers done = λ e
   written = done;
 }
 
-pub entry_lacks : (entry : List ℕ) (a : Option (List ℕ)) (text : List ℕ) → IfSome a (λ xs. text ≡ take MAX_READ xs) → LacksEntry text entry → IfSome a (λ xs. LacksEntry xs entry)
+pub entry_lacks : (entry : List ℕ) (a : Option (List ℕ)) (text : List ℕ) → IfSome a (λ xs. text ≡ take MAX_READ xs) → LacksEntry text entry
+    → IfSome a (λ xs. LacksEntry xs entry)
 entry_lacks entry None text is lacks = tt
-entry_lacks entry (Some x) text is lacks = of_front (λ t. LacksEntry t entry) MAX_TEXT MAX_READ refl (λ a b y z front. no_program a y front.has.program.parsed.tokens front.has.program.parsed.lexed) x (subst (λ t. LacksEntry t entry) is lacks)
+entry_lacks entry (Some x) text is lacks = of_front (λ t. LacksEntry t entry) MAX_TEXT MAX_READ refl
+    (λ a b y z front. no_program a y front.has.program.parsed.tokens front.has.program.parsed.lexed) x
+    (subst (λ t. LacksEntry t entry) is lacks)
 
 line_front : (entry lines text : List ℕ) (n : ℕ) → LacksSchedule (take MAX_READ text) entry lines n → LacksSchedule text entry lines n
-line_front entry lines text n = of_front (λ t. LacksSchedule t entry lines n) MAX_TEXT MAX_READ refl (λ a b y z front. no_program a y front.entered.has.program.parsed.tokens front.entered.has.program.parsed.lexed) text
+line_front entry lines text n = of_front (λ t. LacksSchedule t entry lines n) MAX_TEXT MAX_READ refl
+    (λ a b y z front. no_program a y front.entered.has.program.parsed.tokens front.entered.has.program.parsed.lexed) text
 
-pub line_lacks : (entry : List ℕ) (n : ℕ) (a q : Option (List ℕ)) (text : List ℕ) → IfSome a (λ xs. text ≡ take MAX_READ xs) → IfSome q (λ lines. LacksSchedule text entry lines n) → IfSome a (λ xs. IfSome q (λ lines. LacksSchedule xs entry lines n))
+pub line_lacks : (entry : List ℕ) (n : ℕ) (a q : Option (List ℕ)) (text : List ℕ) → IfSome a (λ xs. text ≡ take MAX_READ xs)
+    → IfSome q (λ lines. LacksSchedule text entry lines n) → IfSome a (λ xs. IfSome q (λ lines. LacksSchedule xs entry lines n))
 line_lacks entry n None q text is lacks = tt
 line_lacks entry n (Some x) None text is lacks = tt
 line_lacks entry n (Some x) (Some l) text is lacks = line_front entry l x n (subst (λ t. LacksSchedule t entry l n) is lacks)
 
 -- what is known of the bytes of a schedule that are read is known of the schedule
-pub of_read : (P : List ℕ → Type 0) (q : Option (List ℕ)) (bytes : List ℕ) → ((xs : List ℕ) → P (take MAX_SCHEDULE_READ xs) → P xs) → IfSome q (λ xs. bytes ≡ take MAX_SCHEDULE_READ xs) → P bytes → IfSome q P
+pub of_read : (P : List ℕ → Type 0) (q : Option (List ℕ)) (bytes : List ℕ) → ((xs : List ℕ) → P (take MAX_SCHEDULE_READ xs) → P xs)
+    → IfSome q (λ xs. bytes ≡ take MAX_SCHEDULE_READ xs) → P bytes → IfSome q P
 of_read P None bytes front is told = tt
 of_read P (Some x) bytes front is told = front x (subst P is told)
 
@@ -98,7 +113,8 @@ some_always None P all = tt
 some_always (Some x) P all = all x
 
 -- a world to which events lead is one of a run
-run_of : (p : ProgramSeen) (bound : Bounds) (n : ℕ) (events : List Event) (w : World) → Leads p bound (start_of p n) events w → Run p bound n w
+run_of : (p : ProgramSeen) (bound : Bounds) (n : ℕ) (events : List Event) (w : World) → Leads p bound (start_of p n) events w
+    → Run p bound n w
 run_of p bound n events w stays = begins
 run_of p bound n events w (moves before v u e led moved) = goes_on v u e (run_of p bound n before v led) moved
 
@@ -117,7 +133,8 @@ takes_nothing true takes is = absurd (cc)
 takes_nothing false true is = absurd (cc)
 takes_nothing false false is = refl
 
-entry_at : (p : ProgramSeen) (n : ℕ) (o : Option MethodSeen) → AreWellFormed p.contracts p.messages p.methods → Each IsBare p.methods → slice_get p.methods n ≡ o → IsSomeAnd o (λ m. is_entry m ≡ true) → IsEntry p n
+entry_at : (p : ProgramSeen) (n : ℕ) (o : Option MethodSeen) → AreWellFormed p.contracts p.messages p.methods → Each IsBare p.methods
+    → slice_get p.methods n ≡ o → IsSomeAnd o (λ m. is_entry m ≡ true) → IsEntry p n
 entry_at p n None formed bare at is = absurd is
 entry_at p n (Some m) formed bare at is = record {
   method = m;
@@ -126,7 +143,8 @@ entry_at p n (Some m) formed bare at is = record {
   alone = each_there IsBare p.methods n m bare at (takes_nothing m.gives m.takes is);
 }
 
-pub entry_is : (p : ProgramSeen) → AreWellFormed p.contracts p.messages p.methods → Each IsBare p.methods → (n : ℕ) → BeginsWith p n → IsEntry p n
+pub entry_is : (p : ProgramSeen) → AreWellFormed p.contracts p.messages p.methods → Each IsBare p.methods → (n : ℕ) → BeginsWith p n
+    → IsEntry p n
 entry_is p formed bare n is = entry_at p n (slice_get p.methods n) formed bare refl is
 
 -- what is known of the program of a text
@@ -138,20 +156,25 @@ pub record KnownOf (text : List ℕ) : Type 0 where
 -- where a check finds nothing, nothing is found in the methods
 none_found : (text : List ℕ) (p : ProgramSeen) → KnownOf text → HasProgram text p → HasEmptyReport text → NothingIsFound p
 none_found text p known has empty =
-    let none = subst (λ (q : ProgramSeen). (f : FindingParts) → IsWrong q f → ⊥) (known.one empty.1.program p empty.1.has has) empty.1.none in
+    let none = subst (λ (q : ProgramSeen). (f : FindingParts) → IsWrong q f → ⊥)
+    (known.one empty.1.program p empty.1.has has) empty.1.none in
     λ n lt. empty_verdict p n (λ f w. none f (n, lt, w))
 
-meets_none : (entry lines text bytes : List ℕ) (status : Status) → KnownOf text → HasEmptyReport text → (ran : IsRan entry lines text bytes status) → (fault : Fault) (at : Place) → ran.replayed.halt ≡ Some (halt.Fault fault at) → ⊥
+meets_none : (entry lines text bytes : List ℕ) (status : Status) → KnownOf text → HasEmptyReport text
+    → (ran : IsRan entry lines text bytes status) → (fault : Fault) (at : Place) → ran.replayed.halt ≡ Some (halt.Fault fault at) → ⊥
 meets_none entry lines text bytes status known empty ran fault at e =
     let p = ran.program in
     let kept = known.safe p ran.entered.has in
-    let world = world_seen ran.replayed.world in
+    let world = ran.replayed.world in
     known.bounds p ran.entered.has (λ bound are.
     let is = ran.led bound are in
     let run = run_of p bound ran.n (take ran.replayed.steps ran.events) world is.leads in
-    let safe = kept.safe bound are (none_found text p known ran.entered.has empty) ran.n world (kept.begin ran.n ran.entered.at.begins) run in
+    let safe = kept.safe bound are (none_found text p known ran.entered.has empty) ran.n world
+    (kept.begin ran.n ran.entered.at.begins) run in
     let ends = subst (EndsWith p bound world ran.events ran.replayed.steps) e is.ends in
     safe.no_fault ends.event fault ends.tells.0)
 
-pub ran_safely : (entry lines text bytes : List ℕ) (status : Status) → KnownOf text → IsRan entry lines text bytes status → HasEmptyReport text → RunsSafely entry lines text bytes status
-ran_safely entry lines text bytes status known ran empty = record { ran = ran; no_fault = meets_none entry lines text bytes status known empty ran }
+pub ran_safely : (entry lines text bytes : List ℕ) (status : Status) → KnownOf text → IsRan entry lines text bytes status
+    → HasEmptyReport text → RunsSafely entry lines text bytes status
+ran_safely entry lines text bytes status known ran empty =
+    record { ran = ran; no_fault = meets_none entry lines text bytes status known empty ran }

@@ -9,12 +9,10 @@ use Rattle.program.specs.Lists.{Each}
 use Rattle.program.specs.Programs.{ProgramSeen}
 use Rattle.rules.specs.Programs.{is_entry}
 use Rattle.machine.specs.Outcomes.{Bounds}
-use Rattle.machine.specs.Replays.{IsReplay}
+use Rattle.machine.specs.Replays.{IsReplay, ReplaySeen}
 use Rattle.machine.specs.Runs.{AreBounds}
-use Rattle.machine.specs.Views.{world_seen}
 use Rattle.machine.specs.declared.halts.Event.{Event}
 use Rattle.machine.specs.declared.halts.Halt.{Halt}
-use Rattle.machine.specs.declared.replaying.Replayed.{Replayed}
 use Rattle.replays.specs.Schedules.{IsFirstMalformed, IsSchedule}
 use Rattle.replays.specs.WorldLines.{replay_lines}
 use Rattle.singcheck.specs.Answers.{IsReported}
@@ -87,14 +85,20 @@ pub record IsRan (entry schedule text bytes : List ℕ) (status : Status) : Type
   pub entered : HasEntry text entry program n
   pub events : List Event
   pub told : IsSchedule schedule events
-  pub replayed : Replayed
+  pub replayed : ReplaySeen
   pub led : (bound : Bounds) → AreBounds program bound → IsReplay program bound n events replayed
   pub are : bytes
       ≡ replay_lines (record { program = program; structs = struct_names text entered.has.items }) events replayed.steps replayed.halt
-      (world_seen replayed.world)
+      replayed.world
   pub is : status ≡ stop_status replayed.halt
 
 -- what `replay` answers: the findings of the text before its methods, or what the events of the schedule come to
 pub data Replays (entry schedule text bytes : List ℕ) (status : Status) : Type 0 where
   OfFindings : IsReported text bytes → status ≡ Found → Replays entry schedule text bytes status
   OfRun : IsRan entry schedule text bytes status → Replays entry schedule text bytes status
+
+-- what a run of `replay` comes to where no device fails and no growth of memory is refused: its answer, no entry, or a malformed line
+pub data ComesTo (entry schedule text : List ℕ) : Type 0 where
+  Answered : (bytes : List ℕ) (status : Status) → Replays entry schedule text bytes status → ComesTo entry schedule text
+  NoEntry : LacksEntry text entry → ComesTo entry schedule text
+  NoSchedule : (line : ℕ) → LacksSchedule text entry schedule line → ComesTo entry schedule text

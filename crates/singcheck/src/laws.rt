@@ -3,11 +3,13 @@
 ghost use Rattle.std.specs.Prelude.{◌≡◌, ℕ, List};
 ghost use Rattle.machine.specs.Outcomes.{Bounds};
 ghost use Rattle.machine.specs.Runs.{AreBounds};
+ghost use Rattle.machine.specs.declared.halts.Event.{Event};
+ghost use Rattle.replays.specs.Schedules.{IsSchedule};
 ghost use Rattle.source.specs.Findings.{FindingParts};
 ghost use Rattle.singcheck.specs.Answers.{Answers, AreFindings};
 ghost use Rattle.program.specs.Programs.{ProgramSeen};
 ghost use Rattle.singcheck.specs.Checks.{Checks, HasProgram};
-ghost use Rattle.singcheck.specs.Replays.{LacksEntry, LacksSchedule, Replays};
+ghost use Rattle.singcheck.specs.Replays.{ComesTo, HasEntry, IsRan, LacksEntry, LacksSchedule, Replays};
 ghost use Rattle.singcheck.specs.declared.fault.Status.{Status};
 ghost use Rattle.singcheck.specs.declared.limits.TheConstants.{MOST_SLOTS, MOST_WORKERS};
 ghost use Rattle.singcheck.specs.declared.reading.TheConstants.{MAX_READ, MAX_SCHEDULE_READ};
@@ -15,7 +17,7 @@ ghost use Rattle.singcheck.specs.declared.reading.TheConstants.{MAX_READ, MAX_SC
 use analyse::laws::each_method_has_a_verdict;
 use contracts::laws::each_contract_is_judged;
 use names::laws::clean_contracts_are_whole;
-use replays::laws::one_reading;
+use replays::laws::{each_schedule_is_read, one_reading};
 use source::laws::{each_text_is_cut, one_cutting, one_fault};
 use syntax::{one_tree_a_spelling, tokens_are_parsed};
 
@@ -101,6 +103,24 @@ pub fn each_text_is_answered()
     clean_contracts_are_whole();
     each_contract_is_judged();
     each_method_has_a_verdict();
+}
+
+/// Each text, entry and schedule has an answer of `replay`, or there is no such entry, or a line of the schedule is malformed (`comes`).
+/// Where the entry and the events are there, the events come to something, which is printed (`ran`).
+pub fn each_replay_is_answered()
+    ensures comes { (entry lines text : List ℕ) → (ComesTo entry lines text → ⊥) → ⊥ }
+    ensures ran { (entry lines text : List ℕ) (p : ProgramSeen) (n : ℕ) (events : List Event)
+        → HasEntry text entry p n → IsSchedule lines events
+        → ((bytes : List ℕ) (status : Status) → IsRan entry lines text bytes status → ⊥) → ⊥ }
+{
+    each_text_is_cut();
+    tokens_are_parsed();
+    clean_contracts_are_whole();
+    each_contract_is_judged();
+    each_method_has_a_verdict();
+    each_program_has_bounds();
+    each_schedule_is_read();
+    machine::laws::events_have_a_replay();
 }
 
 /// The limits in digits.

@@ -1,5 +1,6 @@
 use Rattle.std.proofs.Common.{◌∙◌, List, ap, map, ℕ}
 use Rattle.std.specs.Prelude.{string_bytes}
+use Rattle.machine.specs.Replays.{replay_seen}
 use Rattle.machine.specs.Views.{world_seen}
 use Rattle.rules.specs.Programs.{seen_of}
 use Rattle.replays.specs.WorldLines.{replay_lines}
@@ -15,9 +16,10 @@ returns c = λ text entry schedule begun told.
       entered = begun.entered;
       events = c.args.events.now;
       told = told;
-      replayed = came;
+      replayed = replay_seen came;
       led = c.in_ok-came.ensures;
       are = c.in_ok-bytes.ensures
-          ∙ ap (λ (s : List (List ℕ)). replay_lines (record { program = p; structs = s }) c.args.events.now came.steps came.halt (world_seen came.world)) (ap (map string_bytes) c.deref.ensures.value ∙ begun.structs);
+          ∙ ap (λ (s : List (List ℕ)). replay_lines (record { program = p; structs = s }) c.args.events.now came.steps came.halt
+          (world_seen came.world)) (ap (map string_bytes) c.deref.ensures.value ∙ begun.structs);
       is = c.status_of.ensures;
     }
