@@ -1,0 +1,277 @@
+"""Writes the body of a method: blocks of the exchange heap, calls, and ways that part and meet.
+
+The writer knows at each place which variables have what. An endpoint that it believes to be in a state is in that state or cut off, since
+what a state allows is allowed of an endpoint that is cut off too. Where ways meet, each gives away what not all of them still have.
+"""
+from clean.tree import BLOCKS, SIDES, Block, Body, Condition, End, If, Say, While, written
+
+FIELDS = {'Page': '.n', 'Note': '.m'}
+
+
+class Writer:
+    """Writes the body of one method of a program. What is lent or frozen may be used, but not given away or brought to another state."""
+
+    def __init__(self, program, method):
+        self.program, self.chance, self.method = program, program.chance, method
+        self.contracts = program.contracts
+        self.has = {name: kind for name, kind, _ in method.parameters}
+        self.lent = {name for name, _, claimed in method.parameters if not claimed}
+        self.frozen, self.loops, self.in_switch, self.serving = set(), [], False, False
+        self.number, self.fuel, self.deep = 0, self.chance.randint(6, 16), 0
+
+    def fresh(self):
+        self.number += 1
+        return 'v%d' % self.number
+
+    def ends(self):
+        return [v for v, kind in self.has.items() if isinstance(kind, End)]
+
+    def blocks(self):
+        return [v for v, kind in self.has.items() if isinstance(kind, Block)]
+
+    def free(self, names):
+        """Those that may be given away or brought to another state."""
+        return [v for v in names if v not in self.lent and v not in self.frozen]
+
+    # Statements that say one thing.
+
+    def say(self, body, text, *instructions, declares=()):
+        body.append(Say(text, instructions, declares))
+
+    def read(self):
+        """A number, and the variables that are read for it."""
+        names = self.blocks()
+        if not names or self.chance.random() < 0.5:
+            return self.chance.choice(['n', str(self.chance.randint(0, 9)), 'n + 1']), []
+        name = self.chance.choice(names)
+        return name + (FIELDS.get(self.has[name].name[:4]) or self.chance.choice(['.Length', '[0]'])), [('use', name)]
+
+    def condition(self):
+        if self.chance.random() < 0.1:
+            return Condition('true', [], 0)
+        text, reads = self.read()
+        return Condition('%s %s %d' % (text, self.chance.choice(['<', '==', '>=']), self.chance.randint(0, 9)), reads, None)
+
+    def new(self, body, kind, name=None):
+        text, reads = self.read()
+        value = 'new[ExHeap] %s()' % kind.name[:4] if '*' in kind.name else 'new[ExHeap] %s[%s]' % (kind.name.split('[')[0], text)
+        reads = [] if '*' in kind.name else reads
+        if name:
+            self.say(body, '%s = %s;' % (name, value), *reads, ('new', name))
+        else:
+            name = self.fresh()
+            self.say(body, '%s %s = %s;' % (kind.name, name, value), *reads, ('new', name), declares=(name,))
+        self.has[name] = kind
+        return name
+
+    def channel(self, body, number):
+        names = {'Imp': self.fresh(), 'Exp': self.fresh()}
+        for side, name in names.items():
+            kind = End(number, side, 0)
+            self.say(body, '%s %s;' % (written(kind, self.contracts, False), name), declares=(name,))
+            self.has[name] = kind
+        first, second = self.chance.sample(SIDES, 2)
+        self.say(body, '%s.NewChannel(out %s, out %s);' % (self.contracts[number].name, names[first], names[second]),
+                 ('channel', names[first], names[second], first == 'Imp'))
+        return names
+
+    def made(self, body, kind, but=()):
+        """A variable of this kind: one that is there, or a new one."""
+        there = [v for v in self.free(self.has) if self.has[v] == kind and v not in but]
+        if there and self.chance.random() < 0.6:
+            return self.chance.choice(there)
+        return self.new(body, kind) if isinstance(kind, Block) else self.channel(body, kind.contract)[kind.side]
+
+    def delete(self, body, name):
+        self.say(body, 'delete %s;' % name, ('delete', name))
+        del self.has[name]
+
+    def method_for(self, wanted, word):
+        """A method to call or to start. One that is begun already is taken on some ways only, so that not every run is endless."""
+        behind = 1 if self.deep and self.chance.random() < 0.7 else self.program.methods.index(self.method) + 1
+        return self.program.method_for(wanted, word, behind)
+
+    def give_away(self, body, name):
+        """Frees a variable's block, or starts a process with it."""
+        kind = self.has[name]
+        if isinstance(kind, End) and name not in self.lent and self.chance.random() < 0.6:
+            method = self.method_for([(kind, True)], 'start')
+            if method:
+                return self.call(body, method, [name], 'start')
+        self.delete(body, name)
+
+    def send(self, body, name, message):
+        kind = self.has[name]
+        told = self.contracts[kind.contract].messages[message]
+        texts, reads, given = [], [], []
+        for payload_kind in told.types:
+            if payload_kind is None:
+                text, more = self.read()
+                reads += more
+            else:
+                text = self.made(body, payload_kind, given + [name])
+                given.append(text)
+            texts.append(text)
+        self.say(body, '%s.Send%s(%s);' % (name, told.name, ', '.join(texts)), *reads, ('send', name, message, tuple(given)))
+        for gone in given:
+            del self.has[gone]
+        self.has[name] = kind._replace(state=self.contracts[kind.contract].states[kind.state][message])
+
+    def call(self, body, method, names, word='call'):
+        text, reads = self.read() if method.scalar else ('', [])
+        call = 'K.%s(%s)' % (method.name, ', '.join(([text] if method.scalar else []) + names))
+        claimed = tuple((v, c) for v, (_, _, c) in zip(names, method.parameters))
+        for name, taken in claimed:
+            if taken:
+                del self.has[name]
+        if word == 'start':
+            self.say(body, 'start %s;' % call, *reads, ('start', method.name, claimed))
+        elif method.result in (None, 'int'):
+            self.say(body, '%s%s;' % ('n = ' if method.result else '', call), *reads, ('call', method.name, claimed, None))
+        else:
+            name = self.fresh()
+            self.say(body, '%s %s = %s;' % (written(method.result, self.contracts, False), name, call), *reads,
+                     ('call', method.name, claimed, name), declares=(name,))
+            self.has[name] = method.result
+
+    def use(self, body):
+        names = self.blocks()
+        if not names:
+            return
+        name = self.chance.choice(names)
+        field = FIELDS.get(self.has[name].name[:4], '[0]')
+        text, reads = self.read()
+        if self.chance.random() < 0.5:
+            self.say(body, '%s%s = %s;' % (name, field, text), *reads, ('use', name))
+        else:
+            self.say(body, 'n = %s%s + %s;' % (name, field, text), ('use', name), *reads)
+
+    def move(self, body):
+        names = self.free(self.has)
+        if names:
+            name, to = self.chance.choice(names), self.fresh()
+            kind = self.has.pop(name)
+            self.say(body, '%s %s = %s;' % (written(kind, self.contracts, False), to, name), ('move', to, name), declares=(to,))
+            self.has[to] = kind
+
+    # Ways out, and where ways meet.
+
+    def leave(self, body):
+        """The method ends here."""
+        result = None
+        if self.method.result not in (None, 'int'):
+            result = self.made(body, self.method.result)
+        for name in [v for v in self.has if v not in self.lent and v != result]:
+            self.give_away(body, name)
+        self.say(body, 'return%s;' % (' n' if self.method.result == 'int' else ' ' + result if result else ''), ('return', result))
+        body.left = True
+
+    def way(self, write, bound=()):
+        """What a way leads through, and what is there behind it; what is declared on it is given away at its end."""
+        before, body = dict(self.has), Body()
+        self.deep += 1
+        self.has.update(bound)
+        write(body)
+        if not body.left:
+            for name in [v for v in self.has if v in declared_in(body, bound)]:
+                self.give_away(body, name)
+        self.deep -= 1
+        behind, self.has = self.has, before
+        return body, behind
+
+    def meet(self, ways):
+        """Ways meet: what not all of them have in one state is given away. True where no way comes here."""
+        live = [(body, has) for body, has in ways if not body.left]
+        if live:
+            same = {v: kind for v, kind in live[0][1].items() if all(has.get(v) == kind for _, has in live)}
+            for body, has in live:
+                for name in [v for v in has if v not in same]:
+                    body.append(Say('delete %s;' % name, (('delete', name),), ()))
+            self.has = same
+        return not live
+
+    def restored(self, body, wanted):
+        """What a loop has where it goes round."""
+        for name in [v for v in self.has if v not in wanted]:
+            self.delete(body, name)
+        for name in [v for v in wanted if v not in self.has]:
+            self.new(body, wanted[name], name)
+
+    def branch(self, body):
+        condition = self.condition()
+        first = self.way(self.statements)
+        second = self.way(self.statements if self.chance.random() < 0.6 else lambda inner: None)
+        if condition.fixed == 0:
+            second[0].left = True
+        body.left = self.meet([first, second])
+        body.append(If(condition, first[0], second[0] or None))
+
+    def loop(self, body):
+        condition, wanted, kept = self.condition(), dict(self.has), self.frozen
+        self.frozen = kept | set(self.ends())
+        self.loops.append(wanted)
+        in_switch, self.in_switch = self.in_switch, False
+
+        def write(inner):
+            self.statements(inner)
+            if not inner.left:
+                self.restored(inner, wanted)
+
+        inner, _ = self.way(write)
+        self.loops.pop()
+        self.frozen, self.in_switch = kept, in_switch
+        self.has = wanted
+        body.left = condition.fixed == 0 and not has_break(inner)
+        body.append(While(condition, inner))
+
+    def out_of_loop(self, body):
+        """A `break` or a `continue` on one way."""
+        if not self.loops:
+            return
+        word = 'continue' if self.in_switch else self.chance.choice(['break', 'continue'])
+
+        def write(inner):
+            self.restored(inner, self.loops[-1])
+            inner.append(word)
+            inner.left = True
+
+        inner, _ = self.way(write)
+        body.append(If(Condition('n == %d' % self.chance.randint(0, 9), [], None), inner, None))
+
+    def block(self, body):
+        inner, has = self.way(self.statements)
+        body.left = inner.left
+        self.has = has if not inner.left else self.has
+        body.append(inner)
+
+    def calls(self, body, word='call'):
+        lent = [] if word == 'start' else list(self.has)
+        wanted, names = [], []
+        for _ in range(self.chance.randint(1 if word == 'start' else 0, 3)):
+            free = [v for v in self.free(self.has) if v not in names]
+            if free and (self.chance.random() < 0.4 or word == 'start'):
+                names.append(self.chance.choice(free))
+                wanted.append((self.has[names[-1]], True))
+            elif [v for v in lent if v not in names]:
+                names.append(self.chance.choice([v for v in lent if v not in names]))
+                wanted.append((self.has[names[-1]], False))
+        if word == 'start' and not names:
+            return
+        method = self.method_for(wanted, word)
+        if method:
+            self.call(body, method, names, word)
+
+
+def declared_in(body, bound):
+    return {name for statement in body if isinstance(statement, Say) for name in statement.declares}.union(bound)
+
+
+def has_break(body):
+    """Whether a `break` in a body leaves the loop that it is the body of."""
+    for statement in body:
+        inner = [statement] if isinstance(statement, Body) else []
+        if isinstance(statement, If):
+            inner = [statement.first, statement.other or []]
+        if statement == 'break' or any(map(has_break, inner)):
+            return True
+    return False
