@@ -1,91 +1,28 @@
--- Rows that grow arc by arc.
-use Rattle.std.proofs.Common.{◌≡◌, ℕ, zero, suc, ◌+◌, ◌<◌, List, [], ◌∷◌, ◌++◌, length, map, sym, refl, ap, ◌∙◌, subst, arith, ⊎_elim}
-use Rattle.std.specs.Prelude.{Contains, All}
-use Rattle.std.proofs.Math.ListN.{set, length-set, length-append}
-use Rattle.std.proofs.lemmas.List.{get_or-set_same, get_or-set_other}
-use Rattle.std.proofs.lemmas.List.Elements.{All-push, All-weaker, All-nil, All-same, All-map, Contains-push_cases, Contains-append_left, Contains-push}
-use Rattle.std.proofs.lemmas.Bool.{cases_eq}
+-- Arcs, their ends, and the graph that they are.
+use Rattle.std.proofs.Common.{◌≡◌, ◌==◌, ℕ, ◌<◌, List, [], ◌∷◌, ◌++◌, length, map, ap, ◌∙◌, subst, arith, ⊎_elim}
+use Rattle.std.specs.Prelude.{Contains, All, filter}
+use Rattle.std.proofs.lemmas.List.Elements.{All-weaker, All-same, All-filter, All-map, Contains-push_cases, Contains-append_left, Contains-push}
 use Rattle.contracts.specs.declared.arcs.Arc.{Arc}
-use Rattle.contracts.specs.Graphs.{HasEdge, row_at}
 use Rattle.program.specs.declared.contract.Sign.{Sign}
 use Rattle.program.specs.declared.contract.Edge.{Edge}
 use Rattle.contracts.specs.Arcs.{AllWithin, AreRows, AreArcs, Joins, IsDrawn, arc, turned_arc}
+use Rattle.contracts.specs.Numbering.{number_in}
 use Rattle.contracts.proofs.PartLemmas.{all_from}
 
 -- nothing is in an empty list
 pub none_in : {A : Type 0} (x : A) → Contains [] x → ⊥
 none_in x c = let lt = c.1 in absurd (omega (arith, lt))
 
-pub rows_none : AreRows 0 [] []
-rows_none = record {
-  long = refl;
-  range = λ v. All-nil (λ w. w < 0);
-  right = λ v w e. absurd (none_in w e);
-  all = λ v w c. absurd (none_in (arc v w) c);
-}
+-- arcs begin below the count
+pub starts_within : (n : ℕ) (arcs : List Arc) → AllWithin n arcs → All (λ a. a.from < n) arcs
+starts_within n arcs all = All-weaker (λ a. (a.from < n) × (a.to < n)) (λ a. a.from < n) (λ a both. both.0) arcs all
 
-same_row : (graph : List (List ℕ)) (v : ℕ) → row_at (graph ++ [] ∷ []) v ≡ row_at graph v
-same_row [] zero = refl
-same_row [] (suc v) = refl
-same_row (r ∷ rs) zero = refl
-same_row (r ∷ rs) (suc v) = same_row rs v
-
--- one more row without arcs
-pub rows_empty_more : (n : ℕ) (graph : List (List ℕ)) → AreRows n [] graph → AreRows (n + 1) [] (graph ++ [] ∷ [])
-rows_empty_more n graph h =
-    let size : length (graph ++ [] ∷ []) ≡ n + 1 = length-append graph ([] ∷ []) ∙ ap (λ k. k + 1) h.long in
-    record {
-      long = size;
-      range = λ v. subst (All (λ w. w < length (graph ++ [] ∷ []))) (sym (same_row graph v)) (All-weaker (λ w. w < length graph) (λ w. w < length (graph ++ [] ∷ [])) (λ w lt. let e = h.long in omega (arith, lt, size, e)) (row_at graph v) (h.range v));
-      right = λ v w e. h.right v w (subst (λ r. Contains r w) (same_row graph v) e);
-      all = λ v w c. absurd (none_in (arc v w) c);
-    }
-
--- one more arc
-pub rows_more : (count : ℕ) (arcs : List Arc) (graph : List (List ℕ)) (a : Arc) → a.from < count → a.to < count → AreRows count arcs graph → AreRows count (arcs ++ a ∷ []) (set graph a.from (row_at graph a.from ++ a.to ∷ []))
-rows_more count arcs graph a from to h = record {
-  long = size;
-  range = λ v. ⊎_elim
-      (λ same. subst (All (λ w. w < length new)) (sym (at_from v same)) (All-push (λ w. w < length new) (row_at graph a.from) a.to (wider a.from) (omega (arith, to, size))))
-      (λ other. subst (All (λ w. w < length new)) (sym (away v other)) (wider v))
-      (cases_eq v a.from);
-  right = λ v w e. ⊎_elim
-      (λ same. ⊎_elim
-      (λ old. Contains-append_left arcs (a ∷ []) _ (h.right v w (subst (λ x. HasEdge graph x w) (sym same) old)))
-      (λ last. subst (Contains (arcs ++ a ∷ [])) (arc_is v w same last) (Contains-push arcs a))
-      (Contains-push_cases (row_at graph a.from) a.to w (subst (λ r. Contains r w) (at_from v same) e)))
-      (λ other. Contains-append_left arcs (a ∷ []) _ (h.right v w (subst (λ r. Contains r w) (away v other) e)))
-      (cases_eq v a.from);
-  all = λ v w c. ⊎_elim
-      (λ old. keeps v w (h.all v w old))
-      (λ last. subst (λ x. HasEdge new v x) (ap (λ (x : Arc). x.to) last)
-      (subst (λ r. Contains r a.to) (sym (at_from v (sym (ap (λ (x : Arc). x.from) last)))) (Contains-push (row_at graph a.from) a.to)))
-      (Contains-push_cases arcs a _ c);
-}
-  where
-    new : List (List ℕ)
-    new = set graph a.from (row_at graph a.from ++ a.to ∷ [])
-
-    size : length new ≡ count
-    size = length-set graph a.from _ ∙ h.long
-
-    at_from : (v : ℕ) → v ≡ a.from → row_at new v ≡ row_at graph a.from ++ a.to ∷ []
-    at_from v same = ap (row_at new) same ∙ get_or-set_same graph a.from _ [] (let e = h.long in omega (arith, from, e))
-
-    away : (v : ℕ) → (v ≡ a.from → ⊥) → row_at new v ≡ row_at graph v
-    away v other = get_or-set_other graph a.from v _ [] other
-
-    wider : (v : ℕ) → All (λ w. w < length new) (row_at graph v)
-    wider v = All-weaker (λ w. w < length graph) (λ w. w < length new) (λ w lt. let e = h.long in omega (arith, lt, e, size)) (row_at graph v) (h.range v)
-
-    arc_is : (v w : ℕ) → v ≡ a.from → a.to ≡ w → a ≡ record { from = v; to = w }
-    arc_is v w same last = ap (λ x. arc x a.to) (sym same) ∙ ap (arc v) last
-
-    keeps : (v w : ℕ) → HasEdge graph v w → HasEdge new v w
-    keeps v w e = ⊎_elim
-        (λ same. subst (λ r. Contains r w) (sym (at_from v same)) (Contains-append_left (row_at graph a.from) (a.to ∷ []) w (subst (λ x. HasEdge graph x w) same e)))
-        (λ other. subst (λ r. Contains r w) (sym (away v other)) e)
-        (cases_eq v a.from)
+-- arcs between vertices of one number stay below the count
+pub inner_within : (numbers : List ℕ) (arcs inner : List Arc) → inner ≡ filter (λ a. number_in numbers a.from == number_in numbers a.to) arcs → AllWithin (length numbers) arcs → AllWithin (length numbers) inner
+inner_within numbers arcs inner is all =
+    let n = length numbers in
+    All-same (λ a. (a.from < n) × (a.to < n)) inner (filter (λ a. number_in numbers a.from == number_in numbers a.to) arcs) is
+    (All-filter (λ a. number_in numbers a.from == number_in numbers a.to) (λ a. (a.from < n) × (a.to < n)) arcs all)
 
 -- turned arcs stay below the count
 pub turned_within : (n : ℕ) (arcs turned : List Arc) → turned ≡ map turned_arc arcs → AllWithin n arcs → AllWithin n turned

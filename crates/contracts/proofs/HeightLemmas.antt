@@ -1,16 +1,18 @@
 -- Where no vertex lies on a ring, each height is known.
 use Rattle.std.proofs.Common.{◌≡◌, ℕ, zero, suc, ◌+◌, ◌<◌, ◌≤◌, List, [], ◌∷◌, length, get_or, Option, Some, None, Bool, true, false, sym, refl, ap, ◌∙◌, subst, arith, ⊎_elim}
-use Rattle.std.specs.Prelude.{Contains, ◌⊎◌, unwrap_or}
+use Rattle.std.specs.Prelude.{All, Contains, IsTrue, ◌⊎◌, is_some, unwrap_or}
 use Rattle.std.proofs.Math.ListN.{set, length-set, replicate}
-use Rattle.std.proofs.lemmas.List.{get_or-set_other, length-replicate}
+use Rattle.std.proofs.lemmas.List.{get_or-replicate, get_or-set_other, length-replicate}
 use Rattle.std.proofs.lemmas.List.Elements.{All-contains}
 use Rattle.std.proofs.lemmas.Bool.{cases_eq, cases_Bool, true≢false}
 use Rattle.contracts.specs.Graphs.{Walk, HasEdge, InRange, OnRing, IsHeight, height_at, row_at}
 use Rattle.contracts.specs.Marking.{IsMarked, unmarked}
-use Rattle.contracts.specs.Peeling.{Settled}
+use Rattle.contracts.specs.Numbering.{AreRings}
+use Rattle.contracts.specs.Peeling.{AreHeights, Settled}
 use Rattle.contracts.specs.Reached.{IsLongest, counted_height}
 use Rattle.contracts.proofs.MarkLemmas.{unmarked_set, marked_in}
-use Rattle.contracts.proofs.Rings.{walk_on}
+use Rattle.contracts.proofs.RingLemmas.{in_row}
+use Rattle.contracts.proofs.Rings.{no_ring, walk_on}
 
 -- from a vertex without a height one comes to a ring; the marked ones were passed
 ring_from : (graph : List (List ℕ)) (heights : List (Option ℕ)) → InRange graph → ((v : ℕ) → v < length graph → Settled graph heights v)
@@ -91,3 +93,25 @@ counted_le o k false is = omega arith
 pub only_one : (x s : ℕ) → Contains (x ∷ []) s → x ≡ s
 only_one x s (zero, lt, e) = e
 only_one x s (suc k, lt, e) = absurd (omega (arith, lt))
+
+-- where each vertex has a longest walk, none lies on a ring: from a ring, its longest walk could be made longer
+pub quiet : (graph : List (List ℕ)) (heights : List (Option ℕ)) → AreHeights graph heights → All (λ h. IsTrue (is_some h)) heights → (v : ℕ) → OnRing graph v → ⊥
+quiet graph heights h known v ring =
+    let lt = in_row graph v ring.1.0 ring.1.1 in
+    let long = h.long in
+    let there = some_there (height_at heights v) (known v None (omega (arith, lt, long))) in
+    no_ring graph v there.0 (h.right v there.0 there.1) ring
+  where
+    some_there : (o : Option ℕ) → is_some o ≡ true → (n : ℕ) × (o ≡ Some n)
+    some_there None is = absurd (true≢false (sym is))
+    some_there (Some n) is = (n, refl)
+
+-- and so none is marked
+pub quiet_rings : (graph : List (List ℕ)) (heights : List (Option ℕ)) (marks : List Bool) → AreHeights graph heights → All (λ h. IsTrue (is_some h)) heights → marks ≡ replicate (length graph) false → AreRings graph marks
+quiet_rings graph heights marks h known is = record {
+  long = ap length is ∙ length-replicate (length graph) false;
+  tells = λ v lt. record {
+    yes = λ on. absurd (true≢false (sym on ∙ ap (λ l. get_or l v true) is ∙ get_or-replicate (length graph) v false true lt));
+    no = λ ring. absurd (quiet graph heights h known v ring);
+  };
+}

@@ -1,16 +1,13 @@
 -- The edges of one sign from a state, where a message leads along them, and the names of messages.
-use Rattle.std.proofs.Common.{◌≡◌, ℕ, zero, suc, ◌<◌, ◌==◌, List, [], ◌∷◌, length, map, get_or, true, Option, Some, None, sym, refl, ap, ◌∙◌, subst, arith, inl, inr, ⊎_elim}
+use Rattle.std.proofs.Common.{◌≡◌, ℕ, zero, suc, ◌+◌, ◌<◌, ◌==◌, List, [], ◌∷◌, length, map, get_or, true, Option, Some, None, sym, refl, ap, ◌∙◌, subst, arith, inl, inr, ⊎_elim}
 use Rattle.std.specs.Prelude.{◌⊎◌, All, Contains, string_bytes}
-use Rattle.std.specs.Ordering.{is_eq, nat_cmp}
 use Rattle.std.proofs.lemmas.Bool.{true≢false, eq-eqb, eqb-true, cases_Bool, cond-true, cond-false, and_parts, and_from, false_from_ne_true}
-use Rattle.std.proofs.lemmas.Option.{none-some}
 use Rattle.std.proofs.lemmas.List.{length-map, get_or-map}
 use Rattle.std.proofs.lemmas.List.Elements.{All-contains, All-filter}
-use Rattle.std.proofs.lemmas.List.Quantifiers.{position-Some}
+use Rattle.std.proofs.lemmas.List.FromFn.{length-range_with_len, get_or-range_with_len}
 use Rattle.std.proofs.Math.Logic.{∥∥₁_elim}
 use Rattle.std.proofs.Props.{props}
-use Rattle.lemmas.specs.Places.{first_position}
-use Rattle.lemmas.proofs.FirstPlaces.{equal_is, is_equal, number_there}
+use Rattle.contracts.specs.declared.positions.Listing.{Listing}
 use Rattle.program.specs.declared.contract.Edge.{Edge}
 use Rattle.program.specs.declared.contract.Message.{Message}
 use Rattle.program.specs.declared.contract.Sign.{Sign}
@@ -21,6 +18,7 @@ use Rattle.program.specs.declared.number.StateId.{StateId}
 use Rattle.contracts.specs.Conditions.{IsSound}
 use Rattle.contracts.specs.Leaving.{same_sign, leaves, edges_from, end_on, name_among}
 use Rattle.contracts.specs.Parts.{Parts, message_parts, state_ids, IsWhole}
+use Rattle.contracts.specs.Positions.{listed}
 use Rattle.contracts.specs.Walks.{IsNext}
 use Rattle.contracts.proofs.ArcLemmas.{none_in}
 use Rattle.contracts.proofs.PartLemmas.{all_from, contains_map}
@@ -33,13 +31,13 @@ state_of n = record { 0 = n }
 message_of : ℕ → MessageId
 message_of n = record { 0 = n }
 
-same_is : (a b : Sign) → same_sign a b ≡ true → a ≡ b
+pub same_is : (a b : Sign) → same_sign a b ≡ true → a ≡ b
 same_is Send Send h = refl
 same_is Receive Receive h = refl
 same_is Send Receive h = cc
 same_is Receive Send h = cc
 
-is_same : (a b : Sign) → a ≡ b → same_sign a b ≡ true
+pub is_same : (a b : Sign) → a ≡ b → same_sign a b ≡ true
 is_same Send Send h = refl
 is_same Receive Receive h = refl
 is_same Send Receive h = cc
@@ -131,19 +129,23 @@ name_nowhere (m ∷ messages) x none =
     ∙ sym (cond-false (m.id.0 == x) (string_bytes m.name) (name_among (map message_parts messages) x) (false_from_ne_true (m.id.0 == x) (λ e. none m (contains_head m messages) (eqb-true m.id.0 x e))))
 
 -- at the position of a number stands the first message that has it
-pub name_there : (messages : List Message) (x i : ℕ) (d : Message) → first_position nat_cmp (map (λ (m : Message). m.id.0) messages) x ≡ Some i → string_bytes (get_or messages i d).name ≡ name_among (map message_parts messages) x
-name_there messages x i d is =
-    let at = position-Some (λ y. is_eq (nat_cmp x y)) (map (λ (m : Message). m.id.0) messages) i 0 is in
-    let size = length-map messages (λ (m : Message). m.id.0) in
-    let long = at.0 in
-    let lt : i < length messages = omega (arith, long, size) in
-    let number = λ (k : ℕ) (below : k < length messages). get_or-map (λ (m : Message). m.id.0) messages k d 0 below in
-    name_first messages x i d lt (sym (number i lt) ∙ sym (equal_is x _ at.1))
-    (λ k less same. let below : k < length messages = omega (arith, less, lt) in
-    true≢false (sym (ap (λ y. is_eq (nat_cmp x y)) (number k below ∙ same) ∙ is_equal x) ∙ at.2 k less))
+pub name_there : (messages : List Message) (numbers : Listing) (x i : ℕ) (d : Message) → listed numbers ≡ map (λ (m : Message). m.id.0) messages → i < length (listed numbers) → get_or (listed numbers) i 0 ≡ x → string_bytes (get_or messages i d).name ≡ name_among (map message_parts messages) x
+name_there messages numbers x i d named lt is = name_first messages x i d (below i lt) (at i lt ∙ is) (λ k less same.
+    let a = row k (omega (arith, less, lt)) in
+    let b = row i lt in
+    let e = at k (omega (arith, less, lt)) in
+    absurd (omega (arith, a, b, e, same, is, less)))
+  where
+    row : (k : ℕ) → k < length (listed numbers) → get_or (listed numbers) k 0 ≡ numbers.first + k
+    row k less = get_or-range_with_len numbers.first numbers.count k 0 (let size = length-range_with_len numbers.first numbers.count in omega (arith, less, size))
 
--- where a number has no position, no message has it
-pub no_name : (messages : List Message) (x : ℕ) → first_position nat_cmp (map (λ (m : Message). m.id.0) messages) x ≡ None → [] ≡ name_among (map message_parts messages) x
-no_name messages x none = name_nowhere messages x (λ m c is.
-    let there = number_there (map (λ (m : Message). m.id.0) messages) x (subst (Contains (map (λ (m : Message). m.id.0) messages)) is (contains_map (λ (m : Message). m.id.0) messages m c)) in
-    none-some there.0 (sym none ∙ there.1))
+    below : (k : ℕ) → k < length (listed numbers) → k < length messages
+    below k less = let size = ap length named in let same = length-map messages (λ (m : Message). m.id.0) in omega (arith, less, size, same)
+
+    at : (k : ℕ) → k < length (listed numbers) → (get_or messages k d).id.0 ≡ get_or (listed numbers) k 0
+    at k less = sym (ap (λ l. get_or l k 0) named ∙ get_or-map (λ (m : Message). m.id.0) messages k d 0 (below k less))
+
+-- where a number is not listed, no message has it
+pub no_name : (messages : List Message) (numbers : List ℕ) (x : ℕ) → numbers ≡ map (λ (m : Message). m.id.0) messages → (Contains numbers x → ⊥) → [] ≡ name_among (map message_parts messages) x
+no_name messages numbers x named other = name_nowhere messages x (λ m c is.
+    other (subst (λ l. Contains l x) (sym named) (subst (Contains (map (λ (m : Message). m.id.0) messages)) is (contains_map (λ (m : Message). m.id.0) messages m c))))

@@ -1,6 +1,7 @@
 pub mod ArcLemmas
 pub mod BoundLemmas
 pub mod CandidateLemmas
+pub mod ChainLemmas
 pub mod ConditionLemmas
 pub mod EndLemmas
 pub mod FoundLemmas
@@ -20,5 +21,6 @@ pub mod RoundLemmas
 pub mod SearchLemmas
 pub mod SignLemmas
 pub mod SoundLemmas
+pub mod SourceLemmas
 pub mod WalkLemmas
 pub mod WholeLemmas

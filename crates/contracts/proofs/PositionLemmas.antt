@@ -10,8 +10,9 @@ use Rattle.std.proofs.lemmas.List.Quantifiers.{position-Some}
 use Rattle.std.proofs.lemmas.Map.Lookups.{exact_pairs, exact_unsigned}
 use Rattle.lemmas.proofs.FirstPlaces.{found_lt, first_by, is_equal}
 use Rattle.contracts.specs.Parts.{AreInRow}
-use Rattle.contracts.specs.Positions.{pair_cmp}
-use Rattle.contracts.proofs.PartLemmas.{get_again}
+use Rattle.contracts.specs.declared.positions.Listing.{Listing}
+use Rattle.contracts.specs.Positions.{listed, pair_cmp}
+use Rattle.contracts.proofs.PartLemmas.{IsOnce, get_again}
 
 -- numbers that go up by one are known by the first and their count
 pub row_is : (first : ℕ) (numbers : List ℕ) → AreInRow first numbers → range_with_len first (length numbers) ≡ numbers
@@ -34,6 +35,16 @@ pub in_row : (first count n : ℕ) → first ≤ n → n < first + count → Con
 in_row first count n low high =
     let size = length-range_with_len first count in
     (n - first, omega (arith, low, high, size), get_or-range_with_len first count (n - first) n (omega (arith, low, high)) ∙ omega (arith, low))
+
+-- each number of a listing stands at one place
+pub listed_once : (l : Listing) → IsOnce (listed l)
+listed_once l = record {
+  same = λ v w lt_v lt_w same.
+      let size = length-range_with_len l.first l.count in
+      let a = get_or-range_with_len l.first l.count v 0 (omega (arith, lt_v, size)) in
+      let b = get_or-range_with_len l.first l.count w 0 (omega (arith, lt_w, size)) in
+      omega (arith, a, b, same);
+}
 
 -- whether a number is in a row, by its distance from the first
 pub has_row : (first count n : ℕ) → first ≤ n → IsTrue (nat_lt (n - first) count) ↔ Contains (range_with_len first count) n

@@ -1,12 +1,11 @@
 -- Rings by numbers of vertices.
 use Rattle.std.proofs.Common.{◌≡◌, ℕ, zero, suc, ◌<◌, ◌≤◌, List, [], ◌∷◌, length, map, get_or, not, true, Bool, ◌==◌, sym, refl, ap, ◌∙◌, subst, arith, ⊎_elim}
-use Rattle.std.specs.Prelude.{Contains, All, filter, Vec, vec_len}
-use Rattle.std.specs.Global.{Global}
+use Rattle.std.specs.Prelude.{Contains, All, filter}
 use Rattle.std.proofs.lemmas.Bool.{true≢false, eq-eqb, eqb-true, ne_eqb, cases_Bool, cond-true, cond-false}
 use Rattle.std.proofs.lemmas.List.Elements.{All-contains}
 use Rattle.contracts.specs.declared.arcs.Arc.{Arc}
 use Rattle.contracts.specs.Arcs.{AreRows, arc, turned_arc}
-use Rattle.contracts.specs.Graphs.{HasEdge, row_at, rows, Walk, IsNumbering}
+use Rattle.contracts.specs.Graphs.{HasEdge, row_at, Walk, IsNumbering}
 use Rattle.contracts.specs.Marking.{Reaches}
 use Rattle.contracts.specs.Numbering.{AreRoots, TellsRings, number_in}
 use Rattle.contracts.proofs.ArcLemmas.{none_in}
@@ -125,7 +124,7 @@ numbers_tell arcs numbers named starts graph down up h fall d u roots all_down a
     is = record { falls = falls; down = λ x below. (both x below).0; up = λ x below. (both x below).1 }
 
 -- which rows are filled, by their lengths
-pub filled_at : (graph : List (Vec ℕ Global)) (v : ℕ) → v < length graph → get_or (map (λ (r : Vec ℕ Global). not (vec_len r == 0)) graph) v true ≡ not (length (row_at (rows graph) v) == 0)
+pub filled_at : (graph : List (List ℕ)) (v : ℕ) → v < length graph → get_or (map (λ (r : List ℕ). not (length r == 0)) graph) v true ≡ not (length (row_at graph v) == 0)
 filled_at [] v lt = absurd (omega (arith, lt))
-filled_at (r ∷ rs) zero lt = ap (λ n. not (n == 0)) r.ok.0
+filled_at (r ∷ rs) zero lt = refl
 filled_at (r ∷ rs) (suc v) lt = filled_at rs v (omega (arith, lt))

@@ -1,5 +1,5 @@
 -- Edges as arcs between the positions of their states.
-use Rattle.std.specs.Prelude.{◌≡◌, ℕ, ◌<◌, List, length, Contains, All, slice_index}
+use Rattle.std.specs.Prelude.{◌≡◌, ◌==◌, ℕ, ◌<◌, Bool, List, length, map, filter, Contains, All, slice_index}
 use Rattle.program.specs.declared.contract.Sign.{Sign}
 use Rattle.program.specs.declared.contract.Edge.{Edge}
 use Rattle.contracts.specs.declared.arcs.Arc.{Arc}
@@ -10,6 +10,13 @@ arc v w = record { from = v; to = w }
 
 abbrev pub turned_arc : Arc → Arc
 turned_arc a = record { from = a.to; to = a.from }
+
+abbrev pub begins : ℕ → Arc → Bool
+begins v a = a.from == v
+
+-- the ends of the arcs that begin at a vertex, in order
+abbrev pub ends_from : List Arc → ℕ → List ℕ
+ends_from arcs v = map (λ a. a.to) (filter (begins v) arcs)
 
 -- both ends stand below the count
 abbrev pub AllWithin : ℕ → List Arc → Type 0

@@ -1,14 +1,14 @@
 -- What an end of a channel can do in a state: the edges along which it sends or receives there, and where a message leads.
-use Rattle.std.specs.Prelude.{◌≡◌, ℕ, ◌==◌, Bool, true, false, ◌&&◌, List, [], ◌∷◌, Option, Some, None, filter, if◌then◌else◌}
-use Rattle.std.specs.BTreeMap.{BTreeMap, get}
-use Rattle.std.specs.Global.{Vec}
-use Rattle.std.specs.Option.{option_map_or}
-use Rattle.std.specs.Ordering.{nat_cmp}
+use Rattle.std.specs.Prelude.{◌≡◌, ℕ, ◌==◌, ◌<◌, Bool, true, false, ◌&&◌, List, [], ◌∷◌, Option, Some, None, filter, if◌then◌else◌}
+use Rattle.std.specs.Prelude.{All, Contains, get_or, length, map, take}
 use Rattle.program.specs.declared.contract.Edge.{Edge}
 use Rattle.program.specs.declared.contract.Sign.{Sign}
 use Rattle.program.specs.declared.contract.Sign.TheVariants.{Send, Receive}
 use Rattle.program.specs.declared.kind.Side.{Side}
 use Rattle.program.specs.declared.kind.Side.TheVariants.{Imp, Exp}
+use Rattle.contracts.specs.declared.arcs.Arc.{Arc}
+use Rattle.contracts.specs.Arcs.{ends_from}
+use Rattle.contracts.specs.Graphs.{list_at}
 use Rattle.contracts.specs.Parts.{MessageParts}
 
 -- the sign of the edges along which an end sends; along those of the other sign it receives
@@ -39,6 +39,22 @@ abbrev pub name_among : List MessageParts → ℕ → List ℕ
 name_among [] message = []
 name_among (m ∷ messages) message = if m.id.0 == message then m.name else name_among messages message
 
--- the map has for each state the edges of the sign from there
-abbrev pub AreLeaving : List Edge → Sign → BTreeMap ℕ (Vec Edge) → Type 0
-AreLeaving edges sign leaving = (q : ℕ) → option_map_or (λ v. v.items) (get nat_cmp leaving q) [] ≡ edges_from edges sign q
+-- a row for each of the numbers has the edges of the sign from that state, and other states have none
+abbrev pub AreLeaving : List ℕ → List Edge → Sign → List (List Edge) → Type 0
+AreLeaving numbers edges sign lists = (length lists ≡ length numbers)
+    × ((v : ℕ) → v < length numbers → list_at lists v ≡ edges_from edges sign (get_or numbers v 0))
+    × ((q : ℕ) → (Contains numbers q → ⊥) → edges_from edges sign q ≡ [])
+
+abbrev pub edge_at : List Edge → ℕ → Edge
+edge_at edges i = get_or edges i record {
+  from = record { 0 = 0 };
+  message = record { 0 = 0 };
+  sign = Send;
+  to = record { 0 = 0 };
+  place = record { line = 0; col = 0 };
+}
+
+-- for each of the first n edges that has the sign, an arc from the position of its state to its place
+pub record AreSources (numbers : List ℕ) (edges : List Edge) (sign : Sign) (n : ℕ) (arcs : List Arc) : Type 0 where
+  pub within : All (λ a. (a.from < length numbers) × (a.to < length edges)) arcs
+  pub row : (v : ℕ) → v < length numbers → map (edge_at edges) (ends_from arcs v) ≡ edges_from (take n edges) sign (get_or numbers v 0)

@@ -1,6 +1,8 @@
 pub mod Arcs
 pub mod Bounds
+pub mod Chains
 pub mod Conditions
+pub mod Drawings
 pub mod Found
 pub mod Graphs
 pub mod Leaving
@@ -11,5 +13,6 @@ pub mod Peeling
 pub mod Positions
 pub mod Reached
 pub mod Sounds
+pub mod Spans
 pub mod TwoEnds
 pub mod Walks

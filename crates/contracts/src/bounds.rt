@@ -4,20 +4,21 @@ ghost use Rattle.std.specs.Prelude.{◌≡◌, ◌<◌, ◌≤◌, ◌++◌, ◌
 ghost use Rattle.contracts.specs.Arcs.{AllWithin};
 ghost use Rattle.contracts.specs.Bounds.{IsBound};
 ghost use Rattle.contracts.specs.Conditions.{IsSound};
+ghost use Rattle.contracts.specs.Drawings.{IsDrawing};
 ghost use Rattle.contracts.specs.Graphs.{rows, InRange, OnRing, height_at};
 ghost use Rattle.contracts.specs.Marking.{IsMarked};
 ghost use Rattle.contracts.specs.Parts.{IsWhole, parts_of};
+ghost use Rattle.contracts.specs.Peeling.{AreHeights};
 ghost use Rattle.contracts.specs.Reached.{AreReached, IsLongest, counted_height};
 ghost use Rattle.program.specs.declared.contract.Sign.TheVariants.{Send, Receive};
 ghost use Rattle.program.specs.declared.limits.TheConstants.{MOST_STATES};
 
-use crate::arcs::{Arc, SignGraph, rows_of};
-use crate::heights::all_heights;
+use crate::arcs::{Arc, SignGraph};
+use crate::drawing::Drawing;
+use crate::grouping::rows_of;
 use crate::keys::states_of;
 use crate::marking::marked;
-use crate::numbering::finishing;
 use crate::parts::Edges;
-use program::Sign;
 use std::alloc::{AllocError, Global};
 
 /// The greatest numbers of messages under way to each end.
@@ -28,8 +29,9 @@ pub struct Bounds {
 }
 
 /// The bounds of a sound contract.
-pub fn bounds_of(alloc: Global, edges: &Edges) -> Result<Bounds, AllocError>
+pub fn bounds_of(alloc: Global, edges: &Edges, drawing: &Drawing) -> Result<Bounds, AllocError>
     requires whole { IsWhole (parts_of edges.now) }
+    requires drawing { IsDrawing edges.now drawing.now }
     requires sound { IsSound (parts_of edges.now) }
     ensures to_imp { IfOk result
         (λ bounds. IsBound edges.now.edges.items edges.now.first Send bounds.to_imp) }
@@ -37,12 +39,12 @@ pub fn bounds_of(alloc: Global, edges: &Edges) -> Result<Bounds, AllocError>
         (λ bounds. IsBound edges.now.edges.items edges.now.first Receive bounds.to_exp) }
 {
     let states = states_of(edges);
-    let sends = SignGraph::new(alloc, &edges.edges, states, Sign::Send)?;
-    let receives = SignGraph::new(alloc, &edges.edges, states, Sign::Receive)?;
     let first = states.position(edges.first.0);
+    let sends = &drawing.sends;
+    let receives = &drawing.receives;
     let reached = reached_from(alloc, states.len(), &sends.arcs, &receives.arcs, first)?;
-    let to_imp = longest(alloc, &sends.rows, &reached)?;
-    let to_exp = longest(alloc, &receives.rows, &reached)?;
+    let to_imp = longest(sends, &reached);
+    let to_exp = longest(receives, &reached);
     Ok(Bounds {
         to_imp: narrowed(to_imp),
         to_exp: narrowed(to_exp),
@@ -73,17 +75,16 @@ fn reached_from(
 }
 
 /// The greatest length of a walk from one of the marked vertices, where no vertex lies on a ring.
-fn longest(alloc: Global, graph: &[Vec<usize>], reached: &[bool]) -> Result<usize, AllocError>
-    requires range { InRange (rows graph.now) }
-    requires reached { length reached.now ≡ length graph.now }
+fn longest(graph: &SignGraph, reached: &[bool]) -> usize
+    requires range { InRange (rows graph.now.rows) }
+    requires heights { AreHeights (rows graph.now.rows) graph.now.heights.items }
+    requires reached { length reached.now ≡ length (rows graph.now.rows) }
     requires start { (s : ℕ) × IsMarked reached.now s }
-    requires quiet { (v : ℕ) → OnRing (rows graph.now) v → ⊥ }
-    ensures longest { IfOk result (λ n. IsLongest (rows graph.now) reached.now n) }
-    ensures below { IfOk result (λ n. n < length graph.now) }
+    requires quiet { (v : ℕ) → OnRing (rows graph.now.rows) v → ⊥ }
+    ensures longest { IsLongest (rows graph.now.rows) reached.now result }
+    ensures below { result < length (rows graph.now.rows) }
 {
-    let order = finishing(alloc, graph)?;
-    let heights = all_heights(alloc, graph, &order)?;
-    Ok(tallest_of(&heights, reached))
+    tallest_of(&graph.heights, reached)
 }
 
 /// The greatest height of a marked vertex.

@@ -1,27 +1,25 @@
 //! The four conditions of a contract.
 
 ghost use Rattle.std.specs.Prelude.{◌≡◌, ◌<◌, IfOk, length, map, Contains};
-ghost use Rattle.contracts.specs.Arcs.{AllWithin, AreRows, IsDrawn};
 ghost use Rattle.contracts.specs.Conditions.{AreExactly, IsAgainst, IsTwice, IsBoth, IsRound};
 ghost use Rattle.contracts.specs.Conditions.{IsFault, finding_parts, sign_of as sign_of_direction};
+ghost use Rattle.contracts.specs.Drawings.{IsDrawing};
 ghost use Rattle.contracts.specs.Found.{FoundBelow};
-ghost use Rattle.contracts.specs.Graphs.{rows};
-ghost use Rattle.contracts.specs.Positions.{listed};
+ghost use Rattle.contracts.specs.Positions.{AreEdgePositions, listed};
 ghost use Rattle.contracts.specs.Parts.{IsWhole, parts_of, message_ids, state_parts, message_parts};
-ghost use Rattle.program.specs.declared.contract.Sign.TheVariants.{Send, Receive};
 
-use crate::arcs::SignGraph;
-use crate::keys::{edge_keys, messages_of, states_of};
+use crate::drawing::{Drawing, drawing_of};
+use crate::keys::messages_of;
 use crate::parts::Edges;
 use crate::positions::Listing;
 use crate::ringing::rings;
-use lemmas::first_positions;
 use program::{Direction, Message, MessageId, Sign};
 use source::texts::{
     against_its_direction, both_directions_in, one_direction_round, twice_in_a_state,
 };
 use source::{Finding, Memory};
 use std::alloc::Global;
+use std::collections::BTreeMap;
 
 /// What breaks a condition of the contract:
 /// - an edge whose sign is not its message's: `in` takes `?` and `out` takes `!`; at the edge;
@@ -37,14 +35,26 @@ pub fn faults(alloc: Global, edges: &Edges) -> Result<Vec<Finding>, Memory>
     ensures exactly { IfOk result (λ found. AreExactly (IsFault (parts_of edges.now))
         (map finding_parts found.items)) }
 {
-    let states = states_of(edges);
+    let drawing = drawing_of(alloc, edges)?;
+    faults_of(alloc, edges, &drawing)
+}
+
+/// The same, where the edges are drawn.
+pub(crate) fn faults_of(
+    alloc: Global,
+    edges: &Edges,
+    drawing: &Drawing,
+) -> Result<Vec<Finding>, Memory>
+    requires whole { IsWhole (parts_of edges.now) }
+    requires drawing { IsDrawing edges.now drawing.now }
+    ensures exactly { IfOk result (λ found. AreExactly (IsFault (parts_of edges.now))
+        (map finding_parts found.items)) }
+{
     let messages = messages_of(edges);
-    let sends = SignGraph::new(alloc, &edges.edges, states, Sign::Send)?;
-    let receives = SignGraph::new(alloc, &edges.edges, states, Sign::Receive)?;
     let mut found = against_directions(alloc, edges, messages)?;
-    let mut twice = twice_in_states(alloc, edges, messages)?;
-    let mut both = both_directions(alloc, edges, &sends, &receives)?;
-    let mut round = one_direction(alloc, edges, &sends, &receives)?;
+    let mut twice = twice_in_states(alloc, edges, messages, &drawing.firsts)?;
+    let mut both = both_directions(alloc, edges, drawing)?;
+    let mut round = one_direction(alloc, edges, drawing)?;
     found.append(&mut twice)?;
     found.append(&mut both)?;
     found.append(&mut round)?;
@@ -95,15 +105,19 @@ fn against_directions(
 }
 
 /// The edges with the message of an earlier edge of their state.
-fn twice_in_states(alloc: Global, edges: &Edges, messages: Listing) -> Result<Vec<Finding>, Memory>
+fn twice_in_states(
+    alloc: Global,
+    edges: &Edges,
+    messages: Listing,
+    firsts: &BTreeMap<(u32, u32), usize>,
+) -> Result<Vec<Finding>, Memory>
     requires whole { IsWhole (parts_of edges.now) }
     requires numbers { listed messages ≡ map (λ m. m.id.0) edges.now.messages.items }
+    requires keyed { AreEdgePositions edges.now.edges.items firsts.now }
     ensures found { IfOk result (λ found. FoundBelow (IsTwice
         (map message_parts edges.now.messages.items) edges.now.edges.items)
         (length edges.now.edges.items) (map finding_parts found.items)) }
 {
-    let keys = edge_keys(alloc, &edges.edges)?;
-    let firsts = first_positions(alloc, &keys)?;
     let mut found = Vec::new(alloc);
     for i in 0..edges.edges.len() {
         let edge = edges.edges[i];
@@ -117,24 +131,16 @@ fn twice_in_states(alloc: Global, edges: &Edges, messages: Listing) -> Result<Ve
 }
 
 /// The states with edges of both signs.
-fn both_directions(
-    alloc: Global,
-    edges: &Edges,
-    sends: &SignGraph,
-    receives: &SignGraph,
-) -> Result<Vec<Finding>, Memory>
+fn both_directions(alloc: Global, edges: &Edges, drawing: &Drawing) -> Result<Vec<Finding>, Memory>
     requires whole { IsWhole (parts_of edges.now) }
-    requires sends { IsDrawn (map (λ s. s.id.0) edges.now.states.items) edges.now.edges.items
-        (λ e. e.sign ≡ Send) (rows sends.now.rows.items) }
-    requires receives { IsDrawn (map (λ s. s.id.0) edges.now.states.items) edges.now.edges.items
-        (λ e. e.sign ≡ Receive) (rows receives.now.rows.items) }
+    requires drawing { IsDrawing edges.now drawing.now }
     ensures found { IfOk result (λ found. FoundBelow (IsBoth
         (map state_parts edges.now.states.items) edges.now.edges.items)
         (length edges.now.states.items) (map finding_parts found.items)) }
 {
     let mut found = Vec::new(alloc);
     for i in 0..edges.states.len() {
-        if sends.leaves(i) & receives.leaves(i) {
+        if drawing.sends.leaves(i) & drawing.receives.leaves(i) {
             let state = &edges.states[i];
             let finding = both_directions_in(alloc, state.place, state.name.as_bytes())?;
             found.push(finding)?;
@@ -144,29 +150,15 @@ fn both_directions(
 }
 
 /// The states from which edges of one sign lead back to them.
-fn one_direction(
-    alloc: Global,
-    edges: &Edges,
-    sends: &SignGraph,
-    receives: &SignGraph,
-) -> Result<Vec<Finding>, Memory>
+fn one_direction(alloc: Global, edges: &Edges, drawing: &Drawing) -> Result<Vec<Finding>, Memory>
     requires whole { IsWhole (parts_of edges.now) }
-    requires send_arcs { AllWithin (length edges.now.states.items) sends.now.arcs.items }
-    requires send_rows { AreRows (length edges.now.states.items) sends.now.arcs.items
-        (rows sends.now.rows.items) }
-    requires receive_arcs { AllWithin (length edges.now.states.items) receives.now.arcs.items }
-    requires receive_rows { AreRows (length edges.now.states.items) receives.now.arcs.items
-        (rows receives.now.rows.items) }
-    requires sends { IsDrawn (map (λ s. s.id.0) edges.now.states.items) edges.now.edges.items
-        (λ e. e.sign ≡ Send) (rows sends.now.rows.items) }
-    requires receives { IsDrawn (map (λ s. s.id.0) edges.now.states.items) edges.now.edges.items
-        (λ e. e.sign ≡ Receive) (rows receives.now.rows.items) }
+    requires drawing { IsDrawing edges.now drawing.now }
     ensures found { IfOk result (λ found. FoundBelow (IsRound
         (map state_parts edges.now.states.items) edges.now.edges.items)
         (length edges.now.states.items) (map finding_parts found.items)) }
 {
-    let sending = rings(alloc, &sends.rows, &sends.arcs)?;
-    let receiving = rings(alloc, &receives.rows, &receives.arcs)?;
+    let sending = rings(alloc, &drawing.sends)?;
+    let receiving = rings(alloc, &drawing.receives)?;
     let mut found = Vec::new(alloc);
     for i in 0..edges.states.len() {
         if sending[i] | receiving[i] {

@@ -1,27 +1,85 @@
 //! The edges from a state.
 
-ghost use Rattle.std.specs.Prelude.{IfOk};
-ghost use Rattle.contracts.specs.Leaving.{AreLeaving};
+ghost use Rattle.std.specs.Prelude.{◌≡◌, ◌<◌, All, IfOk, length, map};
+ghost use Rattle.contracts.specs.Arcs.{EndsListed};
+ghost use Rattle.contracts.specs.Bounds.{sign_to};
+ghost use Rattle.contracts.specs.Graphs.{rows};
+ghost use Rattle.contracts.specs.Leaving.{AreLeaving, AreSources, edge_at, sign_from};
+ghost use Rattle.contracts.specs.Positions.{listed};
 
-use program::{Edge, Sign};
-use source::Memory;
-use std::alloc::Global;
-use std::collections::BTreeMap;
+use crate::arcs::{Arc, count_of};
+use crate::grouping::rows_of;
+use crate::positions::Listing;
+use crate::rows::Rows;
+use program::{Edge, Side, Sign};
+use std::alloc::{AllocError, Global};
 
-/// For each state the edges of this sign from there, in order of the text.
+/// For each state the edges of this sign from there, in order of the text: a row for the position of each state.
 pub(crate) fn leaving(
     alloc: Global,
     edges: &[Edge],
+    states: Listing,
     sign: Sign,
-) -> Result<BTreeMap<u32, Vec<Edge>>, Memory>
-    ensures { IfOk result (AreLeaving edges.now sign) }
+) -> Result<Rows<Edge>, AllocError>
+    requires listed { EndsListed (listed states) edges.now }
+    ensures { IfOk result (λ leaving. AreLeaving (listed states) edges.now sign (rows leaving)) }
 {
-    let mut states = BTreeMap::new(alloc);
-    for edge in edges {
+    let sources = sources_of(alloc, edges, states, sign)?;
+    let places = rows_of(alloc, states.len(), &sources)?;
+    let items = edges_at(alloc, edges, &places.items)?;
+    Ok(Rows {
+        items,
+        spans: places.spans,
+    })
+}
+
+/// For each edge of the sign an arc from the position of its state to its own place.
+fn sources_of(
+    alloc: Global,
+    edges: &[Edge],
+    states: Listing,
+    sign: Sign,
+) -> Result<Vec<Arc>, AllocError>
+    requires listed { EndsListed (listed states) edges.now }
+    ensures { IfOk result (λ sources. AreSources (listed states) edges.now sign (length edges.now) sources.items) }
+{
+    let mut sources = Vec::with_capacity(alloc, count_of(edges, sign))?;
+    for i in 0..edges.len() {
+        let edge = edges[i];
         if edge.sign == sign {
-            let from = states.entry(edge.from.0)?.or_insert(Vec::new(alloc));
-            from.push(*edge)?;
+            sources.push(Arc {
+                from: states.position(edge.from.0),
+                to: i,
+            })?;
         }
     }
-    Ok(states)
+    Ok(sources)
+}
+
+/// The edges at these places.
+fn edges_at(alloc: Global, edges: &[Edge], places: &[usize]) -> Result<Vec<Edge>, AllocError>
+    requires { All (λ i. i < length edges.now) places.now }
+    ensures { IfOk result (λ found. found.items ≡ map (edge_at edges.now) places.now) }
+{
+    places.iter().map(|i| edges[*i]).collect(alloc)
+}
+
+/// The sign of the edges along which an end sends.
+pub(crate) fn sign_from(side: Side) -> Sign
+    ensures { result ≡ sign_from side }
+{
+    match side {
+        Side::Imp => Sign::Receive,
+        Side::Exp => Sign::Send,
+    }
+}
+
+/// The sign of the edges along which an end receives.
+pub(crate) fn sign_to(side: Side) -> Sign
+    ensures { result ≡ sign_to side }
+{
+    match side {
+        Side::Imp => Sign::Send,
+        Side::Exp => Sign::Receive,
+    }
 }

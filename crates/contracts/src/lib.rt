@@ -4,7 +4,9 @@
 mod arcs;
 mod bounds;
 mod conditions;
+mod drawing;
 mod ends;
+mod grouping;
 mod heights;
 mod keys;
 pub mod laws;
@@ -14,6 +16,7 @@ mod numbering;
 mod parts;
 mod positions;
 mod ringing;
+mod rows;
 mod sound;
 mod taking;
 mod wholeness;

@@ -1,40 +1,50 @@
 //! Which vertices lie on a ring.
 
-ghost use Rattle.std.specs.Prelude.{◌≡◌, ◌==◌, ◌<◌, ◌≤◌, ℕ, List, length, map, filter, All};
-ghost use Rattle.std.specs.Prelude.{IfOk, IsTrue, IfSome, Bool, true, false, not, vec_len};
+ghost use Rattle.std.specs.Prelude.{◌≡◌, ◌==◌, ◌<◌, ◌≤◌, ℕ, List, length, map, filter, is_some, All};
+ghost use Rattle.std.specs.Prelude.{IfOk, IsTrue, IfSome, Bool, true, false, not};
 ghost use Rattle.contracts.specs.Arcs.{AllWithin, AreRows, turned_arc};
 ghost use Rattle.contracts.specs.Graphs.{rows, InRange};
 ghost use Rattle.contracts.specs.Marking.{Reaches};
+ghost use Rattle.contracts.specs.Peeling.{AreHeights};
 ghost use Rattle.contracts.specs.Numbering.{TellsRings, AreRings, AreRoots, TellArcs, number_in};
 
-use crate::arcs::{Arc, rows_of};
+use crate::arcs::{Arc, SignGraph};
+use crate::grouping::rows_of;
 use crate::marking::marked;
 use crate::numbering::{finishing, numbers};
+use crate::rows::Rows;
 use std::alloc::{AllocError, Global};
 
-/// Whether each vertex lies on a ring. The time is near linear in the arcs, since the numbers that are found pass
-/// their test.
-pub fn rings(alloc: Global, graph: &[Vec<usize>], arcs: &[Arc]) -> Result<Vec<bool>, AllocError>
-    requires rows { AreRows (length graph.now) arcs.now (rows graph.now) }
-    requires range { AllWithin (length graph.now) arcs.now }
-    ensures rings { IfOk result (λ rings. AreRings (rows graph.now) rings.items) }
+/// Whether each vertex lies on a ring. None does where each has a longest walk. Else the time is near linear in the arcs, since
+/// the numbers that are found pass their test.
+pub fn rings(alloc: Global, graph: &SignGraph) -> Result<Vec<bool>, AllocError>
+    requires rows { AreRows (length (rows graph.now.rows)) graph.now.arcs.items (rows graph.now.rows) }
+    requires range { AllWithin (length (rows graph.now.rows)) graph.now.arcs.items }
+    requires heights { AreHeights (rows graph.now.rows) graph.now.heights.items }
+    ensures rings { IfOk result (λ rings. AreRings (rows graph.now.rows) rings.items) }
 {
-    let numbers = found_numbers(alloc, graph, arcs)?;
-    match rings_by_numbers(alloc, arcs, &numbers)? {
-        Some(rings) => Ok(rings),
-        None => rings_by_search(alloc, graph),
+    if are_known(&graph.heights) {
+        return Ok(vec![in alloc; false; graph.rows.len()]?);
     }
+    let numbers = found_numbers(alloc, &graph.rows, &graph.arcs)?;
+    match rings_by_numbers(alloc, &graph.arcs, &numbers)? {
+        Some(rings) => Ok(rings),
+        None => rings_by_search(alloc, &graph.rows),
+    }
+}
+
+/// Whether each of the heights is known.
+fn are_known(heights: &[Option<usize>]) -> bool
+    ensures { IsTrue result → All (λ height. IsTrue (is_some height)) heights.now }
+{
+    heights.iter().all(|height| height.is_some())
 }
 
 /// The same number for vertices that lead to each other, and no higher one for what a vertex leads to: a proposal,
 /// which is to be tested.
-fn found_numbers(
-    alloc: Global,
-    graph: &[Vec<usize>],
-    arcs: &[Arc],
-) -> Result<Vec<usize>, AllocError>
-    requires range { AllWithin (length graph.now) arcs.now }
-    ensures long { IfOk result (λ numbers. length numbers.items ≡ length graph.now) }
+fn found_numbers(alloc: Global, graph: &Rows<usize>, arcs: &[Arc]) -> Result<Vec<usize>, AllocError>
+    requires range { AllWithin (length (rows graph.now)) arcs.now }
+    ensures long { IfOk result (λ numbers. length numbers.items ≡ length (rows graph.now)) }
 {
     let order = finishing(alloc, graph)?;
     let turned = turned(alloc, arcs)?;
@@ -102,10 +112,10 @@ fn named_by(alloc: Global, numbers: &[usize]) -> Result<Vec<usize>, AllocError> 
 }
 
 /// Whether every vertex can be reached from the starts.
-fn reach_all(alloc: Global, graph: &[Vec<usize>], starts: &[usize]) -> Result<bool, AllocError>
+fn reach_all(alloc: Global, graph: &Rows<usize>, starts: &[usize]) -> Result<bool, AllocError>
     requires range { InRange (rows graph.now) }
-    requires starts { All (λ s. s < length graph.now) starts.now }
-    ensures { IfOk result (λ all. all ≡ true → (v : ℕ) → v < length graph.now → Reaches
+    requires starts { All (λ s. s < length (rows graph.now)) starts.now }
+    ensures { IfOk result (λ all. all ≡ true → (v : ℕ) → v < length (rows graph.now) → Reaches
         (rows graph.now) starts.now v) }
 {
     let marks = marked(alloc, graph, starts)?;
@@ -113,10 +123,14 @@ fn reach_all(alloc: Global, graph: &[Vec<usize>], starts: &[usize]) -> Result<bo
 }
 
 /// Which rows are not empty.
-fn filled(alloc: Global, graph: &[Vec<usize>]) -> Result<Vec<bool>, AllocError>
-    ensures { IfOk result (λ marks. marks.items ≡ map (λ row. not (vec_len row == 0)) graph.now) }
+fn filled(alloc: Global, graph: &Rows<usize>) -> Result<Vec<bool>, AllocError>
+    ensures { IfOk result (λ marks. marks.items ≡ map (λ row. not (length row == 0)) (rows graph.now)) }
 {
-    graph.iter().map(|row| !row.is_empty()).collect(alloc)
+    let mut marks = Vec::with_capacity(alloc, graph.len())?;
+    for v in 0..graph.len() {
+        marks.push(!graph.row(v).is_empty())?;
+    }
+    Ok(marks)
 }
 
 /// Whether each vertex lies on a ring, where the numbers pass their test: no arc leads to a higher number, and one
@@ -146,17 +160,17 @@ fn rings_by_numbers(
 }
 
 /// Whether a vertex lies on a ring, by a plain search from it.
-fn is_on_ring(alloc: Global, graph: &[Vec<usize>], v: usize) -> Result<bool, AllocError>
-    requires v { v < length graph.now }
+fn is_on_ring(alloc: Global, graph: &Rows<usize>, v: usize) -> Result<bool, AllocError>
+    requires v { v < length (rows graph.now) }
     requires range { InRange (rows graph.now) }
     ensures tells { IfOk result (λ on. TellsRings (rows graph.now) v on) }
 {
-    let marks = marked(alloc, graph, &graph[v])?;
+    let marks = marked(alloc, graph, graph.row(v))?;
     Ok(marks[v])
 }
 
 /// Whether each vertex lies on a ring, by a plain search from each.
-fn rings_by_search(alloc: Global, graph: &[Vec<usize>]) -> Result<Vec<bool>, AllocError>
+fn rings_by_search(alloc: Global, graph: &Rows<usize>) -> Result<Vec<bool>, AllocError>
     requires range { InRange (rows graph.now) }
     ensures rings { IfOk result (λ rings. AreRings (rows graph.now) rings.items) }
 {

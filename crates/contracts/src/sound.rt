@@ -1,25 +1,25 @@
 //! Contracts that meet the four conditions.
 
-ghost use Rattle.std.specs.Prelude.{◌≡◌, ◌<◌, All, [], IfOk, IfSome, OnOk, map, option_map};
+ghost use Rattle.std.specs.Prelude.{◌≡◌, ◌<◌, All, IfOk, IfSome, OnOk, map, option_map};
 ghost use Rattle.std.proofs.Props.{props};
-ghost use Rattle.std.specs.BTreeMap.{get};
-ghost use Rattle.std.specs.Option.{option_map_or};
-ghost use Rattle.std.specs.Ordering.{nat_cmp};
 ghost use Rattle.program.specs.declared.contract.Sign.TheVariants.{Send, Receive};
 ghost use Rattle.program.specs.declared.limits.TheConstants.{MOST_STATES};
 ghost use Rattle.contracts.specs.Bounds.{IsBound, sign_to};
 ghost use Rattle.contracts.specs.Conditions.{FindingParts, IsFault, IsSound};
+ghost use Rattle.contracts.specs.Graphs.{rows};
 ghost use Rattle.contracts.specs.Leaving.{AreLeaving, edges_from, end_on, name_among, sign_from};
 ghost use Rattle.contracts.specs.Parts.{IsWhole, parts_of};
-ghost use Rattle.contracts.specs.Positions.{AreEdgePositions, ArePositions};
+ghost use Rattle.contracts.specs.Positions.{AreEdgePositions, listed};
 ghost use Rattle.contracts.specs.Walks.{IsNext};
 
 use crate::bounds::{Bounds, bounds_of};
-use crate::conditions::faults;
-use crate::keys::{edge_keys, message_numbers};
-use crate::leaving::leaving;
+use crate::conditions::faults_of;
+use crate::drawing::drawing_of;
+use crate::keys::{messages_of, states_of};
+use crate::leaving::{leaving, sign_from, sign_to};
 use crate::parts::Edges;
-use lemmas::first_positions;
+use crate::positions::Listing;
+use crate::rows::Rows;
 use program::{Edge, MessageId, Side, Sign, StateId};
 use source::{Finding, Memory};
 use std::alloc::{AllocError, AllocFailed, Global};
@@ -76,18 +76,19 @@ impl From<Memory> for SoundFault {
 pub struct Sound {
     edges: Edges,
     bounds: Bounds,
+    states: Listing,
+    messages: Listing,
     firsts: BTreeMap<(u32, u32), usize>,
-    messages: BTreeMap<u32, usize>,
-    sends: BTreeMap<u32, Vec<Edge>>,
-    receives: BTreeMap<u32, Vec<Edge>>,
+    sends: Rows<Edge>,
+    receives: Rows<Edge>,
     pub ghost whole: { ∥ IsWhole (parts_of edges) ∥₁ },
     pub ghost sound: { IsSound (parts_of edges) },
     ghost to_imp: { ∥ IsBound edges.edges.items edges.first Send bounds.to_imp ∥₁ },
     ghost to_exp: { ∥ IsBound edges.edges.items edges.first Receive bounds.to_exp ∥₁ },
     ghost keyed: { AreEdgePositions edges.edges.items firsts } by { Prim.hlevel props },
-    ghost named: { ArePositions (map (λ m. m.id.0) edges.messages.items) messages } by { Prim.hlevel props },
-    ghost sent: { AreLeaving edges.edges.items Send sends } by { Prim.hlevel props },
-    ghost received: { AreLeaving edges.edges.items Receive receives } by { Prim.hlevel props },
+    ghost named: { listed messages ≡ map (λ m. m.id.0) edges.messages.items } by { Prim.hlevel props },
+    ghost sent: { AreLeaving (listed states) edges.edges.items Send (rows sends) } by { Prim.hlevel props },
+    ghost received: { AreLeaving (listed states) edges.edges.items Receive (rows receives) } by { Prim.hlevel props },
 }
 
 /// What a contract is judged to be.
@@ -109,21 +110,23 @@ impl Sound {
         requires whole { IsWhole (parts_of edges) }
         ensures { IfOk result (IsJudged (parts_of edges)) }
     {
-        let found = faults(alloc, &edges)?;
+        let drawing = drawing_of(alloc, &edges)?;
+        let found = faults_of(alloc, &edges, &drawing)?;
         if !found.is_empty() {
             return Ok(Judged::Broken(found));
         }
-        let bounds = bounds_of(alloc, &edges)?;
-        let keys = edge_keys(alloc, &edges.edges)?;
-        let firsts = first_positions(alloc, &keys)?;
-        let messages = first_positions(alloc, &message_numbers(alloc, &edges.messages)?)?;
-        let sends = leaving(alloc, &edges.edges, Sign::Send)?;
-        let receives = leaving(alloc, &edges.edges, Sign::Receive)?;
+        let bounds = bounds_of(alloc, &edges, &drawing)?;
+        let firsts = drawing.into_firsts();
+        let states = states_of(&edges);
+        let messages = messages_of(&edges);
+        let sends = leaving(alloc, &edges.edges, states, Sign::Send)?;
+        let receives = leaving(alloc, &edges.edges, states, Sign::Receive)?;
         let sound = Sound {
             edges,
             bounds,
-            firsts,
+            states,
             messages,
+            firsts,
             sends,
             receives,
         };
@@ -185,10 +188,7 @@ impl Sound {
     pub fn edges_out(&self, side: Side, state: StateId) -> &[Edge]
         ensures { result.now ≡ edges_from (sound_parts self.now).edges (sign_from side) state.0 }
     {
-        match side {
-            Side::Imp => edges_of(&self.receives, state),
-            Side::Exp => edges_of(&self.sends, state),
-        }
+        self.edges_of(sign_from(side), state)
     }
 
     /// The edges along which the end of this side receives in a state, in order of the text.
@@ -196,9 +196,21 @@ impl Sound {
         ensures edges { result.now ≡ edges_from (sound_parts self.now).edges (sign_to side) state.0 }
         ensures numbered { All (λ e. e.to.0 < MOST_STATES) result.now }
     {
-        match side {
-            Side::Imp => edges_of(&self.sends, state),
-            Side::Exp => edges_of(&self.receives, state),
+        self.edges_of(sign_to(side), state)
+    }
+
+    /// The edges of this sign from a state, in order of the text.
+    fn edges_of(&self, sign: Sign, state: StateId) -> &[Edge]
+        ensures { result.now ≡ edges_from (sound_parts self.now).edges sign state.0 }
+    {
+        let leaving = match sign {
+            Sign::Send => &self.sends,
+            Sign::Receive => &self.receives,
+        };
+        if self.states.has(state.0) {
+            leaving.row(self.states.position(state.0))
+        } else {
+            &[]
         }
     }
 
@@ -221,29 +233,11 @@ impl Sound {
     pub fn message_name(&self, message: MessageId) -> &[u8]
         ensures { result.now ≡ name_among (sound_parts self.now).messages message.0 }
     {
-        match self.messages.get(&message.0).copied() {
-            Some(position) => self.edges.messages[position].name.as_bytes(),
-            None => &[],
+        if self.messages.has(message.0) {
+            let position = self.messages.position(message.0);
+            self.edges.messages[position].name.as_bytes()
+        } else {
+            &[]
         }
-    }
-}
-
-/// The edges that a map has for a state.
-fn edges_of(leaving: &BTreeMap<u32, Vec<Edge>>, state: StateId) -> &[Edge]
-    ensures { result.now ≡ option_map_or (λ v. v.items) (get nat_cmp leaving.now state.0) [] }
-{
-    match leaving.get(&state.0) {
-        Some(edges) => edges.as_slice(),
-        None => &[],
-    }
-}
-
-/// The sign of the edges along which an end sends.
-fn sign_from(side: Side) -> Sign
-    ensures { result ≡ sign_from side }
-{
-    match side {
-        Side::Imp => Sign::Receive,
-        Side::Exp => Sign::Send,
     }
 }

@@ -29,7 +29,7 @@ pub fn edges(alloc: Global, resolved: &Resolved, id: ContractId) -> Result<Edges
 fn copied_states(alloc: Global, states: &[State]) -> Result<Vec<State>, Memory>
     ensures { IfOk result (λ copies. map state_parts copies.items ≡ map state_parts states.now) }
 {
-    let mut copies = Vec::new(alloc);
+    let mut copies = Vec::with_capacity(alloc, states.len())?;
     for state in states {
         copies.push(State {
             id: state.id,
@@ -44,7 +44,7 @@ fn copied_messages(alloc: Global, messages: &[Message]) -> Result<Vec<Message>, 
     ensures { IfOk result (λ copies. map message_parts copies.items
         ≡ map message_parts messages.now) }
 {
-    let mut copies = Vec::new(alloc);
+    let mut copies = Vec::with_capacity(alloc, messages.len())?;
     for message in messages {
         copies.push(Message {
             id: message.id,

@@ -11,7 +11,7 @@ use Rattle.program.specs.declared.contract.Edge.{Edge}
 use Rattle.program.specs.declared.contract.Sign.TheVariants.{Send}
 
 pub loop-edge-init : goal.loop-edge-init
-loop-edge-init c = subst (AreArcs (listed c.args.states) [] c.args.sign) (sym c.new-arcs.ensures.items) (arcs_none (listed c.args.states) c.args.sign)
+loop-edge-init c = subst (AreArcs (listed c.args.states) [] c.args.sign) (sym c.in_ok-arcs.ensures.items) (arcs_none (listed c.args.states) c.args.sign)
 
 pub position-requires : goal.position-requires
 position-requires c = (c.requires.listed _ (at_place c.args.edges.now c.loop-edge.edge-index _ c.loop-edge-test.true)).0

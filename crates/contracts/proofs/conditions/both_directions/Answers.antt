@@ -37,8 +37,8 @@ loop-i-preserved c =
           subst (FoundBelow (IsBoth states edges) (i + 1)) (sym (ap (λ v. map finding_parts v.items) w.found-is
           ∙ pushed c.loop-i.found.items _ _ _ w.in_ok-push.ensures.items (parts_are w.in_ok-finding.finding s.place C03 (codes "both directions in " ++ utf8_lossy s.name) w.in_ok-finding.ensures.place w.in_ok-finding.ensures.code (w.in_ok-finding.ensures.text ∙ ap (λ l. codes "both directions in " ++ utf8_lossy l) w.as_bytes.ensures.value))))
           (both_more states edges i s (map finding_parts c.loop-i.found.items) at
-          (leaves_state numbers edges (λ e. e.sign ≡ Send) (rows c.args.sends.now.rows.items) i s.id c.requires.sends number (sym c.leaves.ensures ∙ both.0))
-          (leaves_state numbers edges (λ e. e.sign ≡ Receive) (rows c.args.receives.now.rows.items) i s.id c.requires.receives number (sym c.leaves-in-loop-i.ensures ∙ both.1))
+          (leaves_state numbers edges (λ e. e.sign ≡ Send) (rows c.args.drawing.now.sends.rows) i s.id c.requires.drawing.sends.drawn number (sym c.leaves.ensures ∙ both.0))
+          (leaves_state numbers edges (λ e. e.sign ≡ Receive) (rows c.args.drawing.now.receives.rows) i s.id c.requires.drawing.receives.drawn number (sym c.leaves-in-loop-i.ensures ∙ both.1))
           c.loop-i.invariant)
       | else-leaves w ↦
           let once = numbers_once all c.requires.whole.states_once in
@@ -46,8 +46,8 @@ loop-i-preserved c =
           subst (λ v. FoundBelow (IsBoth states edges) (i + 1) (map finding_parts v.items)) (sym w.found-is)
           (both_same states edges i (map finding_parts c.loop-i.found.items)
           (λ s at. let number = state_number all i s at in ⊎_elim
-          (λ none. inl (none_leave_state numbers edges (λ e. e.sign ≡ Send) (rows c.args.sends.now.rows.items) i s.id once c.requires.sends (omega (arith, lt, long)) number (sym c.leaves.ensures ∙ none)))
-          (λ none. inr (none_leave_state numbers edges (λ e. e.sign ≡ Receive) (rows c.args.receives.now.rows.items) i s.id once c.requires.receives (omega (arith, lt, long)) number (sym c.leaves-in-loop-i.ensures ∙ none)))
+          (λ none. inl (none_leave_state numbers edges (λ e. e.sign ≡ Send) (rows c.args.drawing.now.sends.rows) i s.id once c.requires.drawing.sends.drawn (omega (arith, lt, long)) number (sym c.leaves.ensures ∙ none)))
+          (λ none. inr (none_leave_state numbers edges (λ e. e.sign ≡ Receive) (rows c.args.drawing.now.receives.rows) i s.id once c.requires.drawing.receives.drawn (omega (arith, lt, long)) number (sym c.leaves-in-loop-i.ensures ∙ none)))
           (and_cases c.leaves.result c.leaves-in-loop-i.result w.if-leaves.false))
           c.loop-i.invariant)
     ]

@@ -9,7 +9,6 @@ use Rattle.program.specs.declared.contract.Sign.TheVariants.{Send, Receive}
 use Rattle.contracts.specs.Conditions.{IsRound, finding_parts}
 use Rattle.contracts.specs.Found.{FoundBelow}
 use Rattle.contracts.specs.Graphs.{rows}
-use Rattle.contracts.specs.Numbering.{AreRings}
 use Rattle.contracts.specs.Parts.{state_parts}
 use Rattle.contracts.specs.Walks.{IsRoundBy}
 use Rattle.contracts.proofs.ConditionLemmas.{parts_are, pushed}
@@ -33,12 +32,12 @@ loop-i-preserved c =
     let test = c.loop-i-test.true in
     let lt : i < length all = omega (arith, size.0, end, test) in
     let long = length-map all (λ s. s.id.0) in
-    let sends = rows c.args.sends.now.rows.items in
-    let receives = rows c.args.receives.now.rows.items in
-    let send_rings = subst (λ g. AreRings g c.in_ok-sending.sending.items) (ap rows c.deref.ensures.value) c.in_ok-sending.ensures.rings in
-    let receive_rings = subst (λ g. AreRings g c.in_ok-receiving.receiving.items) (ap rows c.deref-3.ensures.value) c.in_ok-receiving.ensures.rings in
-    let long_sends = c.requires.sends.long in
-    let long_receives = c.requires.receives.long in
+    let sends = rows c.args.drawing.now.sends.rows in
+    let receives = rows c.args.drawing.now.receives.rows in
+    let send_rings = c.in_ok-sending.ensures.rings in
+    let receive_rings = c.in_ok-receiving.ensures.rings in
+    let long_sends = c.requires.drawing.sends.drawn.long in
+    let long_receives = c.requires.drawing.receives.drawn.long in
     let long_sending = send_rings.long in
     let long_receiving = receive_rings.long in
     let send_tells = send_rings.tells i (omega (arith, lt, long, long_sends)) in
@@ -54,8 +53,8 @@ loop-i-preserved c =
           let is = ap (λ v. map finding_parts v.items) w.found-is
           ∙ pushed c.loop-i.found.items _ _ _ w.in_ok-push.ensures.items (parts_are w.in_ok-finding.finding s.place C04 (codes "one direction round " ++ utf8_lossy s.name) w.in_ok-finding.ensures.place w.in_ok-finding.ensures.code (w.in_ok-finding.ensures.text ∙ ap (λ l. codes "one direction round " ++ utf8_lossy l) w.as_bytes.ensures.value)) in
           subst (FoundBelow (IsRound states edges) (i + 1)) (sym is) (⊎_elim
-          (λ on. round_more states edges i s Send (map finding_parts c.loop-i.found.items) at (ring_round numbers edges Send sends c.requires.sends i s.id number (send_tells.yes (sym sending ∙ on))) c.loop-i.invariant)
-          (λ on. round_more states edges i s Receive (map finding_parts c.loop-i.found.items) at (ring_round numbers edges Receive receives c.requires.receives i s.id number (receive_tells.yes (sym receiving ∙ on))) c.loop-i.invariant)
+          (λ on. round_more states edges i s Send (map finding_parts c.loop-i.found.items) at (ring_round numbers edges Send sends c.requires.drawing.sends.drawn i s.id number (send_tells.yes (sym sending ∙ on))) c.loop-i.invariant)
+          (λ on. round_more states edges i s Receive (map finding_parts c.loop-i.found.items) at (ring_round numbers edges Receive receives c.requires.drawing.receives.drawn i s.id number (receive_tells.yes (sym receiving ∙ on))) c.loop-i.invariant)
           (or_cases c.index.result.now c.index-in-loop-i.result.now w.if-index.true))
       | else-index w ↦
           let once = numbers_once all c.requires.whole.states_once in
@@ -63,8 +62,8 @@ loop-i-preserved c =
           subst (λ v. FoundBelow (IsRound states edges) (i + 1) (map finding_parts v.items)) (sym w.found-is)
           (round_same states edges i (map finding_parts c.loop-i.found.items)
           (λ s sign at. each_sign (λ x. IsRoundBy edges x s.id → ⊥)
-          (λ by. true≢false (sym (send_tells.no (round_ring numbers edges Send sends once c.requires.sends i s.id (omega (arith, lt, long)) (state_number all i s at) by)) ∙ sym sending ∙ neither.0))
-          (λ by. true≢false (sym (receive_tells.no (round_ring numbers edges Receive receives once c.requires.receives i s.id (omega (arith, lt, long)) (state_number all i s at) by)) ∙ sym receiving ∙ neither.1))
+          (λ by. true≢false (sym (send_tells.no (round_ring numbers edges Send sends once c.requires.drawing.sends.drawn i s.id (omega (arith, lt, long)) (state_number all i s at) by)) ∙ sym sending ∙ neither.0))
+          (λ by. true≢false (sym (receive_tells.no (round_ring numbers edges Receive receives once c.requires.drawing.receives.drawn i s.id (omega (arith, lt, long)) (state_number all i s at) by)) ∙ sym receiving ∙ neither.1))
           sign)
           c.loop-i.invariant)
     ]

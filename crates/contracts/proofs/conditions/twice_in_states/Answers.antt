@@ -26,8 +26,7 @@ message_of-message-requires-clause-listed c =
 
 -- the position that the map has for the edge's key
 position_is : (c : After-copied) → c.copied.result ≡ first_position pair_cmp (map key_of c.args.edges.now.edges.items) (key_of c.index-edge.result.now)
-position_is c = c.copied.ensures ∙ c.get.ensures.value ∙ c.in_ok-firsts.ensures (key_of c.index-edge.result.now)
-    ∙ ap (λ l. first_position pair_cmp l (key_of c.index-edge.result.now)) (c.deref-2.ensures.value ∙ c.in_ok-keys.ensures ∙ ap (map key_of) c.deref.ensures.value)
+position_is c = c.copied.ensures ∙ c.get.ensures.value ∙ c.requires.keyed (key_of c.index-edge.result.now)
 
 pub loop-i-preserved : goal.loop-i-preserved
 loop-i-preserved c =

@@ -1,7 +1,6 @@
-use Rattle.std.proofs.Common.{◌∙◌, ◌<◌, List, sym, subst}
+use Rattle.std.proofs.Common.{◌<◌, List, sym, subst}
 use Rattle.std.specs.Prelude.{All}
 use Rattle.program.specs.declared.contract.Edge.{Edge}
-use Rattle.program.specs.declared.contract.Sign.TheVariants.{Send, Receive}
 use Rattle.program.specs.declared.limits.TheConstants.{MOST_STATES}
 use Rattle.contracts.specs.Parts.{parts_of}
 use Rattle.contracts.proofs.LeavingLemmas.{ends_numbered}
@@ -10,8 +9,5 @@ use Rattle.contracts.proofs.sound.Sound.edges_in.Goals as goal
 abbrev Numbered : List Edge → Type 0
 Numbered edges = All (λ e. e.to.0 < MOST_STATES) edges
 
-pub returns-in-Imp-clause-numbered : goal.returns-in-Imp-clause-numbered
-returns-in-Imp-clause-numbered c = subst Numbered (sym (c.edges_of.ensures ∙ c.args.self.now.sent c.args.state.0)) (ends_numbered (parts_of c.args.self.now.edges) c.args.self.now.whole Send c.args.state.0)
-
-pub returns-in-Exp-clause-numbered : goal.returns-in-Exp-clause-numbered
-returns-in-Exp-clause-numbered c = subst Numbered (sym (c.edges_of-in-Exp.ensures ∙ c.args.self.now.received c.args.state.0)) (ends_numbered (parts_of c.args.self.now.edges) c.args.self.now.whole Receive c.args.state.0)
+pub returns-clause-numbered : goal.returns-clause-numbered
+returns-clause-numbered c = subst Numbered (sym c.edges_of.ensures) (ends_numbered (parts_of c.args.self.now.edges) c.args.self.now.whole c.sign_to.result c.args.state.0)

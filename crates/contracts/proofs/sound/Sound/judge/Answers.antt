@@ -1,7 +1,5 @@
-use Rattle.std.proofs.Common.{◌≡◌, ◌∙◌, List, [], ◌∷◌, length, map, ap, sym, refl, subst, arith}
+use Rattle.std.proofs.Common.{◌≡◌, ◌∙◌, List, [], ◌∷◌, length, map, sym, refl, subst, arith}
 use Rattle.std.specs.Prelude.{Contains}
-use Rattle.std.specs.Ordering.{nat_cmp}
-use Rattle.program.specs.declared.contract.Message.{Message}
 use Rattle.program.specs.declared.contract.Sign.TheVariants.{Send, Receive}
 use Rattle.contracts.specs.Leaving.{AreLeaving}
 use Rattle.std.proofs.lemmas.Bool.{eqb-true, eqb-false}
@@ -9,8 +7,10 @@ use Rattle.std.proofs.lemmas.List.{length-map}
 use Rattle.contracts.specs.Conditions.{FindingParts, finding_parts, AreExactly, IsFault, IsSound}
 use Rattle.source.specs.declared.finding.Finding.{Finding}
 use Rattle.contracts.specs.Parts.{Parts, parts_of}
-use Rattle.lemmas.specs.Places.{first_position}
-use Rattle.contracts.specs.Positions.{pair_cmp, key_of}
+use Rattle.contracts.specs.Arcs.{EndsListed}
+use Rattle.contracts.specs.Graphs.{rows}
+use Rattle.contracts.specs.Positions.{AreEdgePositions, listed}
+use Rattle.contracts.proofs.PartLemmas.{ends_listed}
 use Rattle.contracts.proofs.sound.Sound.judge.Goals as goal
 
 -- a list that isn't empty has something
@@ -44,16 +44,17 @@ invariant_of-sound-clause-sound c =
     let long = c.in_ok-found.found.ok in
     none_found (parts_of c.args.edges) c.in_ok-found.found.items c.in_ok-found.ensures.exactly (sym long.0 ∙ eqb-true _ _ (sym c.is_empty.ensures ∙ c.if-not-is_empty.false))
 
-pub invariant_of-sound-clause-keyed : goal.invariant_of-sound-clause-keyed
-invariant_of-sound-clause-keyed c = λ k. c.in_ok-firsts.ensures k ∙ ap (λ l. first_position pair_cmp l k) (c.deref-2.ensures.value ∙ c.in_ok-keys.ensures ∙ ap (map key_of) c.deref.ensures.value)
+pub leaving-requires : goal.leaving-requires
+leaving-requires c = record { listed = subst (EndsListed (listed c.states_of-states.result)) (sym c.deref.ensures.value) (ends_listed c.args.edges (listed c.states_of-states.result) c.requires.whole c.states_of-states.ensures) }
 
-pub invariant_of-sound-clause-named : goal.invariant_of-sound-clause-named
-invariant_of-sound-clause-named c =
-    let number = λ (m : Message). m.id.0 in
-    λ k. c.in_ok-messages.ensures k ∙ ap (λ l. first_position nat_cmp l k) (c.deref-4.ensures.value ∙ c.in_ok-message_numbers.ensures ∙ ap (map number) c.deref-3.ensures.value)
+pub leaving-requires-2 : goal.leaving-requires-2
+leaving-requires-2 c = record { listed = subst (EndsListed (listed c.states_of-states.result)) (sym c.deref-2.ensures.value) (ends_listed c.args.edges (listed c.states_of-states.result) c.requires.whole c.states_of-states.ensures) }
+
+pub invariant_of-sound-clause-keyed : goal.invariant_of-sound-clause-keyed
+invariant_of-sound-clause-keyed c = subst (AreEdgePositions c.args.edges.edges.items) (sym c.into_firsts-firsts.ensures) c.in_ok-drawing.ensures.keyed
 
 pub invariant_of-sound-clause-sent : goal.invariant_of-sound-clause-sent
-invariant_of-sound-clause-sent c = subst (λ edges. AreLeaving edges Send c.in_ok-sends.sends) c.deref-5.ensures.value c.in_ok-sends.ensures
+invariant_of-sound-clause-sent c = subst (λ edges. AreLeaving (listed c.states_of-states.result) edges Send (rows c.in_ok-sends.sends)) c.deref.ensures.value c.in_ok-sends.ensures
 
 pub invariant_of-sound-clause-received : goal.invariant_of-sound-clause-received
-invariant_of-sound-clause-received c = subst (λ edges. AreLeaving edges Receive c.in_ok-receives.receives) c.deref-6.ensures.value c.in_ok-receives.ensures
+invariant_of-sound-clause-received c = subst (λ edges. AreLeaving (listed c.states_of-states.result) edges Receive (rows c.in_ok-receives.receives)) c.deref-2.ensures.value c.in_ok-receives.ensures

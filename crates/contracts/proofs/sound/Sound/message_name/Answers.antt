@@ -1,21 +1,14 @@
-use Rattle.std.proofs.Common.{◌≡◌, ◌∙◌, map, sym, ap}
+use Rattle.std.proofs.Common.{◌∙◌, ap, sym}
 use Rattle.std.specs.Prelude.{string_bytes}
-use Rattle.std.specs.Ordering.{nat_cmp}
-use Rattle.lemmas.specs.Places.{first_position}
+use Rattle.std.proofs.lemmas.Bool.{true≢false}
+use Rattle.contracts.specs.Positions.{listed}
 use Rattle.contracts.proofs.LeavingLemmas.{name_there, no_name}
 use Rattle.contracts.proofs.sound.Sound.message_name.Goals as goal
-use Rattle.contracts.proofs.sound.Sound.message_name.Goals.{After-copied}
 
-position_is : (c : After-copied) → c.copied.result ≡ first_position nat_cmp (map (λ m. m.id.0) c.args.self.now.edges.messages.items) c.args.message.0
-position_is c = c.copied.ensures ∙ c.get.ensures.value ∙ c.args.self.now.named c.args.message.0
-
-pub returns-in-Some : goal.returns-in-Some
-returns-in-Some c =
-    let is = position_is (goal.at.returns-in-Some c).After-copied in
+pub returns-then-has : goal.returns-then-has
+returns-then-has c =
     c.as_bytes.ensures.value ∙ ap (λ m. string_bytes m.name) c.index.ensures
-    ∙ name_there c.args.self.now.edges.messages.items c.args.message.0 c.in-Some.position c.index.result.now (sym is ∙ c.in-Some.is)
+    ∙ name_there c.args.self.now.edges.messages.items c.args.self.now.messages c.args.message.0 c.position-position.result c.index.result.now c.args.self.now.named c.position-position.ensures.within c.position-position.ensures.at
 
-pub returns-in-None : goal.returns-in-None
-returns-in-None c =
-    let is = position_is (goal.at.returns-in-None c).After-copied in
-    no_name c.args.self.now.edges.messages.items c.args.message.0 (sym is ∙ c.in-None.is)
+pub returns-else-has : goal.returns-else-has
+returns-else-has c = no_name c.args.self.now.edges.messages.items (listed c.args.self.now.messages) c.args.message.0 c.args.self.now.named (λ there. true≢false (sym (c.has.ensures.1 there) ∙ c.if-has.false))

@@ -1,0 +1,182 @@
+-- Arcs linked from the last to the first, and rows that are made by following the links.
+use Rattle.std.proofs.Common.{◌≡◌, ◌==◌, ℕ, zero, suc, ◌+◌, ◌<◌, ◌≤◌, List, [], ◌∷◌, ◌++◌, length, map, get_or, take, drop, sym, refl, ap, ◌∙◌, subst, arith, ⊎_elim}
+use Rattle.std.specs.Prelude.{Contains, All, filter}
+use Rattle.std.specs.List.{between}
+use Rattle.std.proofs.Math.ListN.{set, replicate, length-set, length-append}
+use Rattle.std.proofs.lemmas.Bool.{eq-eqb, eqb-true, cond-true, cond-false, cases_eq, cases_lt, false_from_ne_true}
+use Rattle.std.proofs.lemmas.List.{get_or-set_same, get_or-set_other, get_or-replicate, get_or_past, length-replicate, drop_more, drop_all, drop_at, take_all, take-append-le, take-map, drop-map, map-append}
+use Rattle.std.proofs.lemmas.List.Elements.{All-head, All-tail, All-push, All-weaker, All-nil, All-map, All-filter, All-contains, Contains-append_cases}
+use Rattle.std.proofs.lemmas.Slice.{between_is}
+use Rattle.contracts.specs.declared.arcs.Arc.{Arc}
+use Rattle.contracts.specs.declared.rows.Span.{Span}
+use Rattle.contracts.specs.Arcs.{AllWithin, AreRows, arc, begins, ends_from}
+use Rattle.contracts.specs.Chains.{AreChained, AreEnds, IsFirst, start_at}
+use Rattle.contracts.specs.Graphs.{row_at}
+use Rattle.contracts.specs.Spans.{AreWithin, cut}
+use Rattle.contracts.proofs.ArcLemmas.{none_in}
+use Rattle.contracts.proofs.PartLemmas.{contains_map}
+use Rattle.contracts.proofs.RingLemmas.{kept_in, in_kept, made_from}
+
+none : Arc
+none = arc 0 0
+
+-- an arc that begins there is the first from its place on
+first_here : (arcs : List Arc) (v k : ℕ) → start_at arcs k ≡ v → IsFirst arcs v k k
+first_here arcs v k is = record { behind = omega arith; none = refl; here = λ _. is }
+
+-- an arc that begins elsewhere changes nothing
+first_before : (arcs : List Arc) (v k j : ℕ) → k < length arcs → (start_at arcs k ≡ v → ⊥) → IsFirst arcs v (k + 1) j → IsFirst arcs v k j
+first_before arcs v k j lt other h = record {
+  behind = let b = h.behind in omega (arith, b);
+  none = ap (filter (begins v)) (drop_more arcs k (arc 0 0) lt)
+      ∙ cond-false (begins v (get_or arcs k (arc 0 0))) (get_or arcs k (arc 0 0) ∷ filter (begins v) (drop (k + 1) arcs)) (filter (begins v) (drop (k + 1) arcs))
+      (false_from_ne_true (start_at arcs k == v) (λ e. other (eqb-true (start_at arcs k) v e)))
+      ∙ h.none;
+  here = h.here;
+}
+
+-- at the end nothing is linked
+pub chained_end : (arcs : List Arc) (count : ℕ) → AreChained arcs (length arcs) (replicate count (length arcs)) (replicate (length arcs) (length arcs))
+chained_end arcs count = record {
+  long = length-replicate (length arcs) (length arcs);
+  first = λ v lt. let long = length-replicate count (length arcs) in
+      let is = get_or-replicate count v (length arcs) 0 (omega (arith, lt, long)) in
+      record {
+        behind = omega (arith, is);
+        none = ap (λ j. filter (begins v) (drop j arcs)) (sym is);
+        here = λ less. absurd (omega (arith, is, less));
+      };
+  next = λ i from lt. absurd (omega (arith, from, lt));
+}
+
+-- one arc more, linked to what was first for its vertex, and then the first itself
+pub chained_more : (arcs : List Arc) (k : ℕ) (firsts nexts : List ℕ) → k < length arcs → start_at arcs k < length firsts → AreChained arcs (k + 1) firsts nexts
+    → AreChained arcs k (set firsts (start_at arcs k) k) (set nexts k (get_or firsts (start_at arcs k) 0))
+chained_more arcs k firsts nexts lt within h = record {
+  long = length-set nexts k _ ∙ h.long;
+  first = λ v less. ⊎_elim
+      (λ same. subst (IsFirst arcs v k) (sym (ap (λ u. get_or (set firsts (start_at arcs k) k) u 0) same ∙ get_or-set_same firsts (start_at arcs k) k 0 within)) (first_here arcs v k (sym same)))
+      (λ other. subst (IsFirst arcs v k) (sym (get_or-set_other firsts (start_at arcs k) v k 0 other))
+      (first_before arcs v k (get_or firsts v 0) lt (λ e. other (sym e)) (h.first v (let size = length-set firsts (start_at arcs k) k in omega (arith, less, size)))))
+      (cases_eq v (start_at arcs k));
+  next = λ i from less. ⊎_elim
+      (λ same. subst (λ j. IsFirst arcs (start_at arcs i) (i + 1) (get_or (set nexts k (get_or firsts (start_at arcs k) 0)) j 0)) (sym same)
+      (subst (IsFirst arcs (start_at arcs i) (i + 1)) (sym (get_or-set_same nexts k (get_or firsts (start_at arcs k) 0) 0 (let size = h.long in omega (arith, lt, size))))
+      (subst (λ j. IsFirst arcs (start_at arcs j) (j + 1) (get_or firsts (start_at arcs k) 0)) (sym same) (h.first (start_at arcs k) within))))
+      (λ other. subst (IsFirst arcs (start_at arcs i) (i + 1)) (sym (get_or-set_other nexts k i (get_or firsts (start_at arcs k) 0) 0 other))
+      (h.next i (grind (arith, from, other)) less))
+      (cases_eq i k);
+}
+
+-- an arc of a vertex is followed by those behind its link
+pub ends_more : (arcs : List Arc) (v k j : ℕ) → k < length arcs → start_at arcs k ≡ v → IsFirst arcs (start_at arcs k) (k + 1) j → ends_from (drop k arcs) v ≡ (get_or arcs k (arc 0 0)).to ∷ ends_from (drop j arcs) v
+ends_more arcs v k j lt is h =
+    let a = get_or arcs k (arc 0 0) in
+    ap (map (λ (x : Arc). x.to)) (ap (filter (begins v)) (drop_more arcs k (arc 0 0) lt)
+    ∙ cond-true (begins v a) (a ∷ filter (begins v) (drop (k + 1) arcs)) (filter (begins v) (drop (k + 1) arcs)) (eq-eqb a.from v is))
+    ∙ ap (λ l. a.to ∷ map (λ (x : Arc). x.to) l) (subst (λ u. filter (begins u) (drop (k + 1) arcs) ≡ filter (begins u) (drop j arcs)) is h.none)
+
+pub ends_all : (arcs : List Arc) (v k : ℕ) → length arcs ≤ k → ends_from (drop k arcs) v ≡ []
+ends_all arcs v k past = ap (λ l. ends_from l v) (drop_all k arcs past)
+
+pub ends_first : (arcs : List Arc) (v j : ℕ) → IsFirst arcs v 0 j → ends_from (drop j arcs) v ≡ ends_from arcs v
+ends_first arcs v j h = ap (map (λ (x : Arc). x.to)) (sym h.none)
+
+-- more items behind change no row
+cut_same : {T : Type 0} (items more : List T) (spans : List Span) → AreWithin items spans → cut (items ++ more) spans ≡ cut items spans
+cut_same items more [] all = refl
+cut_same items more (s ∷ spans) all =
+    let here = All-head (λ (s : Span). (s.from ≤ s.to) × (s.to ≤ length items)) s spans all in
+    let rest = All-tail (λ (s : Span). (s.from ≤ s.to) × (s.to ≤ length items)) s spans all in
+    ap (λ r. r ∷ cut (items ++ more) spans) (between_is (items ++ more) s.from s.to ∙ ap (drop s.from) (take-append-le s.to items more here.1) ∙ sym (between_is items s.from s.to))
+    ∙ ap (λ l. between s.from s.to items ∷ l) (cut_same items more spans rest)
+
+-- the items that came last are a row
+cut_last : {T : Type 0} (items more : List T) → between (length items) (length (items ++ more)) (items ++ more) ≡ more
+cut_last items more = between_is (items ++ more) (length items) (length (items ++ more)) ∙ ap (drop (length items)) (take_all (length (items ++ more)) (items ++ more) (omega arith)) ∙ drop_at items more (length items) refl
+
+-- the rows of what a list is mapped to
+pub cut_map : {A B : Type 0} (f : A → B) (items : List A) (spans : List Span) → cut (map f items) spans ≡ map (map f) (cut items spans)
+cut_map f items [] = refl
+cut_map f items (s ∷ spans) =
+    ap (λ r. r ∷ cut (map f items) spans) (between_is (map f items) s.from s.to ∙ ap (drop s.from) (take-map f s.to items) ∙ drop-map f s.from (take s.to items) ∙ ap (map f) (sym (between_is items s.from s.to)))
+    ∙ ap (λ l. map f (between s.from s.to items) ∷ l) (cut_map f items spans)
+
+-- the rows of the first n vertices, made of spans
+pub record AreFilled (arcs : List Arc) (n : ℕ) (items : List ℕ) (spans : List Span) : Type 0 where
+  pub within : AreWithin items spans
+  pub ends : AreEnds arcs n (cut items spans)
+  pub from : (w : ℕ) → Contains items w → (a : Arc) × Contains arcs a × (a.to ≡ w)
+
+pub filled_none : (arcs : List Arc) → AreFilled arcs 0 [] []
+filled_none arcs = record {
+  within = All-nil (λ (s : Span). (s.from ≤ s.to) × (s.to ≤ 0));
+  ends = record { long = refl; row = λ v lt. absurd (omega (arith, lt)) };
+  from = λ w c. absurd (none_in w c);
+}
+
+pub filled_more : (arcs : List Arc) (n : ℕ) (items : List ℕ) (spans : List Span) (s : Span) → s.from ≡ length items → s.to ≡ length (items ++ ends_from arcs n) → AreFilled arcs n items spans
+    → AreFilled arcs (n + 1) (items ++ ends_from arcs n) (spans ++ s ∷ [])
+filled_more arcs n items spans s from to h = record {
+  within = All-push (λ (x : Span). (x.from ≤ x.to) × (x.to ≤ length all)) spans s
+      (All-weaker (λ (x : Span). (x.from ≤ x.to) × (x.to ≤ length items)) (λ (x : Span). (x.from ≤ x.to) × (x.to ≤ length all)) (λ x both. let b = both.1 in (both.0, omega (arith, b, longer))) spans h.within)
+      (omega (arith, from, to, longer), omega (arith, to));
+  ends = record {
+    long = ap length rows_are ∙ length-append (cut items spans) (new ∷ []) ∙ ap (λ k. k + 1) h.ends.long;
+    row = λ v lt. ap (λ l. row_at l v) rows_are ∙ ⊎_elim
+        (λ same. ap (row_at (cut items spans ++ new ∷ [])) (same ∙ sym h.ends.long) ∙ last (cut items spans) new ∙ ap (ends_from arcs) (sym same))
+        (λ other. let less : v < n = grind (arith, lt, other) in before (cut items spans) new v (let size = h.ends.long in omega (arith, less, size)) ∙ h.ends.row v less)
+        (cases_eq v n);
+  };
+  from = λ w c. ⊎_elim
+      (λ old. h.from w old)
+      (λ late. let r = made_from (λ (a : Arc). a.to) (filter (begins n) arcs) w late in (r.0, (kept_in (begins n) arcs r.0 r.1).0, r.2))
+      (Contains-append_cases items new w c);
+}
+  where
+    new : List ℕ
+    new = ends_from arcs n
+
+    all : List ℕ
+    all = items ++ new
+
+    longer : length items ≤ length all
+    longer = let size = length-append items new in omega (arith, size)
+
+    rows_are : cut all (spans ++ s ∷ []) ≡ cut items spans ++ new ∷ []
+    rows_are = map-append (λ (x : Span). between x.from x.to all) spans (s ∷ []) ∙ ap (λ l. l ++ between s.from s.to all ∷ []) (cut_same items new spans h.within)
+        ∙ ap (λ r. cut items spans ++ r ∷ []) (ap (λ k. between k s.to all) from ∙ ap (λ k. between (length items) k all) to ∙ cut_last items new)
+
+    last : (lists : List (List ℕ)) (l : List ℕ) → row_at (lists ++ l ∷ []) (length lists) ≡ l
+    last [] l = refl
+    last (x ∷ lists) l = last lists l
+
+    before : (lists : List (List ℕ)) (l : List ℕ) (v : ℕ) → v < length lists → row_at (lists ++ l ∷ []) v ≡ row_at lists v
+    before [] l v lt = absurd (omega (arith, lt))
+    before (x ∷ lists) l zero lt = refl
+    before (x ∷ lists) l (suc v) lt = before lists l v (omega (arith, lt))
+
+arc_is : (a : Arc) (v w : ℕ) → a.from ≡ v → a.to ≡ w → a ≡ arc v w
+arc_is a v w from to = ap (λ x. arc x a.to) from ∙ ap (arc v) to
+
+-- such rows have exactly the arcs
+pub rows_are : (arcs : List Arc) (n : ℕ) (graph : List (List ℕ)) → AllWithin n arcs → AreEnds arcs n graph → AreRows n arcs graph
+rows_are arcs n graph range h = record {
+  long = h.long;
+  range = λ v. ⊎_elim
+      (λ within. subst (All (λ w. w < length graph)) (sym (h.row v within))
+      (All-map (λ w. w < length graph) (λ (a : Arc). a.to) (filter (begins v) arcs)
+      (All-filter (begins v) (λ (a : Arc). a.to < length graph) arcs
+      (All-weaker (λ (a : Arc). (a.from < n) × (a.to < n)) (λ (a : Arc). a.to < length graph) (λ a both. let b = both.1 in let size = h.long in omega (arith, b, size)) arcs range))))
+      (λ past. subst (All (λ w. w < length graph)) (sym (get_or_past graph v [] (let size = h.long in omega (arith, past, size)))) (All-nil (λ w. w < length graph)))
+      (cases_lt v n);
+  right = λ v w e. ⊎_elim
+      (λ within. let r = made_from (λ (a : Arc). a.to) (filter (begins v) arcs) w (subst (λ l. Contains l w) (h.row v within) e) in
+      let kept = kept_in (begins v) arcs r.0 r.1 in
+      subst (Contains arcs) (arc_is r.0 v w (eqb-true r.0.from v kept.1) r.2) kept.0)
+      (λ past. absurd (none_in w (subst (λ l. Contains l w) (get_or_past graph v [] (let size = h.long in omega (arith, past, size))) e)))
+      (cases_lt v n);
+  all = λ v w c.
+      let fits = All-contains (λ (a : Arc). (a.from < n) × (a.to < n)) arcs (arc v w) range c in
+      subst (λ l. Contains l w) (sym (h.row v fits.0)) (contains_map (λ (a : Arc). a.to) (filter (begins v) arcs) (arc v w) (in_kept (begins v) arcs (arc v w) c (eq-eqb v v refl)));
+}

@@ -1,0 +1,77 @@
+//! Arcs by the vertices at which they begin.
+
+ghost use Rattle.std.specs.Prelude.{◌≡◌, ◌++◌, ◌<◌, ℕ, All, Contains, length, IfOk};
+ghost use Rattle.contracts.specs.Arcs.{AllWithin, AreRows, ends_from};
+ghost use Rattle.contracts.specs.Chains.{AreChained, AreEnds};
+ghost use Rattle.contracts.specs.Graphs.{rows};
+ghost use Rattle.contracts.specs.declared.arcs.Arc.{Arc};
+
+use crate::arcs::Arc;
+use crate::rows::{Rows, Span};
+use std::alloc::{AllocError, Global};
+
+/// For each vertex the first arc that begins there, and for each arc the next one that begins where it does, each by its place.
+/// Where there is none, the number of all arcs.
+#[derive(Drop)]
+struct Chains {
+    firsts: Vec<usize>,
+    nexts: Vec<usize>,
+}
+
+/// The arcs of each of so many vertices, one after the other.
+fn chains_of(alloc: Global, count: usize, arcs: &[Arc]) -> Result<Chains, AllocError>
+    requires starts { All (λ a. a.from < count) arcs.now }
+    ensures count { IfOk result (λ chains. length chains.firsts.items ≡ count) }
+    ensures chained { IfOk result (λ chains. AreChained arcs.now 0 chains.firsts.items chains.nexts.items) }
+{
+    let none = arcs.len();
+    let mut firsts = vec![in alloc; none; count]?;
+    let mut nexts = vec![in alloc; none; none]?;
+    for i in 0..none {
+        let place = none - 1 - i;
+        let from = arcs[place].from;
+        nexts[place] = firsts[from];
+        firsts[from] = place;
+    }
+    Ok(Chains { firsts, nexts })
+}
+
+/// Lists the ends of the arcs that begin at a vertex.
+fn follow(
+    chains: &Chains,
+    arcs: &[Arc],
+    vertex: usize,
+    ends: &mut Vec<usize>,
+) -> Result<(), AllocError>
+    requires chained { AreChained arcs.now 0 chains.now.firsts.items chains.now.nexts.items }
+    requires vertex { vertex < length chains.now.firsts.items }
+    ensures { IfOk result (λ _. ends.new.items ≡ ends.old.items ++ ends_from arcs.now vertex) }
+{
+    let mut at = chains.firsts[vertex];
+    'chain: while at < arcs.len() {
+        ends.push(arcs[at].to)?;
+        at = chains.nexts[at];
+    }
+    Ok(())
+}
+
+/// For each vertex the ends of the arcs that begin there, in the order of the arcs.
+pub fn rows_of(alloc: Global, count: usize, arcs: &[Arc]) -> Result<Rows<usize>, AllocError>
+    requires starts { All (λ a. a.from < count) arcs.now }
+    ensures exact { IfOk result (λ graph. AreEnds arcs.now count (rows graph)) }
+    ensures ends { IfOk result (λ graph. (w : ℕ) → Contains graph.items.items w → (a : Arc) × Contains arcs.now a × (a.to ≡ w)) }
+    ensures rows { IfOk result (λ graph. AllWithin count arcs.now → AreRows count arcs.now (rows graph)) }
+{
+    let chains = chains_of(alloc, count, arcs)?;
+    let mut items = Vec::with_capacity(alloc, arcs.len())?;
+    let mut spans = Vec::with_capacity(alloc, count)?;
+    for vertex in 0..count {
+        let from = items.len();
+        follow(&chains, arcs, vertex, &mut items)?;
+        spans.push(Span {
+            from,
+            to: items.len(),
+        })?;
+    }
+    Ok(Rows { items, spans })
+}
