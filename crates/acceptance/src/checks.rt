@@ -18,7 +18,8 @@ const FREED_TWICE: &str =
 const FREED_TWICE_ANSWER: &str = "1:104 A01 p not owned\nfindings: 1\n";
 
 const HANDED_ON: &str =
-    "rep struct D { int n; } class K { static void F([Claims] D* in ExHeap p) { D* in ExHeap q = p; q.n = 1; delete q; } static void G() { } }";
+    "rep struct D { int n; } class K { static void F([Claims] D* in ExHeap p) { D* in ExHeap q = p; q.n = 1; delete q; } \
+        static void G() { } }";
 
 const HANDED_ON_ANSWER: &str = "ok: 0 contracts, 2 methods\n";
 
@@ -28,11 +29,13 @@ const FREED_ON_ONE_WAY: &str =
 
 /// Freed on both.
 const FREED_ON_BOTH_WAYS: &str =
-    "rep struct D { int n; }\nclass K {\nstatic void F(bool b) {\nD* in ExHeap p = new[ExHeap] D();\nif (b) { delete p; } else { delete p; }\n}\n}";
+    "rep struct D { int n; }\nclass K {\nstatic void F(bool b) {\nD* in ExHeap p = new[ExHeap] D();\n\
+        if (b) { delete p; } else { delete p; }\n}\n}";
 
 /// Kept where a loop is left.
 const KEPT_AT_A_BREAK: &str =
-    "rep struct D { int n; }\nclass K {\nstatic void F(bool b) {\nwhile (b) {\nD* in ExHeap p = new[ExHeap] D();\nif (b) { break; }\ndelete p;\n}\n}\n}";
+    "rep struct D { int n; }\nclass K {\nstatic void F(bool b) {\nwhile (b) {\nD* in ExHeap p = new[ExHeap] D();\nif (b) { break; }\n\
+        delete p;\n}\n}\n}";
 
 /// Freed each time a loop turns.
 const FREED_IN_A_LOOP: &str =
@@ -40,7 +43,8 @@ const FREED_IN_A_LOOP: &str =
 
 /// A claimed block is given twice in one call.
 const CLAIMED_TWICE: &str =
-    "rep struct D { int n; }\nclass K {\nstatic void F([Claims] D* in ExHeap a, [Claims] D* in ExHeap b) { delete a; delete b; }\nstatic void G([Claims] D* in ExHeap x) {\nF(x, x);\n}\n}";
+    "rep struct D { int n; }\nclass K {\nstatic void F([Claims] D* in ExHeap a, [Claims] D* in ExHeap b) { delete a; delete b; }\n\
+        static void G([Claims] D* in ExHeap x) {\nF(x, x);\n}\n}";
 
 /// A method ends without giving what it owes, and its caller frees what it got.
 const NOTHING_GIVEN: &str =

@@ -66,7 +66,8 @@ case e.ChannelClosed(): delete e; return;
 
 /// A message comes for which there is no case.
 const ANSWERS_AN_ERROR: &str =
-    "contract Q { in message Req(); out message Reply(); out message Error(); state S: Req? -> P; state P: one { Reply! -> S; Error! -> S; } }
+    "contract Q { in message Req(); out message Reply(); out message Error(); state S: Req? -> P; \
+        state P: one { Reply! -> S; Error! -> S; } }
 class K {
 static void Main() {
 Q.Imp i; Q.Exp e;

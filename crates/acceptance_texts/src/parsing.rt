@@ -70,8 +70,10 @@ const WORDS: [(&str, Kind); 54] = [
 const TEXTS: [&str; 4] = [
     "contract ID { in message ID ( ) ; out message ID ( ) ; state ID : ID ? -> ID ; state ID : ID ! -> ID ; }",
     "public contract ID { state ID : one { ID ! -> ID ; ID ! -> ID ? -> ID ; } ; state ID : one { } out message ID ( ) ; state ID : ; }",
-    "private contract ID { state ID : ; } contract ID { out message ID ( int ID , bool ID , byte ID ) ; state ID : ; } internal contract ID { state ID : one { } }",
-    "contract ID { in message ID ( int [ ] in ExHeap ID , byte [ ] ! in ExHeap ID , ID * in ExHeap ID , ID * ! in ExHeap ID , ID . Imp ID , ID . Exp : ID ! in ExHeap ID , ID . Imp in ExHeap ID , ID . Exp : ID ID , ID . Imp ! ID ) ; state ID : ; }",
+    "private contract ID { state ID : ; } contract ID { out message ID ( int ID , bool ID , byte ID ) ; state ID : ; } \
+        internal contract ID { state ID : one { } }",
+    "contract ID { in message ID ( int [ ] in ExHeap ID , byte [ ] ! in ExHeap ID , ID * in ExHeap ID , ID * ! in ExHeap ID , \
+        ID . Imp ID , ID . Exp : ID ! in ExHeap ID , ID . Imp in ExHeap ID , ID . Exp : ID ID , ID . Imp ! ID ) ; state ID : ; }",
 ];
 
 /// The kind of a word.
@@ -200,12 +202,17 @@ fn agrees(alloc: Global, text: &str) -> Result<bool, AllocError> {
 fn every_form_of_a_program(rt: HostRuntime) -> Result<(), Fail> {
     for text in [
         "rep struct ID { int ID ; public bool ID ; }",
-        "public class ID { static void ID ( ) { } private static ID * in ExHeap ID ( [ Claims ] ID * in ExHeap ID , int ID ) { return ID ; } }",
-        "class ID { static void ID ( ) { { } int ID ; byte [ ] in ExHeap ID = new [ ExHeap ] byte [ 7 ] ; ID * in ExHeap ID = ID ( ) ; ID . Imp : ID ID ; } }",
-        "class ID { static int ID ( ) { ID = 7 + ID . ID ; ID . ID = ( ID ) ; ID [ 7 ] = ! ID * 7 ; ID ( ID , 7 ) ; ID . ID ( ) ; return ; return 7 == ID [ ID ] ; } }",
-        "class ID { static void ID ( ) { start ID ( ) ; start ID . ID ( 7 ) ; delete ID ; ID . NewChannel ( out ID , out ID ) ; ID = new [ ExHeap ] ID ( ) ; } }",
+        "public class ID { static void ID ( ) { } private static ID * in ExHeap ID ( [ Claims ] ID * in ExHeap ID , int ID ) { \
+            return ID ; } }",
+        "class ID { static void ID ( ) { { } int ID ; byte [ ] in ExHeap ID = new [ ExHeap ] byte [ 7 ] ; ID * in ExHeap ID = ID ( ) ; \
+            ID . Imp : ID ID ; } }",
+        "class ID { static int ID ( ) { ID = 7 + ID . ID ; ID . ID = ( ID ) ; ID [ 7 ] = ! ID * 7 ; ID ( ID , 7 ) ; ID . ID ( ) ; \
+            return ; return 7 == ID [ ID ] ; } }",
+        "class ID { static void ID ( ) { start ID ( ) ; start ID . ID ( 7 ) ; delete ID ; ID . NewChannel ( out ID , out ID ) ; \
+            ID = new [ ExHeap ] ID ( ) ; } }",
         "class ID { static void ID ( ) { if ( ID ) { break ; } else if ( 7 ) { } else { continue ; } if ( ID ) { } while ( ID ) { } } }",
-        "class ID { static void ID ( ) { switch receive { case ID . ID ( ID , int ID , ID * in ExHeap ID ) : ID ( ) ; case ID . ChannelClosed ( ) : } } }",
+        "class ID { static void ID ( ) { switch receive { case ID . ID ( ID , int ID , ID * in ExHeap ID ) : ID ( ) ; \
+            case ID . ChannelClosed ( ) : } } }",
     ] {
         assert!(rt; agrees(rt.alloc(), text)?, "{text}");
     }

@@ -40,7 +40,12 @@ message_parts m = record { id = m.id; name = string_bytes m.name; direction = m.
 
 -- the parts of a contract of a program
 abbrev pub contract_parts : Contract → Parts
-contract_parts c = record { first = c.first; states = map state_parts c.states.items; messages = map message_parts c.messages.items; edges = c.edges.items }
+contract_parts c = record {
+  first = c.first;
+  states = map state_parts c.states.items;
+  messages = map message_parts c.messages.items;
+  edges = c.edges.items;
+}
 
 -- the numbers of the states
 abbrev pub state_ids : Parts → List StateId

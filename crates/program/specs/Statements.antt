@@ -24,7 +24,14 @@ pub record CallSeen : Type 0 where
   pub behind : List Mention
 
 abbrev pub call_seen : called.Call.Call → CallSeen
-call_seen c = record { reads = c.reads.items; place = c.place; method = c.method; arguments = c.arguments.items; target = c.target; behind = c.behind.items }
+call_seen c = record {
+  reads = c.reads.items;
+  place = c.place;
+  method = c.method;
+  arguments = c.arguments.items;
+  target = c.target;
+  behind = c.behind.items;
+}
 
 -- a send: what it reads, its place, the endpoint, the message, and what is given
 pub record SendSeen : Type 0 where
@@ -132,7 +139,8 @@ case_step c = Case c.endpoint c.awaited c.bound.items c.body
 -- What lies in memory.
 
 abbrev pub statement_seen : made.Statement.Statement → StatementSeen
-statement_seen = made.Statement.fold-Statement StatementSeen BlockSeen CaseSeen IfSeen TestSeen statement_step block_step case_step if_step test_step
+statement_seen = made.Statement.fold-Statement StatementSeen BlockSeen CaseSeen IfSeen TestSeen
+    statement_step block_step case_step if_step test_step
 
 abbrev pub block_seen : made.Block.Block → BlockSeen
 block_seen = made.Block.fold-Block StatementSeen BlockSeen CaseSeen IfSeen TestSeen statement_step block_step case_step if_step test_step

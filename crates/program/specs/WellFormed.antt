@@ -1,12 +1,15 @@
 -- Methods whose numbers mean something: each is in range, and what a call, a start or a switch lacks is nothing.
-use Rattle.std.specs.Prelude.{◌≡◌, ◌≤◌, ◌<◌, ℕ, ◌==◌, Bool, true, false, ◌&&◌, not, List, [], ◌∷◌, length, map, Option, None, Some, slice_get, IfSome, IsSomeAnd}
+use Rattle.std.specs.Prelude.{◌≡◌, ◌≤◌, ◌<◌, ℕ, ◌==◌, Bool, true, false, ◌&&◌, not, List, [], ◌∷◌, length, map, Option, None, Some}
+use Rattle.std.specs.Prelude.{slice_get, IfSome, IsSomeAnd}
 use Rattle.std.specs.List.{filter}
 use Rattle.program.specs.Kinds.{same_scalar, same_side}
 use Rattle.program.specs.Parts.{StateParts, MessageParts, ContractSeen}
 use Rattle.program.specs.declared.number.MessageId.{MessageId}
 use Rattle.program.specs.declared.number.StateId.{StateId}
 use Rattle.program.specs.Methods.{MethodSeen, VariableSeen}
-use Rattle.program.specs.Statements.{CallSeen, SendSeen, StatementSeen, Simple, Call, Start, Send, Block, If, While, Switch, StatementsSeen, NoStatement, MoreStatements, BlockSeen, Braces, TestSeen, Test, OthersSeen, NoOther, Else, ElseIf, CaseSeen, Case, CasesSeen, NoCase, MoreCases}
+use Rattle.program.specs.Statements.{CallSeen, SendSeen, StatementSeen, Simple, Call, Start, Send, Block, If, While, Switch}
+use Rattle.program.specs.Statements.{StatementsSeen, NoStatement, MoreStatements, BlockSeen, Braces, TestSeen, Test}
+use Rattle.program.specs.Statements.{OthersSeen, NoOther, Else, ElseIf, CaseSeen, Case, CasesSeen, NoCase, MoreCases}
 use Rattle.program.specs.declared.call.Argument.{Argument}
 use Rattle.program.specs.declared.kind.Kind.{Kind}
 use Rattle.program.specs.declared.kind.Kind.TheVariants.{Struct, Array, Endpoint}
@@ -203,7 +206,8 @@ module _ (s : Setting) where
     pub payloads : IsSomeAnd (slice_get s.messages x.message.0) (λ kinds. HoldAll kinds (map (λ m. m.variable) x.payloads))
 
   abbrev pub IsChannel : Channel → Type 0
-  IsChannel c = IsSomeAnd (slice_get s.variables c.first.variable.0) (λ v. IsSomeAnd (slice_get s.variables c.second.variable.0) (λ w. are_ends c.contract.0 v.kind w.kind ≡ true))
+  IsChannel c = IsSomeAnd (slice_get s.variables c.first.variable.0) (λ v. IsSomeAnd (slice_get s.variables c.second.variable.0)
+      (λ w. are_ends c.contract.0 v.kind w.kind ≡ true))
 
   -- a variable that takes a new struct or array
   abbrev pub TakesNew : VarId → Type 0
@@ -214,7 +218,8 @@ module _ (s : Setting) where
   IsAction does.Nothing = Unit {0}
   IsAction (does.Use m) = IsMention m
   IsAction (does.New m) = IsIn m.variable × TakesNew m.variable
-  IsAction (does.Move target source) = IsIn target.variable × IsSomeAnd (slice_get s.variables target.variable.0) (λ v. Holds v.kind source.variable)
+  IsAction (does.Move target source) = IsIn target.variable
+      × IsSomeAnd (slice_get s.variables target.variable.0) (λ v. Holds v.kind source.variable)
   IsAction (does.Delete m) = IsMention m
   IsAction (does.NewChannel c) = (IsIn c.first.variable × IsIn c.second.variable) × IsChannel c
   IsAction (does.Break f) = GoesBack s.scope s.at_break f
@@ -265,7 +270,8 @@ abbrev mutual
   pub IsCase : Setting → CaseSeen → Type 0
   IsCase s (Case endpoint awaited bound (Braces statements forget)) =
       (IsEnd s (IsAwaited s awaited) endpoint × IsBrought s awaited bound)
-      × ((inner : Option VarId) × (behind : Option VarId) × (InTurn s.variables s.scope bound inner × (AreStatements (reached s inner) statements behind × GoesBack behind s.scope forget)))
+      × ((inner : Option VarId) × (behind : Option VarId) × (InTurn s.variables s.scope bound inner
+      × (AreStatements (reached s inner) statements behind × GoesBack behind s.scope forget)))
 
   pub AreCases : Setting → CasesSeen → Type 0
   AreCases s NoCase = Unit {0}
@@ -285,7 +291,8 @@ setting contracts messages methods m begins = record {
 }
 
 -- a method among those of a program of these contracts, whose messages bring this
-pub record IsWellFormed (contracts : List ContractSeen) (messages : List (List Kind)) (methods : List MethodSeen) (m : MethodSeen) : Type 0 where
+pub record IsWellFormed (contracts : List ContractSeen) (messages : List (List Kind)) (methods : List MethodSeen)
+    (m : MethodSeen) : Type 0 where
   pub result : IfSome m.result (IsKind contracts)
   pub void : m.gives ≡ false → m.result ≡ None
   pub kinds : Each (λ v. IsKind contracts v.kind) m.variables
@@ -294,7 +301,8 @@ pub record IsWellFormed (contracts : List ContractSeen) (messages : List (List K
   -- the last variable in scope where the method begins: all parameters are in scope there
   pub begins : Option VarId
   pub begins_with : IfSome begins (λ v. v.0 < length m.variables)
-  pub parameters : (n : VarId) (v : VariableSeen) → slice_get m.variables n.0 ≡ Some v → is_parameter v.role ≡ true → IsInScope m.variables begins n
+  pub parameters : (n : VarId) (v : VariableSeen) → slice_get m.variables n.0 ≡ Some v → is_parameter v.role ≡ true
+      → IsInScope m.variables begins n
   pub statements : AreStatements (setting contracts messages methods m begins) m.statements m.scope
 
 -- a program: what its messages bring, and its methods

@@ -44,13 +44,15 @@ impl Model for Methods {
 
     ghost view = { λ m. (m.contracts.contracts.items, rows m.messages.items, m.list.items) };
 
-    ghost invariant = { λ m. AreWellFormed (map contract_seen m.contracts.contracts.items) (rows m.messages.items) (map method_seen m.list.items) };
+    ghost invariant = { λ m. AreWellFormed (map contract_seen m.contracts.contracts.items) (rows m.messages.items)
+        (map method_seen m.list.items) };
 }
 
 impl Methods {
     /// The methods of a program with these contracts, whose messages bring this for their parameters of the exchange heap.
     pub fn new(contracts: Resolved, messages: Vec<Vec<Kind>>, list: Vec<Method>) -> Methods
-        requires well_formed { AreWellFormed (map contract_seen contracts.contracts.items) (rows messages.items) (map method_seen list.items) }
+        requires well_formed { AreWellFormed (map contract_seen contracts.contracts.items) (rows messages.items)
+            (map method_seen list.items) }
         ensures contracts { contracts_seen result ≡ map contract_seen contracts.contracts.items }
         ensures messages { messages_seen result ≡ rows messages.items }
         ensures methods { methods_seen result ≡ map method_seen list.items }
@@ -89,7 +91,8 @@ impl Methods {
     pub fn method(&self, id: MethodId) -> &Method
         requires there { id.0 < length (methods_seen self.now) }
         ensures method { slice_get (methods_seen self.now) id.0 ≡ Some (method_seen result.now) }
-        ensures well_formed { IsWellFormed (contracts_seen self.now) (messages_seen self.now) (methods_seen self.now) (method_seen result.now) }
+        ensures well_formed { IsWellFormed (contracts_seen self.now) (messages_seen self.now) (methods_seen self.now)
+            (method_seen result.now) }
     {
         &self.list[id.0 as usize]
     }

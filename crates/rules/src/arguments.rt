@@ -3,7 +3,8 @@
 ghost use Rattle.std.specs.Prelude.{◌≡◌, ◌&&◌, ℕ, List, [], ◌∷◌, IfOk, IfSome, map};
 ghost use Rattle.program.specs.Methods.{method_seen};
 ghost use Rattle.rules.specs.Arguments as table;
-ghost use Rattle.rules.specs.Arguments.{all_arguments, all_payloads, argument_checks, claimed, given_before, given_leaf, payload_checks, target_checks};
+ghost use Rattle.rules.specs.Arguments.{all_arguments, all_payloads, argument_checks, claimed, given_before, given_leaf};
+ghost use Rattle.rules.specs.Arguments.{payload_checks, target_checks};
 ghost use Rattle.rules.specs.Checks.{AreIn, StandsFor, check_seen, first_again};
 ghost use Rattle.rules.specs.Endpoints.{declared_leaf, is_wrong};
 ghost use Rattle.rules.specs.Mentions.{is_lent, name_of};
@@ -181,7 +182,8 @@ fn can_send(
     payload: Argument,
 ) -> Result<Option<Finding>, Memory>
     ensures { IfOk result
-        (λ found. StandsFor found (payload_checks (method_seen here.now.method.now) (leaves_of here.now.row.now) message.now kind payload)) }
+        (λ found. StandsFor found (payload_checks (method_seen here.now.method.now) (leaves_of here.now.row.now)
+        message.now kind payload)) }
 {
     if let Some(finding) = is_not_lent(alloc, here.method, payload.mention)? {
         return Ok(Some(finding));

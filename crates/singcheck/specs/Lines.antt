@@ -5,7 +5,8 @@ use Rattle.source.specs.Findings.{FindingParts, code_name}
 
 -- `LINE:COL CODE text`
 abbrev pub finding_line : FindingParts → List ℕ
-finding_line f = decimal f.place.line ++ codes ":" ++ decimal f.place.col ++ codes " " ++ code_name f.code ++ codes " " ++ f.text ++ codes "\n"
+finding_line f = decimal f.place.line ++ codes ":" ++ decimal f.place.col ++ codes " " ++ code_name f.code ++ codes " "
+    ++ f.text ++ codes "\n"
 
 -- `findings: N`
 abbrev pub count_line : ℕ → List ℕ

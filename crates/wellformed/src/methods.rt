@@ -29,7 +29,8 @@ pub fn well_formed_methods(
     tokens: &Tokens,
     contracts: Resolved,
 ) -> Result<Methods, Memory>
-    requires contracts { map contract_seen contracts.contracts.items ≡ resolved_contracts tokens.now.text.items (contracts_of (program_tree tree.now)) }
+    requires contracts { map contract_seen contracts.contracts.items
+        ≡ resolved_contracts tokens.now.text.items (contracts_of (program_tree tree.now)) }
     requires room { length contracts.contracts.items < 2 ^ 32 }
     requires clean { program_findings (program_of tokens.now.text.items tree.now) ≡ [] }
     ensures contracts { IfOk result (λ m. contracts_seen m ≡ map contract_seen contracts.contracts.items) }

@@ -2,7 +2,8 @@
 
 use std::alloc::{AllocError, Global};
 
-/// An alternative of a rule; of the operators of expressions, which differ in the tree alone, some. What stands in angles is a rule, any other word a token, `END` the end of the text.
+/// An alternative of a rule; of the operators of expressions, which differ in the tree alone, some. What stands in angles is a rule, any
+/// other word a token, `END` the end of the text.
 const RULES: [(&str, &str); 120] = [
     ("<program>", "END"),
     ("<program>", "<item> <program>"),
