@@ -1,6 +1,7 @@
 //! Checks that a gate holds up, and what other threads see of them.
 
 use shelf::Shelf;
+use shelf::laws::threads_share_a_shelf;
 use singcheck::{Gate, Status, check, check_onto};
 use std::sync::atomic::{AtomicU64, Ordering};
 use std::test::Fail;
@@ -88,6 +89,7 @@ impl Gate for Fourth {
 
 #[test]
 fn verdicts_are_read_while_a_worker_waits(rt: HostRuntime) -> Result<(), Fail> {
+    threads_share_a_shelf();
     let shelf = Shelf::new(rt.alloc())?;
     let gate = FirstLast {
         shelf: &shelf,
