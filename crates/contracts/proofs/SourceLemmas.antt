@@ -9,7 +9,7 @@ use Rattle.program.specs.declared.contract.Sign.{Sign}
 use Rattle.contracts.specs.declared.arcs.Arc.{Arc}
 use Rattle.contracts.specs.Arcs.{EndsListed, arc, begins, ends_from}
 use Rattle.contracts.specs.Chains.{AreEnds}
-use Rattle.contracts.specs.Graphs.{list_at}
+use Rattle.contracts.specs.Graphs.{row_at}
 use Rattle.contracts.specs.Leaving.{AreLeaving, AreSources, edge_at, edges_from, leaves, same_sign}
 use Rattle.contracts.proofs.LeavingLemmas.{is_same, same_is}
 use Rattle.contracts.proofs.PartLemmas.{IsOnce, get_again}
@@ -73,7 +73,7 @@ pub leaving_is : (numbers : List ℕ) (edges : List Edge) (sign : Sign) (arcs : 
     → lists ≡ map (map (edge_at edges)) graph → AreLeaving numbers edges sign lists
 leaving_is numbers edges sign arcs graph lists ends h are is = (
   ap length is ∙ length-map graph (map (edge_at edges)) ∙ are.long,
-  λ v lt. ap (λ l. list_at l v) is ∙ get_or-map (map (edge_at edges)) graph v [] [] (let size = are.long in omega (arith, lt, size))
+  λ v lt. ap (λ l. row_at l v) is ∙ get_or-map (map (edge_at edges)) graph v [] [] (let size = are.long in omega (arith, lt, size))
       ∙ ap (map (edge_at edges)) (are.row v lt) ∙ h.row v lt ∙ ap (λ l. edges_from l sign (get_or numbers v 0)) (take_all (length edges) edges (omega arith)),
   λ q other. none_kept (leaves sign q) edges (λ e c. false_from_ne_true (leaves sign q e) (λ here.
       other (subst (Contains numbers) (eqb-true e.from.0 q (and_parts (e.from.0 == q) (same_sign e.sign sign) here).0) (ends e c).0))),

@@ -8,7 +8,7 @@ use Rattle.program.specs.declared.kind.Side.{Side}
 use Rattle.program.specs.declared.kind.Side.TheVariants.{Imp, Exp}
 use Rattle.contracts.specs.declared.arcs.Arc.{Arc}
 use Rattle.contracts.specs.Arcs.{ends_from}
-use Rattle.contracts.specs.Graphs.{list_at}
+use Rattle.contracts.specs.Graphs.{row_at}
 use Rattle.contracts.specs.Parts.{MessageParts}
 
 -- the sign of the edges along which an end sends; along those of the other sign it receives
@@ -42,7 +42,7 @@ name_among (m ∷ messages) message = if m.id.0 == message then m.name else name
 -- a row for each of the numbers has the edges of the sign from that state, and other states have none
 abbrev pub AreLeaving : List ℕ → List Edge → Sign → List (List Edge) → Type 0
 AreLeaving numbers edges sign lists = (length lists ≡ length numbers)
-    × ((v : ℕ) → v < length numbers → list_at lists v ≡ edges_from edges sign (get_or numbers v 0))
+    × ((v : ℕ) → v < length numbers → row_at lists v ≡ edges_from edges sign (get_or numbers v 0))
     × ((q : ℕ) → (Contains numbers q → ⊥) → edges_from edges sign q ≡ [])
 
 abbrev pub edge_at : List Edge → ℕ → Edge

@@ -20,7 +20,7 @@ pub struct Rows<T> {
 
 impl<T> Rows<T> {
     ghost use Rattle.std.specs.Prelude.{◌≡◌, ◌<◌, length};
-    ghost use Rattle.contracts.specs.Graphs.{rows, list_at};
+    ghost use Rattle.contracts.specs.Graphs.{rows, row_at};
 
     /// How many rows there are.
     pub fn len(&self) -> usize
@@ -32,7 +32,7 @@ impl<T> Rows<T> {
     /// The row at a place.
     pub fn row(&self, at: usize) -> &[T]
         requires { at < length (rows self.now) }
-        ensures { result.now ≡ list_at (rows self.now) at }
+        ensures { result.now ≡ row_at (rows self.now) at }
     {
         let span = self.spans[at];
         &self.items[span.from..span.to]
