@@ -1,9 +1,8 @@
 -- What is found at one edge or one state.
-use Rattle.std.proofs.Common.{◌≡◌, ◌≢◌, ℕ, ◌+◌, ◌<◌, List, [], ◌∷◌, ◌++◌, length, map, get_or, Option, Some, None, not, true, false, eqb, sym, refl, ap, ◌∙◌, arith, ⊎_elim}
+use Rattle.std.proofs.Common.{◌≡◌, ◌≢◌, ℕ, ◌+◌, ◌<◌, List, [], ◌∷◌, ◌++◌, length, map, get_or, Some, sym, refl, ap, ◌∙◌, subst, arith, ⊎_elim}
 use Rattle.std.specs.Prelude.{Contains, AllPairs, slice_get, codes, string_bytes, ◌⊎◌}
 use Rattle.std.specs.Str.Lossy.{utf8_lossy}
-use Rattle.std.proofs.lemmas.Bool.{cases_order, cases_Bool, true≢false, eq-eqb, eqb-true}
-use Rattle.std.specs.Option.{option_eq}
+use Rattle.std.proofs.lemmas.Bool.{cases_order}
 use Rattle.std.proofs.lemmas.List.{get_or-map, length-map, map-append}
 use Rattle.source.specs.declared.finding.Code.{Code}
 use Rattle.source.specs.declared.finding.Code.TheVariants.{C01, C02, C03}
@@ -14,12 +13,10 @@ use Rattle.program.specs.declared.number.MessageId.{MessageId}
 use Rattle.program.specs.declared.number.StateId.{StateId}
 use Rattle.program.specs.declared.contract.Sign.{Sign}
 use Rattle.program.specs.declared.contract.Sign.TheVariants.{Send, Receive}
-use Rattle.std.specs.Ordering.{is_eq}
-use Rattle.std.proofs.lemmas.List.Quantifiers.{position-Some}
 use Rattle.std.proofs.lemmas.Option.{slice_get_within, get_or_from_slice_get, slice_get-get_or}
-use Rattle.lemmas.specs.Places.{first_position}
-use Rattle.contracts.specs.Positions.{key_of, pair_cmp}
-use Rattle.contracts.proofs.PositionLemmas.{not_first, pair_equal, equal_pair}
+use Rattle.contracts.specs.Orders.{HasEarlier, IsOrder, key_at}
+use Rattle.contracts.specs.Positions.{key_of}
+use Rattle.contracts.proofs.OrderLemmas.{key_here, order_within, place_of}
 use Rattle.contracts.specs.Parts.{StateParts, MessageParts}
 use Rattle.contracts.specs.Conditions.{FindingParts, finding_parts, sign_of, IsAgainst, IsTwice, IsBoth}
 use Rattle.contracts.specs.Found.{FoundBelow}
@@ -92,11 +89,15 @@ keys_same d e state message = ap (λ (x : StateId). pair x.0 d.message.0) state 
     pair : ℕ → ℕ → ℕ × ℕ
     pair a b = (a, b)
 
-pub twice_more : (messages : List MessageParts) (edges : List Edge) (i : ℕ) (e : Edge) (m : MessageParts) (found : List FindingParts)
-    → AllPairs (λ x y. x ≢ y) (map (λ (m : MessageParts). m.id) messages) → slice_get edges i ≡ Some e → Contains messages m → m.id ≡ e.message
-    → (j : ℕ) × ((d : Edge) × (j < i) × (slice_get edges j ≡ Some d) × (key_of d ≡ key_of e))
-    → FoundBelow (IsTwice messages edges) i found → FoundBelow (IsTwice messages edges) (i + 1) (found ++ record { place = e.place; code = C02; text = utf8_lossy m.name ++ codes " twice in a state" } ∷ [])
-twice_more messages edges i e m found apart at listed its before h = found_more (IsTwice messages edges) i found (twice e m) h
+-- what is to be found at the edge at the place k of the order
+abbrev pub TwiceAt : List MessageParts → List Edge → List ℕ → ℕ → FindingParts → Type 0
+TwiceAt messages edges order k = IsTwice messages edges (get_or order k 0)
+
+pub twice_more : (messages : List MessageParts) (edges : List Edge) (order : List ℕ) (k : ℕ) (e : Edge) (m : MessageParts) (found : List FindingParts)
+    → AllPairs (λ x y. x ≢ y) (map (λ (m : MessageParts). m.id) messages) → slice_get edges (get_or order k 0) ≡ Some e → Contains messages m → m.id ≡ e.message
+    → HasEarlier edges (get_or order k 0)
+    → FoundBelow (TwiceAt messages edges order) k found → FoundBelow (TwiceAt messages edges order) (k + 1) (found ++ record { place = e.place; code = C02; text = utf8_lossy m.name ++ codes " twice in a state" } ∷ [])
+twice_more messages edges order k e m found apart at listed its has h = found_more (TwiceAt messages edges order) k found (twice e m) h
     (record {
       edge = e;
       at = at;
@@ -114,32 +115,32 @@ twice_more messages edges i e m found apart at listed its before h = found_more 
     (λ f is. let same : e ≡ is.edge = one_of e is.edge (sym at ∙ is.at) in
     let named : m ≡ is.message = once (λ (m : MessageParts). m.id) messages apart m is.message listed is.listed (its ∙ ap (λ (x : Edge). x.message) same ∙ sym is.its) in
     ap (λ x. twice x m) same ∙ ap (twice is.edge) named ∙ sym is.is)
+  where
+    i : ℕ
+    i = get_or order k 0
 
-pub twice_same : (messages : List MessageParts) (edges : List Edge) (i : ℕ) (e : Edge) (found : List FindingParts)
-    → slice_get edges i ≡ Some e → ((j : ℕ) (d : Edge) → j < i → slice_get edges j ≡ Some d → key_of d ≡ key_of e → ⊥)
-    → FoundBelow (IsTwice messages edges) i found → FoundBelow (IsTwice messages edges) (i + 1) found
-twice_same messages edges i e found at none h = found_same (IsTwice messages edges) i found h
-    (λ f is. let same : e ≡ is.edge = one_of e is.edge (sym at ∙ is.at) in
-    none is.place is.earlier is.before is.there (keys_same is.earlier e (is.state ∙ ap (λ (x : Edge). x.from) (sym same)) (is.same ∙ ap (λ (x : Edge). x.message) (sym same))))
+    before : (j : ℕ) × ((d : Edge) × (j < i) × (slice_get edges j ≡ Some d) × (key_of d ≡ key_of e))
+    before =
+        let lt = slice_get_within edges i e at in
+        let less = has.1 in
+        let below : has.0 < length edges = omega (arith, less, lt) in
+        (has.0, (get_or edges has.0 e, has.1, slice_get-get_or edges has.0 e below, sym (key_here edges has.0 e below) ∙ has.2 ∙ key_here edges i e lt ∙ ap key_of (get_or_from_slice_get edges i e e at)))
 
--- where the map has another position for the edge's key, an edge before it has the key
-pub earlier_key : (edges : List Edge) (i : ℕ) (e : Edge) → slice_get edges i ≡ Some e → (first_position pair_cmp (map key_of edges) (key_of e) ≡ Some i → ⊥) → (j : ℕ) × ((d : Edge) × (j < i) × (slice_get edges j ≡ Some d) × (key_of d ≡ key_of e))
-earlier_key edges i e at other =
-    let lt = slice_get_within edges i e at in
-    let size = length-map edges key_of in
-    let here : get_or (map key_of edges) i (key_of e) ≡ key_of e = get_or-map key_of edges i e (key_of e) lt ∙ ap key_of (get_or_from_slice_get edges i e e at) in
-    let n = not_first (λ x. is_eq (pair_cmp (key_of e) x)) (map key_of edges) i (key_of e) (omega (arith, lt, size)) (equal_pair (key_of e) _ (sym here)) other in
-    let less = n.1 in
-    let below : n.0 < length edges = omega (arith, less, lt) in
-    (n.0, (get_or edges n.0 e, n.1, slice_get-get_or edges n.0 e below, sym (get_or-map key_of edges n.0 e (key_of e) below) ∙ sym (pair_equal (key_of e) _ n.2)))
+pub twice_same : (messages : List MessageParts) (edges : List Edge) (order : List ℕ) (k : ℕ) (found : List FindingParts)
+    → (HasEarlier edges (get_or order k 0) → ⊥) → FoundBelow (TwiceAt messages edges order) k found → FoundBelow (TwiceAt messages edges order) (k + 1) found
+twice_same messages edges order k found none h = found_same (TwiceAt messages edges order) k found h
+    (λ f is. none (is.place, is.before, key_is is.place is.earlier is.there ∙ keys_same is.earlier is.edge is.state is.same ∙ sym (key_is (get_or order k 0) is.edge is.at)))
+  where
+    key_is : (i : ℕ) (e : Edge) → slice_get edges i ≡ Some e → key_at edges i ≡ key_of e
+    key_is i e at = key_here edges i e (slice_get_within edges i e at) ∙ ap key_of (get_or_from_slice_get edges i e e at)
 
--- where the map has the edge's position, none before it has the key
-pub no_earlier_key : (edges : List Edge) (i : ℕ) (e : Edge) → slice_get edges i ≡ Some e → first_position pair_cmp (map key_of edges) (key_of e) ≡ Some i → (j : ℕ) (d : Edge) → j < i → slice_get edges j ≡ Some d → key_of d ≡ key_of e → ⊥
-no_earlier_key edges i e at is j d less there same =
-    let below = slice_get_within edges j d there in
-    let at_j : get_or (map key_of edges) j (key_of e) ≡ key_of e = get_or-map key_of edges j d (key_of e) below ∙ ap key_of (get_or_from_slice_get edges j d d there) ∙ same in
-    let no' = (position-Some (λ x. is_eq (pair_cmp (key_of e) x)) (map key_of edges) i (key_of e) is).2 j less in
-    true≢false (sym (equal_pair (key_of e) _ (sym at_j)) ∙ no')
+-- the order has the place of each edge
+pub twice_all : (messages : List MessageParts) (edges : List Edge) (order : List ℕ) (found : List FindingParts) → IsOrder edges order
+    → FoundBelow (TwiceAt messages edges order) (length order) found → FoundBelow (IsTwice messages edges) (length edges) found
+twice_all messages edges order found o h = record {
+  right = λ f c. let r = h.right f c in (get_or order r.0 0, order_within edges order o r.0 r.1, r.2);
+  all = λ i f lt is. let at = place_of edges order o i lt in h.all at.0 f at.1 (subst (λ x. IsTwice messages edges x f) (sym at.2) is);
+}
 
 abbrev pub both : StateParts → FindingParts
 both s = record { place = s.place; code = C03; text = codes "both directions in " ++ utf8_lossy s.name }
@@ -177,14 +178,3 @@ both_same states edges i found none h = found_same (IsBoth states edges) i found
     (λ a. a is.sends is.sends_in is.sends_sign is.sends_from)
     (λ b. b is.receives is.receives_in is.receives_sign is.receives_from)
     (none is.state is.at))
-
-pub option_ne : (o : Option ℕ) (i : ℕ) → not (option_eq eqb o (Some i)) ≡ true → o ≡ Some i → ⊥
-option_ne None i h e = cc
-option_ne (Some k) i h e = let same : k ≡ i = one_of k i e in true≢false (sym h ∙ ap not (eq-eqb k i same))
-
-pub option_same : (o : Option ℕ) (i : ℕ) → not (option_eq eqb o (Some i)) ≡ false → o ≡ Some i
-option_same None i h = absurd (true≢false h)
-option_same (Some k) i h = ap (λ x. Some x) (⊎_elim
-    (λ same. eqb-true k i same)
-    (λ differ. absurd (true≢false (sym (ap not differ) ∙ h)))
-    (cases_Bool (eqb k i)))

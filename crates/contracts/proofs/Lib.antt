@@ -12,6 +12,8 @@ pub mod LeavingLemmas
 pub mod MarkLemmas
 pub mod NextLemmas
 pub mod NumberLemmas
+pub mod OrderLemmas
+pub mod OrderMade
 pub mod PartLemmas
 pub mod PeelLemmas
 pub mod PositionLemmas

@@ -56,16 +56,16 @@ has_row first count n low = (
 pub before_row : (first count n : ℕ) → n < first → IsTrue (leb first n) ↔ Contains (range_with_len first count) n
 before_row first count n less = (λ yes. let low = leb-true first n yes in absurd (omega (arith, low, less)), λ c. let row = from_row first count n c in absurd (omega (arith, row.0, less)))
 
--- where an element isn't the first that passes, one before it passes
-pub not_first : {X : Type 0} (p : X → Bool) (xs : List X) (i : ℕ) (d : X) → i < length xs → p (get_or xs i d) ≡ true → (position p xs ≡ Some i → ⊥) → (j : ℕ) × (j < i) × (p (get_or xs j d) ≡ true)
-not_first {X} p xs i d lt passes other =
+-- an element that passes, where none before it does, is the first
+pub is_first : {X : Type 0} (p : X → Bool) (xs : List X) (i : ℕ) (d : X) → i < length xs → p (get_or xs i d) ≡ true → ((j : ℕ) → j < i → p (get_or xs j d) ≡ true → ⊥) → position p xs ≡ Some i
+is_first {X} p xs i d lt passes none =
     let x = get_or xs i d in
     let most = first_by p xs i x lt (get_again xs i d x lt) passes in
     let is = found_lt (position_or_len p xs) (length xs) (omega (arith, most, lt)) in
     let rest = position-Some p xs (position_or_len p xs) d is in
     ⊎_elim
-    (λ same. absurd (other (is ∙ ap (λ k. Some k) same)))
-    (λ differ. (position_or_len p xs, grind (arith, most, differ), rest.1))
+    (λ same. is ∙ ap (λ k. Some k) same)
+    (λ differ. absurd (none (position_or_len p xs) (grind (arith, most, differ)) rest.1))
     (cases_eq (position_or_len p xs) i)
 
 pub pair_equal : (x y : ℕ × ℕ) → is_eq (pair_cmp x y) ≡ true → x ≡ y

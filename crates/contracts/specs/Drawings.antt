@@ -8,7 +8,7 @@ use Rattle.contracts.specs.declared.parts.Edges.{Edges}
 use Rattle.contracts.specs.Arcs.{AllWithin, AreRows, IsDrawn}
 use Rattle.contracts.specs.Graphs.{rows}
 use Rattle.contracts.specs.Peeling.{AreHeights}
-use Rattle.contracts.specs.Positions.{AreEdgePositions}
+use Rattle.contracts.specs.Orders.{IsOrder}
 
 -- the graph is that of the edges of the sign
 pub record IsSignGraph (e : Edges) (sign : Sign) (graph : SignGraph) : Type 0 where
@@ -17,8 +17,8 @@ pub record IsSignGraph (e : Edges) (sign : Sign) (graph : SignGraph) : Type 0 wh
   pub heights : AreHeights (rows graph.rows) graph.heights.items
   pub drawn : IsDrawn (map (λ s. s.id.0) e.states.items) e.edges.items (λ x. x.sign ≡ sign) (rows graph.rows)
 
--- the graphs are those of the edges of each sign, and the map has the position of each first edge
+-- the graphs are those of the edges of each sign, and the places of the edges stand in order
 pub record IsDrawing (e : Edges) (drawing : Drawing) : Type 0 where
   pub sends : IsSignGraph e Send drawing.sends
   pub receives : IsSignGraph e Receive drawing.receives
-  pub keyed : AreEdgePositions e.edges.items drawing.firsts
+  pub ordered : IsOrder e.edges.items drawing.order.items

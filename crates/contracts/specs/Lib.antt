@@ -8,6 +8,7 @@ pub mod Graphs
 pub mod Leaving
 pub mod Marking
 pub mod Numbering
+pub mod Orders
 pub mod Parts
 pub mod Peeling
 pub mod Positions

@@ -1,7 +1,6 @@
 -- Where numbers and keys stand in a list.
-use Rattle.std.specs.Prelude.{◌≡◌, ℕ, List, Contains, map}
+use Rattle.std.specs.Prelude.{ℕ, List, Option, Contains, map}
 use Rattle.std.specs.List.{range_with_len}
-use Rattle.std.specs.BTreeMap.{BTreeMap, get}
 use Rattle.std.specs.declared.cmp.Ordering.{Ordering}
 use Rattle.std.specs.Ordering.{nat_cmp, ordering_then}
 use Rattle.lemmas.specs.Places.{first_position}
@@ -12,10 +11,6 @@ use Rattle.contracts.specs.declared.positions.Listing.{Listing}
 abbrev pub listed : Listing → List ℕ
 listed l = range_with_len l.first l.count
 
--- the map has for each number the position at which it stands first
-abbrev pub ArePositions : List ℕ → BTreeMap ℕ ℕ → Type 0
-ArePositions numbers positions = (k : ℕ) → get nat_cmp positions k ≡ first_position nat_cmp numbers k
-
 -- how pairs of numbers are compared
 abbrev pub pair_cmp : ℕ × ℕ → ℕ × ℕ → Ordering
 pair_cmp x y = ordering_then (nat_cmp x.0 y.0) (nat_cmp x.1 y.1)
@@ -24,9 +19,9 @@ pair_cmp x y = ordering_then (nat_cmp x.0 y.0) (nat_cmp x.1 y.1)
 abbrev pub key_of : Edge → ℕ × ℕ
 key_of e = (e.from.0, e.message.0)
 
--- the map has for each key the position of the first edge that has it
-abbrev pub AreEdgePositions : List Edge → BTreeMap (ℕ × ℕ) ℕ → Type 0
-AreEdgePositions edges positions = (k : ℕ × ℕ) → get pair_cmp positions k ≡ first_position pair_cmp (map key_of edges) k
+-- the position of the first edge that has the key
+abbrev pub first_with : List Edge → ℕ × ℕ → Option ℕ
+first_with edges key = first_position pair_cmp (map key_of edges) key
 
 -- the states and the message of the edge are listed
 pub record EndsHave (states messages : List ℕ) (e : Edge) : Type 0 where

@@ -5,11 +5,13 @@ ghost use Rattle.contracts.specs.Conditions.{AreExactly, IsAgainst, IsTwice, IsB
 ghost use Rattle.contracts.specs.Conditions.{IsFault, finding_parts, sign_of as sign_of_direction};
 ghost use Rattle.contracts.specs.Drawings.{IsDrawing};
 ghost use Rattle.contracts.specs.Found.{FoundBelow};
-ghost use Rattle.contracts.specs.Positions.{AreEdgePositions, listed};
+ghost use Rattle.contracts.specs.Orders.{IsOrder};
+ghost use Rattle.contracts.specs.Positions.{listed};
 ghost use Rattle.contracts.specs.Parts.{IsWhole, parts_of, message_ids, state_parts, message_parts};
 
 use crate::drawing::{Drawing, drawing_of};
 use crate::keys::messages_of;
+use crate::order::is_second;
 use crate::parts::Edges;
 use crate::positions::Listing;
 use crate::ringing::rings;
@@ -19,7 +21,6 @@ use source::texts::{
 };
 use source::{Finding, Memory};
 use std::alloc::Global;
-use std::collections::BTreeMap;
 
 /// What breaks a condition of the contract:
 /// - an edge whose sign is not its message's: `in` takes `?` and `out` takes `!`; at the edge;
@@ -52,7 +53,7 @@ pub(crate) fn faults_of(
 {
     let messages = messages_of(edges);
     let mut found = against_directions(alloc, edges, messages)?;
-    let mut twice = twice_in_states(alloc, edges, messages, &drawing.firsts)?;
+    let mut twice = twice_in_states(alloc, edges, messages, &drawing.order)?;
     let mut both = both_directions(alloc, edges, drawing)?;
     let mut round = one_direction(alloc, edges, drawing)?;
     found.append(&mut twice)?;
@@ -109,19 +110,19 @@ fn twice_in_states(
     alloc: Global,
     edges: &Edges,
     messages: Listing,
-    firsts: &BTreeMap<(u32, u32), usize>,
+    order: &[usize],
 ) -> Result<Vec<Finding>, Memory>
     requires whole { IsWhole (parts_of edges.now) }
     requires numbers { listed messages ≡ map (λ m. m.id.0) edges.now.messages.items }
-    requires keyed { AreEdgePositions edges.now.edges.items firsts.now }
+    requires ordered { IsOrder edges.now.edges.items order.now }
     ensures found { IfOk result (λ found. FoundBelow (IsTwice
         (map message_parts edges.now.messages.items) edges.now.edges.items)
         (length edges.now.edges.items) (map finding_parts found.items)) }
 {
     let mut found = Vec::new(alloc);
-    for i in 0..edges.edges.len() {
-        let edge = edges.edges[i];
-        if firsts.get(&(edge.from.0, edge.message.0)).copied() != Some(i) {
+    for at in 0..order.len() {
+        if is_second(&edges.edges, order, at) {
+            let edge = edges.edges[order[at]];
             let message = message_of(edges, messages, edge.message);
             let finding = twice_in_a_state(alloc, edge.place, message.name.as_bytes())?;
             found.push(finding)?;

@@ -5,29 +5,28 @@ ghost use Rattle.contracts.specs.Drawings.{IsDrawing};
 ghost use Rattle.contracts.specs.Parts.{IsWhole, parts_of};
 
 use crate::arcs::SignGraph;
-use crate::keys::{edge_keys, states_of};
+use crate::keys::states_of;
+use crate::order::order_of;
 use crate::parts::Edges;
-use lemmas::first_positions;
 use program::Sign;
 use std::alloc::{AllocError, Global};
-use std::collections::BTreeMap;
 
-/// The edges of a contract as a graph for each sign, and by state and message the position of the first edge that has both.
+/// The edges of a contract as a graph for each sign, and their places in order of states and messages.
 #[derive(Drop)]
 pub struct Drawing {
     pub sends: SignGraph,
     pub receives: SignGraph,
-    pub firsts: BTreeMap<(u32, u32), usize>,
+    pub order: Vec<usize>,
 }
 
 impl Drawing {
     ghost use Rattle.std.specs.Prelude.{◌≡◌};
 
-    /// The map alone. The graphs are dropped, and leave their room to what comes next.
-    pub fn into_firsts(self) -> BTreeMap<(u32, u32), usize>
-        ensures { result ≡ self.firsts }
+    /// The order alone. The graphs are dropped, and leave their room to what comes next.
+    pub fn into_order(self) -> Vec<usize>
+        ensures { result ≡ self.order }
     {
-        self.firsts
+        self.order
     }
 }
 
@@ -36,14 +35,13 @@ pub fn drawing_of(alloc: Global, edges: &Edges) -> Result<Drawing, AllocError>
     requires whole { IsWhole (parts_of edges.now) }
     ensures { IfOk result (IsDrawing edges.now) }
 {
+    let order = order_of(alloc, &edges.edges)?;
     let states = states_of(edges);
     let sends = SignGraph::new(alloc, &edges.edges, states, Sign::Send)?;
     let receives = SignGraph::new(alloc, &edges.edges, states, Sign::Receive)?;
-    let keys = edge_keys(alloc, &edges.edges)?;
-    let firsts = first_positions(alloc, &keys)?;
     Ok(Drawing {
         sends,
         receives,
-        firsts,
+        order,
     })
 }

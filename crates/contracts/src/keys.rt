@@ -42,12 +42,9 @@ pub fn message_numbers(alloc: Global, messages: &[Message]) -> Result<Vec<u32>, 
     messages.iter().map(|message| message.id.0).collect(alloc)
 }
 
-/// The state and the message of each edge.
-pub fn edge_keys(alloc: Global, edges: &[Edge]) -> Result<Vec<(u32, u32)>, AllocError>
-    ensures { IfOk result (λ keys. keys.items ≡ map (λ e. (e.from.0, e.message.0)) edges.now) }
+/// The state and the message of an edge.
+pub fn key_of(edge: &Edge) -> (u32, u32)
+    ensures { result ≡ (edge.now.from.0, edge.now.message.0) }
 {
-    edges
-        .iter()
-        .map(|edge| (edge.from.0, edge.message.0))
-        .collect(alloc)
+    (edge.from.0, edge.message.0)
 }

@@ -13,6 +13,7 @@ pub mod laws;
 mod leaving;
 mod marking;
 mod numbering;
+mod order;
 mod parts;
 mod positions;
 mod ringing;

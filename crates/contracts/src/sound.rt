@@ -9,7 +9,8 @@ ghost use Rattle.contracts.specs.Conditions.{FindingParts, IsFault, IsSound};
 ghost use Rattle.contracts.specs.Graphs.{rows};
 ghost use Rattle.contracts.specs.Leaving.{AreLeaving, edges_from, end_on, name_among, sign_from};
 ghost use Rattle.contracts.specs.Parts.{IsWhole, parts_of};
-ghost use Rattle.contracts.specs.Positions.{AreEdgePositions, listed};
+ghost use Rattle.contracts.specs.Orders.{IsOrder};
+ghost use Rattle.contracts.specs.Positions.{listed};
 ghost use Rattle.contracts.specs.Walks.{IsNext};
 
 use crate::bounds::{Bounds, bounds_of};
@@ -17,13 +18,13 @@ use crate::conditions::faults_of;
 use crate::drawing::drawing_of;
 use crate::keys::{messages_of, states_of};
 use crate::leaving::{leaving, sign_from, sign_to};
+use crate::order::first_on;
 use crate::parts::Edges;
 use crate::positions::Listing;
 use crate::rows::Rows;
 use program::{Edge, MessageId, Side, Sign, StateId};
 use source::{Finding, Memory};
 use std::alloc::{AllocError, AllocFailed, Global};
-use std::collections::BTreeMap;
 use thiserror::Error;
 
 /// Why there is no sound contract.
@@ -78,14 +79,14 @@ pub struct Sound {
     bounds: Bounds,
     states: Listing,
     messages: Listing,
-    firsts: BTreeMap<(u32, u32), usize>,
+    order: Vec<usize>,
     sends: Rows<Edge>,
     receives: Rows<Edge>,
     pub ghost whole: { ∥ IsWhole (parts_of edges) ∥₁ },
     pub ghost sound: { IsSound (parts_of edges) },
     ghost to_imp: { ∥ IsBound edges.edges.items edges.first Send bounds.to_imp ∥₁ },
     ghost to_exp: { ∥ IsBound edges.edges.items edges.first Receive bounds.to_exp ∥₁ },
-    ghost keyed: { AreEdgePositions edges.edges.items firsts } by { Prim.hlevel props },
+    ghost ordered: { ∥ IsOrder edges.edges.items order.items ∥₁ },
     ghost named: { listed messages ≡ map (λ m. m.id.0) edges.messages.items } by { Prim.hlevel props },
     ghost sent: { AreLeaving (listed states) edges.edges.items Send (rows sends) } by { Prim.hlevel props },
     ghost received: { AreLeaving (listed states) edges.edges.items Receive (rows receives) } by { Prim.hlevel props },
@@ -116,7 +117,7 @@ impl Sound {
             return Ok(Judged::Broken(found));
         }
         let bounds = bounds_of(alloc, &edges, &drawing)?;
-        let firsts = drawing.into_firsts();
+        let order = drawing.into_order();
         let states = states_of(&edges);
         let messages = messages_of(&edges);
         let sends = leaving(alloc, &edges.edges, states, Sign::Send)?;
@@ -126,7 +127,7 @@ impl Sound {
             bounds,
             states,
             messages,
-            firsts,
+            order,
             sends,
             receives,
         };
@@ -172,7 +173,7 @@ impl Sound {
     pub fn next(&self, state: StateId, message: MessageId) -> Option<StateId>
         ensures { IsNext (sound_parts self.now).edges state message result }
     {
-        let position = self.firsts.get(&(state.0, message.0)).copied()?;
+        let position = first_on(&self.edges.edges, &self.order, state, message)?;
         Some(self.edges.edges[position].to)
     }
 
@@ -220,7 +221,7 @@ impl Sound {
             ≡ end_on (edges_from (sound_parts self.now).edges (sign_from side) state.0) message.0 }
         ensures numbered { IfSome result (λ q. q.0 < MOST_STATES) }
     {
-        let position = self.firsts.get(&(state.0, message.0)).copied()?;
+        let position = first_on(&self.edges.edges, &self.order, state, message)?;
         let edge = self.edges.edges[position];
         if edge.sign == sign_from(side) {
             Some(edge.to)

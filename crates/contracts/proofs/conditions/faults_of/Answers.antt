@@ -2,6 +2,7 @@ use Rattle.std.proofs.Common.{◌∙◌, ◌++◌, map, ap, sym, subst}
 use Rattle.std.proofs.lemmas.List.{length-map, map-append}
 use Rattle.contracts.specs.Conditions.{AreExactly, IsFault, IsBoth, IsRound, finding_parts}
 use Rattle.contracts.specs.Found.{FoundBelow}
+use Rattle.contracts.specs.Orders.{IsOrder}
 use Rattle.contracts.specs.Parts.{parts_of, state_parts}
 use Rattle.contracts.proofs.RoundLemmas.{all_found}
 use Rattle.contracts.proofs.conditions.faults_of.Goals as goal
@@ -10,7 +11,7 @@ pub against_directions-requires : goal.against_directions-requires
 against_directions-requires c = record { whole = c.requires.whole; numbers = c.messages_of-messages.ensures }
 
 pub twice_in_states-requires : goal.twice_in_states-requires
-twice_in_states-requires c = record { whole = c.requires.whole; numbers = c.messages_of-messages.ensures; keyed = c.requires.drawing.keyed }
+twice_in_states-requires c = record { whole = c.requires.whole; numbers = c.messages_of-messages.ensures; ordered = subst (IsOrder c.args.edges.now.edges.items) (sym c.deref.ensures.value) c.requires.drawing.ordered }
 
 pub returns : goal.returns
 returns c =

@@ -1,18 +1,18 @@
-use Rattle.std.proofs.Common.{◌≡◌, ◌∙◌, length, map, ap, sym, subst}
+use Rattle.std.proofs.Common.{◌≡◌, ◌∙◌, length, ap, sym, subst}
 use Rattle.std.proofs.lemmas.List.{length-map}
 use Rattle.program.specs.declared.contract.Sign.TheVariants.{Send, Receive}
-use Rattle.lemmas.specs.Places.{first_position}
 use Rattle.contracts.specs.Arcs.{AllWithin, AreRows, EndsListed, IsDrawn}
 use Rattle.contracts.specs.Graphs.{rows}
-use Rattle.contracts.specs.Positions.{key_of, listed, pair_cmp}
+use Rattle.contracts.specs.Orders.{IsOrder}
+use Rattle.contracts.specs.Positions.{listed}
 use Rattle.contracts.proofs.PartLemmas.{ends_listed}
 use Rattle.contracts.proofs.drawing.drawing_of.Goals as goal
 
 pub new-requires : goal.new-requires
-new-requires c = record { listed = subst (EndsListed (listed c.states_of-states.result)) (sym c.deref.ensures.value) (ends_listed c.args.edges.now (listed c.states_of-states.result) c.requires.whole c.states_of-states.ensures) }
+new-requires c = record { listed = subst (EndsListed (listed c.states_of-states.result)) (sym c.deref-2.ensures.value) (ends_listed c.args.edges.now (listed c.states_of-states.result) c.requires.whole c.states_of-states.ensures) }
 
 pub new-requires-2 : goal.new-requires-2
-new-requires-2 c = record { listed = subst (EndsListed (listed c.states_of-states.result)) (sym c.deref-2.ensures.value) (ends_listed c.args.edges.now (listed c.states_of-states.result) c.requires.whole c.states_of-states.ensures) }
+new-requires-2 c = record { listed = subst (EndsListed (listed c.states_of-states.result)) (sym c.deref-3.ensures.value) (ends_listed c.args.edges.now (listed c.states_of-states.result) c.requires.whole c.states_of-states.ensures) }
 
 pub returns : goal.returns
 returns c =
@@ -27,14 +27,14 @@ returns c =
         heights = c.in_ok-sends.ensures.heights;
         ends = subst (λ n. AreRows n sends.arcs.items (rows sends.rows)) size c.in_ok-sends.ensures.rows;
         drawn = subst (λ n. IsDrawn n edges (λ e. e.sign ≡ Send) (rows sends.rows)) is
-            (subst (λ l. IsDrawn (listed c.states_of-states.result) l (λ e. e.sign ≡ Send) (rows sends.rows)) c.deref.ensures.value c.in_ok-sends.ensures.drawn);
+            (subst (λ l. IsDrawn (listed c.states_of-states.result) l (λ e. e.sign ≡ Send) (rows sends.rows)) c.deref-2.ensures.value c.in_ok-sends.ensures.drawn);
       };
       receives = record {
         range = subst (λ n. AllWithin n receives.arcs.items) size c.in_ok-receives.ensures.range;
         heights = c.in_ok-receives.ensures.heights;
         ends = subst (λ n. AreRows n receives.arcs.items (rows receives.rows)) size c.in_ok-receives.ensures.rows;
         drawn = subst (λ n. IsDrawn n edges (λ e. e.sign ≡ Receive) (rows receives.rows)) is
-            (subst (λ l. IsDrawn (listed c.states_of-states.result) l (λ e. e.sign ≡ Receive) (rows receives.rows)) c.deref-2.ensures.value c.in_ok-receives.ensures.drawn);
+            (subst (λ l. IsDrawn (listed c.states_of-states.result) l (λ e. e.sign ≡ Receive) (rows receives.rows)) c.deref-3.ensures.value c.in_ok-receives.ensures.drawn);
       };
-      keyed = λ k. c.in_ok-firsts.ensures k ∙ ap (λ l. first_position pair_cmp l k) (c.deref-4.ensures.value ∙ c.in_ok-keys.ensures ∙ ap (map key_of) c.deref-3.ensures.value);
+      ordered = subst (λ l. IsOrder l c.in_ok-order.order.items) c.deref.ensures.value c.in_ok-order.ensures;
     }

@@ -9,7 +9,7 @@ use Rattle.source.specs.declared.finding.Finding.{Finding}
 use Rattle.contracts.specs.Parts.{Parts, parts_of}
 use Rattle.contracts.specs.Arcs.{EndsListed}
 use Rattle.contracts.specs.Graphs.{rows}
-use Rattle.contracts.specs.Positions.{AreEdgePositions, listed}
+use Rattle.contracts.specs.Positions.{listed}
 use Rattle.contracts.proofs.PartLemmas.{ends_listed}
 use Rattle.contracts.proofs.sound.Sound.judge.Goals as goal
 
@@ -49,9 +49,6 @@ leaving-requires c = record { listed = subst (EndsListed (listed c.states_of-sta
 
 pub leaving-requires-2 : goal.leaving-requires-2
 leaving-requires-2 c = record { listed = subst (EndsListed (listed c.states_of-states.result)) (sym c.deref-2.ensures.value) (ends_listed c.args.edges (listed c.states_of-states.result) c.requires.whole c.states_of-states.ensures) }
-
-pub invariant_of-sound-clause-keyed : goal.invariant_of-sound-clause-keyed
-invariant_of-sound-clause-keyed c = subst (AreEdgePositions c.args.edges.edges.items) (sym c.into_firsts-firsts.ensures) c.in_ok-drawing.ensures.keyed
 
 pub invariant_of-sound-clause-sent : goal.invariant_of-sound-clause-sent
 invariant_of-sound-clause-sent c = subst (λ edges. AreLeaving (listed c.states_of-states.result) edges Send (rows c.in_ok-sends.sends)) c.deref.ensures.value c.in_ok-sends.ensures

@@ -1,41 +1,29 @@
-use Rattle.std.proofs.Common.{◌≡◌, ◌∙◌, map, option_map, sym, ap, arith}
+use Rattle.std.proofs.Common.{◌≡◌, ◌∙◌, option_map, sym, ap, subst}
 use Rattle.std.specs.Prelude.{Contains}
-use Rattle.program.specs.declared.contract.Edge.{Edge}
-use Rattle.program.specs.declared.contract.Sign.TheVariants.{Send}
 use Rattle.program.specs.declared.number.StateId.{StateId}
-use Rattle.lemmas.specs.Places.{first_position}
 use Rattle.contracts.specs.Leaving.{sign_from}
 use Rattle.contracts.specs.Parts.{parts_of}
-use Rattle.contracts.specs.Positions.{pair_cmp, key_of}
+use Rattle.contracts.specs.Positions.{first_with}
 use Rattle.contracts.proofs.LeavingLemmas.{no_end, end_there, end_elsewhere, to_numbered}
 use Rattle.contracts.proofs.NextLemmas.{Found, next_none, next_some}
 use Rattle.contracts.proofs.SignLemmas.{sign_same, sign_other}
 use Rattle.contracts.proofs.sound.Sound.sent.Goals as goal
-use Rattle.contracts.proofs.sound.Sound.sent.Goals.{After-copied, After-index}
+use Rattle.contracts.proofs.sound.Sound.sent.Goals.{After-first_on, After-index}
 
-position_is : (c : After-copied) → c.copied.result ≡ first_position pair_cmp (map key_of c.args.self.now.edges.edges.items) (c.args.state.0, c.args.message.0)
-position_is c = c.copied.ensures ∙ c.get.ensures.value ∙ c.args.self.now.keyed (c.args.state.0, c.args.message.0)
+position_is : (c : After-first_on) → c.first_on.result ≡ first_with c.args.self.now.edges.edges.items (c.args.state.0, c.args.message.0)
+position_is c = subst (λ l. c.first_on.result ≡ first_with l (c.args.state.0, c.args.message.0)) c.deref.ensures.value c.first_on.ensures
 
 pub returns-in_err-position-clause-end : goal.returns-in_err-position-clause-end
 returns-in_err-position-clause-end c =
-    let is = position_is (goal.at.returns-in_err-position-clause-end c).After-copied in
+    let is = position_is (goal.at.returns-in_err-position-clause-end c).After-first_on in
     let edges = c.args.self.now.edges.edges.items in
     ap (option_map (λ (q : StateId). q.0)) c.from_residual.ensures
     ∙ no_end edges (sign_from c.args.side) c.args.state c.args.message (next_none edges c.args.state c.args.message (sym is ∙ c.in_err-position.was))
 
-pub index-requires : goal.index-requires
-index-requires c =
-    let is = position_is (goal.at.index-requires c).After-copied in
-    let none : Edge = record { from = record { 0 = 0 }; message = record { 0 = 0 }; sign = Send; to = record { 0 = 0 }; place = record { line = 0; col = 0 } } in
-    let found = next_some c.args.self.now.edges.edges.items c.args.state c.args.message c.in_ok-position.position none (sym is ∙ c.in_ok-position.was) in
-    let lt = found.within in
-    let size = c.args.self.now.edges.edges.ok in
-    omega (arith, lt, size.0)
-
 -- what stands at the position
 found_of : (c : After-index) → Found c.args.self.now.edges.edges.items c.args.state c.args.message c.in_ok-position.position c.index.result.now
 found_of c = next_some c.args.self.now.edges.edges.items c.args.state c.args.message c.in_ok-position.position c.index.result.now
-    (sym (c.copied.ensures ∙ c.get.ensures.value ∙ c.args.self.now.keyed (c.args.state.0, c.args.message.0)) ∙ c.in_ok-position.was)
+    (sym (subst (λ l. c.first_on.result ≡ first_with l (c.args.state.0, c.args.message.0)) c.deref.ensures.value c.first_on.ensures) ∙ c.in_ok-position.was)
 
 listed : (c : After-index) → Contains c.args.self.now.edges.edges.items c.index.result.now
 listed c = (c.in_ok-position.position, (found_of c).within, sym c.index.ensures)

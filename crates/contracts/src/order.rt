@@ -1,0 +1,81 @@
+//! The edges in order of their states and messages.
+
+ghost use Rattle.std.specs.Prelude.{◌≡◌, ◌<◌, ◌↔◌, IfOk, IsTrue, get_or, length, map};
+ghost use Rattle.contracts.specs.Orders.{AreEntries, HasEarlier, IsOrder, is_below, lower};
+ghost use Rattle.contracts.specs.Positions.{first_with};
+
+use crate::keys::key_of;
+use program::{Edge, MessageId, StateId};
+use std::alloc::{AllocError, Global};
+
+/// The places of all edges: by state, in a state by message, and where both are the same in order of the text.
+pub fn order_of(alloc: Global, edges: &[Edge]) -> Result<Vec<usize>, AllocError>
+    ensures { IfOk result (λ order. IsOrder edges.now order.items) }
+{
+    let mut entries = entries_of(alloc, edges)?;
+    entries.sort_unstable();
+    places_of(alloc, &entries)
+}
+
+/// The key and the place of each edge.
+fn entries_of(alloc: Global, edges: &[Edge]) -> Result<Vec<((u32, u32), usize)>, AllocError>
+    ensures { IfOk result (λ entries. AreEntries edges.now (length edges.now) entries.items) }
+{
+    let mut entries = Vec::with_capacity(alloc, edges.len())?;
+    for i in 0..edges.len() {
+        entries.push((key_of(&edges[i]), i))?;
+    }
+    Ok(entries)
+}
+
+/// The places alone.
+fn places_of(alloc: Global, entries: &[((u32, u32), usize)]) -> Result<Vec<usize>, AllocError>
+    ensures { IfOk result (λ places. places.items ≡ map (λ e. e.1) entries.now) }
+{
+    entries.iter().map(|entry| entry.1).collect(alloc)
+}
+
+/// Whether an edge before the one at this place of the order has its state and its message.
+pub fn is_second(edges: &[Edge], order: &[usize], at: usize) -> bool
+    requires ordered { IsOrder edges.now order.now }
+    requires at { at < length order.now }
+    ensures { IsTrue result ↔ HasEarlier edges.now (get_or order.now at 0) }
+{
+    at > 0 && key_of(&edges[order[at - 1]]) == key_of(&edges[order[at]])
+}
+
+/// The place of the first edge of a state on a message.
+pub fn first_on(
+    edges: &[Edge],
+    order: &[usize],
+    state: StateId,
+    message: MessageId,
+) -> Option<usize>
+    requires ordered { ∥ IsOrder edges.now order.now ∥₁ }
+    ensures { result ≡ first_with edges.now (state.0, message.0) }
+{
+    let key = (state.0, message.0);
+    let at = order.partition_point(|place| is_below(edges, *place, key));
+    if at < order.len() && key_of(&edges[order[at]]) == key {
+        Some(order[at])
+    } else {
+        None
+    }
+}
+
+/// Whether the edge at a place has a lower key.
+fn is_below(edges: &[Edge], place: usize, key: (u32, u32)) -> bool
+    ensures { result ≡ is_below edges.now place key }
+{
+    match edges.get(place) {
+        Some(edge) => lower(key_of(edge), key),
+        None => false,
+    }
+}
+
+/// Whether the first of two keys is lower.
+fn lower(x: (u32, u32), y: (u32, u32)) -> bool
+    ensures { result ≡ lower x y }
+{
+    x.0 < y.0 || (x.0 == y.0 && x.1 < y.1)
+}
