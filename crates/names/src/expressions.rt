@@ -2,7 +2,7 @@
 
 ghost use Rattle.std.specs.Prelude.{◌≡◌, ℕ, List, OnOk, IfOk};
 ghost use Rattle.source.specs.declared.finding.Finding.{Finding};
-ghost use Rattle.tree.specs.ExpressionTrees.{expression_tree, conjunction_tree, equality_tree, relation_tree};
+ghost use Rattle.tree.specs.ExpressionTrees.{expression_tree, disjunction_tree, conjunction_tree, equality_tree, relation_tree};
 ghost use Rattle.tree.specs.ExpressionTrees.{sum_tree, term_tree, unary_tree, atom_tree, target_tree};
 ghost use Rattle.names.specs.Expressions.{InScope, kind_of, expression_findings, whole_findings};
 ghost use Rattle.names.specs.Found.{Adds};
@@ -21,7 +21,10 @@ use crate::variables::Variables;
 use crate::wholes::judge_whole_operand;
 use source::{Finding, Memory};
 use std::alloc::Global;
-use tree::{Atom, Conjunction, Equality, Expression, Prefix, Relation, Sum, Target, Term, Unary};
+use tree::{
+    Atom, Conjunction, Disjunction, Equality, Expression, Prefix, Relation, Sum, Target, Term,
+    Unary,
+};
 
 /// The kind of an expression, and where it begins; adds what is wrong in it.
 #[cycle(expressions)]
@@ -34,8 +37,25 @@ pub(crate) fn judge_operand(
 ) -> Result<Operand, Memory>
     ensures { IfOk result (Judges scope.now variables.now (shape (expression_tree expression.now)) found.old.items found.new.items) }
 {
-    let mut left = judge_conjunction(alloc, scope, variables, &expression.first, found)?;
-    'each: for conjunction in &expression.others {
+    match expression {
+        Expression::Atom(atom) => judge_atom(alloc, scope, variables, atom, found),
+        Expression::Joined(joined) => judge_disjunction(alloc, scope, variables, joined, found),
+    }
+}
+
+/// The same of a disjunction.
+#[cycle(expressions)]
+fn judge_disjunction(
+    alloc: Global,
+    scope: &Scope<'_>,
+    variables: &Variables<'_>,
+    disjunction: &Disjunction,
+    found: &mut Vec<Finding>,
+) -> Result<Operand, Memory>
+    ensures { IfOk result (Judges scope.now variables.now (shape (disjunction_tree disjunction.now)) found.old.items found.new.items) }
+{
+    let mut left = judge_conjunction(alloc, scope, variables, &disjunction.first, found)?;
+    'each: for conjunction in &disjunction.others {
         let right = judge_conjunction(alloc, scope, variables, conjunction, found)?;
         left = join(alloc, Joint::Logic, left, right, found)?;
     }

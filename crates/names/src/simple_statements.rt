@@ -230,12 +230,12 @@ fn judge_needless(
     scope: &Scope<'_>,
     variables: &Variables<'_>,
     word: Span,
-    value: &Option<Expression>,
+    value: &Option<Box<Expression>>,
     found: &mut Vec<Finding>,
 ) -> Result<(), Memory>
     ensures { (p : Program) (f : Frame) → IsScope p scope.now
         → IsFrame p.text f variables.now → OnOk result (Adds found.old.items found.new.items
-        (return_findings (record { program = p; variables = f.variables }) None word (option_map expression_tree value.now))) }
+        (return_findings (record { program = p; variables = f.variables }) None word (option_map (λ e. expression_tree e.value) value.now))) }
 {
     match value {
         Some(value) => {
@@ -253,12 +253,12 @@ fn judge_returned(
     variables: &Variables<'_>,
     asked: Type,
     word: Span,
-    value: &Option<Expression>,
+    value: &Option<Box<Expression>>,
     found: &mut Vec<Finding>,
 ) -> Result<(), Memory>
     ensures { (p : Program) (f : Frame) → IsScope p scope.now
         → IsFrame p.text f variables.now → OnOk result (Adds found.old.items found.new.items
-        (return_findings (record { program = p; variables = f.variables }) (Some asked) word (option_map expression_tree value.now))) }
+        (return_findings (record { program = p; variables = f.variables }) (Some asked) word (option_map (λ e. expression_tree e.value) value.now))) }
 {
     match value {
         Some(value) => {
@@ -276,12 +276,12 @@ pub(crate) fn judge_return(
     variables: &Variables<'_>,
     asked: Option<Type>,
     word: Span,
-    value: &Option<Expression>,
+    value: &Option<Box<Expression>>,
     found: &mut Vec<Finding>,
 ) -> Result<(), Memory>
     ensures { (p : Program) (f : Frame) → IsScope p scope.now
         → IsFrame p.text f variables.now → OnOk result (Adds found.old.items found.new.items
-        (return_findings (record { program = p; variables = f.variables }) asked word (option_map expression_tree value.now))) }
+        (return_findings (record { program = p; variables = f.variables }) asked word (option_map (λ e. expression_tree e.value) value.now))) }
 {
     match asked {
         Some(asked) => judge_returned(alloc, scope, variables, asked, word, value, found),

@@ -106,7 +106,7 @@ fn judge_statement<'a>(
             judge_call(alloc, around, variables, Role::Started, call, found)
         }
         Statement::Delete(name) => judge_delete(alloc, scope, variables, *name, found),
-        Statement::NewChannel(channel) => judge_channel(alloc, scope, variables, *channel, found),
+        Statement::NewChannel(channel) => judge_channel(alloc, scope, variables, **channel, found),
         Statement::If(branches) => judge_if(alloc, around, variables, branches, found),
         Statement::While(test) => {
             let inner = within_loop(around);

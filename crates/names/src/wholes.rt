@@ -1,7 +1,7 @@
 //! Expressions that are the whole of something: of a value, of an argument, of what is returned.
 
 ghost use Rattle.std.specs.Prelude.{◌≡◌, IfOk, OnOk, Option};
-ghost use Rattle.tree.specs.ExpressionTrees.{expression_tree, conjunction_tree, equality_tree, relation_tree};
+ghost use Rattle.tree.specs.ExpressionTrees.{expression_tree, disjunction_tree, conjunction_tree, equality_tree, relation_tree};
 ghost use Rattle.tree.specs.ExpressionTrees.{sum_tree, term_tree, unary_tree, atom_tree, target_tree};
 ghost use Rattle.names.specs.Expressions.{truth_findings, number_findings};
 ghost use Rattle.names.specs.Found.{Adds};
@@ -21,7 +21,9 @@ use crate::scope::Scope;
 use crate::variables::Variables;
 use source::{Finding, Memory, Span};
 use std::alloc::Global;
-use tree::{Atom, Conjunction, Equality, Expression, Relation, Sum, Target, Term, Unary};
+use tree::{
+    Atom, Conjunction, Disjunction, Equality, Expression, Relation, Sum, Target, Term, Unary,
+};
 
 /// The kind of an expression that is the whole of something, and where it begins; adds what is wrong in it.
 pub(crate) fn judge_whole_operand(
@@ -95,10 +97,20 @@ pub(crate) fn judge_number(
 fn mention_alone(expression: &Expression) -> Option<Span>
     ensures { result ≡ mentioned (shape (expression_tree expression.now)) }
 {
-    if !expression.others.is_empty() {
+    match expression {
+        Expression::Atom(atom) => in_atom(atom),
+        Expression::Joined(joined) => in_disjunction(joined),
+    }
+}
+
+/// The same of a disjunction.
+fn in_disjunction(disjunction: &Disjunction) -> Option<Span>
+    ensures { result ≡ mentioned (shape (disjunction_tree disjunction.now)) }
+{
+    if !disjunction.others.is_empty() {
         return None;
     }
-    in_conjunction(&expression.first)
+    in_conjunction(&disjunction.first)
 }
 
 /// The same of a conjunction.

@@ -116,12 +116,12 @@ simple_seen s = Simple s.reads.items s.action
 
 abbrev pub statement_step : layer.Statement-F StatementSeen BlockSeen CaseSeen IfSeen TestSeen → StatementSeen
 statement_step (layer.Simple s) = simple_seen s
-statement_step (layer.Call c) = Call (call_seen c)
-statement_step (layer.Start c) = Start (call_seen c)
+statement_step (layer.Call c) = Call (call_seen c.value)
+statement_step (layer.Start c) = Start (call_seen c.value)
 statement_step (layer.Send s) = Send (send_seen s)
 statement_step (layer.Block b) = Block b
-statement_step (layer.If i) = If i.first i.others
-statement_step (layer.While t) = While t
+statement_step (layer.If i) = If i.value.first i.value.others
+statement_step (layer.While t) = While t.value
 statement_step (layer.Switch place cases) = Switch place (case_row cases.items)
 
 abbrev pub block_step : layer.Block-F StatementSeen BlockSeen CaseSeen IfSeen TestSeen → BlockSeen

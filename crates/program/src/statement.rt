@@ -68,20 +68,20 @@ pub struct Simple {
     pub action: Action,
 }
 
-/// A statement.
+/// A statement. What is large stands in a box, so that a list of statements takes little for each.
 #[cycle(statement)]
 #[derive(Drop)]
 pub enum Statement {
     Simple(Simple),
     /// A method runs and comes back.
-    Call(Call),
+    Call(Box<Call>),
     /// A method runs as a process of its own.
-    Start(Call),
+    Start(Box<Call>),
     /// A message goes to the other end of a channel.
     Send(Send),
     Block(Block),
-    If(If),
-    While(Test),
+    If(Box<If>),
+    While(Box<Test>),
     /// Waits for a message at one of its endpoints, or for the end of their peers. The place is that of the word `switch`.
     Switch { place: Place, cases: Vec<Case> },
 }

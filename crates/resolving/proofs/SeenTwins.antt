@@ -1,5 +1,5 @@
 -- What statements come to, in memory and without it, a form at a time.
-use Rattle.std.proofs.Common.{◌≡◌, Option, Some, None, Vec, map, sym, ap, ◌∙◌}
+use Rattle.std.proofs.Common.{◌≡◌, Box, Option, Some, None, Vec, map, sym, ap, ◌∙◌}
 use Rattle.std.specs.Global.{Global}
 use Rattle.std.specs.Option.{option_map}
 use Rattle.source.specs.declared.place.Place.{Place}
@@ -37,11 +37,11 @@ pub of_block : (b : made.Block.Block) → statement_seen (variants.Block b) ≡ 
 of_block b = ap statement_seen (sym (variants.rolls-Block b)) ∙ folds.fold-roll-Statement StatementSeen BlockSeen CaseSeen IfSeen TestSeen statement_step block_step case_step if_step test_step (layer.Block b)
 
 -- one that is an `if`
-pub of_if : (i : made.If.If) → statement_seen (variants.If i) ≡ seen.If (if_seen i).first (if_seen i).others
+pub of_if : (i : Box made.If.If Global) → statement_seen (variants.If i) ≡ seen.If (if_seen i.value).first (if_seen i.value).others
 of_if i = ap statement_seen (sym (variants.rolls-If i)) ∙ folds.fold-roll-Statement StatementSeen BlockSeen CaseSeen IfSeen TestSeen statement_step block_step case_step if_step test_step (layer.If i)
 
 -- one that is a `while`
-pub of_while : (t : made.Test.Test) → statement_seen (variants.While t) ≡ seen.While (test_seen t)
+pub of_while : (t : Box made.Test.Test Global) → statement_seen (variants.While t) ≡ seen.While (test_seen t.value)
 of_while t = ap statement_seen (sym (variants.rolls-While t)) ∙ folds.fold-roll-Statement StatementSeen BlockSeen CaseSeen IfSeen TestSeen statement_step block_step case_step if_step test_step (layer.While t)
 
 -- one that is a switch

@@ -1,5 +1,5 @@
 -- Blocks and branches in memory and as trees.
-use Rattle.std.proofs.Common.{◌≡◌, Option, Some, None, Vec, map, sym, ap, ◌∙◌}
+use Rattle.std.proofs.Common.{◌≡◌, Box, Option, Some, None, Vec, map, sym, ap, ◌∙◌}
 use Rattle.std.specs.Global.{Global}
 use Rattle.std.specs.Option.{option_map}
 use Rattle.source.specs.declared.token.Span.{Span}
@@ -43,27 +43,27 @@ pub of_block : (b : made.Block.Block) → statement_tree (variants.Block b) ≡ 
 of_block b = ap statement_tree (sym (variants.rolls-Block b)) ∙ folds.fold-roll-Statement StatementTree BlockTree CaseTree IfTree SwitchTree TestTree statement_step block_step case_step if_step switch_step test_step (layer.Block b)
 
 -- one that is an `if`
-pub of_if : (i : made.If.If) → statement_tree (variants.If i) ≡ trees.If (if_tree i).first (if_tree i).others
+pub of_if : (i : Box made.If.If Global) → statement_tree (variants.If i) ≡ trees.If (if_tree i.value).first (if_tree i.value).others
 of_if i = ap statement_tree (sym (variants.rolls-If i)) ∙ folds.fold-roll-Statement StatementTree BlockTree CaseTree IfTree SwitchTree TestTree statement_step block_step case_step if_step switch_step test_step (layer.If i)
 
 -- one that is a `while`
-pub of_while : (t : made.Test.Test) → statement_tree (variants.While t) ≡ trees.While (test_tree t)
+pub of_while : (t : Box made.Test.Test Global) → statement_tree (variants.While t) ≡ trees.While (test_tree t.value)
 of_while t = ap statement_tree (sym (variants.rolls-While t)) ∙ folds.fold-roll-Statement StatementTree BlockTree CaseTree IfTree SwitchTree TestTree statement_step block_step case_step if_step switch_step test_step (layer.While t)
 
 -- a declaration
-pub of_declare : (d : made.Declare.Declare) → statement_tree (variants.Declare d) ≡ trees.Declare (declare_tree d)
+pub of_declare : (d : Box made.Declare.Declare Global) → statement_tree (variants.Declare d) ≡ trees.Declare (declare_tree d.value)
 of_declare d = ap statement_tree (sym (variants.rolls-Declare d)) ∙ folds.fold-roll-Statement StatementTree BlockTree CaseTree IfTree SwitchTree TestTree statement_step block_step case_step if_step switch_step test_step (layer.Declare d)
 
 -- an assignment
-pub of_assign : (a : made.Assign.Assign) → statement_tree (variants.Assign a) ≡ trees.Assign (assign_tree a)
+pub of_assign : (a : Box made.Assign.Assign Global) → statement_tree (variants.Assign a) ≡ trees.Assign (assign_tree a.value)
 of_assign a = ap statement_tree (sym (variants.rolls-Assign a)) ∙ folds.fold-roll-Statement StatementTree BlockTree CaseTree IfTree SwitchTree TestTree statement_step block_step case_step if_step switch_step test_step (layer.Assign a)
 
 -- a call
-pub of_call : (c : Call) → statement_tree (variants.Call c) ≡ trees.Call (call_tree c)
+pub of_call : (c : Box Call Global) → statement_tree (variants.Call c) ≡ trees.Call (call_tree c.value)
 of_call c = ap statement_tree (sym (variants.rolls-Call c)) ∙ folds.fold-roll-Statement StatementTree BlockTree CaseTree IfTree SwitchTree TestTree statement_step block_step case_step if_step switch_step test_step (layer.Call c)
 
 -- a start
-pub of_start : (word : Span) (c : Call) → statement_tree (variants.Start word c) ≡ trees.Start word (call_tree c)
+pub of_start : (word : Span) (c : Box Call Global) → statement_tree (variants.Start word c) ≡ trees.Start word (call_tree c.value)
 of_start word c = ap statement_tree (sym (variants.rolls-Start word c)) ∙ folds.fold-roll-Statement StatementTree BlockTree CaseTree IfTree SwitchTree TestTree statement_step block_step case_step if_step switch_step test_step (layer.Start word c)
 
 -- a `delete`
@@ -71,13 +71,13 @@ pub of_delete : (name : Span) → statement_tree (variants.Delete name) ≡ tree
 of_delete name = ap statement_tree (sym (variants.rolls-Delete name)) ∙ folds.fold-roll-Statement StatementTree BlockTree CaseTree IfTree SwitchTree TestTree statement_step block_step case_step if_step switch_step test_step (layer.Delete name)
 
 -- a new channel
-pub of_channel : (n : made.NewChannel.NewChannel) → statement_tree (variants.NewChannel n) ≡ trees.NewChannel n
+pub of_channel : (n : Box made.NewChannel.NewChannel Global) → statement_tree (variants.NewChannel n) ≡ trees.NewChannel n.value
 of_channel n = ap statement_tree (sym (variants.rolls-NewChannel n)) ∙ folds.fold-roll-Statement StatementTree BlockTree CaseTree IfTree SwitchTree TestTree statement_step block_step case_step if_step switch_step test_step (layer.NewChannel n)
 
 -- a `return`
-pub of_return : (word : Span) (value : Option Expression) → statement_tree (variants.Return word value) ≡ trees.Return word (option_map expression_tree value)
+pub of_return : (word : Span) (value : Option (Box Expression Global)) → statement_tree (variants.Return word value) ≡ trees.Return word (option_map (λ e. expression_tree e.value) value)
 of_return word value = ap statement_tree (sym (variants.rolls-Return word value)) ∙ folds.fold-roll-Statement StatementTree BlockTree CaseTree IfTree SwitchTree TestTree statement_step block_step case_step if_step switch_step test_step (layer.Return word value)
 
 -- a switch
-pub of_switch : (s : made.Switch.Switch) → statement_tree (variants.Switch s) ≡ trees.Switch (switch_tree s).word (switch_tree s).first (case_row (switch_tree s).others) (switch_tree s).close
+pub of_switch : (s : Box made.Switch.Switch Global) → statement_tree (variants.Switch s) ≡ trees.Switch (switch_tree s.value).word (switch_tree s.value).first (case_row (switch_tree s.value).others) (switch_tree s.value).close
 of_switch s = ap statement_tree (sym (variants.rolls-Switch s)) ∙ folds.fold-roll-Statement StatementTree BlockTree CaseTree IfTree SwitchTree TestTree statement_step block_step case_step if_step switch_step test_step (layer.Switch s)

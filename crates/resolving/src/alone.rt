@@ -2,13 +2,15 @@
 
 ghost use Rattle.std.specs.Prelude.{◌≡◌, Some, option_map};
 ghost use Rattle.tree.specs.Expressions as trees;
-ghost use Rattle.tree.specs.ExpressionTrees.{expression_tree, conjunction_tree, equality_tree, relation_tree};
+ghost use Rattle.tree.specs.ExpressionTrees.{expression_tree, disjunction_tree, conjunction_tree, equality_tree, relation_tree};
 ghost use Rattle.tree.specs.ExpressionTrees.{sum_tree, term_tree, unary_tree, atom_tree, target_tree};
 ghost use Rattle.resolving.specs.Reads.{lone_atom, atom_name, lone_name, atom_ways, ways};
 
 use program::Ways;
 use source::Span;
-use tree::{Atom, Conjunction, Equality, Expression, Relation, Sum, Target, Term, Unary};
+use tree::{
+    Atom, Conjunction, Disjunction, Equality, Expression, Relation, Sum, Target, Term, Unary,
+};
 
 /// The name, if an expression is one and nothing more.
 pub(crate) fn name_alone(expression: &Expression) -> Option<Span>
@@ -68,10 +70,20 @@ fn name_of_target(target: &Target) -> Option<Span>
 fn atom_alone(expression: &Expression) -> Option<&Atom>
     ensures { option_map (λ a. atom_tree a.now) result ≡ lone_atom (expression_tree expression.now) }
 {
-    if !expression.others.is_empty() {
+    match expression {
+        Expression::Atom(atom) => Some(atom),
+        Expression::Joined(joined) => in_disjunction(joined),
+    }
+}
+
+/// The same of a disjunction.
+fn in_disjunction(disjunction: &Disjunction) -> Option<&Atom>
+    ensures { option_map (λ a. atom_tree a.now) result ≡ lone_atom (disjunction_tree disjunction.now) }
+{
+    if !disjunction.others.is_empty() {
         return None;
     }
-    in_conjunction(&expression.first)
+    in_conjunction(&disjunction.first)
 }
 
 /// The same of a conjunction.

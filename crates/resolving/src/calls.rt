@@ -232,7 +232,7 @@ pub(crate) fn tell_call(
         (λ f. told.called (program_in tokens.now.text.items items) own f (call_tree call.now) target behind.items)) }
 {
     match tell_called(alloc, tokens, around, locals, call, target, behind)? {
-        Some(call) => Ok(Statement::Call(call)),
+        Some(call) => Ok(Statement::Call(Box::new(alloc, call)?)),
         None => Ok(unread(alloc, Action::Nothing)),
     }
 }
@@ -250,7 +250,7 @@ pub(crate) fn tell_start(
 {
     let behind = Vec::new(alloc);
     match tell_called(alloc, tokens, around, locals, call, None, behind)? {
-        Some(call) => Ok(Statement::Start(call)),
+        Some(call) => Ok(Statement::Start(Box::new(alloc, call)?)),
         None => Ok(unread(alloc, Action::Nothing)),
     }
 }

@@ -112,10 +112,10 @@ fn tell_return(
     tokens: &Tokens,
     locals: &Locals<'_>,
     place: Place,
-    value: &Option<Expression>,
+    value: &Option<Box<Expression>>,
 ) -> Result<Statement, AllocError>
     ensures { (items : List ItemTree) (own : ℕ) → IfOk result (Tells tokens.now.text.items locals.now
-        (λ f. returned (program_in tokens.now.text.items items) own f place (option_map expression_tree value.now))) }
+        (λ f. returned (program_in tokens.now.text.items items) own f place (option_map (λ e. expression_tree e.value) value.now))) }
 {
     let scope = locals.last();
     match value {
@@ -172,7 +172,7 @@ pub(crate) fn tell_plain(
             Ok(unread(alloc, deleting(locals.mention(tokens, *name))))
         }
         tree::Statement::NewChannel(channel) => {
-            Ok(unread(alloc, channel_action(tokens, around, locals, *channel)))
+            Ok(unread(alloc, channel_action(tokens, around, locals, **channel)))
         }
         tree::Statement::Return { word, value } => {
             tell_return(alloc, tokens, locals, word.place, value)

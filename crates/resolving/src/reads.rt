@@ -1,7 +1,7 @@
 //! The blocks that an expression reads, in order of the text.
 
 ghost use Rattle.std.specs.Prelude.{OnOk};
-ghost use Rattle.tree.specs.ExpressionTrees.{expression_tree, conjunction_tree, equality_tree, relation_tree};
+ghost use Rattle.tree.specs.ExpressionTrees.{expression_tree, disjunction_tree, conjunction_tree, equality_tree, relation_tree};
 ghost use Rattle.tree.specs.ExpressionTrees.{sum_tree, term_tree, unary_tree, atom_tree, target_tree};
 ghost use Rattle.resolving.specs.Locals.{mention};
 ghost use Rattle.resolving.specs.Reads.{reads, atom_reads, target_reads, listed};
@@ -11,7 +11,9 @@ use crate::locals::Locals;
 use program::Mention;
 use source::{Span, Tokens};
 use std::alloc::AllocError;
-use tree::{Atom, Conjunction, Equality, Expression, Relation, Sum, Target, Term, Unary};
+use tree::{
+    Atom, Conjunction, Disjunction, Equality, Expression, Relation, Sum, Target, Term, Unary,
+};
 
 /// Adds what an expression reads.
 #[cycle(expressions)]
@@ -24,8 +26,25 @@ pub(crate) fn add_reads(
     ensures { OnOk result (AddsReads tokens.now.text.items locals.now
         (λ f. reads tokens.now.text.items f.locals (expression_tree expression.now)) found.old.items found.new.items) }
 {
-    add_conjunction(tokens, locals, &expression.first, found)?;
-    'each: for conjunction in &expression.others {
+    match expression {
+        Expression::Atom(atom) => add_atom(tokens, locals, atom, found),
+        Expression::Joined(joined) => add_disjunction(tokens, locals, joined, found),
+    }
+}
+
+/// The same of a disjunction.
+#[cycle(expressions)]
+fn add_disjunction(
+    tokens: &Tokens,
+    locals: &Locals<'_>,
+    disjunction: &Disjunction,
+    found: &mut Vec<Mention>,
+) -> Result<(), AllocError>
+    ensures { OnOk result (AddsReads tokens.now.text.items locals.now
+        (λ f. reads tokens.now.text.items f.locals (disjunction_tree disjunction.now)) found.old.items found.new.items) }
+{
+    add_conjunction(tokens, locals, &disjunction.first, found)?;
+    'each: for conjunction in &disjunction.others {
         add_conjunction(tokens, locals, conjunction, found)?;
     }
     Ok(())

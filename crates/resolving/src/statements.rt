@@ -65,11 +65,17 @@ fn tell_statement<'a>(
             Ok(Statement::Block(tell_block(alloc, tokens, around, locals, stays, block)?))
         }
         tree::Statement::If(branches) => {
-            Ok(Statement::If(tell_if(alloc, tokens, around, locals, stays, branches)?))
+            if_of(
+                alloc,
+                tell_if(alloc, tokens, around, locals, stays, branches)?,
+            )
         }
         tree::Statement::While(test) => {
             let inside = Staying::here(locals.last());
-            Ok(Statement::While(tell_test(alloc, tokens, around, locals, inside, test)?))
+            while_of(
+                alloc,
+                tell_test(alloc, tokens, around, locals, inside, test)?,
+            )
         }
         tree::Statement::Break(word) => Ok(tell_break(alloc, locals, word.place, stays)),
         tree::Statement::Continue(word) => Ok(tell_continue(alloc, locals, word.place, stays)),
@@ -87,6 +93,20 @@ fn tell_statement<'a>(
         | tree::Statement::NewChannel(_)
         | tree::Statement::Return { .. } => { tell_alone(alloc, tokens, around, locals, statement) }
     }
+}
+
+/// An `if` as a statement.
+fn if_of(alloc: Global, branches: If) -> Result<Statement, AllocError>
+    ensures { IfOk result (λ s. statement_seen s ≡ seen.If (if_seen branches).first (if_seen branches).others) }
+{
+    Ok(Statement::If(Box::new(alloc, branches)?))
+}
+
+/// A `while` as a statement.
+fn while_of(alloc: Global, test: Test) -> Result<Statement, AllocError>
+    ensures { IfOk result (λ s. statement_seen s ≡ seen.While (test_seen test)) }
+{
+    Ok(Statement::While(Box::new(alloc, test)?))
 }
 
 /// What these statements come to, one after another. A variable is in scope behind its declaration.

@@ -13,7 +13,6 @@ use Rattle.tree.specs.Grammar.{direction_word, message, state, member, contract}
 use Rattle.syntax.specs.Firsts.{opens_message, opens_member}
 use Rattle.syntax.specs.States.{state_on, body_at, state_at, member_at, members_on}
 use Rattle.program.specs.declared.contract as sign_nodes
-use Rattle.tree.specs.declared.contract as contract_nodes
 use Rattle.tree.specs.declared.contract.Member.{Member}
 use Rattle.program.specs.declared.contract.Direction.TheVariants as direction
 use Rattle.syntax.proofs.Pieces.{Piece, Follows, Meets, ReadsOneWay, both, both_piece, next, via_piece, wide_way, or_left, or_right}

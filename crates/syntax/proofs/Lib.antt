@@ -23,6 +23,7 @@ pub mod StructRules
 pub mod OperatorRules
 pub mod Chains
 pub mod LevelRules
+pub mod AloneRules
 pub mod AtomRules
 pub mod ExpressionRules
 pub mod ExpressionFails

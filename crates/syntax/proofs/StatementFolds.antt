@@ -1,5 +1,5 @@
 -- What is made in memory, as a tree.
-use Rattle.std.proofs.Common.{◌≡◌, Option, Some, None, Vec, sym, ap, ◌∙◌, map}
+use Rattle.std.proofs.Common.{◌≡◌, Box, Option, Some, None, Vec, sym, ap, ◌∙◌, map}
 use Rattle.std.specs.Global.{Global}
 use Rattle.std.specs.Option.{option_map}
 use Rattle.source.specs.declared.token.Span.{Span}
@@ -16,28 +16,28 @@ use Rattle.tree.specs.declared.statement.Statement.TheFolds.{fold-roll-Statement
 pub made_block : (b : made.Block.Block) → statement_tree (variant.Block b) ≡ Block (block_tree b)
 made_block b = ap statement_tree (sym (variant.rolls-Block b)) ∙ fold-roll-Statement StatementTree BlockTree CaseTree IfTree SwitchTree TestTree statement_step block_step case_step if_step switch_step test_step (layer.Block b)
 
-pub made_declare : (d : made.Declare.Declare) → statement_tree (variant.Declare d) ≡ Declare (declare_tree d)
+pub made_declare : (d : Box made.Declare.Declare Global) → statement_tree (variant.Declare d) ≡ Declare (declare_tree d.value)
 made_declare d = ap statement_tree (sym (variant.rolls-Declare d)) ∙ fold-roll-Statement StatementTree BlockTree CaseTree IfTree SwitchTree TestTree statement_step block_step case_step if_step switch_step test_step (layer.Declare d)
 
-pub made_assign : (a : made.Assign.Assign) → statement_tree (variant.Assign a) ≡ Assign (assign_tree a)
+pub made_assign : (a : Box made.Assign.Assign Global) → statement_tree (variant.Assign a) ≡ Assign (assign_tree a.value)
 made_assign a = ap statement_tree (sym (variant.rolls-Assign a)) ∙ fold-roll-Statement StatementTree BlockTree CaseTree IfTree SwitchTree TestTree statement_step block_step case_step if_step switch_step test_step (layer.Assign a)
 
-pub made_call : (c : value.Call.Call) → statement_tree (variant.Call c) ≡ Call (call_tree c)
+pub made_call : (c : Box value.Call.Call Global) → statement_tree (variant.Call c) ≡ Call (call_tree c.value)
 made_call c = ap statement_tree (sym (variant.rolls-Call c)) ∙ fold-roll-Statement StatementTree BlockTree CaseTree IfTree SwitchTree TestTree statement_step block_step case_step if_step switch_step test_step (layer.Call c)
 
-pub made_start : (span : Span) (c : value.Call.Call) → statement_tree (variant.Start span c) ≡ Start span (call_tree c)
+pub made_start : (span : Span) (c : Box value.Call.Call Global) → statement_tree (variant.Start span c) ≡ Start span (call_tree c.value)
 made_start span c = ap statement_tree (sym (variant.rolls-Start span c)) ∙ fold-roll-Statement StatementTree BlockTree CaseTree IfTree SwitchTree TestTree statement_step block_step case_step if_step switch_step test_step (layer.Start span c)
 
 pub made_delete : (span : Span) → statement_tree (variant.Delete span) ≡ Delete span
 made_delete span = ap statement_tree (sym (variant.rolls-Delete span)) ∙ fold-roll-Statement StatementTree BlockTree CaseTree IfTree SwitchTree TestTree statement_step block_step case_step if_step switch_step test_step (layer.Delete span)
 
-pub made_new_channel : (n : made.NewChannel.NewChannel) → statement_tree (variant.NewChannel n) ≡ NewChannel n
+pub made_new_channel : (n : Box made.NewChannel.NewChannel Global) → statement_tree (variant.NewChannel n) ≡ NewChannel n.value
 made_new_channel n = ap statement_tree (sym (variant.rolls-NewChannel n)) ∙ fold-roll-Statement StatementTree BlockTree CaseTree IfTree SwitchTree TestTree statement_step block_step case_step if_step switch_step test_step (layer.NewChannel n)
 
-pub made_if : (i : made.If.If) → statement_tree (variant.If i) ≡ If (if_tree i).first (if_tree i).others
+pub made_if : (i : Box made.If.If Global) → statement_tree (variant.If i) ≡ If (if_tree i.value).first (if_tree i.value).others
 made_if i = ap statement_tree (sym (variant.rolls-If i)) ∙ fold-roll-Statement StatementTree BlockTree CaseTree IfTree SwitchTree TestTree statement_step block_step case_step if_step switch_step test_step (layer.If i)
 
-pub made_while : (t : made.Test.Test) → statement_tree (variant.While t) ≡ While (test_tree t)
+pub made_while : (t : Box made.Test.Test Global) → statement_tree (variant.While t) ≡ While (test_tree t.value)
 made_while t = ap statement_tree (sym (variant.rolls-While t)) ∙ fold-roll-Statement StatementTree BlockTree CaseTree IfTree SwitchTree TestTree statement_step block_step case_step if_step switch_step test_step (layer.While t)
 
 pub made_break : (span : Span) → statement_tree (variant.Break span) ≡ Break span
@@ -46,10 +46,10 @@ made_break span = ap statement_tree (sym (variant.rolls-Break span)) ∙ fold-ro
 pub made_continue : (span : Span) → statement_tree (variant.Continue span) ≡ Continue span
 made_continue span = ap statement_tree (sym (variant.rolls-Continue span)) ∙ fold-roll-Statement StatementTree BlockTree CaseTree IfTree SwitchTree TestTree statement_step block_step case_step if_step switch_step test_step (layer.Continue span)
 
-pub made_return : (span : Span) (e : Option Expression) → statement_tree (variant.Return span e) ≡ Return span (option_map expression_tree e)
+pub made_return : (span : Span) (e : Option (Box Expression Global)) → statement_tree (variant.Return span e) ≡ Return span (option_map (λ x. expression_tree x.value) e)
 made_return span e = ap statement_tree (sym (variant.rolls-Return span e)) ∙ fold-roll-Statement StatementTree BlockTree CaseTree IfTree SwitchTree TestTree statement_step block_step case_step if_step switch_step test_step (layer.Return span e)
 
-pub made_switch : (s : made.Switch.Switch) → statement_tree (variant.Switch s) ≡ Switch (switch_tree s).word (switch_tree s).first (case_row (switch_tree s).others) (switch_tree s).close
+pub made_switch : (s : Box made.Switch.Switch Global) → statement_tree (variant.Switch s) ≡ Switch (switch_tree s.value).word (switch_tree s.value).first (case_row (switch_tree s.value).others) (switch_tree s.value).close
 made_switch s = ap statement_tree (sym (variant.rolls-Switch s)) ∙ fold-roll-Statement StatementTree BlockTree CaseTree IfTree SwitchTree TestTree statement_step block_step case_step if_step switch_step test_step (layer.Switch s)
 
 -- a struct by its fields

@@ -10,21 +10,21 @@ ghost use Rattle.tree.specs.Operators.{Or, And, Equal, Compare, Add, Multiply, S
 ghost use Rattle.syntax.specs.OperatorReads.{joins, opens_prefix};
 ghost use Rattle.tree.specs.Expressions.{level, expression, step, atom, target, dot_name};
 ghost use Rattle.syntax.specs.ExpressionReads.{level_on, level_at, step_at, steps_end, atom_at, target_at, target_on, opens_expression};
-ghost use Rattle.tree.specs.ExpressionTrees.{expression_tree, conjunction_tree, equality_tree, equality_step_tree};
+ghost use Rattle.tree.specs.ExpressionTrees.{expression_tree, disjunction_tree, conjunction_tree, equality_tree, equality_step_tree};
 ghost use Rattle.tree.specs.ExpressionTrees.{relation_tree, relation_step_tree, sum_tree, sum_step_tree};
 ghost use Rattle.tree.specs.ExpressionTrees.{term_tree, unary_tree, atom_tree, target_tree, unmarked};
 
 use crate::cursor::{Cursor, Stuck};
 use crate::fitted::fitted;
 use crate::operators::{
-    equality_operator, is_equality, is_prefix, is_relation, is_sum, prefix, relation_operator,
-    sum_operator,
+    equality_operator, goes_on, is_equality, is_prefix, is_relation, is_sum, prefix,
+    relation_operator, sum_operator,
 };
 use source::{Kind, Span};
 use std::alloc::Global;
 use tree::{
-    Atom, Conjunction, Equality, EqualityStep, Expression, Prefix, Relation, RelationStep, Sum,
-    SumStep, Target, Term, Unary,
+    Atom, Conjunction, Disjunction, Equality, EqualityStep, Expression, Prefix, Relation,
+    RelationStep, Sum, SumStep, Target, Term, Unary,
 };
 
 /// Whether an expression begins with this token.
@@ -65,9 +65,27 @@ pub fn expression_from(
     ensures read { Reads expression_tree level (level_on (Joined Or)) level_at (level (unary_tree unary) ++ cursor.old) cursor.new result }
     ensures left { OnOk result (length cursor.new ≤ length cursor.old) }
 {
+    if unary.prefixes.is_empty() && !goes_on(cursor.peek()) {
+        return Ok(Expression::Atom(unary.atom));
+    }
+    let disjunction = disjunction_from(alloc, cursor, unary)?;
+    Ok(Expression::Joined(Box::new(alloc, disjunction)?))
+}
+
+/// The same with all levels between, as it is kept where operators stand in it.
+#[cycle(expression)]
+fn disjunction_from(
+    alloc: Global,
+    cursor: &mut Cursor<'_>,
+    unary: Unary,
+) -> Result<Disjunction, Stuck>
+    requires { Stops (level_at (unary_tree unary)) cursor.old }
+    ensures read { Reads disjunction_tree level (level_on (Joined Or)) level_at (level (unary_tree unary) ++ cursor.old) cursor.new result }
+    ensures left { OnOk result (length cursor.new ≤ length cursor.old) }
+{
     let first = conjunction_from(alloc, cursor, unary)?;
     let others = conjunctions(alloc, cursor)?;
-    Ok(Expression { first, others })
+    Ok(Disjunction { first, others })
 }
 
 /// { "||" conjunction }

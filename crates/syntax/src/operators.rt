@@ -3,7 +3,7 @@
 ghost use Rattle.std.specs.Prelude.{◌≡◌};
 ghost use Rattle.syntax.specs.Reading.{ReadsWord, ReadsRow, ReadsEnded};
 ghost use Rattle.tree.specs.Operators.{Or, And, Equal, Compare, Add, Multiply, prefix, equality_word, relation_word, sum_operator};
-ghost use Rattle.syntax.specs.OperatorReads.{joins, equality_of, relation_of, prefix_of, opens_prefix};
+ghost use Rattle.syntax.specs.OperatorReads.{after_expression, joins, equality_of, relation_of, prefix_of, opens_prefix};
 
 use crate::cursor::{Cursor, Stuck};
 use source::{Kind, Span};
@@ -25,6 +25,18 @@ pub fn is_equality(kind: Option<Kind>) -> bool
     ensures { result ≡ joins Equal kind }
 {
     equality_of(kind).is_some()
+}
+
+/// Whether an expression goes on with this token, behind its first atom.
+pub fn goes_on(kind: Option<Kind>) -> bool
+    ensures { result ≡ after_expression kind }
+{
+    matches!(
+        kind,
+        Some(Kind::Dot | Kind::OpenBracket | Kind::Star | Kind::AndAnd | Kind::OrOr)
+    ) || is_sum(kind)
+        || is_relation(kind)
+        || is_equality(kind)
 }
 
 /// "==" | "!="

@@ -36,10 +36,12 @@ pub fn simple_statement(
         Simple::Scalar => {
             let kind = Type::from(scalar_type(cursor)?);
             let (name, value) = declared(alloc, cursor)?;
-            Ok(Statement::Declare(Declare { kind, name, value }))
+            let declare = Box::new(alloc, Declare { kind, name, value })?;
+            Ok(Statement::Declare(declare))
         }
         Simple::Start => {
             let (word, call) = start(alloc, cursor)?;
+            let call = Box::new(alloc, call)?;
             Ok(Statement::Start { word, call })
         }
         Simple::Delete => Ok(Statement::Delete(delete(cursor)?)),
@@ -60,7 +62,8 @@ fn after_name(alloc: Global, cursor: &mut Cursor<'_>, first: Span) -> Result<Sta
         let bang = pointer_tail(cursor)?;
         let kind = Type::Heap(Heap::Pointer { name: first, bang });
         let (name, value) = declared(alloc, cursor)?;
-        Ok(Statement::Declare(Declare { kind, name, value }))
+        let declare = Box::new(alloc, Declare { kind, name, value })?;
+        Ok(Statement::Declare(declare))
     } else if cursor.take_if(Kind::Dot) {
         after_dot(alloc, cursor, first)
     } else {
@@ -76,12 +79,13 @@ fn after_variable(alloc: Global, cursor: &mut Cursor<'_>, first: Span) -> Result
 {
     if cursor.is_next(Kind::OpenParen) {
         let (open, arguments) = called(alloc, cursor)?;
-        Ok(Statement::Call(Call {
+        let call = Call {
             name: first,
             member: None,
             open,
             arguments,
-        }))
+        };
+        Ok(Statement::Call(Box::new(alloc, call)?))
     } else if cursor.is_next(Kind::OpenBracket) {
         let index = Box::new(alloc, read_index(alloc, cursor)?)?;
         let value = assigned(alloc, cursor)?;
@@ -89,11 +93,13 @@ fn after_variable(alloc: Global, cursor: &mut Cursor<'_>, first: Span) -> Result
             variable: first,
             index,
         };
-        Ok(Statement::Assign(Assign { target, value }))
+        let assign = Box::new(alloc, Assign { target, value })?;
+        Ok(Statement::Assign(assign))
     } else {
         let value = assigned(alloc, cursor)?;
         let target = Target::Variable(first);
-        Ok(Statement::Assign(Assign { target, value }))
+        let assign = Box::new(alloc, Assign { target, value })?;
+        Ok(Statement::Assign(assign))
     }
 }
 
@@ -112,16 +118,18 @@ fn after_dot(alloc: Global, cursor: &mut Cursor<'_>, first: Span) -> Result<Stat
             in_heap: end.in_heap,
         });
         let (name, value) = declared(alloc, cursor)?;
-        Ok(Statement::Declare(Declare { kind, name, value }))
+        let declare = Box::new(alloc, Declare { kind, name, value })?;
+        Ok(Statement::Declare(declare))
     } else if cursor.is_next(Kind::NewChannel) {
         let ends = channel_ends(cursor)?;
-        Ok(Statement::NewChannel(NewChannel {
+        let channel = NewChannel {
             contract: first,
             word: ends.word,
             open: ends.open,
             first: ends.first,
             second: ends.second,
-        }))
+        };
+        Ok(Statement::NewChannel(Box::new(alloc, channel)?))
     } else {
         let member = cursor.name()?;
         after_member(alloc, cursor, first, member)
@@ -140,18 +148,20 @@ fn after_member(
 {
     if cursor.is_next(Kind::OpenParen) {
         let (open, arguments) = called(alloc, cursor)?;
-        Ok(Statement::Call(Call {
+        let call = Call {
             name: first,
             member: Some(member),
             open,
             arguments,
-        }))
+        };
+        Ok(Statement::Call(Box::new(alloc, call)?))
     } else {
         let value = assigned(alloc, cursor)?;
         let target = Target::Field {
             variable: first,
             field: member,
         };
-        Ok(Statement::Assign(Assign { target, value }))
+        let assign = Box::new(alloc, Assign { target, value })?;
+        Ok(Statement::Assign(assign))
     }
 }

@@ -160,8 +160,8 @@ fn maybe_dot_name(cursor: &mut Cursor<'_>) -> Result<Option<Span>, Stuck>
 pub fn return_statement(
     alloc: Global,
     cursor: &mut Cursor<'_>,
-) -> Result<(Span, Option<Expression>), Stuck>
-    ensures { ReadsEnded (λ p. (p.0, option_map expression_tree p.1)) return_parts cursor.old cursor.new result }
+) -> Result<(Span, Option<Box<Expression>>), Stuck>
+    ensures { ReadsEnded (λ p. (p.0, option_map (λ e. expression_tree e.value) p.1)) return_parts cursor.old cursor.new result }
 {
     let word = cursor.placed(Kind::Return)?;
     let value = maybe_expression(alloc, cursor)?;
@@ -170,12 +170,15 @@ pub fn return_statement(
 }
 
 /// [ expression ]
-fn maybe_expression(alloc: Global, cursor: &mut Cursor<'_>) -> Result<Option<Expression>, Stuck>
-    ensures { Reads (option_map expression_tree) (optional expression) result_on
+fn maybe_expression(
+    alloc: Global,
+    cursor: &mut Cursor<'_>,
+) -> Result<Option<Box<Expression>>, Stuck>
+    ensures { Reads (option_map (λ e. expression_tree e.value)) (optional expression) result_on
         (optional_at (by_kind opens_expression) expression_at) cursor.old cursor.new result }
 {
     if is_expression(cursor.peek()) {
-        Ok(Some(read_expression(alloc, cursor)?))
+        Ok(Some(Box::new(alloc, read_expression(alloc, cursor)?)?))
     } else {
         Ok(None)
     }

@@ -41,9 +41,12 @@ fn statement(alloc: Global, cursor: &mut Cursor<'_>, lead: Lead) -> Result<State
 {
     match lead {
         Lead::Block => Ok(Statement::Block(block(alloc, cursor)?)),
-        Lead::If => Ok(Statement::If(if_statement(alloc, cursor)?)),
-        Lead::While => Ok(Statement::While(test(alloc, cursor, Kind::While)?)),
-        Lead::Switch => Ok(Statement::Switch(switch(alloc, cursor)?)),
+        Lead::If => Ok(Statement::If(Box::new(alloc, if_statement(alloc, cursor)?)?)),
+        Lead::While => {
+            let test = test(alloc, cursor, Kind::While)?;
+            Ok(Statement::While(Box::new(alloc, test)?))
+        }
+        Lead::Switch => Ok(Statement::Switch(Box::new(alloc, switch(alloc, cursor)?)?)),
         Lead::Simple(simple) => simple_statement(alloc, cursor, simple),
     }
 }

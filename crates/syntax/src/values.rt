@@ -49,7 +49,8 @@ fn named_value(alloc: Global, cursor: &mut Cursor<'_>, variable: Span) -> Result
     ensures { Reads value_tree value_spelling value_on value_at (name variable ++ cursor.old) cursor.new result }
 {
     if cursor.is_next(Kind::OpenParen) {
-        Ok(Value::Call(call_from(alloc, cursor, variable, None)?))
+        let call = call_from(alloc, cursor, variable, None)?;
+        Ok(Value::Call(Box::new(alloc, call)?))
     } else if cursor.is_next(Kind::Dot) {
         let member = dot_name(cursor)?;
         member_value(alloc, cursor, variable, member)
@@ -69,7 +70,8 @@ fn member_value(
     ensures { Reads value_tree value_spelling value_on value_at (name variable ++ (dot_name member ++ cursor.old)) cursor.new result }
 {
     if cursor.is_next(Kind::OpenParen) {
-        Ok(Value::Call(call_from(alloc, cursor, variable, Some(member))?))
+        let call = call_from(alloc, cursor, variable, Some(member))?;
+        Ok(Value::Call(Box::new(alloc, call)?))
     } else {
         let first = Target::Field {
             variable,
@@ -135,6 +137,7 @@ fn made(alloc: Global, cursor: &mut Cursor<'_>) -> Result<Made, Stuck>
         Ok(Made::Struct { name, open })
     } else {
         let (element, length) = made_array(alloc, cursor)?;
+        let length = Box::new(alloc, length)?;
         Ok(Made::Array { element, length })
     }
 }

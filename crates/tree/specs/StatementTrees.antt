@@ -109,18 +109,18 @@ assign_tree a = record { target = target_tree a.target; value = value_tree a.val
 
 abbrev pub statement_step : layer.Statement-F StatementTree BlockTree CaseTree IfTree SwitchTree TestTree → StatementTree
 statement_step (layer.Block b) = Block b
-statement_step (layer.Declare d) = Declare (declare_tree d)
-statement_step (layer.Assign a) = Assign (assign_tree a)
-statement_step (layer.Call c) = Call (call_tree c)
-statement_step (layer.Start word c) = Start word (call_tree c)
+statement_step (layer.Declare d) = Declare (declare_tree d.value)
+statement_step (layer.Assign a) = Assign (assign_tree a.value)
+statement_step (layer.Call c) = Call (call_tree c.value)
+statement_step (layer.Start word c) = Start word (call_tree c.value)
 statement_step (layer.Delete name) = Delete name
-statement_step (layer.NewChannel n) = NewChannel n
-statement_step (layer.If i) = If i.first i.others
-statement_step (layer.While t) = While t
+statement_step (layer.NewChannel n) = NewChannel n.value
+statement_step (layer.If i) = If i.value.first i.value.others
+statement_step (layer.While t) = While t.value
 statement_step (layer.Break word) = Break word
 statement_step (layer.Continue word) = Continue word
-statement_step (layer.Return word value) = Return word (option_map expression_tree value)
-statement_step (layer.Switch s) = Switch s.word s.first (case_row s.others) s.close
+statement_step (layer.Return word value) = Return word (option_map (λ e. expression_tree e.value) value)
+statement_step (layer.Switch s) = Switch s.value.word s.value.first (case_row s.value.others) s.value.close
 
 abbrev pub block_step : layer.Block-F StatementTree BlockTree CaseTree IfTree SwitchTree TestTree → BlockTree
 block_step b = Braces (statement_row b.statements.items) b.close

@@ -42,7 +42,7 @@ call_tree c = record { name = c.name; member = c.member; open_paren = c.open; ar
 -- what is made, in memory, as a tree
 abbrev pub made_tree : values.Made.Made → MadeTree
 made_tree (made.Struct name left) = Struct name left
-made_tree (made.Array element length) = Array element (expression_tree length)
+made_tree (made.Array element length) = Array element (expression_tree length.value)
 
 -- what makes it, in memory, as a tree
 abbrev pub new_tree : values.New.New → NewTree
@@ -51,7 +51,7 @@ new_tree n = record { word = n.word; made = made_tree n.made }
 -- a value in memory, as a tree
 abbrev pub value_tree : values.Value.Value → ValueTree
 value_tree (value.Expression e) = Expression (expression_tree e)
-value_tree (value.Call c) = Call (call_tree c)
+value_tree (value.Call c) = Call (call_tree c.value)
 value_tree (value.New n) = New (new_tree n)
 
 -- arguments = "(" [ expression { "," expression } ] ")" .

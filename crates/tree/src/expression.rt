@@ -3,9 +3,19 @@
 use source::Span;
 
 /// expression = conjunction { "||" conjunction } .
+///
+/// Most expressions are an atom with no operator. Such a one is kept without the levels between, which takes a quarter of the memory.
 #[derive(Drop)]
 #[cycle(expression)]
-pub struct Expression {
+pub enum Expression {
+    Atom(Atom),
+    Joined(Box<Disjunction>),
+}
+
+/// conjunction { "||" conjunction }
+#[derive(Drop)]
+#[cycle(expression)]
+pub struct Disjunction {
     pub first: Conjunction,
     pub others: Vec<Conjunction>,
 }

@@ -12,7 +12,7 @@ mod value;
 pub use class::{Class, Field, Method, Parameter, Struct};
 pub use contract::{Contract, Edge, Member, Message, Param, Path, State, StateBody};
 pub use expression::{
-    Atom, Conjunction, Equality, EqualityOperator, EqualityStep, Expression, Prefix,
+    Atom, Conjunction, Disjunction, Equality, EqualityOperator, EqualityStep, Expression, Prefix,
     PrefixOperator, Relation, RelationOperator, RelationStep, Sum, SumOperator, SumStep, Target,
     Term, Unary,
 };

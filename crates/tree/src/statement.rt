@@ -13,26 +13,27 @@ pub struct Block {
     pub close: Span,
 }
 
-/// A word, as `break` or `return`, is kept by where it lies.
+/// A word, as `break` or `return`, is kept by where it lies. What is larger than a block stands in a box, so that a list of statements
+/// takes little for each.
 #[cycle(statement)]
 #[derive(Drop)]
 pub enum Statement {
     Block(Block),
-    Declare(Declare),
-    Assign(Assign),
+    Declare(Box<Declare>),
+    Assign(Box<Assign>),
     /// call ";" .
-    Call(Call),
+    Call(Box<Call>),
     /// "start" call ";" .
     Start {
         word: Span,
-        call: Call,
+        call: Box<Call>,
     },
     /// "delete" ID ";" .
     Delete(Span),
-    NewChannel(NewChannel),
-    If(If),
+    NewChannel(Box<NewChannel>),
+    If(Box<If>),
     /// "while" "(" expression ")" block .
-    While(Test),
+    While(Box<Test>),
     /// "break" ";" .
     Break(Span),
     /// "continue" ";" .
@@ -40,9 +41,9 @@ pub enum Statement {
     /// "return" [ expression ] ";" .
     Return {
         word: Span,
-        value: Option<Expression>,
+        value: Option<Box<Expression>>,
     },
-    Switch(Switch),
+    Switch(Box<Switch>),
 }
 
 /// declare = type ID [ "=" value ] ";" .

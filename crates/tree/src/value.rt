@@ -8,7 +8,7 @@ use source::Span;
 #[derive(Drop)]
 pub enum Value {
     Expression(Expression),
-    Call(Call),
+    Call(Box<Call>),
     New(New),
 }
 
@@ -31,6 +31,12 @@ pub struct New {
 /// made = ID "(" ")" | scalar "[" expression "]" .
 #[derive(Drop)]
 pub enum Made {
-    Struct { name: Span, open: Span },
-    Array { element: Scalar, length: Expression },
+    Struct {
+        name: Span,
+        open: Span,
+    },
+    Array {
+        element: Scalar,
+        length: Box<Expression>,
+    },
 }

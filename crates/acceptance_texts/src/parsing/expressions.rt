@@ -182,7 +182,9 @@ fn operators_by_level(rt: HostRuntime) -> Result<(), Fail> {
     let text = format!(in rt.alloc(); "{FRONT}a + b * c - d < e && f ; }} }}")?;
     let tokens = tokens_of(rt.alloc(), text.as_str())?;
     let tree = parse(rt.alloc(), &tokens)?;
-    let read = assigned(&tree)?;
+    let Expression::Joined(read) = assigned(&tree)? else {
+        return Err(Fail::from("no operators"));
+    };
     assert_eq!(rt; read.others.len(), 0);
     assert_eq!(rt; read.first.others.len(), 1);
     let relation = &read.first.first.first;
@@ -194,5 +196,22 @@ fn operators_by_level(rt: HostRuntime) -> Result<(), Fail> {
     assert_eq!(rt; sum.others[0].term.others.len(), 1);
     assert!(rt; sum.others[1].operator != SumOperator::Plus);
     assert_eq!(rt; sum.others[1].term.others.len(), 0);
+    Ok(())
+}
+
+#[test]
+fn atom_with_no_operator(rt: HostRuntime) -> Result<(), Fail> {
+    for (value, alone) in [
+        ("a", true),
+        ("( a + b )", true),
+        ("! a", false),
+        ("a * b", false),
+    ] {
+        let text = format!(in rt.alloc(); "{FRONT}{value} ; }} }}")?;
+        let tokens = tokens_of(rt.alloc(), text.as_str())?;
+        let tree = parse(rt.alloc(), &tokens)?;
+        let kept_alone = matches!(assigned(&tree)?, Expression::Atom(_));
+        assert_eq!(rt; kept_alone, alone);
+    }
     Ok(())
 }

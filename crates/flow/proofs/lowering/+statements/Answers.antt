@@ -29,7 +29,7 @@ pub lay_statement-returns-in-Switch : goal.lay_statement-returns-in-Switch
 lay_statement-returns-in-Switch t c =
     let exits = c.args.exits in
     IfOk-weaker c.lay_switch.result _ _ (λ entry h. subst (λ s. Grew c.args.instructions.now.items c.lay_switch.new.instructions.items entry (statement s exits.end exits.again (length c.args.instructions.now.items) c.args.next))
-    (ap (λ l. Switch c.in-Switch.place (case_row (map case_seen l))) c.deref.ensures.value ∙ sym (ap statement_seen c.in-Switch.is ∙ switch_seen c.in-Switch.place c.in-Switch.cases)) (h exits.end)) c.lay_switch.ensures
+    (ap (λ l. Switch c.in-Switch.place (case_row (map case_seen l))) c.deref-in-Switch.ensures.value ∙ sym (ap statement_seen c.in-Switch.is ∙ switch_seen c.in-Switch.place c.in-Switch.cases)) (h exits.end)) c.lay_switch.ensures
 
 pub lay_switch-loop-case-preserved : goal.lay_switch-loop-case-preserved
 lay_switch-loop-case-preserved t c =

@@ -1,26 +1,26 @@
 use Rattle.tree.specs.Operators.{Or, And, Equal, Compare, Add, Multiply}
-use Rattle.tree.specs.ExpressionTrees.{unmarked, expression_tree, conjunction_tree, equality_tree, equality_step_tree, relation_tree, relation_step_tree, sum_tree, sum_step_tree, term_tree, unary_tree, atom_tree}
+use Rattle.tree.specs.ExpressionTrees.{unmarked, disjunction_tree, conjunction_tree, equality_tree, equality_step_tree, relation_tree, relation_step_tree, sum_tree, sum_step_tree, term_tree, unary_tree, atom_tree}
 use Rattle.tree.specs.declared.expression.Conjunction as conjunctions
+use Rattle.tree.specs.declared.expression.Disjunction as disjunctions
 use Rattle.tree.specs.declared.expression.Equality as equalitys
-use Rattle.tree.specs.declared.expression.Expression as expressions
 use Rattle.tree.specs.declared.expression.Relation as relations
 use Rattle.tree.specs.declared.expression.Sum as sums
 use Rattle.tree.specs.declared.expression.Term as terms
 use Rattle.tree.specs.declared.expression.Unary as unarys
 use Rattle.names.specs.Shapes.{shape}
 use Rattle.names.proofs.ExpressionNames.{judges_more, judges_all, judges_step, judges_signed}
-use Rattle.names.proofs.ExpressionTwins.{expression_seen, conjunction_seen, equality_seen, equality_step_seen, relation_seen, relation_step_seen, sum_seen, sum_step_seen, term_seen, unary_seen}
+use Rattle.names.proofs.ExpressionTwins.{disjunction_seen, conjunction_seen, equality_seen, equality_step_seen, relation_seen, relation_step_seen, sum_seen, sum_step_seen, term_seen, unary_seen}
 use Rattle.names.proofs.expressions.+expressions.Goals as goal
 
-pub judge_operand-each-preserved : goal.judge_operand-each-preserved
-judge_operand-each-preserved t c =
-    judges_more Or (unmarked conjunction_tree) (shape (conjunction_tree (expressions.out-Expression c.args.expression.now).first)) c.deref-conjunction-items.result.now c.each.conjunction-index c.conjunction-item.result c.each-test.true c.conjunction-item.is
+pub judge_disjunction-each-preserved : goal.judge_disjunction-each-preserved
+judge_disjunction-each-preserved t c =
+    judges_more Or (unmarked conjunction_tree) (shape (conjunction_tree (disjunctions.out-Disjunction c.args.disjunction.now).first)) c.deref-conjunction-items.result.now c.each.conjunction-index c.conjunction-item.result c.each-test.true c.conjunction-item.is
     c.each.invariant c.in_ok-right.ensures c.in_ok-left-2.ensures
 
-pub judge_operand-returns : goal.judge_operand-returns
-judge_operand-returns t c =
-    let e = c.args.expression.now in
-    judges_all Or (unmarked conjunction_tree) (conjunction_tree (expressions.out-Expression e).first) c.deref-conjunction-items.result.now (expressions.out-Expression e).others.items c.each.conjunction-index (expression_tree e) c.each-test.false c.deref-conjunction-items.ensures.value (expression_seen e) c.each.invariant
+pub judge_disjunction-returns : goal.judge_disjunction-returns
+judge_disjunction-returns t c =
+    let e = c.args.disjunction.now in
+    judges_all Or (unmarked conjunction_tree) (conjunction_tree (disjunctions.out-Disjunction e).first) c.deref-conjunction-items.result.now (disjunctions.out-Disjunction e).others.items c.each.conjunction-index (disjunction_tree e) c.each-test.false c.deref-conjunction-items.ensures.value (disjunction_seen e) c.each.invariant
 
 pub judge_conjunction-each-preserved : goal.judge_conjunction-each-preserved
 judge_conjunction-each-preserved t c =

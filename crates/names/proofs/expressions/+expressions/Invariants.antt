@@ -1,8 +1,8 @@
 use Rattle.tree.specs.Operators.{Or, And, Equal, Compare, Add, Multiply}
 use Rattle.tree.specs.ExpressionTrees.{unmarked, conjunction_tree, equality_tree, equality_step_tree, relation_tree, relation_step_tree, sum_tree, sum_step_tree, term_tree, unary_tree}
 use Rattle.tree.specs.declared.expression.Conjunction as conjunctions
+use Rattle.tree.specs.declared.expression.Disjunction as disjunctions
 use Rattle.tree.specs.declared.expression.Equality as equalitys
-use Rattle.tree.specs.declared.expression.Expression as expressions
 use Rattle.tree.specs.declared.expression.Relation as relations
 use Rattle.tree.specs.declared.expression.Sum as sums
 use Rattle.tree.specs.declared.expression.Term as terms
@@ -11,9 +11,9 @@ use Rattle.names.specs.Shapes.{shape}
 use Rattle.names.proofs.ExpressionNames.{chain_to}
 use Rattle.names.proofs.expressions.+expressions.Given as goal
 
-abbrev pub invariant-judge_operand-each : goal.invariant-judge_operand-each
-invariant-judge_operand-each l =
-    Judges l.scope l.variables (chain_to Or (unmarked conjunction_tree) (shape (conjunction_tree (expressions.out-Expression l.expression).first)) l.conjunction-items l.conjunction-index) l.fn.found.items l.found.items l.left
+abbrev pub invariant-judge_disjunction-each : goal.invariant-judge_disjunction-each
+invariant-judge_disjunction-each l =
+    Judges l.scope l.variables (chain_to Or (unmarked conjunction_tree) (shape (conjunction_tree (disjunctions.out-Disjunction l.disjunction).first)) l.conjunction-items l.conjunction-index) l.fn.found.items l.found.items l.left
 
 abbrev pub invariant-judge_conjunction-each : goal.invariant-judge_conjunction-each
 invariant-judge_conjunction-each l =

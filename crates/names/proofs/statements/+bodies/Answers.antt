@@ -3,10 +3,10 @@ use Rattle.std.specs.Prelude.{OnOk}
 use Rattle.std.specs.Option.{option_map}
 use Rattle.std.proofs.lemmas.List.{length-map}
 use Rattle.tree.specs.ExpressionTrees.{expression_tree}
-use Rattle.tree.specs.StatementTrees.{statement_tree, statement_row, block_tree, if_tree, case_tree, assign_tree, case_row, switch_tree, CaseTree, SwitchTree}
+use Rattle.tree.specs.StatementTrees.{statement_tree, statement_row, block_tree, if_tree, case_tree, declare_tree, assign_tree, case_row, switch_tree, CaseTree, SwitchTree}
 use Rattle.tree.specs.Values.{call_tree}
 use Rattle.tree.specs.declared.statement as made
-use Rattle.names.specs.Bodies.{inside_of, scope_in, statement_turn, statements_turn, block_turn, test_turn, others_turn, case_turn, cases_turn, head_of, outside, delete_findings, channel_findings, return_findings}
+use Rattle.names.specs.Bodies.{inside_of, scope_in, declaration_turn, statement_turn, statements_turn, block_turn, test_turn, others_turn, case_turn, cases_turn, head_of, outside, delete_findings, channel_findings, return_findings}
 use Rattle.names.specs.Cases.{binds_turn, awaited_message, bound_params}
 use Rattle.names.specs.Expressions.{meant, held, truth_findings}
 use Rattle.names.specs.Found.{Adds}
@@ -90,7 +90,7 @@ judge_statement-returns-in-Declare t c = λ m f around frame.
     let old = c.args.found.now.items in
     let new = c.judge_declare.new.found.items in
     subst (λ x. OnOk result (Turned text old new c.judge_declare.new.variables (statement_turn m x f))) (sym (ap statement_tree c.in-Declare.is ∙ of_declare c.in-Declare.declare))
-    (c.judge_declare.ensures m f around frame)
+    (subst (λ d. OnOk result (Turned text old new c.judge_declare.new.variables (declaration_turn m (declare_tree d) f))) c.deref.ensures (c.judge_declare.ensures m f around frame))
 
 pub judge_statement-returns-in-Assign : goal.judge_statement-returns-in-Assign
 judge_statement-returns-in-Assign t c = λ m f around frame.
@@ -100,7 +100,7 @@ judge_statement-returns-in-Assign t c = λ m f around frame.
     let new = c.judge_assign.new.found.items in
     let v = c.args.variables.now in
     subst (λ x. OnOk result (Turned text old new v (statement_turn m x f))) (sym (ap statement_tree c.in-Assign.is ∙ of_assign c.in-Assign.assign))
-    (on_stays result text old new v (target_findings (scope_in m f) (assign_tree c.in-Assign.assign).target ++ value_findings (inside_of m f) (target_kind (scope_in m f) (assign_tree c.in-Assign.assign).target) (assign_tree c.in-Assign.assign).value) f frame (c.judge_assign.ensures m f around frame))
+    (on_stays result text old new v (target_findings (scope_in m f) (assign_tree c.in-Assign.assign.value).target ++ value_findings (inside_of m f) (target_kind (scope_in m f) (assign_tree c.in-Assign.assign.value).target) (assign_tree c.in-Assign.assign.value).value) f frame (subst (λ a. OnOk result (Adds old new (target_findings (scope_in m f) (assign_tree a).target ++ value_findings (inside_of m f) (target_kind (scope_in m f) (assign_tree a).target) (assign_tree a).value))) c.deref-in-Assign.ensures (c.judge_assign.ensures m f around frame)))
 
 pub judge_statement-returns-in-Call : goal.judge_statement-returns-in-Call
 judge_statement-returns-in-Call t c = λ m f around frame.
@@ -110,7 +110,7 @@ judge_statement-returns-in-Call t c = λ m f around frame.
     let new = c.judge_call.new.found.items in
     let v = c.args.variables.now in
     subst (λ x. OnOk result (Turned text old new v (statement_turn m x f))) (sym (ap statement_tree c.in-Call.is ∙ of_call c.in-Call.call))
-    (on_stays result text old new v (call_findings (inside_of m f) Alone (call_tree c.in-Call.call)) f frame (c.judge_call.ensures m f around frame))
+    (on_stays result text old new v (call_findings (inside_of m f) Alone (call_tree c.in-Call.call.value)) f frame (subst (λ x. OnOk result (Adds old new (call_findings (inside_of m f) Alone (call_tree x)))) c.deref-in-Call.ensures (c.judge_call.ensures m f around frame)))
 
 pub judge_statement-returns-in-Start : goal.judge_statement-returns-in-Start
 judge_statement-returns-in-Start t c = λ m f around frame.
@@ -120,7 +120,7 @@ judge_statement-returns-in-Start t c = λ m f around frame.
     let new = c.judge_call-in-Start.new.found.items in
     let v = c.args.variables.now in
     subst (λ x. OnOk result (Turned text old new v (statement_turn m x f))) (sym (ap statement_tree c.in-Start.is ∙ of_start _ c.in-Start.call))
-    (on_stays result text old new v (call_findings (inside_of m f) Started (call_tree c.in-Start.call)) f frame (c.judge_call-in-Start.ensures m f around frame))
+    (on_stays result text old new v (call_findings (inside_of m f) Started (call_tree c.in-Start.call.value)) f frame (subst (λ x. OnOk result (Adds old new (call_findings (inside_of m f) Started (call_tree x)))) c.deref-in-Start.ensures (c.judge_call-in-Start.ensures m f around frame)))
 
 pub judge_statement-returns-in-Delete : goal.judge_statement-returns-in-Delete
 judge_statement-returns-in-Delete t c = λ m f around frame.
@@ -140,7 +140,7 @@ judge_statement-returns-in-NewChannel t c = λ m f around frame.
     let new = c.judge_channel.new.found.items in
     let v = c.args.variables.now in
     subst (λ x. OnOk result (Turned text old new v (statement_turn m x f))) (sym (ap statement_tree c.in-NewChannel.is ∙ of_channel c.in-NewChannel.channel))
-    (on_stays result text old new v (channel_findings (scope_in m f) c.in-NewChannel.channel.contract c.in-NewChannel.channel.first c.in-NewChannel.channel.second) f frame (c.judge_channel.ensures m.program f around.scope frame))
+    (on_stays result text old new v (channel_findings (scope_in m f) c.in-NewChannel.channel.value.contract c.in-NewChannel.channel.value.first c.in-NewChannel.channel.value.second) f frame (subst (λ (n : made.NewChannel.NewChannel). OnOk result (Adds old new (channel_findings (scope_in m f) n.contract n.first n.second))) c.deref-in-NewChannel.ensures (c.judge_channel.ensures m.program f around.scope frame)))
 
 pub judge_statement-returns-in-Break : goal.judge_statement-returns-in-Break
 judge_statement-returns-in-Break t c = λ m f around frame.
@@ -170,7 +170,7 @@ judge_statement-returns-in-Return t c = λ m f around frame.
     let new = c.judge_return.new.found.items in
     let v = c.args.variables.now in
     subst (λ x. OnOk result (Turned text old new v (statement_turn m x f))) (sym (ap statement_tree c.in-Return.is ∙ of_return c.in-Return.word c.in-Return.value))
-    (on_stays result text old new v (return_findings (scope_in m f) m.result c.in-Return.word (option_map expression_tree c.in-Return.value)) f frame (subst (λ o. OnOk result (Adds old new (return_findings (scope_in m f) o c.in-Return.word (option_map expression_tree c.in-Return.value)))) around.result (c.judge_return.ensures m.program f around.scope frame)))
+    (on_stays result text old new v (return_findings (scope_in m f) m.result c.in-Return.word (option_map (λ e. expression_tree e.value) c.in-Return.value)) f frame (subst (λ o. OnOk result (Adds old new (return_findings (scope_in m f) o c.in-Return.word (option_map (λ e. expression_tree e.value) c.in-Return.value)))) around.result (c.judge_return.ensures m.program f around.scope frame)))
 
 pub judge_switch-loop-place-init : goal.judge_switch-loop-place-init
 judge_switch-loop-place-init t c = λ m f around frame.

@@ -2,10 +2,11 @@ use Rattle.std.proofs.Common.{[], sym, ap, ◌∙◌, option_map}
 use Rattle.tree.specs.ExpressionTrees.{expression_tree, target_tree}
 use Rattle.tree.specs.StatementTrees.{statement_tree}
 use Rattle.tree.specs.Values.{call_tree, value_tree}
+use Rattle.tree.specs.declared.statement as made
 use Rattle.resolving.specs.Around.{program_in}
 use Rattle.resolving.specs.Kinds.{type_held}
 use Rattle.resolving.specs.Locals.{next_number}
-use Rattle.resolving.specs.Plain.{told, stated_call, started, first_value, written, returned, plain_told}
+use Rattle.resolving.specs.Plain.{told, stated_call, started, first_value, written, channel, returned, plain_told}
 use Rattle.resolving.proofs.StatementTwins.{of_declare, of_assign, of_call, of_start, of_channel, of_return}
 use Rattle.resolving.proofs.PlainLemmas.{told_as}
 use Rattle.resolving.proofs.plain.tell_plain.Goals as goal
@@ -15,8 +16,8 @@ returns-in-Declare c = λ items own around.
     let p = program_in c.args.tokens.now.text.items items in
     let text = c.args.tokens.now.text.items in
     let locals = c.args.locals.now in
-    told_as text locals c.tell_declare.result (λ f. first_value p own f c.in-Declare.declare.name (next_number (type_held p c.in-Declare.declare.kind) f) (option_map value_tree c.in-Declare.declare.value)) (λ f. plain_told p own f (statement_tree c.args.statement.now))
-    (λ f frame. ap (plain_told p own f) (sym (ap statement_tree c.in-Declare.is ∙ of_declare c.in-Declare.declare)))
+    told_as text locals c.tell_declare.result (λ f. first_value p own f c.deref.result.now.name (next_number (type_held p c.deref.result.now.kind) f) (option_map value_tree c.deref.result.now.value)) (λ f. plain_told p own f (statement_tree c.args.statement.now))
+    (λ f frame. ap (λ (d : made.Declare.Declare). first_value p own f d.name (next_number (type_held p d.kind) f) (option_map value_tree d.value)) c.deref.ensures ∙ ap (plain_told p own f) (sym (ap statement_tree c.in-Declare.is ∙ of_declare c.in-Declare.declare)))
     (c.tell_declare.ensures items own around)
 
 pub returns-in-Assign : goal.returns-in-Assign
@@ -24,8 +25,10 @@ returns-in-Assign c = λ items own around.
     let p = program_in c.args.tokens.now.text.items items in
     let text = c.args.tokens.now.text.items in
     let locals = c.args.locals.now in
-    told_as text locals c.tell_assign.result (λ f. written p own f (target_tree c.in-Assign.assign.target) (value_tree c.in-Assign.assign.value)) (λ f. plain_told p own f (statement_tree c.args.statement.now))
-    (λ f frame. ap (plain_told p own f) (sym (ap statement_tree c.in-Assign.is ∙ of_assign c.in-Assign.assign)))
+    told_as text locals c.tell_assign.result (λ f. written p own f (target_tree c.deref-in-Assign.result.now.target) (value_tree c.deref-in-Assign-2.result.now.value)) (λ f. plain_told p own f (statement_tree c.args.statement.now))
+    (λ f frame. ap (λ (a : made.Assign.Assign). written p own f (target_tree a.target) (value_tree c.deref-in-Assign-2.result.now.value)) c.deref-in-Assign.ensures
+    ∙ ap (λ (a : made.Assign.Assign). written p own f (target_tree c.in-Assign.assign.value.target) (value_tree a.value)) c.deref-in-Assign-2.ensures
+    ∙ ap (plain_told p own f) (sym (ap statement_tree c.in-Assign.is ∙ of_assign c.in-Assign.assign)))
     (c.tell_assign.ensures items own around)
 
 pub returns-in-Call : goal.returns-in-Call
@@ -33,8 +36,8 @@ returns-in-Call c = λ items own around.
     let p = program_in c.args.tokens.now.text.items items in
     let text = c.args.tokens.now.text.items in
     let locals = c.args.locals.now in
-    told_as text locals c.tell_stated.result (λ f. stated_call p own f (call_tree c.in-Call.call)) (λ f. plain_told p own f (statement_tree c.args.statement.now))
-    (λ f frame. ap (plain_told p own f) (sym (ap statement_tree c.in-Call.is ∙ of_call c.in-Call.call)))
+    told_as text locals c.tell_stated.result (λ f. stated_call p own f (call_tree c.deref-in-Call.result.now)) (λ f. plain_told p own f (statement_tree c.args.statement.now))
+    (λ f frame. ap (λ x. stated_call p own f (call_tree x)) c.deref-in-Call.ensures ∙ ap (plain_told p own f) (sym (ap statement_tree c.in-Call.is ∙ of_call c.in-Call.call)))
     (c.tell_stated.ensures items own around)
 
 pub returns-in-Start : goal.returns-in-Start
@@ -42,15 +45,15 @@ returns-in-Start c = λ items own around.
     let p = program_in c.args.tokens.now.text.items items in
     let text = c.args.tokens.now.text.items in
     let locals = c.args.locals.now in
-    told_as text locals c.tell_start.result (λ f. started p own f (call_tree c.in-Start.call)) (λ f. plain_told p own f (statement_tree c.args.statement.now))
-    (λ f frame. ap (plain_told p own f) (sym (ap statement_tree c.in-Start.is ∙ of_start c.in-Start.word c.in-Start.call)))
+    told_as text locals c.tell_start.result (λ f. started p own f (call_tree c.deref-in-Start.result.now)) (λ f. plain_told p own f (statement_tree c.args.statement.now))
+    (λ f frame. ap (λ x. started p own f (call_tree x)) c.deref-in-Start.ensures ∙ ap (plain_told p own f) (sym (ap statement_tree c.in-Start.is ∙ of_start c.in-Start.word c.in-Start.call)))
     (c.tell_start.ensures items own around)
 
 pub returns-in-NewChannel : goal.returns-in-NewChannel
 returns-in-NewChannel c = λ items own around. record {
   all = λ f frame.
       let p = program_in c.args.tokens.now.text.items items in
-      c.unread-in-NewChannel.ensures ∙ ap (told []) (c.channel_action.ensures items own f around frame) ∙ ap (plain_told p own f) (sym (ap statement_tree c.in-NewChannel.is ∙ of_channel c.in-NewChannel.channel));
+      c.unread-in-NewChannel.ensures ∙ ap (told []) (c.channel_action.ensures items own f around frame) ∙ ap (λ n. told [] (channel p own f n)) c.deref-in-NewChannel.ensures ∙ ap (plain_told p own f) (sym (ap statement_tree c.in-NewChannel.is ∙ of_channel c.in-NewChannel.channel));
 }
 
 pub returns-in-Return : goal.returns-in-Return
@@ -58,6 +61,6 @@ returns-in-Return c = λ items own around.
     let p = program_in c.args.tokens.now.text.items items in
     let text = c.args.tokens.now.text.items in
     let locals = c.args.locals.now in
-    told_as text locals c.tell_return.result (λ f. returned p own f c.in-Return.word.place (option_map expression_tree c.in-Return.value)) (λ f. plain_told p own f (statement_tree c.args.statement.now))
+    told_as text locals c.tell_return.result (λ f. returned p own f c.in-Return.word.place (option_map (λ e. expression_tree e.value) c.in-Return.value)) (λ f. plain_told p own f (statement_tree c.args.statement.now))
     (λ f frame. ap (plain_told p own f) (sym (ap statement_tree c.in-Return.is ∙ of_return c.in-Return.word c.in-Return.value)))
     (c.tell_return.ensures items own)

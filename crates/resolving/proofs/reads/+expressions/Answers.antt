@@ -1,31 +1,31 @@
 use Rattle.std.proofs.Common.{refl, ap}
 use Rattle.tree.specs.Operators.{Or, And, Equal, Compare, Add, Multiply}
 use Rattle.tree.specs.Expressions.{StepOf}
-use Rattle.tree.specs.ExpressionTrees.{unmarked, expression_tree, conjunction_tree, equality_tree, equality_step_tree, relation_tree, relation_step_tree, sum_tree, sum_step_tree, term_tree, unary_tree}
+use Rattle.tree.specs.ExpressionTrees.{unmarked, disjunction_tree, conjunction_tree, equality_tree, equality_step_tree, relation_tree, relation_step_tree, sum_tree, sum_step_tree, term_tree, unary_tree}
 use Rattle.tree.specs.declared.expression.Conjunction as conjunctions
+use Rattle.tree.specs.declared.expression.Disjunction as disjunctions
 use Rattle.tree.specs.declared.expression.Equality as equalitys
 use Rattle.tree.specs.declared.expression.EqualityStep as equality_steps
-use Rattle.tree.specs.declared.expression.Expression as expressions
 use Rattle.tree.specs.declared.expression.Relation as relations
 use Rattle.tree.specs.declared.expression.RelationStep as relation_steps
 use Rattle.tree.specs.declared.expression.Sum as sums
 use Rattle.tree.specs.declared.expression.SumStep as sum_steps
 use Rattle.tree.specs.declared.expression.Term as terms
-use Rattle.resolving.proofs.ExpressionTwins.{expression_seen, conjunction_seen, equality_seen, equality_step_seen, relation_seen, relation_step_seen, sum_seen, sum_step_seen, term_seen}
+use Rattle.resolving.proofs.ExpressionTwins.{disjunction_seen, conjunction_seen, equality_seen, equality_step_seen, relation_seen, relation_step_seen, sum_seen, sum_step_seen, term_seen}
 use Rattle.resolving.proofs.ReadLemmas.{reads_first, reads_more, reads_all}
 use Rattle.resolving.proofs.reads.+expressions.Goals as goal
 
-pub add_reads-each-init : goal.add_reads-each-init
-add_reads-each-init t c = reads_first c.args.tokens.now.text.items Or (unmarked conjunction_tree) (conjunction_tree (expressions.out-Expression c.args.expression.now).first) c.deref-conjunction-items.result.now c.in_ok-add_conjunction.ensures
+pub add_disjunction-each-init : goal.add_disjunction-each-init
+add_disjunction-each-init t c = reads_first c.args.tokens.now.text.items Or (unmarked conjunction_tree) (conjunction_tree (disjunctions.out-Disjunction c.args.disjunction.now).first) c.deref-conjunction-items.result.now c.in_ok-add_conjunction.ensures
 
-pub add_reads-each-preserved : goal.add_reads-each-preserved
-add_reads-each-preserved t c =
-    reads_more c.args.tokens.now.text.items Or (unmarked conjunction_tree) (conjunction_tree (expressions.out-Expression c.args.expression.now).first) c.deref-conjunction-items.result.now c.each.conjunction-index c.conjunction-item.result (conjunction_tree c.conjunction-item.result) c.each-test.true c.conjunction-item.is refl c.each.invariant c.in_ok-add_conjunction-2.ensures
+pub add_disjunction-each-preserved : goal.add_disjunction-each-preserved
+add_disjunction-each-preserved t c =
+    reads_more c.args.tokens.now.text.items Or (unmarked conjunction_tree) (conjunction_tree (disjunctions.out-Disjunction c.args.disjunction.now).first) c.deref-conjunction-items.result.now c.each.conjunction-index c.conjunction-item.result (conjunction_tree c.conjunction-item.result) c.each-test.true c.conjunction-item.is refl c.each.invariant c.in_ok-add_conjunction-2.ensures
 
-pub add_reads-returns : goal.add_reads-returns
-add_reads-returns t c =
-    let e = c.args.expression.now in
-    reads_all c.args.tokens.now.text.items Or (unmarked conjunction_tree) (conjunction_tree (expressions.out-Expression e).first) c.deref-conjunction-items.result.now (expressions.out-Expression e).others.items c.each.conjunction-index (expression_tree e) c.each-test.false c.deref-conjunction-items.ensures.value (expression_seen e) c.each.invariant
+pub add_disjunction-returns : goal.add_disjunction-returns
+add_disjunction-returns t c =
+    let e = c.args.disjunction.now in
+    reads_all c.args.tokens.now.text.items Or (unmarked conjunction_tree) (conjunction_tree (disjunctions.out-Disjunction e).first) c.deref-conjunction-items.result.now (disjunctions.out-Disjunction e).others.items c.each.conjunction-index (disjunction_tree e) c.each-test.false c.deref-conjunction-items.ensures.value (disjunction_seen e) c.each.invariant
 
 pub add_conjunction-each-init : goal.add_conjunction-each-init
 add_conjunction-each-init t c = reads_first c.args.tokens.now.text.items And (unmarked equality_tree) (equality_tree (conjunctions.out-Conjunction c.args.conjunction.now).first) c.deref-equality-items.result.now c.in_ok-add_equality.ensures

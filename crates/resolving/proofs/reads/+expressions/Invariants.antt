@@ -1,8 +1,8 @@
 use Rattle.tree.specs.Operators.{Or, And, Equal, Compare, Add, Multiply}
 use Rattle.tree.specs.ExpressionTrees.{unmarked, conjunction_tree, equality_tree, equality_step_tree, relation_tree, relation_step_tree, sum_tree, sum_step_tree, term_tree, unary_tree}
 use Rattle.tree.specs.declared.expression.Conjunction as conjunctions
+use Rattle.tree.specs.declared.expression.Disjunction as disjunctions
 use Rattle.tree.specs.declared.expression.Equality as equalitys
-use Rattle.tree.specs.declared.expression.Expression as expressions
 use Rattle.tree.specs.declared.expression.Relation as relations
 use Rattle.tree.specs.declared.expression.Sum as sums
 use Rattle.tree.specs.declared.expression.Term as terms
@@ -10,9 +10,9 @@ use Rattle.resolving.specs.Steps.{AddsReads}
 use Rattle.resolving.proofs.ReadLemmas.{chain_reads}
 use Rattle.resolving.proofs.reads.+expressions.Given as goal
 
-abbrev pub invariant-add_reads-each : goal.invariant-add_reads-each
-invariant-add_reads-each l =
-    AddsReads l.tokens.text.items l.locals (chain_reads l.tokens.text.items Or (unmarked conjunction_tree) (conjunction_tree (expressions.out-Expression l.expression).first) l.conjunction-items l.conjunction-index) l.fn.found.items l.found.items
+abbrev pub invariant-add_disjunction-each : goal.invariant-add_disjunction-each
+invariant-add_disjunction-each l =
+    AddsReads l.tokens.text.items l.locals (chain_reads l.tokens.text.items Or (unmarked conjunction_tree) (conjunction_tree (disjunctions.out-Disjunction l.disjunction).first) l.conjunction-items l.conjunction-index) l.fn.found.items l.found.items
 
 abbrev pub invariant-add_conjunction-each : goal.invariant-add_conjunction-each
 invariant-add_conjunction-each l =

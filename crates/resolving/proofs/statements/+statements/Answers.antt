@@ -1,9 +1,10 @@
 use Rattle.std.proofs.Common.{◌≡◌, refl, ap, ◌∙◌, ◌+◌, ◌<◌, ◌≤◌, ◌++◌, ⊎_elim, List, length, drop, get_or, map, take, sym, subst, arith}
+use Rattle.std.proofs.lemmas.Result.{IfOk-weaker}
 use Rattle.std.specs.Prelude.{IfOk}
 use Rattle.std.specs.Option.{option_map}
 use Rattle.tree.specs.ExpressionTrees.{expression_tree}
 use Rattle.tree.specs.StatementTrees as trees
-use Rattle.tree.specs.StatementTrees.{BlockTree, CaseTrees, IfTree, SwitchTree, statement_tree, statement_row, block_tree, case_tree, case_row, switch_tree, test_tree}
+use Rattle.tree.specs.StatementTrees.{BlockTree, CaseTrees, IfTree, SwitchTree, statement_tree, statement_row, block_tree, case_tree, case_row, if_tree, switch_tree, test_tree}
 use Rattle.tree.specs.declared.statement as stated
 use Rattle.program.specs.Statements as seen
 use Rattle.program.specs.Statements.{StatementSeen, BlockSeen, CasesSeen, IfSeen, statement_seen, block_seen, case_seen, if_seen, test_seen}
@@ -116,7 +117,8 @@ tell_statement-returns-in_ok-tell_block-in-Block t c = λ items own f round h.
 pub tell_statement-returns-in_ok-tell_if-in-If : goal.tell_statement-returns-in_ok-tell_if-in-If
 tell_statement-returns-in_ok-tell_if-in-If t c = λ items own f round h.
     let p = program_in c.args.tokens.now.text.items items in
-    told_as p own (staying_seen c.args.stays) f (ap statement_tree c.in-If.is ∙ of_if c.in-If.branches) (seen_as.of_if c.in_ok-tell_if-in-If.field-0) (c.in_ok-tell_if-in-If.ensures items own f round h)
+    let tree = ap statement_tree c.in-If.is ∙ of_if c.in-If.branches ∙ ap (λ i. trees.If (if_tree i).first (if_tree i).others) (sym c.deref.ensures) in
+    IfOk-weaker c.if_of.result _ _ (λ s is. told_as p own (staying_seen c.args.stays) f tree is (c.in_ok-tell_if-in-If.ensures items own f round h)) c.if_of.ensures
 
 pub tell_statement-returns-in_ok-tell_test-in-While : goal.tell_statement-returns-in_ok-tell_test-in-While
 tell_statement-returns-in_ok-tell_test-in-While t c = λ items own f round h.
@@ -124,9 +126,10 @@ tell_statement-returns-in_ok-tell_test-in-While t c = λ items own f round h.
     let p = program_in text items in
     let test = c.in_ok-tell_test-in-While.field-0 in
     let after = c.tell_test.new.locals in
-    told_as p own (staying_seen c.args.stays) f (ap statement_tree c.in-While.is ∙ of_while c.in-While.test) (seen_as.of_while test)
-    (subst (λ stays. IsTold text (remade seen.While (test_told p own stays (test_tree c.in-While.test) f)) (seen.While (test_seen test)) after) (c.here-inside.ensures f (number_is c.last.result f.last (c.last.ensures text f h)))
-    (made_told text seen.While _ _ after (c.in_ok-tell_test-in-While.ensures items own f round h)))
+    let tree = ap statement_tree c.in-While.is ∙ of_while c.in-While.test ∙ ap (λ t. trees.While (test_tree t)) (sym c.deref-in-While.ensures) in
+    let come = subst (λ stays. IsTold text (remade seen.While (test_told p own stays (test_tree c.deref-in-While.result.now) f)) (seen.While (test_seen test)) after) (c.here-inside.ensures f (number_is c.last.result f.last (c.last.ensures text f h)))
+    (made_told text seen.While _ _ after (c.in_ok-tell_test-in-While.ensures items own f round h)) in
+    IfOk-weaker c.while_of.result _ _ (λ s is. told_as p own (staying_seen c.args.stays) f tree is come) c.while_of.ensures
 
 pub tell_statement-returns-in-Declare : goal.tell_statement-returns-in-Declare
 tell_statement-returns-in-Declare t c = λ items own f round h.
@@ -153,16 +156,18 @@ pub tell_statement-returns-in_ok-cases-in-Switch : goal.tell_statement-returns-i
 tell_statement-returns-in_ok-cases-in-Switch t c = λ items own f round h.
     let text = c.args.tokens.now.text.items in
     let p = program_in text items in
-    let switch = c.in-Switch.switch in
+    let switch = c.deref-in-Switch-2.result.now in
     let tree = switch_tree switch in
     let place = (stated.Switch.out-Switch switch).word.place in
     let cases = c.in_ok-cases-in-Switch.cases in
     let after = c.tell_cases.new.locals in
     let all : CaseTrees = trees.MoreCases tree.first (case_row tree.others) in
     let inside = c.in_switch-inside.ensures f (number_is c.last-in-Switch.result f.last (c.last-in-Switch.ensures text f h)) in
-    told_as p own (staying_seen c.args.stays) f (ap statement_tree c.in-Switch.is ∙ of_switch switch) (seen_as.of_switch place cases ∙ ap (λ (w : SwitchTree). seen.Switch w.word.place (seen.case_row (map case_seen cases.items))) (sym (switch_is switch)))
+    let come = subst (λ s. IsTold text (cases_told p own (staying_seen c.in_switch-inside.result) (trees.MoreCases (switch_tree s).first (case_row (switch_tree s).others)) (switch_tree s).close.place f) (seen.case_row (map case_seen cases.items)) after)
+    (c.deref-in-Switch.ensures ∙ sym c.deref-in-Switch-2.ensures) (c.in_ok-cases-in-Switch.ensures items own f round h) in
+    told_as p own (staying_seen c.args.stays) f (ap statement_tree c.in-Switch.is ∙ of_switch c.in-Switch.switch ∙ ap (λ s. trees.Switch (switch_tree s).word (switch_tree s).first (case_row (switch_tree s).others) (switch_tree s).close) (sym c.deref-in-Switch-2.ensures)) (seen_as.of_switch place cases ∙ ap (λ (w : SwitchTree). seen.Switch w.word.place (seen.case_row (map case_seen cases.items))) (sym (switch_is switch)))
     (made_told text (seen.Switch tree.word.place) (cases_told p own (in_switch (staying_seen c.args.stays) f) all tree.close.place f) _ after
-    (subst (λ stays. IsTold text (cases_told p own stays all tree.close.place f) (seen.case_row (map case_seen cases.items)) after) inside (c.in_ok-cases-in-Switch.ensures items own f round h)))
+    (subst (λ stays. IsTold text (cases_told p own stays all tree.close.place f) (seen.case_row (map case_seen cases.items)) after) inside come))
 
 pub tell_case-returns : goal.tell_case-returns
 tell_case-returns t c = λ items own f round h.

@@ -13,8 +13,8 @@ returns-in-Call c = λ items own around.
     let text = c.args.tokens.now.text.items in
     let locals = c.args.locals.now in
     let value = c.args.value.now in
-    told_as text locals c.tell_part_called.result (λ f. part_taken p own f c.args.index.items c.args.whole (values.Call (call_tree c.in-Call.call))) (λ f. part_taken p own f c.args.index.items c.args.whole (value_tree value))
-    (λ f frame. ap (λ (v : Value). part_taken p own f c.args.index.items c.args.whole (value_tree v)) (sym c.in-Call.is))
+    told_as text locals c.tell_part_called.result (λ f. part_taken p own f c.args.index.items c.args.whole (values.Call (call_tree c.deref.result.now))) (λ f. part_taken p own f c.args.index.items c.args.whole (value_tree value))
+    (λ f frame. ap (λ x. part_taken p own f c.args.index.items c.args.whole (values.Call (call_tree x))) c.deref.ensures ∙ ap (λ (v : Value). part_taken p own f c.args.index.items c.args.whole (value_tree v)) (sym c.in-Call.is))
     (c.tell_part_called.ensures items own around)
 
 pub returns-in-New : goal.returns-in-New

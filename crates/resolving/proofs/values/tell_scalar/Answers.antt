@@ -1,4 +1,4 @@
-use Rattle.std.proofs.Common.{sym, ap, ◌∙◌, ◌++◌, None}
+use Rattle.std.proofs.Common.{sym, ap, ◌∙◌, ◌++◌, [], None}
 use Rattle.tree.specs.Values.{call_tree, value_tree, made_tree}
 use Rattle.tree.specs.declared.value.Value.{Value}
 use Rattle.program.specs.declared.statement.Action.TheVariants.{Nothing}
@@ -13,8 +13,8 @@ returns-in-Call c = λ items own around.
     let text = c.args.tokens.now.text.items in
     let locals = c.args.locals.now in
     let value = c.args.value.now in
-    told_as text locals c.tell_call.result (λ f. called p own f (call_tree c.in-Call.call) None c.new-before.result.items) (λ f. scalar_taken p own f (value_tree value))
-    (λ f frame. ap (called p own f (call_tree c.in-Call.call) None) c.new-before.ensures.items ∙ ap (λ (v : Value). scalar_taken p own f (value_tree v)) (sym c.in-Call.is))
+    told_as text locals c.tell_call.result (λ f. called p own f (call_tree c.deref.result.now) None c.new-before.result.items) (λ f. scalar_taken p own f (value_tree value))
+    (λ f frame. ap (called p own f (call_tree c.deref.result.now) None) c.new-before.ensures.items ∙ ap (λ x. called p own f (call_tree x) None []) c.deref.ensures ∙ ap (λ (v : Value). scalar_taken p own f (value_tree v)) (sym c.in-Call.is))
     (c.tell_call.ensures items own around)
 
 pub returns-in-New : goal.returns-in-New

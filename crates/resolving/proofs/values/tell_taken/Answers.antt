@@ -21,8 +21,8 @@ returns-in-Call c = λ items own around.
     let text = c.args.tokens.now.text.items in
     let locals = c.args.locals.now in
     let value = c.args.value.now in
-    told_as text locals c.tell_call.result (λ f. called p own f (call_tree c.in-Call.call) (Some c.args.target) c.new-behind.result.items) (λ f. taken p own f c.args.target (value_tree value))
-    (λ f frame. ap (called p own f (call_tree c.in-Call.call) (Some c.args.target)) c.new-behind.ensures.items ∙ ap (λ (v : Value). taken p own f c.args.target (value_tree v)) (sym c.in-Call.is))
+    told_as text locals c.tell_call.result (λ f. called p own f (call_tree c.deref.result.now) (Some c.args.target) c.new-behind.result.items) (λ f. taken p own f c.args.target (value_tree value))
+    (λ f frame. ap (called p own f (call_tree c.deref.result.now) (Some c.args.target)) c.new-behind.ensures.items ∙ ap (λ x. called p own f (call_tree x) (Some c.args.target) []) c.deref.ensures ∙ ap (λ (v : Value). taken p own f c.args.target (value_tree v)) (sym c.in-Call.is))
     (c.tell_call.ensures items own around)
 
 pub returns-in-New : goal.returns-in-New

@@ -1,4 +1,4 @@
-use Rattle.std.proofs.Common.{map, sym, ap, ◌∙◌, refl, arith, subst}
+use Rattle.std.proofs.Common.{map, ◌≡◌, ◌++◌, [], sym, ap, ◌∙◌, refl, arith, subst}
 use Rattle.std.specs.List.{flat_map}
 use Rattle.std.proofs.lemmas.Bool.{iff_false}
 use Rattle.std.proofs.lemmas.Grind.{common_steps}
@@ -6,30 +6,39 @@ use Rattle.source.specs.declared.kind.Kind.TheVariants as kind
 use Rattle.tree.specs.Spelling.{parens}
 use Rattle.syntax.specs.Reading.{never, Reads, Fails}
 use Rattle.tree.specs.Operators.{Or, And, Equal, Compare, Add, Multiply, Single, Joined}
-use Rattle.syntax.specs.OperatorReads.{joins}
+use Rattle.syntax.specs.OperatorReads.{joins, after_expression}
 use Rattle.tree.specs.Expressions.{Number, True, False, level, expression, step, atom, target}
 use Rattle.syntax.specs.ExpressionReads.{level_on, level_at, step_at, steps_end, atom_at, target_at, target_on}
-use Rattle.tree.specs.ExpressionTrees.{expression_tree, conjunction_tree, equality_tree, equality_step_tree, relation_tree, relation_step_tree, sum_tree, sum_step_tree, term_tree, unary_tree, atom_tree, target_tree, unmarked}
+use Rattle.tree.specs.ExpressionTrees.{expression_tree, disjunction_tree, conjunction_tree, equality_tree, equality_step_tree, relation_tree, relation_step_tree, sum_tree, sum_step_tree, term_tree, unary_tree, atom_tree, target_tree, unmarked}
 use Rattle.syntax.proofs.Exits.{exits}
 use Rattle.syntax.proofs.KindLemmas.{kind_leads, test_leads}
 use Rattle.syntax.proofs.Enclosed.{parens_open_fails, parens_fails, parens_close_fails, brackets_open_fails, brackets_fails, brackets_close_fails}
 use Rattle.syntax.proofs.AtomRules.{in_parens, in_brackets, index, target_form, parens_form, number_form, number_leads}
+use Rattle.syntax.proofs.AloneRules.{alone_is_read}
 use Rattle.syntax.proofs.ExpressionFails.{first_fails, others_fail, unary_fails, mark_fails, behind_fails, step_fails, chain_is_read, expression_piece, prefixes_fail, atom_fails, variable_fails, dotted_fails, indexed_fails, unary_is_read, step_tail, last_step, atom_is_read}
-use Rattle.syntax.proofs.TreeLemmas.{expression_made, conjunction_made, equality_made, relation_made, sum_made, term_made, unary_made, number_made, true_made, false_made}
+use Rattle.syntax.proofs.TreeLemmas.{alone_made, unary_parts, disjunction_made, conjunction_made, equality_made, relation_made, sum_made, term_made, unary_made, number_made, true_made, false_made}
 use Rattle.syntax.proofs.Pieces.{wide_fails, stops_never}
 use Rattle.syntax.proofs.Choices.{form_fails}
 use Rattle.syntax.proofs.expressions.+expression.Goals as goal
 
-pub expression_from-returns-in_err-first-clause-read : goal.expression_from-returns-in_err-first-clause-read
-expression_from-returns-in_err-first-clause-read t c = exits expression_tree level (level_on (Joined Or)) level_at _ _ _ _ _ c.from_residual.ensures.1 c.in_err-first.ensures.read
+pub expression_from-returns-then-not-goes_on-clause-read : goal.expression_from-returns-then-not-goes_on-clause-read
+expression_from-returns-then-not-goes_on-clause-read t c =
+    let unary = c.args.unary in
+    let read = ap (λ z. level z ++ c.args.cursor.now) (unary_parts unary) in
+    let none : unary.prefixes.items ≡ [] = grind (arith, common_steps) in
+    let ends = ap after_expression (sym c.peek.ensures.kind) ∙ sym c.goes_on.ensures ∙ c.if-not-goes_on.true in
+    alone_is_read _ _ unary.prefixes.items (atom_tree unary.atom) _ none (alone_made unary.atom) read ends
+
+pub disjunction_from-returns-in_err-first-clause-read : goal.disjunction_from-returns-in_err-first-clause-read
+disjunction_from-returns-in_err-first-clause-read t c = exits disjunction_tree level (level_on (Joined Or)) level_at _ _ _ _ _ c.from_residual.ensures.1 c.in_err-first.ensures.read
     (λ h. first_fails Or h)
 
-pub expression_from-returns-in_err-others-clause-read : goal.expression_from-returns-in_err-others-clause-read
-expression_from-returns-in_err-others-clause-read t c = exits expression_tree level (level_on (Joined Or)) level_at _ _ _ _ _ c.from_residual-in_err-others.ensures.1 c.in_err-others.ensures
+pub disjunction_from-returns-in_err-others-clause-read : goal.disjunction_from-returns-in_err-others-clause-read
+disjunction_from-returns-in_err-others-clause-read t c = exits disjunction_tree level (level_on (Joined Or)) level_at _ _ _ _ _ c.from_residual-in_err-others.ensures.1 c.in_err-others.ensures
     (λ h. others_fail Or (conjunction_tree c.in_ok-first.first) c.in_ok-first.ensures.read h)
 
-pub expression_from-returns-clause-read : goal.expression_from-returns-clause-read
-expression_from-returns-clause-read t c = chain_is_read Or _ _ _ (conjunction_tree c.in_ok-first.first) (map (unmarked conjunction_tree) c.in_ok-others.others.items) _ (expression_made c.in_ok-first.first c.in_ok-others.others) c.in_ok-first.ensures.read c.in_ok-others.ensures
+pub disjunction_from-returns-clause-read : goal.disjunction_from-returns-clause-read
+disjunction_from-returns-clause-read t c = chain_is_read Or _ _ _ (conjunction_tree c.in_ok-first.first) (map (unmarked conjunction_tree) c.in_ok-others.others.items) _ (disjunction_made c.in_ok-first.first c.in_ok-others.others) c.in_ok-first.ensures.read c.in_ok-others.ensures
 
 pub conjunctions-returns-in_err-or_conjunction : goal.conjunctions-returns-in_err-or_conjunction
 conjunctions-returns-in_err-or_conjunction t c = exits (λ v. map (unmarked conjunction_tree) v.items) (flat_map (step Or)) (level_on (Joined Or)) (steps_end Or) _ _ _ _ _ c.from_residual.ensures.1 c.in_err-or_conjunction.ensures

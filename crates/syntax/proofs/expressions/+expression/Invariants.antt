@@ -16,6 +16,9 @@ decreases-conjunction_from l = 10 * length l.cursor.now + 6
 abbrev pub decreases-conjunctions : goal.decreases-conjunctions
 decreases-conjunctions l = 10 * length l.cursor.now + 1
 
+abbrev pub decreases-disjunction_from : goal.decreases-disjunction_from
+decreases-disjunction_from l = 10 * length l.cursor.now + 7
+
 abbrev pub decreases-equalities : goal.decreases-equalities
 decreases-equalities l = 10 * length l.cursor.now + 1
 
@@ -29,7 +32,7 @@ abbrev pub decreases-equality_steps : goal.decreases-equality_steps
 decreases-equality_steps l = 10 * length l.cursor.now + 1
 
 abbrev pub decreases-expression_from : goal.decreases-expression_from
-decreases-expression_from l = 10 * length l.cursor.now + 7
+decreases-expression_from l = 10 * length l.cursor.now + 8
 
 abbrev pub decreases-factors : goal.decreases-factors
 decreases-factors l = 10 * length l.cursor.now + 1
@@ -41,7 +44,7 @@ abbrev pub decreases-read_atom : goal.decreases-read_atom
 decreases-read_atom l = 10 * length l.cursor.now + 1
 
 abbrev pub decreases-read_expression : goal.decreases-read_expression
-decreases-read_expression l = 10 * length l.cursor.now + 8
+decreases-read_expression l = 10 * length l.cursor.now + 9
 
 abbrev pub decreases-read_index : goal.decreases-read_index
 decreases-read_index l = 10 * length l.cursor.now

@@ -15,5 +15,5 @@ use Rattle.syntax.proofs.ExpressionFails.{expression_piece, expression_starts}
 use Rattle.syntax.proofs.statement_ends.maybe_expression.Goals as goal
 
 pub returns-in_err-read_expression : goal.returns-in_err-read_expression
-returns-in_err-read_expression c = exits (option_map expression_tree) (optional expression) result_on (optional_at (by_kind opens_expression) expression_at) _ _ _ _ _ c.from_residual.ensures.1 c.in_err-read_expression.ensures
+returns-in_err-read_expression c = exits (option_map (λ e. expression_tree e.value)) (optional expression) result_on (optional_at (by_kind opens_expression) expression_at) _ _ _ _ _ c.from_residual.ensures.1 c.in_err-read_expression.ensures
     (λ h. open_opt_fails expression_piece expression_starts result_opens (test_leads opens_expression c.args.cursor.now refl (ap opens_expression (sym c.peek.ensures.kind) ∙ sym c.is_expression.ensures ∙ c.if-is_expression.true)) h)

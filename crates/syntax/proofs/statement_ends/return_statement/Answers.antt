@@ -11,13 +11,13 @@ use Rattle.syntax.proofs.SimpleRules.{maybe_expression_piece, result_follows, re
 use Rattle.syntax.proofs.statement_ends.return_statement.Goals as goal
 
 pub returns-in_err-word : goal.returns-in_err-word
-returns-in_err-word c = exits (λ p. (p.0, option_map expression_tree p.1)) return_parts never (λ _. never) _ _ _ _ _ c.from_residual.ensures.1 c.in_err-word.ensures
+returns-in_err-word c = exits (λ p. (p.0, option_map (λ e. expression_tree e.value) p.1)) return_parts never (λ _. never) _ _ _ _ _ c.from_residual.ensures.1 c.in_err-word.ensures
     (λ h. via_fails return_to return_from (λ _. refl) (fails_here h result_end))
 
 pub returns-in_err-value : goal.returns-in_err-value
-returns-in_err-value c = exits (λ p. (p.0, option_map expression_tree p.1)) return_parts never (λ _. never) _ _ _ _ _ c.from_residual-in_err-value.ensures.1 c.in_err-value.ensures
+returns-in_err-value c = exits (λ p. (p.0, option_map (λ e. expression_tree e.value) p.1)) return_parts never (λ _. never) _ _ _ _ _ c.from_residual-in_err-value.ensures.1 c.in_err-value.ensures
     (λ h. via_fails return_to return_from (λ _. refl) (fails_after c.in_ok-word.word (placed_piece kind.Return) c.in_ok-word.ensures (fails_first h (fixed_piece kind.Semicolon) result_follows)))
 
 pub returns-in_err-expect : goal.returns-in_err-expect
-returns-in_err-expect c = exits (λ p. (p.0, option_map expression_tree p.1)) return_parts never (λ _. never) _ _ _ _ _ c.from_residual-in_err-expect.ensures.1 c.in_err-expect.ensures
-    (λ h. via_fails return_to return_from (λ _. refl) (fails_after c.in_ok-word.word (placed_piece kind.Return) c.in_ok-word.ensures (fails_second (option_map expression_tree c.in_ok-value.value) maybe_expression_piece c.in_ok-value.ensures result_follows h)))
+returns-in_err-expect c = exits (λ p. (p.0, option_map (λ e. expression_tree e.value) p.1)) return_parts never (λ _. never) _ _ _ _ _ c.from_residual-in_err-expect.ensures.1 c.in_err-expect.ensures
+    (λ h. via_fails return_to return_from (λ _. refl) (fails_after c.in_ok-word.word (placed_piece kind.Return) c.in_ok-word.ensures (fails_second (option_map (λ e. expression_tree e.value) c.in_ok-value.value) maybe_expression_piece c.in_ok-value.ensures result_follows h)))

@@ -1,4 +1,4 @@
-use Rattle.std.proofs.Common.{◌∷◌, Some, None, map, refl, sym, ap, ◌∙◌, subst}
+use Rattle.std.proofs.Common.{◌≡◌, ◌∷◌, ◌++◌, Some, None, map, refl, sym, ap, ◌∙◌, subst}
 use Rattle.std.specs.List.{flat_map}
 use Rattle.std.proofs.lemmas.Bool.{iff_false}
 use Rattle.source.specs.declared.kind.Kind.TheVariants as kind
@@ -110,10 +110,11 @@ pub statement-returns-in_err-switch-in-Switch : goal.statement-returns-in_err-sw
 statement-returns-in_err-switch-in-Switch t c = exits statement_tree statement statement_on statement_at _ _ _ _ _ c.from_residual-in_err-switch-in-Switch.ensures.1 c.in_err-switch-in-Switch.ensures
     (λ h. form_fails switch_form (lead_leads lead.Switch _ (c.requires ∙ ap (λ l. Some l) c.in-Switch.is)) (wide_fails (λ y k. refl) h))
 
-pub statement-returns-in_ok-switch-in-Switch : goal.statement-returns-in_ok-switch-in-Switch
-statement-returns-in_ok-switch-in-Switch t c =
-    let s = c.in_ok-switch-in-Switch.field-0 in
-    (form_reads switch_form (switch_tree s) _ _ _ (made_switch s) c.in_ok-switch-in-Switch.ensures.0, subst (λ z. Stops (statement_at z) c.switch.new.cursor) (sym (made_switch s)) (stops_never _))
+pub statement-returns-in_ok-new-in-Switch : goal.statement-returns-in_ok-new-in-Switch
+statement-returns-in_ok-new-in-Switch t c =
+    let s = c.in_ok-new-in-Switch.field-0 in
+    let ended = subst (λ x. c.args.cursor.now ≡ switch_parts (switch_tree x) ++ c.switch.new.cursor) (sym c.in_ok-new-in-Switch.ensures.ok) c.in_ok-switch-in-Switch.ensures.0 in
+    (form_reads switch_form (switch_tree s.value) _ _ _ (made_switch s) ended, subst (λ z. Stops (statement_at z) c.switch.new.cursor) (sym (made_switch s)) (stops_never _))
 
 pub statements-returns-in_err-statement : goal.statements-returns-in_err-statement
 statements-returns-in_err-statement t c = exits (λ v. map statement_tree v.items) (flat_map statement) statements_on statements_at _ _ _ _ _ c.from_residual.ensures.1 c.in_err-statement.ensures

@@ -15,8 +15,8 @@ use Rattle.syntax.proofs.ValueFails.{call_fails, member_fails}
 use Rattle.syntax.proofs.ValueEnds.{value_ends, member_ends}
 use Rattle.syntax.proofs.values.member_value.Goals as goal
 
-pub returns-in_err-call_from : goal.returns-in_err-call_from
-returns-in_err-call_from c = exits value_tree value_spelling value_on value_at _ _ _ _ _ c.from_residual.ensures.1 c.in_err-call_from.ensures
+pub returns-in_err-call : goal.returns-in_err-call
+returns-in_err-call c = exits value_tree value_spelling value_on value_at _ _ _ _ _ c.from_residual.ensures.1 c.in_err-call.ensures
     (λ h. call_fails _ c.args.variable (Some c.args.member) (kind_leads kind.OpenParen _ (c.is_next.ensures.is.0 c.if-is_next.true)) h)
 
 pub returns-in_err-expression_of : goal.returns-in_err-expression_of

@@ -14,8 +14,8 @@ use Rattle.syntax.proofs.ValueFails.{call_fails, named_fails, dot_fails}
 use Rattle.syntax.proofs.ValueEnds.{value_ends, named_ends, target_expression_fails}
 use Rattle.syntax.proofs.values.named_value.Goals as goal
 
-pub returns-in_err-call_from : goal.returns-in_err-call_from
-returns-in_err-call_from c = exits value_tree value_spelling value_on value_at _ _ _ _ _ c.from_residual.ensures.1 c.in_err-call_from.ensures
+pub returns-in_err-call : goal.returns-in_err-call
+returns-in_err-call c = exits value_tree value_spelling value_on value_at _ _ _ _ _ c.from_residual.ensures.1 c.in_err-call.ensures
     (λ h. call_fails _ c.args.variable None (kind_leads kind.OpenParen _ (c.is_next.ensures.is.0 c.if-is_next.true)) h)
 
 pub returns-in_err-member : goal.returns-in_err-member
