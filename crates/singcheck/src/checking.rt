@@ -116,7 +116,7 @@ pub(crate) fn check_text<R: Threads + Wait + Sync, G: Gate>(
 {
     match parse_text(tools.alloc, text)? {
         Parsed::Found(findings) => reported(tools.alloc, findings),
-        Parsed::Program(tokens, tree) => check_program(tools, &tokens, &tree),
+        Parsed::Program(tokens, tree) => check_program(tools, tokens, tree),
     }
 }
 
@@ -134,16 +134,16 @@ fn reported(alloc: Global, findings: Vec<Finding>) -> Result<Report, Memory>
 /// The report of a program.
 fn check_program<R: Threads + Wait + Sync, G: Gate>(
     tools: &Tools<'_, R, G>,
-    tokens: &Tokens,
-    tree: &Tree,
+    tokens: Tokens,
+    tree: Tree,
 ) -> Result<Report, Memory>
-    requires lexed { AreTokens tokens.now.text.items tokens.now.list.items }
-    requires spelled { Spells program (program_tree tree.now) tokens.now.list.items }
-    requires few { length tokens.now.list.items < 2 ^ 32 }
-    ensures report { IfOk result (λ r. Checks tokens.now.text.items r.bytes.items r.status) }
-    ensures safe { IfOk result (λ r. r.status ≡ Status.Empty → IsSafeText tokens.now.text.items) }
+    requires lexed { AreTokens tokens.text.items tokens.list.items }
+    requires spelled { Spells program (program_tree tree) tokens.list.items }
+    requires few { length tokens.list.items < 2 ^ 32 }
+    ensures report { IfOk result (λ r. Checks tokens.text.items r.bytes.items r.status) }
+    ensures safe { IfOk result (λ r. r.status ≡ Status.Empty → IsSafeText tokens.text.items) }
 {
-    match named(tools.alloc, tree, tokens)? {
+    match named(tools.alloc, &tree, &tokens)? {
         Staged::Found(findings) => reported(tools.alloc, findings),
         Staged::Clean(clean) => check_methods(tools, tokens, tree, clean),
     }
@@ -152,20 +152,22 @@ fn check_program<R: Threads + Wait + Sync, G: Gate>(
 /// The report of the methods of a program of these contracts, with which nothing else is wrong.
 fn check_methods<R: Threads + Wait + Sync, G: Gate>(
     tools: &Tools<'_, R, G>,
-    tokens: &Tokens,
-    tree: &Tree,
+    tokens: Tokens,
+    tree: Tree,
     clean: Clean,
 ) -> Result<Report, Memory>
-    requires sound { IsSoundProgram tokens.now.text.items (program_tree tree.now) (map contract_seen clean.resolved.contracts.items) }
+    requires sound { IsSoundProgram tokens.text.items (program_tree tree) (map contract_seen clean.resolved.contracts.items) }
     requires judged { map sound_parts clean.sounds.items ≡ map (λ c. c.parts) (map contract_seen clean.resolved.contracts.items) }
     requires room { length clean.resolved.contracts.items < 2 ^ 32 }
-    ensures report { IfOk result (λ r. Checks tokens.now.text.items r.bytes.items r.status) }
-    ensures safe { IfOk result (λ r. r.status ≡ Status.Empty → IsSafeText tokens.now.text.items) }
+    ensures report { IfOk result (λ r. Checks tokens.text.items r.bytes.items r.status) }
+    ensures safe { IfOk result (λ r. r.status ≡ Status.Empty → IsSafeText tokens.text.items) }
 {
     let alloc = tools.alloc;
     let Clean { resolved, sounds } = clean;
     let contracts = resolved.contracts.len();
-    let methods = well_formed_methods(alloc, tree, tokens, resolved)?;
+    let methods = well_formed_methods(alloc, &tree, &tokens, resolved)?;
+    drop(tree); // a large text takes less memory so
+    drop(tokens);
     one_program();
     clean_methods_are_safe(&methods, &sounds);
     let count = methods.list().len();

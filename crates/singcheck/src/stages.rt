@@ -52,7 +52,7 @@ pub(crate) fn run_stages(alloc: Global, text: &[u8]) -> Result<Staged, Memory>
 {
     match parse_text(alloc, text)? {
         Parsed::Found(findings) => Ok(Staged::Found(findings)),
-        Parsed::Program(tokens, tree) => named(alloc, &tree, &tokens),
+        Parsed::Program(tokens, tree) => named_alone(alloc, tree, tokens),
     }
 }
 
@@ -113,6 +113,24 @@ pub(crate) fn named(alloc: Global, tree: &Tree, tokens: &Tokens) -> Result<Stage
     match resolve(alloc, tree, tokens) {
         Ok(resolved) => judged(alloc, resolved),
         Err(NameFaults::Found(findings)) => Ok(Staged::Found(findings)),
+        Err(NameFaults::Memory) => Err(Memory),
+    }
+}
+
+/// The same, where nobody asks for the tree and its tokens again. They go before the contracts are judged, which spares their memory.
+fn named_alone(alloc: Global, tree: Tree, tokens: Tokens) -> Result<Staged, Memory>
+    requires lexed { AreTokens tokens.text.items tokens.list.items }
+    requires spelled { Spells program (program_tree tree) tokens.list.items }
+    requires few { length tokens.list.items < 2 ^ 32 }
+    ensures { IfOk result (IsStaged tokens.text.items) }
+{
+    match resolve(alloc, &tree, &tokens) {
+        Ok(resolved) => {
+            drop(tree);
+            drop(tokens);
+            judged(alloc, resolved)
+        }
+        Err(NameFaults::Found(found)) => Ok(Staged::Found(found)),
         Err(NameFaults::Memory) => Err(Memory),
     }
 }

@@ -21,8 +21,8 @@ new-requires g c = record { sound = c.requires.judged ∙ ap (map (λ (x : Contr
 
 pub returns-then-not-is_empty-clause-report : goal.returns-then-not-is_empty-clause-report
 returns-then-not-is_empty-clause-report g c =
-    let text = c.args.tokens.now.text.items in
-    let items = program_tree c.args.tree.now in
+    let text = c.args.tokens.text.items in
+    let items = program_tree c.args.tree in
     let p = seen_of c.in_ok-program.program in
     let seen = c.in_ok-program.ensures in
     let methods = c.in_ok-methods.ensures in
@@ -35,8 +35,8 @@ returns-then-not-is_empty-clause-report g c =
 
 pub returns-clause-report : goal.returns-clause-report
 returns-clause-report g c =
-    let text = c.args.tokens.now.text.items in
-    let items = program_tree c.args.tree.now in
+    let text = c.args.tokens.text.items in
+    let items = program_tree c.args.tree in
     let p = seen_of c.in_ok-program.program in
     let seen = c.in_ok-program.ensures in
     let methods = c.in_ok-methods.ensures in
@@ -53,12 +53,12 @@ returns-clause-report g c =
     (c.in_ok-add_clear.ensures ∙ ap (λ l. l ++ clear_line c.len-contracts.result (length listed)) c.new-bytes.ensures.items ∙ ap₂ clear_line counted many)
 
 pub returns-then-not-is_empty-clause-safe : goal.returns-then-not-is_empty-clause-safe
-returns-then-not-is_empty-clause-safe g c = found_unsafe (IsSafeText c.args.tokens.now.text.items) c.reported.result c.reported.ensures.status
+returns-then-not-is_empty-clause-safe g c = found_unsafe (IsSafeText c.args.tokens.text.items) c.reported.result c.reported.ensures.status
 
 pub returns-clause-safe : goal.returns-clause-safe
 returns-clause-safe g c = λ e.
-    let text = c.args.tokens.now.text.items in
-    let items = program_tree c.args.tree.now in
+    let text = c.args.tokens.text.items in
+    let items = program_tree c.args.tree in
     let p = seen_of c.in_ok-program.program in
     let seen = c.in_ok-program.ensures in
     let methods = c.in_ok-methods.ensures in

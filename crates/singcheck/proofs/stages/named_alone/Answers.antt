@@ -1,0 +1,39 @@
+use Rattle.std.proofs.Common.{map, sym, subst, Vec, arith}
+use Rattle.std.specs.Global.{Global}
+use Rattle.std.proofs.lemmas.Result.{IfOk-weaker}
+use Rattle.source.specs.Findings.{finding_parts}
+use Rattle.source.specs.declared.finding.Finding.{Finding}
+use Rattle.tree.specs.Trees.{program_tree}
+use Rattle.names.specs.Program.{program_of}
+use Rattle.program.specs.Parts.{contract_seen}
+use Rattle.singcheck.specs.Answers.{AreFindings, IsProgram, IsResolved}
+use Rattle.singcheck.proofs.FewLemmas.{few_contracts}
+use Rattle.singcheck.proofs.StageLemmas.{explained, misnamed}
+use Rattle.singcheck.proofs.stages.named_alone.Goals as goal
+
+pub judged-requires : goal.judged-requires
+judged-requires c =
+    let few = few_contracts c.args.tokens.text.items (program_tree c.args.tree) c.args.tokens.list.items c.in-Ok.resolved.contracts.items contract_seen c.requires.spelled c.in-Ok.ensures.resolved in
+    record {
+      whole = c.in-Ok.ensures.whole;
+      few = omega (arith, few, c.requires.few);
+    }
+
+pub returns-in-Ok : goal.returns-in-Ok
+returns-in-Ok c =
+    let text = c.args.tokens.text.items in
+    let resolved : IsResolved text (map contract_seen c.in-Ok.resolved.contracts.items) = record {
+      items = program_tree c.args.tree;
+      parsed = record { tokens = c.args.tokens.list.items; lexed = c.requires.lexed; spelled = c.requires.spelled };
+      clean = c.in-Ok.ensures.clean;
+      are = c.in-Ok.ensures.resolved;
+    } in
+    IfOk-weaker c.judged.result _ _ (λ staged h. h text resolved) c.judged.ensures.staged
+
+pub returns-in-Err-Found : goal.returns-in-Err-Found
+returns-in-Err-Found c =
+    let text = c.args.tokens.text.items in
+    let items = program_tree c.args.tree in
+    let parsed : IsProgram text items = record { tokens = c.args.tokens.list.items; lexed = c.requires.lexed; spelled = c.requires.spelled } in
+    let told = explained (program_of text c.args.tree) c.in-Err-Found.field-0 c.in-Err-Found.found c.in-Err-Found.field-0-is c.in-Err-Found.ensures.found in
+    subst (λ (v : Vec Finding Global). AreFindings text (map finding_parts v.items)) (sym c.in-Err-Found.found-is) (misnamed text items c.in-Err-Found.found.items parsed told)
