@@ -235,7 +235,8 @@ fn judge_needless(
 ) -> Result<(), Memory>
     ensures { (p : Program) (f : Frame) → IsScope p scope.now
         → IsFrame p.text f variables.now → OnOk result (Adds found.old.items found.new.items
-        (return_findings (record { program = p; variables = f.variables }) None word (option_map (λ e. expression_tree e.value) value.now))) }
+        (return_findings (record { program = p; variables = f.variables }) None word
+        (option_map (λ e. expression_tree e.value) value.now))) }
 {
     match value {
         Some(value) => {
@@ -258,7 +259,8 @@ fn judge_returned(
 ) -> Result<(), Memory>
     ensures { (p : Program) (f : Frame) → IsScope p scope.now
         → IsFrame p.text f variables.now → OnOk result (Adds found.old.items found.new.items
-        (return_findings (record { program = p; variables = f.variables }) (Some asked) word (option_map (λ e. expression_tree e.value) value.now))) }
+        (return_findings (record { program = p; variables = f.variables }) (Some asked) word
+        (option_map (λ e. expression_tree e.value) value.now))) }
 {
     match value {
         Some(value) => {
@@ -281,7 +283,8 @@ pub(crate) fn judge_return(
 ) -> Result<(), Memory>
     ensures { (p : Program) (f : Frame) → IsScope p scope.now
         → IsFrame p.text f variables.now → OnOk result (Adds found.old.items found.new.items
-        (return_findings (record { program = p; variables = f.variables }) asked word (option_map (λ e. expression_tree e.value) value.now))) }
+        (return_findings (record { program = p; variables = f.variables }) asked word
+        (option_map (λ e. expression_tree e.value) value.now))) }
 {
     match asked {
         Some(asked) => judge_returned(alloc, scope, variables, asked, word, value, found),

@@ -65,17 +65,13 @@ fn tell_statement<'a>(
             Ok(Statement::Block(tell_block(alloc, tokens, around, locals, stays, block)?))
         }
         tree::Statement::If(branches) => {
-            if_of(
-                alloc,
-                tell_if(alloc, tokens, around, locals, stays, branches)?,
-            )
+            let told = tell_if(alloc, tokens, around, locals, stays, branches)?;
+            if_of(alloc, told)
         }
         tree::Statement::While(test) => {
             let inside = Staying::here(locals.last());
-            while_of(
-                alloc,
-                tell_test(alloc, tokens, around, locals, inside, test)?,
-            )
+            let told = tell_test(alloc, tokens, around, locals, inside, test)?;
+            while_of(alloc, told)
         }
         tree::Statement::Break(word) => Ok(tell_break(alloc, locals, word.place, stays)),
         tree::Statement::Continue(word) => Ok(tell_continue(alloc, locals, word.place, stays)),
@@ -85,13 +81,7 @@ fn tell_statement<'a>(
             let place = switch.word.place;
             Ok(Statement::Switch { place, cases })
         }
-        tree::Statement::Declare(_)
-        | tree::Statement::Assign(_)
-        | tree::Statement::Call(_)
-        | tree::Statement::Start { .. }
-        | tree::Statement::Delete(_)
-        | tree::Statement::NewChannel(_)
-        | tree::Statement::Return { .. } => { tell_alone(alloc, tokens, around, locals, statement) }
+        _ => tell_alone(alloc, tokens, around, locals, statement),
     }
 }
 

@@ -1,4 +1,4 @@
-use Rattle.std.proofs.Common.{◌≡◌, refl, ap, ◌∙◌, ◌+◌, ◌<◌, ◌≤◌, ◌++◌, ⊎_elim, List, length, drop, get_or, map, take, sym, subst, arith}
+use Rattle.std.proofs.Common.{◌≡◌, ap, ◌∙◌, ◌+◌, ◌<◌, ◌≤◌, ◌++◌, List, length, drop, get_or, map, take, sym, subst, arith}
 use Rattle.std.proofs.lemmas.Result.{IfOk-weaker}
 use Rattle.std.specs.Prelude.{IfOk}
 use Rattle.std.specs.Option.{option_map}
@@ -17,13 +17,14 @@ use Rattle.resolving.specs.Frames.{staying_seen}
 use Rattle.resolving.specs.Reads.{reads}
 use Rattle.resolving.specs.Steps.{IsTold, walked}
 use Rattle.resolving.specs.Told.{Told, follow, made as remade, block_told, ended, others_told, awaited_as, awaited_message, awaited_params, cases_told, in_switch, statement_told, statements_told, test_told}
-use Rattle.resolving.proofs.BlockLemmas.{IsAlone, block_ends, if_told, made_told, number_is, told_as, alone_as, test_ends}
+use Rattle.resolving.proofs.BlockLemmas.{block_ends, if_told, made_told, number_is, told_as, test_ends}
 use Rattle.resolving.proofs.BodyLemmas.{row_told, walks_all, walks_more}
 use Rattle.resolving.proofs.CaseLemmas.{CasesGo, bound_in, case_ends, cases_end, cases_more, cases_start, first_inside, other_inside, switch_cases}
+use Rattle.resolving.proofs.FlatLemmas.{flat_alone}
 use Rattle.resolving.proofs.KeepLemmas.{kept, case_extends, statements_extend}
 use Rattle.resolving.proofs.SeenTwins as seen_as
 use Rattle.resolving.proofs.SeenTwins.{block_made, if_made}
-use Rattle.resolving.proofs.StatementTwins.{block_is, if_is, switch_is, of_block, of_if, of_while, of_declare, of_assign, of_call, of_start, of_delete, of_channel, of_return, of_switch}
+use Rattle.resolving.proofs.StatementTwins.{block_is, if_is, switch_is, of_block, of_if, of_while, of_switch}
 use Rattle.resolving.proofs.statements.+statements.Goals as goal
 
 pub tell_statements-loop-statement-preserved : goal.tell_statements-loop-statement-preserved
@@ -114,36 +115,36 @@ tell_statement-returns-in_ok-tell_block-in-Block t c = λ items own f round h.
     told_as p own (staying_seen c.args.stays) f (ap statement_tree c.in-Block.is ∙ of_block c.in-Block.block) (seen_as.of_block c.in_ok-tell_block-in-Block.field-0)
     (made_told p.text seen.Block _ _ c.tell_block.new.locals (c.in_ok-tell_block-in-Block.ensures items own f round h))
 
-pub tell_statement-returns-in_ok-tell_if-in-If : goal.tell_statement-returns-in_ok-tell_if-in-If
-tell_statement-returns-in_ok-tell_if-in-If t c = λ items own f round h.
+pub tell_statement-returns-in_ok-told-in-If : goal.tell_statement-returns-in_ok-told-in-If
+tell_statement-returns-in_ok-told-in-If t c = λ items own f round h.
     let p = program_in c.args.tokens.now.text.items items in
     let tree = ap statement_tree c.in-If.is ∙ of_if c.in-If.branches ∙ ap (λ i. trees.If (if_tree i).first (if_tree i).others) (sym c.deref.ensures) in
-    IfOk-weaker c.if_of.result _ _ (λ s is. told_as p own (staying_seen c.args.stays) f tree is (c.in_ok-tell_if-in-If.ensures items own f round h)) c.if_of.ensures
+    IfOk-weaker c.if_of.result _ _ (λ s is. told_as p own (staying_seen c.args.stays) f tree is (c.in_ok-told-in-If.ensures items own f round h)) c.if_of.ensures
 
-pub tell_statement-returns-in_ok-tell_test-in-While : goal.tell_statement-returns-in_ok-tell_test-in-While
-tell_statement-returns-in_ok-tell_test-in-While t c = λ items own f round h.
+pub tell_statement-returns-in_ok-told-in-While : goal.tell_statement-returns-in_ok-told-in-While
+tell_statement-returns-in_ok-told-in-While t c = λ items own f round h.
     let text = c.args.tokens.now.text.items in
     let p = program_in text items in
-    let test = c.in_ok-tell_test-in-While.field-0 in
+    let test = c.in_ok-told-in-While.told in
     let after = c.tell_test.new.locals in
     let tree = ap statement_tree c.in-While.is ∙ of_while c.in-While.test ∙ ap (λ t. trees.While (test_tree t)) (sym c.deref-in-While.ensures) in
     let come = subst (λ stays. IsTold text (remade seen.While (test_told p own stays (test_tree c.deref-in-While.result.now) f)) (seen.While (test_seen test)) after) (c.here-inside.ensures f (number_is c.last.result f.last (c.last.ensures text f h)))
-    (made_told text seen.While _ _ after (c.in_ok-tell_test-in-While.ensures items own f round h)) in
+    (made_told text seen.While _ _ after (c.in_ok-told-in-While.ensures items own f round h)) in
     IfOk-weaker c.while_of.result _ _ (λ s is. told_as p own (staying_seen c.args.stays) f tree is come) c.while_of.ensures
 
-pub tell_statement-returns-in-Declare : goal.tell_statement-returns-in-Declare
-tell_statement-returns-in-Declare t c = λ items own f round h.
+pub tell_statement-returns-in_default : goal.tell_statement-returns-in_default
+tell_statement-returns-in_default t c = λ items own f round h.
     let text = c.args.tokens.now.text.items in
     let p = program_in text items in
     let stays = staying_seen c.args.stays in
-    let tree = statement_tree c.args.statement.now in
-    let alone : IsAlone p own stays f tree = ⊎_elim (λ d. alone_as p own stays f (ap statement_tree d.1 ∙ of_declare d.0) refl)
-    (⊎_elim (λ a. alone_as p own stays f (ap statement_tree a.1 ∙ of_assign a.0) refl)
-    (⊎_elim (λ k. alone_as p own stays f (ap statement_tree k.1 ∙ of_call k.0) refl)
-    (⊎_elim (λ k. alone_as p own stays f (ap statement_tree k.2 ∙ of_start k.0 k.1) refl)
-    (⊎_elim (λ n. alone_as p own stays f (ap statement_tree n.1 ∙ of_delete n.0) refl)
-    (⊎_elim (λ n. alone_as p own stays f (ap statement_tree n.1 ∙ of_channel n.0) refl)
-    (λ r. alone_as p own stays f (ap statement_tree r.2 ∙ of_return r.0 r.1) refl)))))) c.in-Declare.is in
+    let alone = flat_alone p own stays f c.args.statement.now (record {
+      block = c.in_default.not-Block;
+      branches = c.in_default.not-If;
+      loop = c.in_default.not-While;
+      break = c.in_default.not-Break;
+      continue = c.in_default.not-Continue;
+      switch = c.in_default.not-Switch;
+    }) in
     subst (λ (t : Told StatementSeen). IfOk c.tell_alone.result (λ s. IsTold text t (statement_seen s) c.tell_alone.new.locals)) (sym alone.is) (c.tell_alone.ensures items own f round h)
 
 pub tell_test-returns : goal.tell_test-returns
