@@ -1,21 +1,23 @@
 -- From stage to stage of a check.
 use Rattle.std.proofs.Common.{◌≡◌, ℕ, List, [], ◌∷◌, map, refl, sym, subst}
-use Rattle.std.specs.Prelude.{◌≢◌, length, Contains, Result, Ok, Err, IfOk}
+use Rattle.std.specs.Prelude.{◌≢◌, All, length, Contains, Result, Ok, Err, IfOk}
 use Rattle.source.specs.Findings.{FindingParts, finding_parts}
 use Rattle.source.specs.declared.finding.Finding.{Finding}
 use Rattle.source.specs.declared.fault.Memory.{Memory}
 use Rattle.tree.specs.Trees.{ItemTree}
-use Rattle.contracts.specs.Conditions.{AreExactly}
+use Rattle.contracts.specs.Conditions.{AreExactly, IsSound}
 use Rattle.program.specs.Programs.{ProgramSeen}
-use Rattle.resolving.specs.Brought.{messages_told}
-use Rattle.resolving.specs.Methods.{methods_told}
-use Rattle.singcheck.specs.Checks.{AreCheckFindings, OfMethods, Checks, HasProgram, IsSoundProgram, IsWrong}
+use Rattle.singcheck.specs.Answers.{AreFindings}
+use Rattle.singcheck.specs.Checks.{AreCheckFindings, OfMethods, Checks, HasProgram, IsWrong}
 use Rattle.singcheck.specs.Lines.{clear_line}
+use Rattle.singcheck.specs.Named.{HasNames}
 use Rattle.singcheck.specs.Reports.{IsReport}
+use Rattle.singcheck.specs.Stages.{AreBroken}
 use Rattle.singcheck.specs.declared.fault.Status.{Status}
 use Rattle.singcheck.specs.declared.reports.Report.{Report}
 use Rattle.singcheck.specs.declared.fault.Status.TheVariants.{Empty, Found}
 use Rattle.singcheck.proofs.JudgeLemmas.{none_of}
+use Rattle.singcheck.proofs.StageLemmas.{unsound}
 
 -- the report of the findings of a text
 pub reported_is : (text bytes : List ℕ) (status : Status) (found : List FindingParts) → AreCheckFindings text found → IsReport found bytes → status ≡ Found → Checks text bytes status
@@ -27,10 +29,18 @@ pub reported_ok : (text : List ℕ) (found : List FindingParts) → AreCheckFind
 reported_ok text found are (Ok r) told is = reported_is text r.bytes.items r.status found are told is
 reported_ok text found are (Err fault) told is = tt
 
--- the program of the text
-pub has_program : (text : List ℕ) (items : List ItemTree) (p : ProgramSeen) → IsSoundProgram text items p.contracts → p.messages ≡ messages_told (record { text = text; items = items }) → p.methods ≡ methods_told (record { text = text; items = items })
-    → HasProgram text p
-has_program text items p program messages methods = record { items = items; program = program; messages = messages; methods = methods }
+-- what is wrong with the contracts of a text
+pub unsound_named : (text : List ℕ) (items : List ItemTree) (p : ProgramSeen) (found : List FindingParts) → HasNames text items p → AreBroken p.contracts found → AreFindings text found
+unsound_named text items p found names broken = unsound text p.contracts found (record { items = items; parsed = names.parsed; clean = names.clean; are = names.contracts }) broken
+
+-- where they are sound, this is the program of the text
+abbrev pub has_program : (text : List ℕ) (items : List ItemTree) (p : ProgramSeen) → HasNames text items p → All (λ c. IsSound c.parts) p.contracts → HasProgram text p
+has_program text items p names sound = record {
+  items = items;
+  program = record { parsed = names.parsed; clean = names.clean; are = names.contracts; sound = sound };
+  messages = names.messages;
+  methods = names.methods;
+}
 
 -- what is found in its methods
 pub misowned : (text : List ℕ) (p : ProgramSeen) (found : List Finding) → HasProgram text p → found ≢ [] → AreExactly (IsWrong p) (map finding_parts found) → AreCheckFindings text (map finding_parts found)
@@ -39,6 +49,12 @@ misowned text p found has some are = OfMethods (record { program = p; has = has;
     none_mapped : (found : List Finding) → found ≢ [] → map finding_parts found ≢ []
     none_mapped [] h = λ _. h refl
     none_mapped (x ∷ xs) h = λ e. absurd (cc)
+
+-- the report of what is found in the methods is that of each text that comes to them
+pub reported_methods : (p : ProgramSeen) (found : List Finding) → found ≢ [] → AreExactly (IsWrong p) (map finding_parts found) → (result : Result Report Memory) → IfOk result (λ r. IsReport (map finding_parts found) r.bytes.items)
+    → IfOk result (λ r. r.status ≡ Found) → IfOk result (λ r. (text : List ℕ) → HasProgram text p → Checks text r.bytes.items r.status)
+reported_methods p found some are (Ok r) told is = λ text has. reported_is text r.bytes.items r.status (map finding_parts found) (misowned text p found has some are) told is
+reported_methods p found some are (Err fault) told is = tt
 
 -- nothing is found in its methods
 pub clear_is : (text bytes : List ℕ) (p : ProgramSeen) (found : List Finding) → HasProgram text p → found ≡ [] → AreExactly (IsWrong p) (map finding_parts found) → bytes ≡ clear_line (length p.contracts) (length p.methods) → Checks text bytes Empty

@@ -1,5 +1,5 @@
 -- Why a run gives up, from what gave up in it.
-use Rattle.std.proofs.Common.{◌≡◌, ℕ, true, sym, subst}
+use Rattle.std.proofs.Common.{◌≡◌, ℕ, true}
 use Rattle.singcheck.specs.CheckFaults.{RunExplains, workers_fit, slots_fit}
 use Rattle.singcheck.specs.RunFaults.{IsReadFault}
 use Rattle.singcheck.specs.declared.fault.Input.TheVariants.{Text, Schedule}

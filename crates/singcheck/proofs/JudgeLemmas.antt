@@ -11,9 +11,9 @@ use Rattle.contracts.specs.Conditions as conditions
 use Rattle.contracts.specs.Conditions.{AreExactly, IsSound}
 use Rattle.contracts.specs.Sounds.{sound_parts}
 use Rattle.contracts.specs.declared.sound.Sound.{Sound}
-use Rattle.singcheck.specs.Answers.{AreFindings, OfContracts, IsResolved, IsBroken}
-use Rattle.singcheck.specs.Stages.{Judges, Keeps, Adds, AddsAll, AreJudged}
-use Rattle.singcheck.specs.declared.stages.Judging.{Judging}
+use Rattle.singcheck.specs.Answers.{IsBroken}
+use Rattle.singcheck.specs.Stages.{Judges, Keeps, Adds, AddsAll, AreBroken, AreJudged}
+use Rattle.singcheck.specs.declared.soundness.Judging.{Judging}
 
 -- the parts at a place are those of the contract there
 pub parts_at : (contracts : List Contract) (i : ℕ) (parts : Parts) (c : ContractSeen) → slice_get (map contract_parts contracts) i ≡ Some parts → slice_get (map contract_seen contracts) i ≡ Some c → c.parts ≡ parts
@@ -88,19 +88,14 @@ pub no_items : (found : List Finding) → length found ≡ 0 → found ≡ []
 no_items [] e = refl
 no_items (x ∷ xs) e = absurd (omega (arith, e))
 
--- where something was found, that is the text's
-pub found_all : (text : List ℕ) (contracts : List ContractSeen) (judging : Judging) → AreJudged contracts judging → 0 < length judging.findings.items → IsResolved text contracts → AreFindings text (map finding_parts judging.findings.items)
-found_all text contracts judging judged some resolved = OfContracts (record {
-  contracts = contracts;
-  resolved = resolved;
-  some = none_mapped judging.findings.items some;
-  are = judged.exactly;
-})
+-- where something was found, that is all that is wrong
+pub found_all : (contracts : List ContractSeen) (judging : Judging) → AreJudged contracts judging → 0 < length judging.findings.items → AreBroken contracts (map finding_parts judging.findings.items)
+found_all contracts judging judged some = record { some = none_mapped judging.findings.items some; are = judged.exactly }
   where
     none_mapped : (found : List Finding) → 0 < length found → map finding_parts found ≢ []
     none_mapped [] h = λ _. absurd (omega (arith, h))
     none_mapped (x ∷ xs) h = λ e. absurd (cc)
 
 -- where nothing was found, each is sound
-pub clean_all : (text : List ℕ) (contracts : List ContractSeen) (judging : Judging) → AreJudged contracts judging → judging.findings.items ≡ [] → All (λ c. IsSound c.parts) contracts
-clean_all text contracts judging judged none = λ k d lt f broken. none_of f (subst (λ l. Contains (map finding_parts l) f) none (judged.exactly.all f (_, Contains-get_or contracts k d lt, broken)))
+pub clean_all : (contracts : List ContractSeen) (judging : Judging) → AreJudged contracts judging → judging.findings.items ≡ [] → All (λ c. IsSound c.parts) contracts
+clean_all contracts judging judged none = λ k d lt f broken. none_of f (subst (λ l. Contains (map finding_parts l) f) none (judged.exactly.all f (_, Contains-get_or contracts k d lt, broken)))

@@ -7,12 +7,8 @@ use Rattle.source.specs.declared.finding.Finding.{Finding}
 use Rattle.source.specs.declared.lexer.TheConstants.{MAX_TEXT}
 use Rattle.contracts.specs.Conditions.{AreExactly}
 use Rattle.program.specs.Programs.{ProgramSeen}
-use Rattle.machine.specs.Outcomes.{Bounds}
-use Rattle.machine.specs.Runs.{AreBounds, Run}
-use Rattle.machine.specs.World.{World}
 use Rattle.analyse.specs.Verdicts.{IsFoundIn, IsMethodVerdict, place_of_method, too_many_pairs}
-use Rattle.sound.specs.Premises.{IsEntry, NothingIsFound}
-use Rattle.sound.specs.Safe.{IsSafe}
+use Rattle.sound.specs.Premises.{NothingIsFound}
 use Rattle.singcheck.specs.Checks.{HasProgram, IsWrong}
 use Rattle.singcheck.specs.Entered.{AreCleanSafe}
 use Rattle.singcheck.specs.Safety.{IsSafeText, RunsAreSafe}
@@ -31,13 +27,13 @@ empty_verdict p n none = record {
 }
 
 -- where all that is wrong is nothing, nothing is found in any method
-nothing_found : (p : ProgramSeen) (found : List Finding) → found ≡ [] → AreExactly (IsWrong p) (map finding_parts found) → NothingIsFound p
+pub nothing_found : (p : ProgramSeen) (found : List Finding) → found ≡ [] → AreExactly (IsWrong p) (map finding_parts found) → NothingIsFound p
 nothing_found p found none are = λ n lt. empty_verdict p n (λ f w. none_of f (subst (λ l. Contains (map finding_parts l) f) none (are.all f (n, lt, w))))
 
 -- the text of a program in which nothing is wrong is safe
-pub safe_text : (text : List ℕ) (p : ProgramSeen) (found : List Finding) → ((q : ProgramSeen) → HasProgram text q → p ≡ q) → found ≡ [] → AreExactly (IsWrong p) (map finding_parts found) → AreCleanSafe p → IsSafeText text
-safe_text text p found one none are safe = λ q has. subst RunsAreSafe (one q has) (record {
-  each = λ bound bounds n w entry run. safe bound bounds (nothing_found p found none are) n w entry run;
+pub safe_text : (text : List ℕ) (p : ProgramSeen) → ((q : ProgramSeen) → HasProgram text q → p ≡ q) → NothingIsFound p → AreCleanSafe p → IsSafeText text
+safe_text text p one nothing safe = λ q has. subst RunsAreSafe (one q has) (record {
+  each = λ bound bounds n w entry run. safe bound bounds nothing n w entry run;
 })
 
 -- what is known of the bytes that are read is known of the text

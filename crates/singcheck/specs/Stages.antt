@@ -1,23 +1,24 @@
 -- For proofs within the crate: what the stages answer each other.
-use Rattle.std.specs.Prelude.{◌≡◌, ◌<◌, ◌^◌, ℕ, List, [], ◌∷◌, ◌++◌, length, map, All}
+use Rattle.std.specs.Prelude.{◌≡◌, ◌≢◌, ◌<◌, ◌^◌, ℕ, List, [], ◌∷◌, ◌++◌, length, map, All}
 use Rattle.source.specs.Findings.{FindingParts, finding_parts}
 use Rattle.source.specs.declared.finding.Finding.{Finding}
 use Rattle.program.specs.Parts.{ContractSeen, contract_seen}
-use Rattle.program.specs.declared.contract.Resolved.{Resolved}
 use Rattle.contracts.specs.Conditions as conditions
 use Rattle.contracts.specs.Conditions.{AreExactly, IsSound}
 use Rattle.contracts.specs.Parts.{Parts}
 use Rattle.contracts.specs.Sounds.{sound_parts}
+use Rattle.contracts.specs.declared.sound.Sound.{Sound}
 use Rattle.singcheck.specs.Answers.{AreFindings, IsBoundsLine, IsResolved, IsBroken}
 use Rattle.source.specs.Tokens.{AreTokens}
 use Rattle.source.specs.declared.token.Tokens.{Tokens}
 use Rattle.tree.specs.Spelled.{Spells}
 use Rattle.tree.specs.Programs.{program}
-use Rattle.tree.specs.Trees.{ItemTree, program_tree}
+use Rattle.tree.specs.Trees.{program_tree}
 use Rattle.tree.specs.declared.item.Tree.{Tree}
-use Rattle.singcheck.specs.Checks.{IsSoundProgram}
 use Rattle.singcheck.specs.declared.stages.Clean.{Clean}
-use Rattle.singcheck.specs.declared.stages.Judging.{Judging}
+use Rattle.singcheck.specs.declared.soundness.Judgement.{Judgement}
+use Rattle.singcheck.specs.declared.soundness.Judgement.TheVariants as judgement
+use Rattle.singcheck.specs.declared.soundness.Judging.{Judging}
 use Rattle.singcheck.specs.declared.stages.Parsed.{Parsed}
 use Rattle.singcheck.specs.declared.stages.Parsed.TheVariants as parsed
 use Rattle.singcheck.specs.declared.stages.Staged.{Staged}
@@ -40,20 +41,25 @@ abbrev pub IsParsed : List ℕ → Parsed → Type 0
 IsParsed text (parsed.Found findings) = AreFindings text (map finding_parts findings.items)
 IsParsed text (parsed.Program tokens tree) = IsProgramOf text tokens tree
 
--- where nothing is wrong, nothing is wrong with these items
-abbrev pub IsSoundTree : List ℕ → List ItemTree → Staged → Type 0
-IsSoundTree text items (staged.Found findings) = Unit {0}
-IsSoundTree text items (staged.Clean clean) = IsSoundProgram text items (map contract_seen clean.resolved.contracts.items)
-
 -- the findings of the text, or its contracts where there are none
 abbrev pub IsStaged : List ℕ → Staged → Type 0
 IsStaged text (staged.Found findings) = AreFindings text (map finding_parts findings.items)
 IsStaged text (staged.Clean clean) = IsClean text clean
 
--- where nothing is wrong, the contracts are those that were judged
-abbrev pub KeepsContracts : Resolved → Staged → Type 0
-KeepsContracts resolved (staged.Found findings) = Unit {0}
-KeepsContracts resolved (staged.Clean clean) = clean.resolved ≡ resolved
+-- something is wrong with these contracts: all of it
+pub record AreBroken (contracts : List ContractSeen) (found : List FindingParts) : Type 0 where
+  pub some : found ≢ []
+  pub are : AreExactly (IsBroken contracts) found
+
+-- these contracts are sound, each with its parts
+pub record AreSounds (contracts : List ContractSeen) (sounds : List Sound) : Type 0 where
+  pub kept : map sound_parts sounds ≡ map (λ c. c.parts) contracts
+  pub sound : All (λ c. IsSound c.parts) contracts
+
+-- what is wrong with these contracts, or the sound ones where nothing is
+abbrev pub IsJudgement : List ContractSeen → Judgement → Type 0
+IsJudgement contracts (judgement.Found findings) = AreBroken contracts (map finding_parts findings.items)
+IsJudgement contracts (judgement.Sounds sounds) = AreSounds contracts sounds.items
 
 -- a sound contract is kept
 pub record KeepsSound (c : ContractSeen) (old new : Judging) : Type 0 where

@@ -1,14 +1,14 @@
 //! The check of a text, its methods too.
 
-ghost use Rattle.std.specs.Prelude.{◌≡◌, ◌<◌, ◌^◌, [], true, map, length, List, IfOk, IfErr, OnOk};
+ghost use Rattle.std.specs.Prelude.{◌≡◌, ◌<◌, ◌^◌, true, ℕ, map, length, List, IfOk, IfErr, OnOk};
 ghost use Rattle.source.specs.Findings.{finding_parts};
 ghost use Rattle.source.specs.Tokens.{AreTokens};
 ghost use Rattle.tree.specs.Spelled.{Spells};
 ghost use Rattle.tree.specs.Programs.{program};
 ghost use Rattle.tree.specs.Trees.{program_tree};
-ghost use Rattle.contracts.specs.Sounds.{sound_parts};
-ghost use Rattle.program.specs.Parts.{contract_seen};
-ghost use Rattle.singcheck.specs.Checks.{Checks, IsSoundProgram};
+ghost use Rattle.rules.specs.Programs.{seen_of};
+ghost use Rattle.sound.specs.Premises.{NothingIsFound};
+ghost use Rattle.singcheck.specs.Checks.{Checks, HasProgram};
 ghost use Rattle.singcheck.specs.CheckFaults.{AreUnfit, Explains, workers_fit, slots_fit};
 ghost use Rattle.singcheck.specs.Reports.{IsReport};
 ghost use Rattle.singcheck.specs.Safety.{IsSafeText};
@@ -17,20 +17,19 @@ use crate::fault::{CheckFault, Status};
 use crate::laws::one_program;
 use crate::limits::{MOST_SLOTS, MOST_WORKERS};
 use crate::lines::add_clear;
+use crate::programs::{Built, Named, judged_program, named_methods};
 use crate::reports::{Report, report_of};
-use crate::stages::{Clean, Parsed, Staged, named, parse_text};
+use crate::stages::{Parsed, parse_text};
 use crate::tools::Tools;
 use crate::verdicts::analyse_methods;
 use pool::Gate;
 use rules::Program;
 use shelf::Shelf;
-use sound::laws::clean_methods_are_safe;
 use source::{Finding, Memory, Tokens};
 use std::alloc::Global;
 use std::sync::Wait;
 use std::thread::Threads;
 use tree::Tree;
-use wellformed::well_formed_methods;
 
 /// Checks a text: the report of the first stage that has findings (the text, its names, its contracts, its methods), with
 /// status `Found`, or the line `ok: C contracts, M methods`, with status `Empty`.
@@ -143,41 +142,39 @@ fn check_program<R: Threads + Wait + Sync, G: Gate>(
     ensures report { IfOk result (λ r. Checks tokens.text.items r.bytes.items r.status) }
     ensures safe { IfOk result (λ r. r.status ≡ Status.Empty → IsSafeText tokens.text.items) }
 {
-    match named(tools.alloc, &tree, &tokens)? {
-        Staged::Found(findings) => reported(tools.alloc, findings),
-        Staged::Clean(clean) => check_methods(tools, tokens, tree, clean),
+    let alloc = tools.alloc;
+    let named = named_methods(alloc, &tree, &tokens)?;
+    drop(tree); // the contracts are judged without them, which spares their memory
+    drop(tokens);
+    let methods = match named {
+        Named::Found(findings) => return reported(alloc, findings),
+        Named::Methods(methods) => methods,
+    };
+    one_program();
+    match judged_program(alloc, methods)? {
+        Built::Found(findings) => reported(alloc, findings),
+        Built::Program(program) => check_methods(tools, &program),
     }
 }
 
-/// The report of the methods of a program of these contracts, with which nothing else is wrong.
+/// The report of the methods of a program, with which nothing else is wrong.
 fn check_methods<R: Threads + Wait + Sync, G: Gate>(
     tools: &Tools<'_, R, G>,
-    tokens: Tokens,
-    tree: Tree,
-    clean: Clean,
+    program: &Program,
 ) -> Result<Report, Memory>
-    requires sound { IsSoundProgram tokens.text.items (program_tree tree) (map contract_seen clean.resolved.contracts.items) }
-    requires judged { map sound_parts clean.sounds.items ≡ map (λ c. c.parts) (map contract_seen clean.resolved.contracts.items) }
-    requires room { length clean.resolved.contracts.items < 2 ^ 32 }
-    ensures report { IfOk result (λ r. Checks tokens.text.items r.bytes.items r.status) }
-    ensures safe { IfOk result (λ r. r.status ≡ Status.Empty → IsSafeText tokens.text.items) }
+    requires few { length (seen_of program.now).methods < 2 ^ 32 }
+    ensures report { IfOk result (λ r. (text : List ℕ) → HasProgram text (seen_of program.now) → Checks text r.bytes.items r.status) }
+    ensures clean { IfOk result (λ r. r.status ≡ Status.Empty → NothingIsFound (seen_of program.now)) }
 {
     let alloc = tools.alloc;
-    let Clean { resolved, sounds } = clean;
-    let contracts = resolved.contracts.len();
-    let methods = well_formed_methods(alloc, &tree, &tokens, resolved)?;
-    drop(tree); // a large text takes less memory so
-    drop(tokens);
-    one_program();
-    clean_methods_are_safe(&methods, &sounds);
-    let count = methods.list().len();
-    let program = Program::new(alloc, methods, sounds)?;
-    let findings = analyse_methods(tools, &program)?;
+    let findings = analyse_methods(tools, program)?;
     if !findings.is_empty() {
         return reported(alloc, findings);
     }
     let mut bytes = Vec::new(alloc);
-    add_clear(alloc, &mut bytes, contracts, count)?;
+    let contracts = program.contracts().len();
+    let methods = program.methods().len();
+    add_clear(alloc, &mut bytes, contracts, methods)?;
     Ok(Report {
         bytes,
         status: Status::Empty,

@@ -1,26 +1,25 @@
 //! A text and an entry.
 
-ghost use Rattle.std.specs.Prelude.{◌≡◌, ◌<◌, ◌^◌, ℕ, IfNone, IfOk, IfSome, Some, length, map};
+ghost use Rattle.std.specs.Prelude.{◌≡◌, ◌<◌, ◌≤◌, ◌^◌, ℕ, All, IfNone, IfOk, IfSome, Some, length};
 ghost use Rattle.source.specs.Tokens.{AreTokens};
 ghost use Rattle.tree.specs.Spelled.{Spells};
 ghost use Rattle.tree.specs.Programs.{program};
 ghost use Rattle.tree.specs.Trees.{program_tree};
-ghost use Rattle.contracts.specs.Sounds.{sound_parts};
-ghost use Rattle.program.specs.Parts.{contract_seen};
+ghost use Rattle.contracts.specs.Conditions.{IsSound};
+ghost use Rattle.program.specs.declared.limits.TheConstants.{MOST_METHODS};
 ghost use Rattle.rules.specs.Programs.{seen_of};
-ghost use Rattle.singcheck.specs.Checks.{IsSoundProgram};
-ghost use Rattle.singcheck.specs.Entered.{Begins, IsEntered, IsKeptSafe};
+ghost use Rattle.singcheck.specs.Entered.{AreReplaysSafe, Begins, IsEntered, IsKeptSafe};
+ghost use Rattle.singcheck.specs.Named.{HasNames};
 
 use crate::entries::{entry_place, struct_names};
 use crate::laws::one_program;
-use crate::stages::{Clean, Parsed, Staged, named, parse_text};
+use crate::programs::{Built, Named, judged_program, named_methods};
+use crate::stages::{Parsed, parse_text};
 use program::MethodId;
 use rules::Program;
-use sound::laws::clean_methods_are_safe;
 use source::{Finding, Memory, Tokens};
 use std::alloc::Global;
 use tree::Tree;
-use wellformed::well_formed_methods;
 
 /// A run that may begin: its program, the method with which it begins, and the names of the structs, in order of the text.
 #[derive(Drop)]
@@ -65,32 +64,32 @@ fn enter_program(
     ensures entered { IfOk result (IsEntered tokens.now.text.items entry.now) }
     ensures safe { IfOk result (IsKeptSafe tokens.now.text.items) }
 {
-    match named(alloc, tree, tokens)? {
-        Staged::Found(findings) => Ok(Entered::Found(findings)),
-        Staged::Clean(clean) => enter_method(alloc, tokens, tree, clean, entry),
+    let methods = match named_methods(alloc, tree, tokens)? {
+        Named::Found(findings) => return Ok(Entered::Found(findings)),
+        Named::Methods(methods) => methods,
+    };
+    match judged_program(alloc, methods)? {
+        Built::Found(findings) => Ok(Entered::Found(findings)),
+        Built::Program(program) => enter_method(alloc, tokens, tree, program, entry),
     }
 }
 
-/// The entry in a program of these contracts, with which nothing is wrong but in its methods.
+/// The entry in a program with which nothing is wrong but in its methods.
 fn enter_method(
     alloc: Global,
     tokens: &Tokens,
     tree: &Tree,
-    clean: Clean,
+    program: Program,
     entry: &[u8],
 ) -> Result<Entered, Memory>
-    requires sound { IsSoundProgram tokens.now.text.items (program_tree tree.now) (map contract_seen clean.resolved.contracts.items) }
-    requires judged { map sound_parts clean.sounds.items ≡ map (λ c. c.parts) (map contract_seen clean.resolved.contracts.items) }
-    requires room { length clean.resolved.contracts.items < 2 ^ 32 }
+    requires program { HasNames tokens.now.text.items (program_tree tree.now) (seen_of program) }
+    requires sound { All (λ c. IsSound c.parts) (seen_of program).contracts }
+    requires few { length (seen_of program).methods ≤ MOST_METHODS }
+    requires safe { AreReplaysSafe (seen_of program) }
     ensures entered { IfOk result (IsEntered tokens.now.text.items entry.now) }
     ensures safe { IfOk result (IsKeptSafe tokens.now.text.items) }
 {
-    let Clean { resolved, sounds } = clean;
-    let methods = well_formed_methods(alloc, tree, tokens, resolved)?;
     one_program();
-    clean_methods_are_safe(&methods, &sounds);
-    methods.list();
-    let program = Program::new(alloc, methods, sounds)?;
     let Some(method) = entry_of(&program, entry_place(tokens, tree, entry)) else {
         return Ok(Entered::Lacking);
     };

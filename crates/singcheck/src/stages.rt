@@ -8,13 +8,14 @@ ghost use Rattle.source.specs.Tokens.{AreTokens};
 ghost use Rattle.tree.specs.Spelled.{Spells};
 ghost use Rattle.tree.specs.Programs.{program};
 ghost use Rattle.tree.specs.Trees.{program_tree};
-ghost use Rattle.program.specs.Parts.{IsWhole, contract_parts, ContractSeen, contract_seen};
+ghost use Rattle.program.specs.Parts.{IsWhole, contract_seen};
 ghost use Rattle.singcheck.specs.Answers.{IsResolved, fault_findings, wrong_token};
-ghost use Rattle.singcheck.specs.Stages.{IsParsed, IsSoundTree, IsStaged, Judges, KeepsContracts};
+ghost use Rattle.singcheck.specs.Stages.{IsParsed, IsStaged};
 
-use contracts::{Judged, Sound, edges};
+use crate::soundness::{Judgement, judged};
+use contracts::Sound;
 use names::{NameFaults, resolve};
-use program::{ContractId, Resolved};
+use program::Resolved;
 use source::{Finding, Memory, TextFault, Tokens, lex, texts};
 use std::alloc::Global;
 use syntax::{SyntaxFault, parse};
@@ -52,7 +53,7 @@ pub(crate) fn run_stages(alloc: Global, text: &[u8]) -> Result<Staged, Memory>
 {
     match parse_text(alloc, text)? {
         Parsed::Found(findings) => Ok(Staged::Found(findings)),
-        Parsed::Program(tokens, tree) => named_alone(alloc, tree, tokens),
+        Parsed::Program(tokens, tree) => staged_names(alloc, tree, tokens),
     }
 }
 
@@ -102,23 +103,8 @@ fn wrong_at(alloc: Global, tokens: &Tokens, number: usize) -> Result<Vec<Finding
     }
 }
 
-/// The stages of names and contracts.
-pub(crate) fn named(alloc: Global, tree: &Tree, tokens: &Tokens) -> Result<Staged, Memory>
-    requires lexed { AreTokens tokens.now.text.items tokens.now.list.items }
-    requires spelled { Spells program (program_tree tree.now) tokens.now.list.items }
-    requires few { length tokens.now.list.items < 2 ^ 32 }
-    ensures staged { IfOk result (IsStaged tokens.now.text.items) }
-    ensures sound { IfOk result (IsSoundTree tokens.now.text.items (program_tree tree.now)) }
-{
-    match resolve(alloc, tree, tokens) {
-        Ok(resolved) => judged(alloc, resolved),
-        Err(NameFaults::Found(findings)) => Ok(Staged::Found(findings)),
-        Err(NameFaults::Memory) => Err(Memory),
-    }
-}
-
-/// The same, where nobody asks for the tree and its tokens again. They go before the contracts are judged, which spares their memory.
-fn named_alone(alloc: Global, tree: Tree, tokens: Tokens) -> Result<Staged, Memory>
+/// The stages of names and contracts. The tree and its tokens go before the contracts are judged, which spares their memory.
+fn staged_names(alloc: Global, tree: Tree, tokens: Tokens) -> Result<Staged, Memory>
     requires lexed { AreTokens tokens.text.items tokens.list.items }
     requires spelled { Spells program (program_tree tree) tokens.list.items }
     requires few { length tokens.list.items < 2 ^ 32 }
@@ -128,61 +114,24 @@ fn named_alone(alloc: Global, tree: Tree, tokens: Tokens) -> Result<Staged, Memo
         Ok(resolved) => {
             drop(tree);
             drop(tokens);
-            judged(alloc, resolved)
+            staged_contracts(alloc, resolved)
         }
         Err(NameFaults::Found(found)) => Ok(Staged::Found(found)),
         Err(NameFaults::Memory) => Err(Memory),
     }
 }
 
-/// The contracts that are sound, or what is wrong with the others.
-fn judged(alloc: Global, resolved: Resolved) -> Result<Staged, Memory>
-    requires whole { All (λ c. IsWhole (contract_parts c)) resolved.contracts.items }
+/// The stage of the contracts.
+fn staged_contracts(alloc: Global, resolved: Resolved) -> Result<Staged, Memory>
+    requires whole { All (λ c. IsWhole c.parts) (map contract_seen resolved.contracts.items) }
     requires few { length resolved.contracts.items < 2 ^ 32 }
-    ensures staged { IfOk result (λ staged. (text : List ℕ)
+    ensures { IfOk result (λ staged. (text : List ℕ)
         → IsResolved text (map contract_seen resolved.contracts.items) → IsStaged text staged) }
-    ensures kept { IfOk result (KeepsContracts resolved) }
 {
-    let mut judging = Judging {
-        sounds: Vec::new(alloc),
-        findings: Vec::new(alloc),
-    };
-    for number in 0..resolved.contracts.len() as u32 {
-        judge(alloc, &resolved, ContractId(number), &mut judging)?;
+    match judged(alloc, &resolved)? {
+        Judgement::Found(findings) => Ok(Staged::Found(findings)),
+        Judgement::Sounds(sounds) => Ok(Staged::Clean(Clean { resolved, sounds })),
     }
-    let Judging { sounds, findings } = judging;
-    if findings.is_empty() {
-        Ok(Staged::Clean(Clean { resolved, sounds }))
-    } else {
-        Ok(Staged::Found(findings))
-    }
-}
-
-/// What has been judged so far.
-#[derive(Drop)]
-struct Judging {
-    sounds: Vec<Sound>,
-    findings: Vec<Finding>,
-}
-
-/// Adds a contract where it is sound, and else what is wrong with it.
-fn judge(
-    alloc: Global,
-    resolved: &Resolved,
-    id: ContractId,
-    judging: &mut Judging,
-) -> Result<(), Memory>
-    requires there { id.0 < length resolved.now.contracts.items }
-    requires whole { All (λ c. IsWhole (contract_parts c)) resolved.now.contracts.items }
-    ensures { OnOk result ((c : ContractSeen)
-        → slice_get (map contract_seen resolved.now.contracts.items) id.0 ≡ Some c
-        → Judges c judging.old judging.new) }
-{
-    match Sound::judge(alloc, edges(alloc, resolved, id)?)? {
-        Judged::Sound(sound) => judging.sounds.push(sound)?,
-        Judged::Broken(mut found) => judging.findings.append(&mut found)?,
-    }
-    Ok(())
 }
 
 /// A list of one finding.

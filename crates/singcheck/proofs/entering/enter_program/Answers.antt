@@ -1,18 +1,41 @@
-use Rattle.std.proofs.Common.{subst, arith}
+use Rattle.std.proofs.Common.{subst, sym, map}
+use Rattle.source.specs.Findings.{finding_parts}
 use Rattle.tree.specs.Trees.{program_tree}
-use Rattle.program.specs.Parts.{contract_seen}
-use Rattle.singcheck.specs.Stages.{IsStaged, IsSoundTree}
-use Rattle.singcheck.proofs.FewLemmas.{few_contracts}
+use Rattle.program.specs.Programs.{program_seen}
+use Rattle.rules.specs.Programs.{seen_of}
+use Rattle.singcheck.specs.Named.{AreNamed, IsBuilt, IsNamed}
+use Rattle.singcheck.proofs.CheckLemmas.{unsound_named}
+use Rattle.singcheck.proofs.ReplayLemmas.{entry_is}
 use Rattle.singcheck.proofs.entering.enter_program.Goals as goal
 
-pub enter_method-requires-clause-sound : goal.enter_method-requires-clause-sound
-enter_method-requires-clause-sound c = subst (IsSoundTree c.args.tokens.now.text.items (program_tree c.args.tree.now)) c.in-Clean.is c.in_ok-findings.ensures.sound
+pub judged_program-requires : goal.judged_program-requires
+judged_program-requires c =
+    let named = subst (IsNamed c.args.tokens.now.text.items (program_tree c.args.tree.now)) c.in-Methods.is c.in_ok-findings.ensures in
+    record { whole = named.whole; few = named.room }
 
-pub enter_method-requires-clause-room : goal.enter_method-requires-clause-room
-enter_method-requires-clause-room c =
-    let sound = subst (IsSoundTree c.args.tokens.now.text.items (program_tree c.args.tree.now)) c.in-Clean.is c.in_ok-findings.ensures.sound in
-    let few = few_contracts c.args.tokens.now.text.items (program_tree c.args.tree.now) c.args.tokens.now.list.items c.in-Clean.clean.resolved.contracts.items contract_seen c.requires.spelled sound.are in
-    omega (arith, few, c.requires.few)
+pub enter_method-requires : goal.enter_method-requires
+enter_method-requires c =
+    let text = c.args.tokens.now.text.items in
+    let items = program_tree c.args.tree.now in
+    let p = seen_of c.in-Program.program in
+    let built = subst (IsBuilt (program_seen c.in-Methods.methods)) c.in-Program.is c.in_ok-findings-2.ensures in
+    let named = subst (AreNamed text items) (sym built.same) (subst (IsNamed text items) c.in-Methods.is c.in_ok-findings.ensures) in
+    record {
+      program = named.names;
+      sound = built.sound;
+      few = named.few;
+      safe = record { safe = built.safe; begin = entry_is p built.formed named.bare };
+    }
 
-pub enter_method-requires-clause-judged : goal.enter_method-requires-clause-judged
-enter_method-requires-clause-judged c = (subst (IsStaged c.args.tokens.now.text.items) c.in-Clean.is c.in_ok-findings.ensures.staged).sounds
+pub returns-in-Found-clause-entered : goal.returns-in-Found-clause-entered
+returns-in-Found-clause-entered c = subst (IsNamed c.args.tokens.now.text.items (program_tree c.args.tree.now)) c.in-Found.is c.in_ok-findings.ensures
+
+pub returns-in-Found-2-clause-entered : goal.returns-in-Found-2-clause-entered
+returns-in-Found-2-clause-entered c =
+    let text = c.args.tokens.now.text.items in
+    let items = program_tree c.args.tree.now in
+    let p = program_seen c.in-Methods.methods in
+    let found = map finding_parts c.in-Found-2.findings.items in
+    let named = subst (IsNamed text items) c.in-Methods.is c.in_ok-findings.ensures in
+    let broken = subst (IsBuilt p) c.in-Found-2.is c.in_ok-findings-2.ensures in
+    unsound_named text items p found named.names broken

@@ -1,21 +1,22 @@
 use Rattle.std.proofs.Common.{map, sym, subst, Vec, arith}
 use Rattle.std.specs.Global.{Global}
+use Rattle.std.proofs.lemmas.List.Elements.{All-map}
 use Rattle.std.proofs.lemmas.Result.{IfOk-weaker}
 use Rattle.source.specs.Findings.{finding_parts}
 use Rattle.source.specs.declared.finding.Finding.{Finding}
 use Rattle.tree.specs.Trees.{program_tree}
 use Rattle.names.specs.Program.{program_of}
-use Rattle.program.specs.Parts.{contract_seen}
+use Rattle.program.specs.Parts.{IsWhole, contract_seen}
 use Rattle.singcheck.specs.Answers.{AreFindings, IsProgram, IsResolved}
 use Rattle.singcheck.proofs.FewLemmas.{few_contracts}
 use Rattle.singcheck.proofs.StageLemmas.{explained, misnamed}
-use Rattle.singcheck.proofs.stages.named_alone.Goals as goal
+use Rattle.singcheck.proofs.stages.staged_names.Goals as goal
 
-pub judged-requires : goal.judged-requires
-judged-requires c =
+pub staged_contracts-requires : goal.staged_contracts-requires
+staged_contracts-requires c =
     let few = few_contracts c.args.tokens.text.items (program_tree c.args.tree) c.args.tokens.list.items c.in-Ok.resolved.contracts.items contract_seen c.requires.spelled c.in-Ok.ensures.resolved in
     record {
-      whole = c.in-Ok.ensures.whole;
+      whole = All-map (λ s. IsWhole s.parts) contract_seen c.in-Ok.resolved.contracts.items c.in-Ok.ensures.whole;
       few = omega (arith, few, c.requires.few);
     }
 
@@ -28,7 +29,7 @@ returns-in-Ok c =
       clean = c.in-Ok.ensures.clean;
       are = c.in-Ok.ensures.resolved;
     } in
-    IfOk-weaker c.judged.result _ _ (λ staged h. h text resolved) c.judged.ensures.staged
+    IfOk-weaker c.staged_contracts.result _ _ (λ staged h. h text resolved) c.staged_contracts.ensures
 
 pub returns-in-Err-Found : goal.returns-in-Err-Found
 returns-in-Err-Found c =

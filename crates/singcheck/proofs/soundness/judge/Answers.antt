@@ -5,7 +5,7 @@ use Rattle.contracts.specs.Parts.{parts_of}
 use Rattle.contracts.specs.Sounds.{IsJudged}
 use Rattle.singcheck.proofs.JudgeLemmas.{parts_at, keeps_is, adds_is}
 use Rattle.singcheck.proofs.WholeLemmas.{whole_at}
-use Rattle.singcheck.proofs.stages.judge.Goals as goal
+use Rattle.singcheck.proofs.soundness.judge.Goals as goal
 
 pub judge-requires : goal.judge-requires
 judge-requires c = record { whole = whole_at c.args.resolved.now.contracts.items c.args.id.0 _ c.requires.whole c.in_ok-edges.ensures }

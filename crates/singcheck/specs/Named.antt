@@ -1,0 +1,57 @@
+-- For proofs within the crate: what a text comes to before its contracts are judged, and then.
+use Rattle.std.specs.Prelude.{◌≡◌, ◌<◌, ◌≤◌, ◌^◌, ℕ, List, [], length, map, All}
+use Rattle.source.specs.Findings.{finding_parts}
+use Rattle.tree.specs.Trees.{ItemTree, contracts_of}
+use Rattle.names.specs.Findings.{program_findings}
+use Rattle.names.specs.Resolution.{resolved_contracts}
+use Rattle.program.specs.Lists.{Each}
+use Rattle.program.specs.Parts.{IsWhole}
+use Rattle.program.specs.Programs.{ProgramSeen, program_seen}
+use Rattle.program.specs.WellFormed.{AreWellFormed}
+use Rattle.program.specs.declared.limits.TheConstants.{MOST_METHODS}
+use Rattle.contracts.specs.Conditions.{IsSound}
+use Rattle.resolving.specs.Brought.{messages_told}
+use Rattle.resolving.specs.Methods.{methods_told}
+use Rattle.rules.specs.Programs.{seen_of}
+use Rattle.rules.specs.declared.lowered.Program.{Program}
+use Rattle.wellformed.specs.Bare.{IsBare}
+use Rattle.singcheck.specs.Answers.{AreFindings, IsProgram}
+use Rattle.singcheck.specs.Entered.{AreCleanSafe}
+use Rattle.singcheck.specs.Stages.{AreBroken}
+use Rattle.singcheck.specs.declared.programs.Built.{Built}
+use Rattle.singcheck.specs.declared.programs.Built.TheVariants as built
+use Rattle.singcheck.specs.declared.programs.Named.{Named}
+use Rattle.singcheck.specs.declared.programs.Named.TheVariants as named
+
+-- the text is a program of these items, nothing is wrong with its names, and this is what it comes to
+pub record HasNames (text : List ℕ) (items : List ItemTree) (p : ProgramSeen) : Type 0 where
+  pub parsed : IsProgram text items
+  pub clean : program_findings (record { text = text; items = items }) ≡ []
+  pub contracts : p.contracts ≡ resolved_contracts text (contracts_of items)
+  pub messages : p.messages ≡ messages_told (record { text = text; items = items })
+  pub methods : p.methods ≡ methods_told (record { text = text; items = items })
+
+-- and this is known of it
+pub record AreNamed (text : List ℕ) (items : List ItemTree) (p : ProgramSeen) : Type 0 where
+  pub names : HasNames text items p
+  pub whole : All (λ c. IsWhole c.parts) p.contracts
+  pub room : length p.contracts < 2 ^ 32
+  pub bare : Each IsBare p.methods
+  pub few : length p.methods ≤ MOST_METHODS
+
+-- the findings of the names, or the methods where there are none
+abbrev pub IsNamed : List ℕ → List ItemTree → Named → Type 0
+IsNamed text items (named.Found findings) = AreFindings text (map finding_parts findings.items)
+IsNamed text items (named.Methods methods) = AreNamed text items (program_seen methods)
+
+-- the program whose contracts are sound, and what is known of it
+pub record IsSoundOne (p : ProgramSeen) (program : Program) : Type 0 where
+  pub same : seen_of program ≡ p
+  pub sound : All (λ c. IsSound c.parts) (seen_of program).contracts
+  pub formed : AreWellFormed (seen_of program).contracts (seen_of program).messages (seen_of program).methods
+  pub safe : AreCleanSafe (seen_of program)
+
+-- what is wrong with the contracts of a program, or the program where nothing is
+abbrev pub IsBuilt : ProgramSeen → Built → Type 0
+IsBuilt p (built.Found findings) = AreBroken p.contracts (map finding_parts findings.items)
+IsBuilt p (built.Program program) = IsSoundOne p program

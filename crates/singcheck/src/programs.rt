@@ -1,0 +1,68 @@
+//! The program of a text: the stage of its names, which gives its methods, and then that of its contracts.
+
+ghost use Rattle.std.specs.Prelude.{◌<◌, ◌^◌, All, IfOk, length};
+ghost use Rattle.source.specs.Tokens.{AreTokens};
+ghost use Rattle.tree.specs.Spelled.{Spells};
+ghost use Rattle.tree.specs.Programs.{program};
+ghost use Rattle.tree.specs.Trees.{program_tree};
+ghost use Rattle.program.specs.Parts.{IsWhole};
+ghost use Rattle.program.specs.Programs.{contracts_seen, program_seen};
+ghost use Rattle.singcheck.specs.Named.{IsBuilt, IsNamed};
+
+use crate::soundness::{Judgement, judged};
+use names::{NameFaults, resolve};
+use program::Methods;
+use rules::Program;
+use sound::laws::clean_methods_are_safe;
+use source::{Finding, Memory, Tokens};
+use std::alloc::Global;
+use tree::Tree;
+use wellformed::well_formed_methods;
+
+/// What the stage of the names answers.
+#[derive(Drop)]
+pub(crate) enum Named {
+    /// What is wrong with them.
+    Found(Vec<Finding>),
+    /// Nothing is: the methods, and with them the contracts, which are not judged yet.
+    Methods(Methods),
+}
+
+/// What the methods come to, once their contracts are judged.
+#[derive(Drop)]
+pub(crate) enum Built {
+    /// What is wrong with the contracts.
+    Found(Vec<Finding>),
+    /// Nothing is: the program.
+    Program(Program),
+}
+
+/// The stage of the names. What it answers needs the tree and its tokens no more.
+pub(crate) fn named_methods(alloc: Global, tree: &Tree, tokens: &Tokens) -> Result<Named, Memory>
+    requires lexed { AreTokens tokens.now.text.items tokens.now.list.items }
+    requires spelled { Spells program (program_tree tree.now) tokens.now.list.items }
+    requires few { length tokens.now.list.items < 2 ^ 32 }
+    ensures { IfOk result (IsNamed tokens.now.text.items (program_tree tree.now)) }
+{
+    match resolve(alloc, tree, tokens) {
+        Ok(resolved) => Ok(Named::Methods(well_formed_methods(alloc, tree, tokens, resolved)?)),
+        Err(NameFaults::Found(findings)) => Ok(Named::Found(findings)),
+        Err(NameFaults::Memory) => Err(Memory),
+    }
+}
+
+/// The stage of the contracts, of a program whose methods are resolved.
+pub(crate) fn judged_program(alloc: Global, methods: Methods) -> Result<Built, Memory>
+    requires whole { All (λ c. IsWhole c.parts) (contracts_seen methods) }
+    requires few { length (contracts_seen methods) < 2 ^ 32 }
+    ensures { IfOk result (IsBuilt (program_seen methods)) }
+{
+    match judged(alloc, methods.contracts())? {
+        Judgement::Found(findings) => Ok(Built::Found(findings)),
+        Judgement::Sounds(sounds) => {
+            clean_methods_are_safe(&methods, &sounds);
+            methods.list();
+            Ok(Built::Program(Program::new(alloc, methods, sounds)?))
+        }
+    }
+}

@@ -1,0 +1,67 @@
+//! The stage of the contracts: each is sound, or something is wrong with it.
+
+ghost use Rattle.std.specs.Prelude.{◌≡◌, ◌<◌, ◌^◌, All, IfOk, OnOk, Some, length, map, slice_get};
+ghost use Rattle.program.specs.Parts.{ContractSeen, IsWhole, contract_seen};
+ghost use Rattle.singcheck.specs.Stages.{IsJudgement, Judges};
+
+use contracts::{Judged, Sound, edges};
+use program::{ContractId, Resolved};
+use source::{Finding, Memory};
+use std::alloc::Global;
+
+/// What the stage of the contracts answers.
+#[derive(Drop)]
+pub(crate) enum Judgement {
+    /// What is wrong with them.
+    Found(Vec<Finding>),
+    /// All of them are sound: these, in order of the text.
+    Sounds(Vec<Sound>),
+}
+
+/// The contracts that are sound, or what is wrong with the others.
+pub(crate) fn judged(alloc: Global, resolved: &Resolved) -> Result<Judgement, Memory>
+    requires whole { All (λ c. IsWhole c.parts) (map contract_seen resolved.now.contracts.items) }
+    requires few { length resolved.now.contracts.items < 2 ^ 32 }
+    ensures { IfOk result (IsJudgement (map contract_seen resolved.now.contracts.items)) }
+{
+    let mut judging = Judging {
+        sounds: Vec::new(alloc),
+        findings: Vec::new(alloc),
+    };
+    for number in 0..resolved.contracts.len() as u32 {
+        judge(alloc, resolved, ContractId(number), &mut judging)?;
+    }
+    let Judging { sounds, findings } = judging;
+    if findings.is_empty() {
+        Ok(Judgement::Sounds(sounds))
+    } else {
+        Ok(Judgement::Found(findings))
+    }
+}
+
+/// What has been judged so far.
+#[derive(Drop)]
+struct Judging {
+    sounds: Vec<Sound>,
+    findings: Vec<Finding>,
+}
+
+/// Adds a contract where it is sound, and else what is wrong with it.
+fn judge(
+    alloc: Global,
+    resolved: &Resolved,
+    id: ContractId,
+    judging: &mut Judging,
+) -> Result<(), Memory>
+    requires there { id.0 < length resolved.now.contracts.items }
+    requires whole { All (λ c. IsWhole c.parts) (map contract_seen resolved.now.contracts.items) }
+    ensures { OnOk result ((c : ContractSeen)
+        → slice_get (map contract_seen resolved.now.contracts.items) id.0 ≡ Some c
+        → Judges c judging.old judging.new) }
+{
+    match Sound::judge(alloc, edges(alloc, resolved, id)?)? {
+        Judged::Sound(sound) => judging.sounds.push(sound)?,
+        Judged::Broken(mut found) => judging.findings.append(&mut found)?,
+    }
+    Ok(())
+}
