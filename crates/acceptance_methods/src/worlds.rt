@@ -89,8 +89,8 @@ fn with_one_contract(alloc: Global, text: &str) -> Result<Program, Fail>
     if resolved.contracts.len() != 1 {
         return Err(Fail::from("not one contract"));
     }
-    let parts = edges(alloc, &resolved, ContractId(0))?;
-    let Judged::Sound(sound) = Sound::judge(alloc, parts)? else {
+    let contract = edges(&resolved, ContractId(0));
+    let Judged::Sound(sound) = Sound::judge(alloc, contract)? else {
         return Err(Fail::from("not sound"));
     };
     let mut sounds = Vec::new(alloc);

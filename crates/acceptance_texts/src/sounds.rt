@@ -29,7 +29,7 @@ fn is_only(edges: &[Edge], message: MessageId, to: StateId) -> bool {
 fn ends_of_ping(rt: HostRuntime) -> Result<(), Fail> {
     let alloc = rt.alloc();
     let ping = whole(&rt, alloc, ping(alloc)?)?;
-    let Judged::Sound(sound) = Sound::judge(alloc, ping)? else {
+    let Judged::Sound(sound) = Sound::judge(alloc, &ping)? else {
         return Err(Fail::from("ping is broken"));
     };
     assert_eq!(rt; sound.first(), START);

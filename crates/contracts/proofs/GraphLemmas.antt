@@ -1,8 +1,8 @@
 -- Edges of a graph that is drawn from a contract's edges.
-use Rattle.std.proofs.Common.{◌≡◌, ℕ, zero, suc, ◌<◌, List, [], ◌∷◌, length, map, get_or, Some, true, false, not, ◌==◌, sym, ap, ◌∙◌, subst, arith, ⊎_elim}
+use Rattle.std.proofs.Common.{◌≡◌, ℕ, zero, suc, ◌<◌, List, [], ◌∷◌, length, map, get_or, Bool, Some, true, false, not, ◌==◌, sym, ap, ◌∙◌, subst, arith, ⊎_elim}
 use Rattle.std.specs.Prelude.{Contains, slice_get}
 use Rattle.std.proofs.lemmas.Bool.{true≢false, eq-eqb, eqb-true, cases_Bool}
-use Rattle.std.proofs.lemmas.List.{length-map}
+use Rattle.std.proofs.lemmas.List.{get_or-map, length-map}
 use Rattle.std.proofs.lemmas.Option.{slice_get_within, get_or_from_slice_get}
 use Rattle.program.specs.declared.contract.State.{State}
 use Rattle.program.specs.declared.number.StateId.{StateId}
@@ -51,3 +51,8 @@ none_leave_state numbers edges Has graph v q once h lt at none e c has from =
     none_leave numbers edges Has graph v once h lt
     (⊎_elim (λ zero'. eqb-true (length (row_at graph v)) 0 zero') (λ more. absurd (true≢false (sym (ap not more) ∙ none))) (cases_Bool (length (row_at graph v) == 0)))
     e c has (ap (λ (x : StateId). x.0) from ∙ sym at)
+
+-- the mark of a vertex is whether its row has something
+pub marked_leaves : (graph : List (List ℕ)) (marks : List Bool) (v : ℕ) (mark : Bool) → marks ≡ map (λ row. not (length row == 0)) graph → v < length graph → mark ≡ get_or marks v mark → mark ≡ not (length (row_at graph v) == 0)
+marked_leaves graph marks v mark is lt at =
+    at ∙ ap (λ l. get_or l v mark) is ∙ get_or-map (λ row. not (length row == 0)) graph v [] mark lt

@@ -90,6 +90,12 @@ pub counted_le : (o : Option ℕ) (k : ℕ) (mark : Bool) → o ≡ Some k → c
 counted_le o k true is = let e = ap (λ x. unwrap_or x 0) is in omega (arith, e)
 counted_le o k false is = omega arith
 
+-- a height that is counted is less than a number below which all known heights are
+pub counted_below : (o : Option ℕ) (mark : Bool) (count : ℕ) → 0 < count → ((n : ℕ) → o ≡ Some n → n < count) → counted_height o mark < count
+counted_below o false count some all = some
+counted_below (Some n) true count some all = all n refl
+counted_below None true count some all = some
+
 pub only_one : (x s : ℕ) → Contains (x ∷ []) s → x ≡ s
 only_one x s (zero, lt, e) = e
 only_one x s (suc k, lt, e) = absurd (omega (arith, lt))

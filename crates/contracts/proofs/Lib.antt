@@ -8,6 +8,7 @@ pub mod FoundLemmas
 pub mod GraphLemmas
 pub mod GreatestLemmas
 pub mod HeightLemmas
+pub mod JoinLemmas
 pub mod LeavingLemmas
 pub mod MarkLemmas
 pub mod NextLemmas

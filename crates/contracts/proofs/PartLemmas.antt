@@ -9,9 +9,9 @@ use Rattle.program.specs.declared.contract.State.{State}
 use Rattle.program.specs.declared.number.StateId.{StateId}
 use Rattle.program.specs.declared.contract.Message.{Message}
 use Rattle.program.specs.declared.number.MessageId.{MessageId}
-use Rattle.contracts.specs.declared.parts.Edges.{Edges}
+use Rattle.program.specs.declared.contract.Contract.{Contract}
 use Rattle.contracts.specs.Arcs.{EndsListed}
-use Rattle.contracts.specs.Parts.{StateParts, MessageParts, state_parts, message_parts, parts_of, state_ids, IsWhole}
+use Rattle.contracts.specs.Parts.{StateParts, MessageParts, state_parts, message_parts, contract_parts, state_ids, IsWhole}
 
 pub get_again : {A : Type 0} (xs : List A) (k : ℕ) (d e : A) → k < length xs → get_or xs k e ≡ get_or xs k d
 get_again [] k d e lt = absurd (omega (arith, lt))
@@ -83,18 +83,18 @@ numbers_once states apart = record {
     at k lt = sym (get_or-map (λ (i : StateId). i.0) ids k (id_of 0) 0 (below k lt)) ∙ ap (λ l. get_or l k 0) (state_numbers_are states)
 
 -- the states of the edges of a contract stand among the numbers
-pub ends_listed : (e : Edges) (numbers : List ℕ) → IsWhole (parts_of e) → numbers ≡ map (λ (s : State). s.id.0) e.states.items → EndsListed numbers e.edges.items
+pub ends_listed : (e : Contract) (numbers : List ℕ) → IsWhole (contract_parts e) → numbers ≡ map (λ (s : State). s.id.0) e.states.items → EndsListed numbers e.edges.items
 ends_listed e numbers whole is x c = (
   subst (λ l. Contains l x.from.0) (sym is) (state_number_in e.states.items x.from (whole.from x c)),
   subst (λ l. Contains l x.to.0) (sym is) (state_number_in e.states.items x.to (whole.to x c)),
 )
 
 -- there are no more states than numbers that a state may have
-pub few_numbers : (e : Edges) → IsWhole (parts_of e) → length e.states.items ≤ MOST_STATES
+pub few_numbers : (e : Contract) → IsWhole (contract_parts e) → length e.states.items ≤ MOST_STATES
 few_numbers e whole = walk e.states.items refl
   where
     numbers : List ℕ
-    numbers = map (λ (i : StateId). i.0) (state_ids (parts_of e))
+    numbers = map (λ (i : StateId). i.0) (state_ids (contract_parts e))
 
     size : length numbers ≡ length e.states.items
     size = ap length (state_numbers_are e.states.items) ∙ length-map e.states.items (λ (s : State). s.id.0)
@@ -105,5 +105,5 @@ few_numbers e whole = walk e.states.items refl
         let many = ap length is in
         let last : ℕ = length rest in
         let at = whole.states_in_row last (omega (arith, many, size)) in
-        let below = All-get_or (λ q. q < MOST_STATES) numbers last 0 (omega (arith, many, size)) (All-map (λ q. q < MOST_STATES) (λ (i : StateId). i.0) (state_ids (parts_of e)) whole.numbered) in
+        let below = All-get_or (λ q. q < MOST_STATES) numbers last 0 (omega (arith, many, size)) (All-map (λ q. q < MOST_STATES) (λ (i : StateId). i.0) (state_ids (contract_parts e)) whole.numbered) in
         omega (arith, at, below, many)

@@ -7,7 +7,7 @@ use Rattle.std.proofs.lemmas.List.Elements.{Contains-append_cases, Contains-appe
 use Rattle.source.specs.declared.finding.Code.TheVariants.{C04}
 use Rattle.program.specs.declared.contract.Sign.{Sign}
 use Rattle.program.specs.declared.contract.Edge.{Edge}
-use Rattle.contracts.specs.Parts.{Parts, StateParts, parts_of, state_parts}
+use Rattle.contracts.specs.Parts.{Parts, StateParts, contract_parts, state_parts}
 use Rattle.contracts.specs.Conditions.{FindingParts, IsAgainst, IsTwice, IsBoth, IsRound, IsFault, AreExactly, IsSound}
 use Rattle.contracts.specs.Found.{FoundBelow}
 use Rattle.contracts.specs.Walks.{IsRoundBy}
@@ -15,7 +15,7 @@ use Rattle.contracts.proofs.ConditionLemmas.{one_of}
 use Rattle.contracts.proofs.FoundLemmas.{found_same, found_more}
 use Rattle.std.proofs.lemmas.List.{length-map}
 use Rattle.program.specs.declared.contract.State.{State}
-use Rattle.contracts.specs.declared.parts.Edges.{Edges}
+use Rattle.program.specs.declared.contract.Contract.{Contract}
 use Rattle.contracts.specs.Arcs.{IsDrawn}
 use Rattle.contracts.specs.Graphs.{OnRing}
 use Rattle.contracts.proofs.GraphLemmas.{state_number}
@@ -68,7 +68,7 @@ all_found parts a b c d in_a in_b in_c in_d = record {
 }
 
 -- in a sound contract no vertex of a sign's graph lies on a ring
-pub no_rings : (e : Edges) (sign : Sign) (graph : List (List ℕ)) → IsSound (parts_of e) → IsDrawn (map (λ (s : State). s.id.0) e.states.items) e.edges.items (λ x. x.sign ≡ sign) graph → (v : ℕ) → OnRing graph v → ⊥
+pub no_rings : (e : Contract) (sign : Sign) (graph : List (List ℕ)) → IsSound (contract_parts e) → IsDrawn (map (λ (s : State). s.id.0) e.states.items) e.edges.items (λ x. x.sign ≡ sign) graph → (v : ℕ) → OnRing graph v → ⊥
 no_rings e sign graph sound drawn v ring =
     let states = map state_parts e.states.items in
     let numbers = map (λ (s : State). s.id.0) e.states.items in

@@ -1,24 +1,40 @@
--- What the conditions and the bounds of a contract are read from.
-use Rattle.std.specs.Prelude.{◌≡◌, length, map}
+-- What the graphs of a contract tell: the graph of the edges of each sign between the positions of their states.
+use Rattle.std.specs.Prelude.{◌≡◌, ◌==◌, ℕ, List, length, map, not}
+use Rattle.program.specs.declared.contract.Contract.{Contract}
 use Rattle.program.specs.declared.contract.Sign.{Sign}
 use Rattle.program.specs.declared.contract.Sign.TheVariants.{Send, Receive}
+use Rattle.contracts.specs.declared.arcs.Marks.{Marks}
 use Rattle.contracts.specs.declared.arcs.SignGraph.{SignGraph}
 use Rattle.contracts.specs.declared.drawing.Drawing.{Drawing}
-use Rattle.contracts.specs.declared.parts.Edges.{Edges}
-use Rattle.contracts.specs.Arcs.{AllWithin, AreRows, IsDrawn}
-use Rattle.contracts.specs.Graphs.{rows}
+use Rattle.contracts.specs.Arcs.{IsDrawn}
+use Rattle.contracts.specs.Bounds.{IsBound}
+use Rattle.contracts.specs.Conditions.{IsSound}
+use Rattle.contracts.specs.Graphs.{InRange, rows}
+use Rattle.contracts.specs.Numbering.{AreRings}
+use Rattle.contracts.specs.Parts.{contract_parts}
 use Rattle.contracts.specs.Peeling.{AreHeights}
-use Rattle.contracts.specs.Orders.{IsOrder}
 
--- the graph is that of the edges of the sign
-pub record IsSignGraph (e : Edges) (sign : Sign) (graph : SignGraph) : Type 0 where
-  pub range : AllWithin (length e.states.items) graph.arcs.items
-  pub ends : AreRows (length e.states.items) graph.arcs.items (rows graph.rows)
+-- the graph has exactly the edges of the contract that have the sign
+abbrev pub DrawsSign : Contract → Sign → List (List ℕ) → Type 0
+DrawsSign c sign graph = IsDrawn (map (λ s. s.id.0) c.states.items) c.edges.items (λ x. x.sign ≡ sign) graph
+
+-- the graph is that of the edges of the sign, with what walks along them do
+pub record IsSignGraph (c : Contract) (sign : Sign) (graph : SignGraph) : Type 0 where
+  pub range : InRange (rows graph.rows)
   pub heights : AreHeights (rows graph.rows) graph.heights.items
-  pub drawn : IsDrawn (map (λ s. s.id.0) e.states.items) e.edges.items (λ x. x.sign ≡ sign) (rows graph.rows)
+  pub rings : AreRings (rows graph.rows) graph.rings.items
+  pub drawn : DrawsSign c sign (rows graph.rows)
 
--- the graphs are those of the edges of each sign, and the places of the edges stand in order
-pub record IsDrawing (e : Edges) (drawing : Drawing) : Type 0 where
-  pub sends : IsSignGraph e Send drawing.sends
-  pub receives : IsSignGraph e Receive drawing.receives
-  pub ordered : IsOrder e.edges.items drawing.order.items
+-- a state is marked where an edge of the sign begins there, and where such edges lead from it back to it
+pub record AreMarks (c : Contract) (sign : Sign) (marks : Marks) : Type 0 where
+  pub graph : List (List ℕ)
+  pub drawn : DrawsSign c sign graph
+  pub leaves : marks.leaves.items ≡ map (λ row. not (length row == 0)) graph
+  pub rings : AreRings graph marks.rings.items
+
+-- the marks are those of each sign, and the bounds are right where the contract is sound
+pub record IsDrawing (c : Contract) (drawing : Drawing) : Type 0 where
+  pub sends : AreMarks c Send drawing.sends
+  pub receives : AreMarks c Receive drawing.receives
+  pub to_imp : IsSound (contract_parts c) → IsBound c.edges.items c.first Send drawing.bounds.to_imp
+  pub to_exp : IsSound (contract_parts c) → IsBound c.edges.items c.first Receive drawing.bounds.to_exp

@@ -1,16 +1,18 @@
 -- Which vertices are reached, and how far walks lead from them.
-use Rattle.std.specs.Prelude.{ℕ, ◌≤◌, List, Bool, if◌then◌else◌, unwrap_or, Option}
-use Rattle.contracts.specs.declared.arcs.Arc.{Arc}
-use Rattle.contracts.specs.Arcs.{AreRows}
+use Rattle.std.specs.Prelude.{ℕ, ◌≤◌, List, [], ◌∷◌, ◌++◌, Bool, if◌then◌else◌, unwrap_or, Option}
 use Rattle.contracts.specs.Graphs.{Walk}
 use Rattle.contracts.specs.Marking.{IsMarked}
 
--- exactly what can be reached from the first vertex along the arcs is marked
-pub record AreReached (count : ℕ) (arcs : List Arc) (first : ℕ) (marks : List Bool) : Type 0 where
-  pub graph : List (List ℕ)
-  pub drawn : AreRows count arcs graph
-  pub right : (v : ℕ) → IsMarked marks v → (n : ℕ) × Walk graph first v n
-  pub all : (v n : ℕ) → Walk graph first v n → IsMarked marks v
+-- each vertex leads where it does in the one graph and in the other
+abbrev pub joined : List (List ℕ) → List (List ℕ) → List (List ℕ)
+joined [] more = more
+joined (row ∷ rows) [] = row ∷ rows
+joined (row ∷ rows) (other ∷ others) = (row ++ other) ∷ joined rows others
+
+-- exactly what can be reached from the first vertex along edges of both graphs is marked
+pub record AreReached (sends receives : List (List ℕ)) (first : ℕ) (marks : List Bool) : Type 0 where
+  pub right : (v : ℕ) → IsMarked marks v → (n : ℕ) × Walk (joined sends receives) first v n
+  pub all : (v n : ℕ) → Walk (joined sends receives) first v n → IsMarked marks v
 
 -- the greatest length of a walk from a marked vertex
 pub record IsLongest (graph : List (List ℕ)) (marks : List Bool) (n : ℕ) : Type 0 where

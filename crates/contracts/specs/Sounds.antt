@@ -1,14 +1,14 @@
 -- A sound contract as callers see it, and what a contract is judged to be.
 use Rattle.std.specs.Prelude.{◌≡◌, map}
 use Rattle.contracts.specs.Conditions.{FindingParts, finding_parts, AreExactly, IsFault, IsSound}
-use Rattle.contracts.specs.Parts.{Parts, parts_of}
+use Rattle.contracts.specs.Parts.{Parts, contract_parts}
 use Rattle.contracts.specs.declared.sound.Judged.{Judged}
 use Rattle.contracts.specs.declared.sound.Judged.TheVariants as judged
 use Rattle.contracts.specs.declared.sound.Sound.{Sound}
 
--- its parts
+-- the parts of the contract that it was made of
 abbrev pub sound_parts : Sound → Parts
-sound_parts s = parts_of s.edges
+sound_parts s = contract_parts s.contract.value
 
 -- a contract of these parts is sound, or something is wrong with it and this is all
 abbrev pub IsJudged : Parts → Judged → Type 0

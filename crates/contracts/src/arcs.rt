@@ -1,8 +1,9 @@
 //! Edges of one sign as arcs between the positions of their states.
 
-ghost use Rattle.std.specs.Prelude.{◌≡◌, ◌==◌, ◌<◌, length, not, IfOk};
-ghost use Rattle.contracts.specs.Graphs.{rows, row_at};
-ghost use Rattle.contracts.specs.Arcs.{AllWithin, AreRows, AreArcs, IsDrawn, EndsListed};
+ghost use Rattle.std.specs.Prelude.{◌≡◌, ◌==◌, length, map, not, IfOk};
+ghost use Rattle.contracts.specs.Graphs.{InRange, rows};
+ghost use Rattle.contracts.specs.Arcs.{AreArcs, IsDrawn, EndsListed};
+ghost use Rattle.contracts.specs.Numbering.{AreRings};
 ghost use Rattle.contracts.specs.Peeling.{AreHeights};
 ghost use Rattle.contracts.specs.Positions.{listed};
 
@@ -10,6 +11,7 @@ use crate::grouping::rows_of;
 use crate::heights::all_heights;
 use crate::numbering::finishing;
 use crate::positions::Listing;
+use crate::ringing::{filled, rings};
 use crate::rows::Rows;
 use program::{Edge, Sign};
 use std::alloc::{AllocError, Global};
@@ -21,13 +23,20 @@ pub struct Arc {
     pub to: usize,
 }
 
-/// The edges of one sign between the positions of their states: as arcs, and by the rows of their ends. And how long walks along
-/// them can be from each position, where there is a longest one.
+/// The edges of one sign between the positions of their states, as rows of their ends: how long walks along them can be from each
+/// position, where there is a longest one, and whether one leads from there back to it.
 #[derive(Drop)]
 pub struct SignGraph {
-    pub arcs: Vec<Arc>,
     pub rows: Rows<usize>,
     pub heights: Vec<Option<usize>>,
+    pub rings: Vec<bool>,
+}
+
+/// Whether an edge of the sign begins at each position, and whether edges of the sign lead from there back to it.
+#[derive(Drop)]
+pub struct Marks {
+    pub leaves: Vec<bool>,
+    pub rings: Vec<bool>,
 }
 
 impl SignGraph {
@@ -39,31 +48,35 @@ impl SignGraph {
         sign: Sign,
     ) -> Result<SignGraph, AllocError>
         requires listed { EndsListed (listed states) edges.now }
-        ensures range { IfOk result (λ graph. AllWithin
-            (length (listed states)) graph.arcs.items) }
-        ensures rows { IfOk result (λ graph. AreRows
-            (length (listed states)) graph.arcs.items (rows graph.rows)) }
+        ensures range { IfOk result (λ graph. InRange (rows graph.rows)) }
         ensures drawn { IfOk result (λ graph. IsDrawn (listed states) edges.now
             (λ e. e.sign ≡ sign) (rows graph.rows)) }
         ensures heights { IfOk result (λ graph. AreHeights (rows graph.rows) graph.heights.items) }
+        ensures rings { IfOk result (λ graph. AreRings (rows graph.rows) graph.rings.items) }
     {
         let arcs = arcs_of(alloc, edges, states, sign)?;
         let rows = rows_of(alloc, states.len(), &arcs)?;
         let order = finishing(alloc, &rows)?;
         let heights = all_heights(alloc, &rows, &order)?;
+        drop(order); // a large contract takes less memory so
+        let rings = rings(alloc, &rows, arcs, &heights)?;
         Ok(SignGraph {
-            arcs,
             rows,
             heights,
+            rings,
         })
     }
 
-    /// Whether an edge begins at the position.
-    pub fn leaves(&self, v: usize) -> bool
-        requires { v < length (rows self.now.rows) }
-        ensures { result ≡ not (length (row_at (rows self.now.rows) v) == 0) }
+    /// What is asked of it once the bounds are known. The rest is dropped.
+    pub fn into_marks(self, alloc: Global) -> Result<Marks, AllocError>
+        ensures leaves { IfOk result (λ marks. marks.leaves.items ≡ map (λ row. not (length row == 0)) (rows self.rows)) }
+        ensures rings { IfOk result (λ marks. marks.rings ≡ self.rings) }
     {
-        !self.rows.row(v).is_empty()
+        let leaves = filled(alloc, &self.rows)?;
+        Ok(Marks {
+            leaves,
+            rings: self.rings,
+        })
     }
 }
 

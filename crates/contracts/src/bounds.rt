@@ -1,24 +1,21 @@
 //! How many messages a queue can hold.
 
-ghost use Rattle.std.specs.Prelude.{◌≡◌, ◌<◌, ◌≤◌, ◌++◌, ◌⊎◌, ℕ, length, IfOk, get_or, false};
-ghost use Rattle.contracts.specs.Arcs.{AllWithin};
+ghost use Rattle.std.specs.Prelude.{◌≡◌, ◌<◌, ◌≤◌, ◌⊎◌, ℕ, length, IfOk, get_or, false};
 ghost use Rattle.contracts.specs.Bounds.{IsBound};
 ghost use Rattle.contracts.specs.Conditions.{IsSound};
-ghost use Rattle.contracts.specs.Drawings.{IsDrawing};
+ghost use Rattle.contracts.specs.Drawings.{IsSignGraph};
 ghost use Rattle.contracts.specs.Graphs.{rows, InRange, OnRing, height_at};
 ghost use Rattle.contracts.specs.Marking.{IsMarked};
-ghost use Rattle.contracts.specs.Parts.{IsWhole, parts_of};
+ghost use Rattle.contracts.specs.Parts.{IsWhole, contract_parts};
 ghost use Rattle.contracts.specs.Peeling.{AreHeights};
-ghost use Rattle.contracts.specs.Reached.{AreReached, IsLongest, counted_height};
+ghost use Rattle.contracts.specs.Reached.{IsLongest, counted_height};
 ghost use Rattle.program.specs.declared.contract.Sign.TheVariants.{Send, Receive};
 ghost use Rattle.program.specs.declared.limits.TheConstants.{MOST_STATES};
 
-use crate::arcs::{Arc, SignGraph};
-use crate::drawing::Drawing;
-use crate::grouping::rows_of;
+use crate::arcs::SignGraph;
 use crate::keys::states_of;
-use crate::marking::marked;
-use crate::parts::Edges;
+use crate::marking::reached_from;
+use program::Contract;
 use std::alloc::{AllocError, Global};
 
 /// The greatest numbers of messages under way to each end.
@@ -28,21 +25,23 @@ pub struct Bounds {
     pub to_exp: u32,
 }
 
-/// The bounds of a sound contract.
-pub fn bounds_of(alloc: Global, edges: &Edges, drawing: &Drawing) -> Result<Bounds, AllocError>
-    requires whole { IsWhole (parts_of edges.now) }
-    requires drawing { IsDrawing edges.now drawing.now }
-    requires sound { IsSound (parts_of edges.now) }
-    ensures to_imp { IfOk result
-        (λ bounds. IsBound edges.now.edges.items edges.now.first Send bounds.to_imp) }
-    ensures to_exp { IfOk result
-        (λ bounds. IsBound edges.now.edges.items edges.now.first Receive bounds.to_exp) }
+/// The bounds of a contract by the graphs of its edges. They are right where it is sound.
+pub fn bounds_of(
+    alloc: Global,
+    contract: &Contract,
+    sends: &SignGraph,
+    receives: &SignGraph,
+) -> Result<Bounds, AllocError>
+    requires whole { IsWhole (contract_parts contract.now) }
+    requires sends { IsSignGraph contract.now Send sends.now }
+    requires receives { IsSignGraph contract.now Receive receives.now }
+    ensures to_imp { IfOk result (λ bounds. IsSound (contract_parts contract.now)
+        → IsBound contract.now.edges.items contract.now.first Send bounds.to_imp) }
+    ensures to_exp { IfOk result (λ bounds. IsSound (contract_parts contract.now)
+        → IsBound contract.now.edges.items contract.now.first Receive bounds.to_exp) }
 {
-    let states = states_of(edges);
-    let first = states.position(edges.first.0);
-    let sends = &drawing.sends;
-    let receives = &drawing.receives;
-    let reached = reached_from(alloc, states.len(), &sends.arcs, &receives.arcs, first)?;
+    let first = states_of(contract).position(contract.first.0);
+    let reached = reached_from(alloc, &sends.rows, &receives.rows, first)?;
     let to_imp = longest(sends, &reached);
     let to_exp = longest(receives, &reached);
     Ok(Bounds {
@@ -51,37 +50,13 @@ pub fn bounds_of(alloc: Global, edges: &Edges, drawing: &Drawing) -> Result<Boun
     })
 }
 
-/// Which positions can be reached from the first one along arcs of both kinds.
-fn reached_from(
-    alloc: Global,
-    count: usize,
-    sends: &[Arc],
-    receives: &[Arc],
-    first: usize,
-) -> Result<Vec<bool>, AllocError>
-    requires sends { AllWithin count sends.now }
-    requires receives { AllWithin count receives.now }
-    requires first { first < count }
-    ensures long { IfOk result (λ marks. length marks.items ≡ count) }
-    ensures reached { IfOk result (λ marks. AreReached count (sends.now
-        ++ receives.now) first marks.items) }
-{
-    let mut arcs = Vec::new(alloc);
-    arcs.extend_from_slice(sends)?;
-    arcs.extend_from_slice(receives)?;
-    let graph = rows_of(alloc, count, &arcs)?;
-    let marks = marked(alloc, &graph, &[first])?;
-    Ok(marks)
-}
-
 /// The greatest length of a walk from one of the marked vertices, where no vertex lies on a ring.
 fn longest(graph: &SignGraph, reached: &[bool]) -> usize
     requires range { InRange (rows graph.now.rows) }
     requires heights { AreHeights (rows graph.now.rows) graph.now.heights.items }
     requires reached { length reached.now ≡ length (rows graph.now.rows) }
     requires start { (s : ℕ) × IsMarked reached.now s }
-    requires quiet { (v : ℕ) → OnRing (rows graph.now.rows) v → ⊥ }
-    ensures longest { IsLongest (rows graph.now.rows) reached.now result }
+    ensures longest { ((v : ℕ) → OnRing (rows graph.now.rows) v → ⊥) → IsLongest (rows graph.now.rows) reached.now result }
     ensures below { result < length (rows graph.now.rows) }
 {
     tallest_of(&graph.heights, reached)

@@ -1,26 +1,24 @@
 //! The four conditions of a contract.
 
-ghost use Rattle.std.specs.Prelude.{◌≡◌, ◌<◌, IfOk, length, map, Contains};
+ghost use Rattle.std.specs.Prelude.{◌≡◌, ◌<◌, ◌++◌, IfOk, OnOk, length, map, Contains};
 ghost use Rattle.contracts.specs.Conditions.{AreExactly, IsAgainst, IsTwice, IsBoth, IsRound};
 ghost use Rattle.contracts.specs.Conditions.{IsFault, finding_parts, sign_of as sign_of_direction};
 ghost use Rattle.contracts.specs.Drawings.{IsDrawing};
 ghost use Rattle.contracts.specs.Found.{FoundBelow};
 ghost use Rattle.contracts.specs.Orders.{IsOrder};
 ghost use Rattle.contracts.specs.Positions.{listed};
-ghost use Rattle.contracts.specs.Parts.{IsWhole, parts_of, message_ids, state_parts, message_parts};
+ghost use Rattle.contracts.specs.Parts.{IsWhole, contract_parts, message_ids, state_parts, message_parts};
 
 use crate::drawing::{Drawing, drawing_of};
 use crate::keys::messages_of;
-use crate::order::is_second;
-use crate::parts::Edges;
+use crate::order::{is_second, order_of};
 use crate::positions::Listing;
-use crate::ringing::rings;
-use program::{Direction, Message, MessageId, Sign};
+use program::{Contract, Direction, Message, MessageId, Sign};
 use source::texts::{
     against_its_direction, both_directions_in, one_direction_round, twice_in_a_state,
 };
 use source::{Finding, Memory};
-use std::alloc::Global;
+use std::alloc::{AllocError, Global};
 
 /// What breaks a condition of the contract:
 /// - an edge whose sign is not its message's: `in` takes `?` and `out` takes `!`; at the edge;
@@ -31,35 +29,51 @@ use std::alloc::Global;
 /// The sign counts as it is written. That contracts be deterministic and have one direction in a state is asked for by
 /// Villard, Lozes and Calcagno (APLAS 2009), and that each cycle have both directions by the Singularity team (EuroSys
 /// 2006).
-pub fn faults(alloc: Global, edges: &Edges) -> Result<Vec<Finding>, Memory>
-    requires whole { IsWhole (parts_of edges.now) }
-    ensures exactly { IfOk result (λ found. AreExactly (IsFault (parts_of edges.now))
+pub fn faults(alloc: Global, contract: &Contract) -> Result<Vec<Finding>, Memory>
+    requires whole { IsWhole (contract_parts contract.now) }
+    ensures exactly { IfOk result (λ found. AreExactly (IsFault (contract_parts contract.now))
         (map finding_parts found.items)) }
 {
-    let drawing = drawing_of(alloc, edges)?;
-    faults_of(alloc, edges, &drawing)
+    let drawing = drawing_of(alloc, contract)?;
+    let order = order_of(alloc, &contract.edges)?;
+    faults_of(alloc, contract, &order, &drawing)
 }
 
-/// The same, where the edges are drawn.
+/// The same, where the edges are in order and drawn.
 pub(crate) fn faults_of(
     alloc: Global,
-    edges: &Edges,
+    contract: &Contract,
+    order: &[usize],
     drawing: &Drawing,
 ) -> Result<Vec<Finding>, Memory>
-    requires whole { IsWhole (parts_of edges.now) }
-    requires drawing { IsDrawing edges.now drawing.now }
-    ensures exactly { IfOk result (λ found. AreExactly (IsFault (parts_of edges.now))
+    requires whole { IsWhole (contract_parts contract.now) }
+    requires ordered { IsOrder contract.now.edges.items order.now }
+    requires drawing { IsDrawing contract.now drawing.now }
+    ensures exactly { IfOk result (λ found. AreExactly (IsFault (contract_parts contract.now))
         (map finding_parts found.items)) }
 {
-    let messages = messages_of(edges);
-    let mut found = against_directions(alloc, edges, messages)?;
-    let mut twice = twice_in_states(alloc, edges, messages, &drawing.order)?;
-    let mut both = both_directions(alloc, edges, drawing)?;
-    let mut round = one_direction(alloc, edges, drawing)?;
-    found.append(&mut twice)?;
-    found.append(&mut both)?;
-    found.append(&mut round)?;
+    let messages = messages_of(contract);
+    let mut found = against_directions(alloc, contract, messages)?;
+    let twice = twice_in_states(alloc, contract, messages, order)?;
+    let both = both_directions(alloc, contract, drawing)?;
+    let round = one_direction(alloc, contract, drawing)?;
+    add(&mut found, twice)?;
+    add(&mut found, both)?;
+    add(&mut found, round)?;
     Ok(found)
+}
+
+/// Puts findings behind those that are there. Where there are none, nothing is moved, so that many findings of one kind take no memory
+/// twice.
+fn add(found: &mut Vec<Finding>, mut more: Vec<Finding>) -> Result<(), AllocError>
+    ensures { OnOk result (found.new.items ≡ found.old.items ++ more.items) }
+{
+    if found.is_empty() {
+        *found = more;
+        Ok(())
+    } else {
+        found.append(&mut more)
+    }
 }
 
 /// The sign that a message takes in an edge.
@@ -73,30 +87,30 @@ fn sign_of(direction: Direction) -> Sign
 }
 
 /// The message that has the number.
-fn message_of(edges: &Edges, messages: Listing, id: MessageId) -> &Message
-    requires numbers { listed messages ≡ map (λ m. m.id.0) edges.now.messages.items }
-    requires listed { Contains (message_ids (parts_of edges.now)) id }
+fn message_of(contract: &Contract, messages: Listing, id: MessageId) -> &Message
+    requires numbers { listed messages ≡ map (λ m. m.id.0) contract.now.messages.items }
+    requires listed { Contains (message_ids (contract_parts contract.now)) id }
     ensures its { result.now.id ≡ id }
-    ensures listed { Contains edges.now.messages.items result.now }
+    ensures listed { Contains contract.now.messages.items result.now }
 {
-    &edges.messages[messages.position(id.0)]
+    &contract.messages[messages.position(id.0)]
 }
 
 /// The edges whose sign is not their message's.
 fn against_directions(
     alloc: Global,
-    edges: &Edges,
+    contract: &Contract,
     messages: Listing,
 ) -> Result<Vec<Finding>, Memory>
-    requires whole { IsWhole (parts_of edges.now) }
-    requires numbers { listed messages ≡ map (λ m. m.id.0) edges.now.messages.items }
+    requires whole { IsWhole (contract_parts contract.now) }
+    requires numbers { listed messages ≡ map (λ m. m.id.0) contract.now.messages.items }
     ensures found { IfOk result (λ found. FoundBelow (IsAgainst
-        (map message_parts edges.now.messages.items) edges.now.edges.items)
-        (length edges.now.edges.items) (map finding_parts found.items)) }
+        (map message_parts contract.now.messages.items) contract.now.edges.items)
+        (length contract.now.edges.items) (map finding_parts found.items)) }
 {
     let mut found = Vec::new(alloc);
-    for edge in &edges.edges {
-        let message = message_of(edges, messages, edge.message);
+    for edge in &contract.edges {
+        let message = message_of(contract, messages, edge.message);
         if edge.sign != sign_of(message.direction) {
             let finding = against_its_direction(alloc, edge.place, message.name.as_bytes())?;
             found.push(finding)?;
@@ -108,22 +122,22 @@ fn against_directions(
 /// The edges with the message of an earlier edge of their state.
 fn twice_in_states(
     alloc: Global,
-    edges: &Edges,
+    contract: &Contract,
     messages: Listing,
     order: &[usize],
 ) -> Result<Vec<Finding>, Memory>
-    requires whole { IsWhole (parts_of edges.now) }
-    requires numbers { listed messages ≡ map (λ m. m.id.0) edges.now.messages.items }
-    requires ordered { IsOrder edges.now.edges.items order.now }
+    requires whole { IsWhole (contract_parts contract.now) }
+    requires numbers { listed messages ≡ map (λ m. m.id.0) contract.now.messages.items }
+    requires ordered { IsOrder contract.now.edges.items order.now }
     ensures found { IfOk result (λ found. FoundBelow (IsTwice
-        (map message_parts edges.now.messages.items) edges.now.edges.items)
-        (length edges.now.edges.items) (map finding_parts found.items)) }
+        (map message_parts contract.now.messages.items) contract.now.edges.items)
+        (length contract.now.edges.items) (map finding_parts found.items)) }
 {
     let mut found = Vec::new(alloc);
     for at in 0..order.len() {
-        if is_second(&edges.edges, order, at) {
-            let edge = edges.edges[order[at]];
-            let message = message_of(edges, messages, edge.message);
+        if is_second(&contract.edges, order, at) {
+            let edge = contract.edges[order[at]];
+            let message = message_of(contract, messages, edge.message);
             let finding = twice_in_a_state(alloc, edge.place, message.name.as_bytes())?;
             found.push(finding)?;
         }
@@ -132,17 +146,21 @@ fn twice_in_states(
 }
 
 /// The states with edges of both signs.
-fn both_directions(alloc: Global, edges: &Edges, drawing: &Drawing) -> Result<Vec<Finding>, Memory>
-    requires whole { IsWhole (parts_of edges.now) }
-    requires drawing { IsDrawing edges.now drawing.now }
+fn both_directions(
+    alloc: Global,
+    contract: &Contract,
+    drawing: &Drawing,
+) -> Result<Vec<Finding>, Memory>
+    requires whole { IsWhole (contract_parts contract.now) }
+    requires drawing { IsDrawing contract.now drawing.now }
     ensures found { IfOk result (λ found. FoundBelow (IsBoth
-        (map state_parts edges.now.states.items) edges.now.edges.items)
-        (length edges.now.states.items) (map finding_parts found.items)) }
+        (map state_parts contract.now.states.items) contract.now.edges.items)
+        (length contract.now.states.items) (map finding_parts found.items)) }
 {
     let mut found = Vec::new(alloc);
-    for i in 0..edges.states.len() {
-        if drawing.sends.leaves(i) & drawing.receives.leaves(i) {
-            let state = &edges.states[i];
+    for i in 0..contract.states.len() {
+        if drawing.sends.leaves[i] & drawing.receives.leaves[i] {
+            let state = &contract.states[i];
             let finding = both_directions_in(alloc, state.place, state.name.as_bytes())?;
             found.push(finding)?;
         }
@@ -151,19 +169,21 @@ fn both_directions(alloc: Global, edges: &Edges, drawing: &Drawing) -> Result<Ve
 }
 
 /// The states from which edges of one sign lead back to them.
-fn one_direction(alloc: Global, edges: &Edges, drawing: &Drawing) -> Result<Vec<Finding>, Memory>
-    requires whole { IsWhole (parts_of edges.now) }
-    requires drawing { IsDrawing edges.now drawing.now }
+fn one_direction(
+    alloc: Global,
+    contract: &Contract,
+    drawing: &Drawing,
+) -> Result<Vec<Finding>, Memory>
+    requires whole { IsWhole (contract_parts contract.now) }
+    requires drawing { IsDrawing contract.now drawing.now }
     ensures found { IfOk result (λ found. FoundBelow (IsRound
-        (map state_parts edges.now.states.items) edges.now.edges.items)
-        (length edges.now.states.items) (map finding_parts found.items)) }
+        (map state_parts contract.now.states.items) contract.now.edges.items)
+        (length contract.now.states.items) (map finding_parts found.items)) }
 {
-    let sending = rings(alloc, &drawing.sends)?;
-    let receiving = rings(alloc, &drawing.receives)?;
     let mut found = Vec::new(alloc);
-    for i in 0..edges.states.len() {
-        if sending[i] | receiving[i] {
-            let state = &edges.states[i];
+    for i in 0..contract.states.len() {
+        if drawing.sends.rings[i] | drawing.receives.rings[i] {
+            let state = &contract.states[i];
             let finding = one_direction_round(alloc, state.place, state.name.as_bytes())?;
             found.push(finding)?;
         }

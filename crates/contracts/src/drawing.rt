@@ -2,46 +2,35 @@
 
 ghost use Rattle.std.specs.Prelude.{IfOk};
 ghost use Rattle.contracts.specs.Drawings.{IsDrawing};
-ghost use Rattle.contracts.specs.Parts.{IsWhole, parts_of};
+ghost use Rattle.contracts.specs.Parts.{IsWhole, contract_parts};
 
-use crate::arcs::SignGraph;
+use crate::arcs::{Marks, SignGraph};
+use crate::bounds::{Bounds, bounds_of};
 use crate::keys::states_of;
-use crate::order::order_of;
-use crate::parts::Edges;
-use program::Sign;
+use program::{Contract, Sign};
 use std::alloc::{AllocError, Global};
 
-/// The edges of a contract as a graph for each sign, and their places in order of states and messages.
+/// What the graphs of a contract tell: the marks of its states for each sign, and its bounds, which are right where it is sound.
 #[derive(Drop)]
 pub struct Drawing {
-    pub sends: SignGraph,
-    pub receives: SignGraph,
-    pub order: Vec<usize>,
+    pub sends: Marks,
+    pub receives: Marks,
+    pub bounds: Bounds,
 }
 
-impl Drawing {
-    ghost use Rattle.std.specs.Prelude.{◌≡◌};
-
-    /// The order alone. The graphs are dropped, and leave their room to what comes next.
-    pub fn into_order(self) -> Vec<usize>
-        ensures { result ≡ self.order }
-    {
-        self.order
-    }
-}
-
-/// Draws the edges of a contract.
-pub fn drawing_of(alloc: Global, edges: &Edges) -> Result<Drawing, AllocError>
-    requires whole { IsWhole (parts_of edges.now) }
-    ensures { IfOk result (IsDrawing edges.now) }
+/// Draws the edges of a contract as a graph for each sign, and keeps what the graphs tell. They are dropped, since a large contract
+/// takes less memory so.
+pub fn drawing_of(alloc: Global, contract: &Contract) -> Result<Drawing, AllocError>
+    requires whole { IsWhole (contract_parts contract.now) }
+    ensures { IfOk result (IsDrawing contract.now) }
 {
-    let order = order_of(alloc, &edges.edges)?;
-    let states = states_of(edges);
-    let sends = SignGraph::new(alloc, &edges.edges, states, Sign::Send)?;
-    let receives = SignGraph::new(alloc, &edges.edges, states, Sign::Receive)?;
+    let states = states_of(contract);
+    let sends = SignGraph::new(alloc, &contract.edges, states, Sign::Send)?;
+    let receives = SignGraph::new(alloc, &contract.edges, states, Sign::Receive)?;
+    let bounds = bounds_of(alloc, contract, &sends, &receives)?;
     Ok(Drawing {
-        sends,
-        receives,
-        order,
+        sends: sends.into_marks(alloc)?,
+        receives: receives.into_marks(alloc)?,
+        bounds,
     })
 }

@@ -1,29 +1,28 @@
 //! The numbers of states and messages, and what tells the edges of a state apart.
 
 ghost use Rattle.std.specs.Prelude.{◌≡◌, IfOk, map};
-ghost use Rattle.contracts.specs.Parts.{IsWhole, parts_of};
+ghost use Rattle.contracts.specs.Parts.{IsWhole, contract_parts};
 ghost use Rattle.contracts.specs.Positions.{listed};
 
-use crate::parts::Edges;
 use crate::positions::Listing;
-use program::{Edge, Message, State};
+use program::{Contract, Edge, Message, State};
 use std::alloc::{AllocError, Global};
 
 /// The numbers of the states of a contract.
-pub fn states_of(edges: &Edges) -> Listing
-    requires whole { IsWhole (parts_of edges.now) }
-    ensures { listed result ≡ map (λ s. s.id.0) edges.now.states.items }
+pub fn states_of(contract: &Contract) -> Listing
+    requires whole { IsWhole (contract_parts contract.now) }
+    ensures { listed result ≡ map (λ s. s.id.0) contract.now.states.items }
 {
-    Listing::new(edges.first.0, edges.states.len())
+    Listing::new(contract.first.0, contract.states.len())
 }
 
 /// The numbers of the messages of a contract.
-pub fn messages_of(edges: &Edges) -> Listing
-    requires whole { IsWhole (parts_of edges.now) }
-    ensures { listed result ≡ map (λ m. m.id.0) edges.now.messages.items }
+pub fn messages_of(contract: &Contract) -> Listing
+    requires whole { IsWhole (contract_parts contract.now) }
+    ensures { listed result ≡ map (λ m. m.id.0) contract.now.messages.items }
 {
-    match edges.messages.first() {
-        Some(message) => Listing::new(message.id.0, edges.messages.len()),
+    match contract.messages.first() {
+        Some(message) => Listing::new(message.id.0, contract.messages.len()),
         None => Listing::new(0, 0),
     }
 }

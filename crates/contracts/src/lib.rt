@@ -14,7 +14,6 @@ mod leaving;
 mod marking;
 mod numbering;
 mod order;
-mod parts;
 mod positions;
 mod ringing;
 mod rows;
@@ -24,7 +23,6 @@ mod wholeness;
 
 pub use conditions::faults;
 pub use ends::two_ends;
-pub use parts::Edges;
 pub use sound::{Judged, Sound, SoundFault};
 pub use taking::edges;
 pub use wholeness::is_whole;

@@ -17,19 +17,24 @@ use std::alloc::{AllocError, Global};
 
 /// Whether each vertex lies on a ring. None does where each has a longest walk. Else the time is near linear in the arcs, since
 /// the numbers that are found pass their test.
-pub fn rings(alloc: Global, graph: &SignGraph) -> Result<Vec<bool>, AllocError>
-    requires rows { AreRows (length (rows graph.now.rows)) graph.now.arcs.items (rows graph.now.rows) }
-    requires range { AllWithin (length (rows graph.now.rows)) graph.now.arcs.items }
-    requires heights { AreHeights (rows graph.now.rows) graph.now.heights.items }
-    ensures rings { IfOk result (λ rings. AreRings (rows graph.now.rows) rings.items) }
+pub fn rings(
+    alloc: Global,
+    graph: &Rows<usize>,
+    arcs: Vec<Arc>,
+    heights: &[Option<usize>],
+) -> Result<Vec<bool>, AllocError>
+    requires rows { AreRows (length (rows graph.now)) arcs.items (rows graph.now) }
+    requires range { AllWithin (length (rows graph.now)) arcs.items }
+    requires heights { AreHeights (rows graph.now) heights.now }
+    ensures rings { IfOk result (λ rings. AreRings (rows graph.now) rings.items) }
 {
-    if are_known(&graph.heights) {
-        return Ok(vec![in alloc; false; graph.rows.len()]?);
+    if are_known(heights) {
+        return Ok(vec![in alloc; false; graph.len()]?);
     }
-    let numbers = found_numbers(alloc, &graph.rows, &graph.arcs)?;
-    match rings_by_numbers(alloc, &graph.arcs, &numbers)? {
+    let numbers = found_numbers(alloc, graph, &arcs)?;
+    match rings_by_numbers(alloc, &arcs, &numbers)? {
         Some(rings) => Ok(rings),
-        None => rings_by_search(alloc, &graph.rows),
+        None => rings_by_search(alloc, graph),
     }
 }
 
@@ -47,9 +52,17 @@ fn found_numbers(alloc: Global, graph: &Rows<usize>, arcs: &[Arc]) -> Result<Vec
     ensures long { IfOk result (λ numbers. length numbers.items ≡ length (rows graph.now)) }
 {
     let order = finishing(alloc, graph)?;
-    let turned = turned(alloc, arcs)?;
-    let back = rows_of(alloc, graph.len(), &turned)?;
+    let back = turned_rows(alloc, graph.len(), arcs)?;
     numbers(alloc, &back, &order)
+}
+
+/// The graph of the arcs turned round.
+fn turned_rows(alloc: Global, count: usize, arcs: &[Arc]) -> Result<Rows<usize>, AllocError>
+    requires range { AllWithin count arcs.now }
+    ensures { IfOk result (λ graph. AreRows count (map turned_arc arcs.now) (rows graph)) }
+{
+    let turned = turned(alloc, arcs)?;
+    rows_of(alloc, count, &turned)
 }
 
 /// Each arc turned round.
@@ -111,6 +124,14 @@ fn named_by(alloc: Global, numbers: &[usize]) -> Result<Vec<usize>, AllocError> 
     Ok(named)
 }
 
+/// A vertex of each number.
+fn starts_of(alloc: Global, numbers: &[usize]) -> Result<Vec<usize>, AllocError>
+    ensures { IfOk result (λ starts. (roots : List ℕ) × AreRoots numbers.now roots starts.items) }
+{
+    let named = named_by(alloc, numbers)?;
+    roots_of(alloc, numbers, &named)
+}
+
 /// Whether every vertex can be reached from the starts.
 fn reach_all(alloc: Global, graph: &Rows<usize>, starts: &[usize]) -> Result<bool, AllocError>
     requires range { InRange (rows graph.now) }
@@ -123,7 +144,7 @@ fn reach_all(alloc: Global, graph: &Rows<usize>, starts: &[usize]) -> Result<boo
 }
 
 /// Which rows are not empty.
-fn filled(alloc: Global, graph: &Rows<usize>) -> Result<Vec<bool>, AllocError>
+pub(crate) fn filled(alloc: Global, graph: &Rows<usize>) -> Result<Vec<bool>, AllocError>
     ensures { IfOk result (λ marks. marks.items ≡ map (λ row. not (length row == 0)) (rows graph.now)) }
 {
     let mut marks = Vec::with_capacity(alloc, graph.len())?;
@@ -147,16 +168,19 @@ fn rings_by_numbers(
     if !falls(arcs, numbers) {
         return Ok(None);
     }
-    let named = named_by(alloc, numbers)?;
-    let starts = roots_of(alloc, numbers, &named)?;
+    let starts = starts_of(alloc, numbers)?;
     let inner = inner_arcs(alloc, arcs, numbers)?;
     let down = rows_of(alloc, numbers.len(), &inner)?;
-    let turned = turned(alloc, &inner)?;
-    let up = rows_of(alloc, numbers.len(), &turned)?;
-    if reach_all(alloc, &down, &starts)? && reach_all(alloc, &up, &starts)? {
-        return Ok(Some(filled(alloc, &down)?));
+    if !reach_all(alloc, &down, &starts)? {
+        return Ok(None);
     }
-    Ok(None)
+    let rings = filled(alloc, &down)?;
+    drop(down); // a large contract takes less memory so
+    let up = turned_rows(alloc, numbers.len(), &inner)?;
+    if !reach_all(alloc, &up, &starts)? {
+        return Ok(None);
+    }
+    Ok(Some(rings))
 }
 
 /// Whether a vertex lies on a ring, by a plain search from it.

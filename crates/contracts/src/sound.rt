@@ -8,23 +8,24 @@ ghost use Rattle.contracts.specs.Bounds.{IsBound, sign_to};
 ghost use Rattle.contracts.specs.Conditions.{FindingParts, IsFault, IsSound};
 ghost use Rattle.contracts.specs.Graphs.{rows};
 ghost use Rattle.contracts.specs.Leaving.{AreLeaving, edges_from, end_on, name_among, sign_from};
-ghost use Rattle.contracts.specs.Parts.{IsWhole, parts_of};
+ghost use Rattle.contracts.specs.Drawings.{IsDrawing};
+ghost use Rattle.contracts.specs.Parts.{IsWhole, contract_parts, message_parts};
 ghost use Rattle.contracts.specs.Orders.{IsOrder};
 ghost use Rattle.contracts.specs.Positions.{listed};
 ghost use Rattle.contracts.specs.Walks.{IsNext};
 
-use crate::bounds::{Bounds, bounds_of};
+use crate::bounds::Bounds;
 use crate::conditions::faults_of;
-use crate::drawing::drawing_of;
+use crate::drawing::{Drawing, drawing_of};
 use crate::keys::{messages_of, states_of};
 use crate::leaving::{leaving, sign_from, sign_to};
-use crate::order::first_on;
-use crate::parts::Edges;
+use crate::order::{first_on, order_of};
 use crate::positions::Listing;
 use crate::rows::Rows;
-use program::{Edge, MessageId, Side, Sign, StateId};
+use program::{Contract, Edge, Message, MessageId, Side, Sign, StateId};
 use source::{Finding, Memory};
 use std::alloc::{AllocError, AllocFailed, Global};
+use std::snapshot::Snapshot;
 use thiserror::Error;
 
 /// Why there is no sound contract.
@@ -72,24 +73,30 @@ impl From<Memory> for SoundFault {
 }
 
 /// A contract that meets the four conditions, with the bounds of its queues. It finds an edge, the edges from a state and a
-/// message by their numbers.
+/// message by their numbers. The names of its states stay with the contract of which it was made.
 #[derive(Drop)]
 pub struct Sound {
-    edges: Edges,
+    contract: Snapshot<Contract>,
+    first: StateId,
+    edges: Vec<Edge>,
+    messages: Vec<Message>,
     bounds: Bounds,
     states: Listing,
-    messages: Listing,
+    numbers: Listing,
     order: Vec<usize>,
     sends: Rows<Edge>,
     receives: Rows<Edge>,
-    pub ghost whole: { ∥ IsWhole (parts_of edges) ∥₁ },
-    pub ghost sound: { IsSound (parts_of edges) },
-    ghost to_imp: { ∥ IsBound edges.edges.items edges.first Send bounds.to_imp ∥₁ },
-    ghost to_exp: { ∥ IsBound edges.edges.items edges.first Receive bounds.to_exp ∥₁ },
-    ghost ordered: { ∥ IsOrder edges.edges.items order.items ∥₁ },
-    ghost named: { listed messages ≡ map (λ m. m.id.0) edges.messages.items } by { Prim.hlevel props },
-    ghost sent: { AreLeaving (listed states) edges.edges.items Send (rows sends) } by { Prim.hlevel props },
-    ghost received: { AreLeaving (listed states) edges.edges.items Receive (rows receives) } by { Prim.hlevel props },
+    pub ghost whole: { ∥ IsWhole (contract_parts contract.value) ∥₁ },
+    pub ghost sound: { IsSound (contract_parts contract.value) },
+    ghost first_is: { first ≡ contract.value.first } by { Prim.hlevel props },
+    ghost edges_are: { edges.items ≡ contract.value.edges.items } by { Prim.hlevel props },
+    ghost messages_are: { map message_parts messages.items ≡ map message_parts contract.value.messages.items } by { Prim.hlevel props },
+    ghost to_imp: { ∥ IsBound contract.value.edges.items contract.value.first Send bounds.to_imp ∥₁ },
+    ghost to_exp: { ∥ IsBound contract.value.edges.items contract.value.first Receive bounds.to_exp ∥₁ },
+    ghost ordered: { ∥ IsOrder edges.items order.items ∥₁ },
+    ghost named: { listed numbers ≡ map (λ m. m.id.0) messages.items } by { Prim.hlevel props },
+    ghost sent: { AreLeaving (listed states) contract.value.edges.items Send (rows sends) } by { Prim.hlevel props },
+    ghost received: { AreLeaving (listed states) contract.value.edges.items Receive (rows receives) } by { Prim.hlevel props },
 }
 
 /// What a contract is judged to be.
@@ -104,57 +111,35 @@ pub enum Judged {
 impl Sound {
     ghost use Rattle.contracts.specs.Sounds.{IsJudged, sound_parts};
 
-    /// A sound contract of these parts, or all that is wrong with them.
+    /// A sound contract of these parts, or all that is wrong with them. It takes what it needs of them, and no names of states.
     ///
-    /// `Memory` is answered where a growth was refused; the parts are lost then.
-    pub fn judge(alloc: Global, edges: Edges) -> Result<Judged, Memory>
-        requires whole { IsWhole (parts_of edges) }
-        ensures { IfOk result (IsJudged (parts_of edges)) }
+    /// `Memory` is answered where a growth was refused.
+    pub fn judge(alloc: Global, contract: &Contract) -> Result<Judged, Memory>
+        requires whole { IsWhole (contract_parts contract.now) }
+        ensures { IfOk result (IsJudged (contract_parts contract.now)) }
     {
-        let drawing = drawing_of(alloc, &edges)?;
-        let found = faults_of(alloc, &edges, &drawing)?;
+        let drawing = drawing_of(alloc, contract)?;
+        let order = order_of(alloc, &contract.edges)?;
+        let found = faults_of(alloc, contract, &order, &drawing)?;
         if !found.is_empty() {
             return Ok(Judged::Broken(found));
         }
-        let bounds = bounds_of(alloc, &edges, &drawing)?;
-        let order = drawing.into_order();
-        let states = states_of(&edges);
-        let messages = messages_of(&edges);
-        let sends = leaving(alloc, &edges.edges, states, Sign::Send)?;
-        let receives = leaving(alloc, &edges.edges, states, Sign::Receive)?;
-        let sound = Sound {
-            edges,
-            bounds,
-            states,
-            messages,
-            order,
-            sends,
-            receives,
-        };
+        let sound = sound_of(alloc, contract, order, &drawing)?;
         Ok(Judged::Sound(sound))
     }
 
     /// A sound contract of these parts. `Found` comes exactly where a condition is not met.
-    pub fn new(alloc: Global, edges: Edges) -> Result<Sound, SoundFault>
-        requires whole { IsWhole (parts_of edges) }
-        ensures parts { IfOk result (λ sound. sound_parts sound ≡ parts_of edges) }
-        ensures sound { OnOk result (IsSound (parts_of edges)) }
+    pub fn new(alloc: Global, contract: &Contract) -> Result<Sound, SoundFault>
+        requires whole { IsWhole (contract_parts contract.now) }
+        ensures parts { IfOk result (λ sound. sound_parts sound ≡ contract_parts contract.now) }
+        ensures sound { OnOk result (IsSound (contract_parts contract.now)) }
         ensures found { result ≡ Err SoundFault.Found → (f : FindingParts) × IsFault
-            (parts_of edges) f }
+            (contract_parts contract.now) f }
     {
-        match Sound::judge(alloc, edges)? {
+        match Sound::judge(alloc, contract)? {
             Judged::Sound(sound) => Ok(sound),
             Judged::Broken(_) => Err(SoundFault::Found),
         }
-    }
-
-    /// Its parts, which meet the four conditions.
-    pub fn edges(&self) -> &Edges
-        ensures parts { parts_of result.now ≡ sound_parts self.now }
-        ensures whole { ∥ IsWhole (parts_of result.now) ∥₁ }
-        ensures sound { IsSound (parts_of result.now) }
-    {
-        &self.edges
     }
 
     /// How many messages the queue to an end can hold: the greatest number of edges in a walk of `!` edges, for the
@@ -173,8 +158,17 @@ impl Sound {
     pub fn next(&self, state: StateId, message: MessageId) -> Option<StateId>
         ensures { IsNext (sound_parts self.now).edges state message result }
     {
-        let position = first_on(&self.edges.edges, &self.order, state, message)?;
-        Some(self.edges.edges[position].to)
+        let position = first_on(&self.edges, &self.order, state, message)?;
+        Some(self.edges[position].to)
+    }
+
+    /// Its edges, in order of the text. They meet the four conditions.
+    pub fn edges(&self) -> &[Edge]
+        ensures edges { result.now ≡ (sound_parts self.now).edges }
+        ensures whole { ∥ IsWhole (sound_parts self.now) ∥₁ }
+        ensures sound { IsSound (sound_parts self.now) }
+    {
+        &self.edges
     }
 
     /// The state in which a channel of it begins.
@@ -182,7 +176,7 @@ impl Sound {
         ensures first { result ≡ (sound_parts self.now).first }
         ensures numbered { result.0 < MOST_STATES }
     {
-        self.edges.first
+        self.first
     }
 
     /// The edges along which the end of this side sends in a state, in order of the text.
@@ -221,8 +215,8 @@ impl Sound {
             ≡ end_on (edges_from (sound_parts self.now).edges (sign_from side) state.0) message.0 }
         ensures numbered { IfSome result (λ q. q.0 < MOST_STATES) }
     {
-        let position = first_on(&self.edges.edges, &self.order, state, message)?;
-        let edge = self.edges.edges[position];
+        let position = first_on(&self.edges, &self.order, state, message)?;
+        let edge = self.edges[position];
         if edge.sign == sign_from(side) {
             Some(edge.to)
         } else {
@@ -234,11 +228,58 @@ impl Sound {
     pub fn message_name(&self, message: MessageId) -> &[u8]
         ensures { result.now ≡ name_among (sound_parts self.now).messages message.0 }
     {
-        if self.messages.has(message.0) {
-            let position = self.messages.position(message.0);
-            self.edges.messages[position].name.as_bytes()
+        if self.numbers.has(message.0) {
+            let position = self.numbers.position(message.0);
+            self.messages[position].name.as_bytes()
         } else {
             &[]
         }
     }
+}
+
+/// A contract in which nothing was found, by its drawing and the order of its edges.
+fn sound_of(
+    alloc: Global,
+    contract: &Contract,
+    order: Vec<usize>,
+    drawing: &Drawing,
+) -> Result<Sound, AllocError>
+    requires whole { IsWhole (contract_parts contract.now) }
+    requires sound { IsSound (contract_parts contract.now) }
+    requires ordered { IsOrder contract.now.edges.items order.items }
+    requires drawing { IsDrawing contract.now drawing.now }
+    ensures { IfOk result (λ sound. contract_parts sound.contract.value ≡ contract_parts contract.now) }
+{
+    let states = states_of(contract);
+    let edges = contract.edges.to_vec(alloc)?;
+    let messages = copied(alloc, &contract.messages)?;
+    let sends = leaving(alloc, &edges, states, Sign::Send)?;
+    let receives = leaving(alloc, &edges, states, Sign::Receive)?;
+    Ok(Sound {
+        contract: Snapshot::of(contract),
+        first: contract.first,
+        edges,
+        messages,
+        bounds: drawing.bounds,
+        states,
+        numbers: messages_of(contract),
+        order,
+        sends,
+        receives,
+    })
+}
+
+/// The same messages.
+fn copied(alloc: Global, messages: &[Message]) -> Result<Vec<Message>, AllocError>
+    ensures parts { IfOk result (λ copies. map message_parts copies.items ≡ map message_parts messages.now) }
+{
+    let mut copies = Vec::with_capacity(alloc, messages.len())?;
+    for message in messages {
+        copies.push(Message {
+            id: message.id,
+            name: String::from_str(alloc, message.name.as_str())?,
+            direction: message.direction,
+        })?;
+    }
+    Ok(copies)
 }

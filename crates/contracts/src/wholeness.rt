@@ -1,31 +1,30 @@
 //! Whether the lists of a contract have what its edges name.
 
 ghost use Rattle.std.specs.Prelude.{◌≡◌, ◌<◌, ◌↔◌, IfOk, IsTrue, All, get_or};
-ghost use Rattle.contracts.specs.Parts.{AreInRow, IsWhole, parts_of};
+ghost use Rattle.contracts.specs.Parts.{AreInRow, IsWhole, contract_parts};
 ghost use Rattle.contracts.specs.Positions.{EndsHave, listed};
 ghost use Rattle.program.specs.declared.limits.TheConstants.{MOST_STATES};
 
 use crate::keys::{message_numbers, state_numbers};
-use crate::parts::Edges;
 use crate::positions::Listing;
-use program::{Edge, MOST_STATES};
+use program::{Contract, Edge, MOST_STATES};
 use source::Memory;
 use std::alloc::Global;
 
 /// Whether the first state, and the states and messages of the edges, stand in the lists, the numbers there go up by one from those
 /// of the first state and of the first message on, and each number of a state is less than `MOST_STATES`. This is what `faults` and
 /// `Sound::new` ask for.
-pub fn is_whole(alloc: Global, edges: &Edges) -> Result<bool, Memory>
-    ensures { IfOk result (λ whole. IsTrue whole ↔ IsWhole (parts_of edges.now)) }
+pub fn is_whole(alloc: Global, contract: &Contract) -> Result<bool, Memory>
+    ensures { IfOk result (λ whole. IsTrue whole ↔ IsWhole (contract_parts contract.now)) }
 {
-    let states = state_numbers(alloc, &edges.states)?;
-    let messages = message_numbers(alloc, &edges.messages)?;
+    let states = state_numbers(alloc, &contract.states)?;
+    let messages = message_numbers(alloc, &contract.messages)?;
     let first_message = first_or_0(&messages);
-    let in_row = are_in_row(&states, edges.first.0) & are_in_row(&messages, first_message);
-    let state_list = Listing::new(edges.first.0, states.len());
+    let in_row = are_in_row(&states, contract.first.0) & are_in_row(&messages, first_message);
+    let state_list = Listing::new(contract.first.0, states.len());
     let message_list = Listing::new(first_message, messages.len());
-    let listed = are_listed(&edges.edges, state_list, message_list);
-    Ok(in_row & listed & state_list.has(edges.first.0) & are_numbered(&states))
+    let listed = are_listed(&contract.edges, state_list, message_list);
+    Ok(in_row & listed & state_list.has(contract.first.0) & are_numbered(&states))
 }
 
 /// The first of these, and 0 where there is none.

@@ -59,7 +59,7 @@ fn judge(
         → slice_get (map contract_seen resolved.now.contracts.items) id.0 ≡ Some c
         → Judges c judging.old judging.new) }
 {
-    match Sound::judge(alloc, edges(alloc, resolved, id)?)? {
+    match Sound::judge(alloc, edges(resolved, id))? {
         Judged::Sound(sound) => judging.sounds.push(sound)?,
         Judged::Broken(mut found) => judging.findings.append(&mut found)?,
     }

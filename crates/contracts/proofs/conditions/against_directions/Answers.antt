@@ -16,7 +16,7 @@ use Rattle.contracts.proofs.conditions.against_directions.Goals as goal
 use Rattle.contracts.proofs.conditions.against_directions.Goals.{then-ne+in_ok-finding+in_ok-push, else-ne}
 
 pub loop-edge-init : goal.loop-edge-init
-loop-edge-init c = subst (λ l. FoundBelow (IsAgainst (map message_parts c.args.edges.now.messages.items) c.args.edges.now.edges.items) 0 (map finding_parts l)) (sym c.new-found.ensures.items) (found_none _)
+loop-edge-init c = subst (λ l. FoundBelow (IsAgainst (map message_parts c.args.contract.now.messages.items) c.args.contract.now.edges.items) 0 (map finding_parts l)) (sym c.new-found.ensures.items) (found_none _)
 
 pub message_of-message-requires-clause-listed : goal.message_of-message-requires-clause-listed
 message_of-message-requires-clause-listed c =
@@ -25,14 +25,14 @@ message_of-message-requires-clause-listed c =
 
 pub loop-edge-preserved : goal.loop-edge-preserved
 loop-edge-preserved c =
-    let messages = map message_parts c.args.edges.now.messages.items in
-    let edges = c.args.edges.now.edges.items in
+    let messages = map message_parts c.args.contract.now.messages.items in
+    let edges = c.args.contract.now.edges.items in
     let i = c.loop-edge.edge-index in
     let none : Edge = record { from = record { 0 = 0 }; message = record { 0 = 0 }; sign = Send; to = record { 0 = 0 }; place = record { line = 0; col = 0 } } in
     let e = get_or c.deref-edge-items.result.now i none in
     let at : slice_get edges i ≡ Some e = ap (λ l. slice_get l i) (sym c.deref-edge-items.ensures.value) ∙ slice_get-get_or c.deref-edge-items.result.now i none c.loop-edge-test.true in
     let m = message_parts c.message_of-message.result.now in
-    let listed = contains_map message_parts c.args.edges.now.messages.items c.message_of-message.result.now c.message_of-message.ensures.listed in
+    let listed = contains_map message_parts c.args.contract.now.messages.items c.message_of-message.result.now c.message_of-message.ensures.listed in
     let sign = c.sign_of.ensures in
     elim c.if-ne.branch [
       | then-ne+in_ok-finding+in_ok-push w ↦
@@ -49,5 +49,5 @@ returns c =
     let size = ap length c.deref-edge-items.ensures.value in
     let stop = c.loop-edge-test.false in
     let most = c.loop-edge.auto.edge-index-end in
-    let end : c.loop-edge.edge-index ≡ length c.args.edges.now.edges.items = omega (arith, size, stop, most) in
-    record { found = subst (λ n. FoundBelow (IsAgainst (map message_parts c.args.edges.now.messages.items) c.args.edges.now.edges.items) n (map finding_parts c.loop-edge.found.items)) end c.loop-edge.invariant }
+    let end : c.loop-edge.edge-index ≡ length c.args.contract.now.edges.items = omega (arith, size, stop, most) in
+    record { found = subst (λ n. FoundBelow (IsAgainst (map message_parts c.args.contract.now.messages.items) c.args.contract.now.edges.items) n (map finding_parts c.loop-edge.found.items)) end c.loop-edge.invariant }

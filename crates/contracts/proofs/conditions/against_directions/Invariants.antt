@@ -5,4 +5,4 @@ use Rattle.contracts.specs.Parts.{message_parts}
 use Rattle.contracts.proofs.conditions.against_directions.Given as goal
 
 abbrev pub invariant-loop-edge : goal.invariant-loop-edge
-invariant-loop-edge l = FoundBelow (IsAgainst (map message_parts l.edges.messages.items) l.edges.edges.items) l.edge-index (map finding_parts l.found.items)
+invariant-loop-edge l = FoundBelow (IsAgainst (map message_parts l.contract.messages.items) l.contract.edges.items) l.edge-index (map finding_parts l.found.items)

@@ -2,8 +2,7 @@ use Rattle.std.proofs.Common.{◌∙◌, ◌++◌, map, ap, sym, subst}
 use Rattle.std.proofs.lemmas.List.{length-map, map-append}
 use Rattle.contracts.specs.Conditions.{AreExactly, IsFault, IsBoth, IsRound, finding_parts}
 use Rattle.contracts.specs.Found.{FoundBelow}
-use Rattle.contracts.specs.Orders.{IsOrder}
-use Rattle.contracts.specs.Parts.{parts_of, state_parts}
+use Rattle.contracts.specs.Parts.{contract_parts, state_parts}
 use Rattle.contracts.proofs.RoundLemmas.{all_found}
 use Rattle.contracts.proofs.conditions.faults_of.Goals as goal
 
@@ -11,22 +10,22 @@ pub against_directions-requires : goal.against_directions-requires
 against_directions-requires c = record { whole = c.requires.whole; numbers = c.messages_of-messages.ensures }
 
 pub twice_in_states-requires : goal.twice_in_states-requires
-twice_in_states-requires c = record { whole = c.requires.whole; numbers = c.messages_of-messages.ensures; ordered = subst (IsOrder c.args.edges.now.edges.items) (sym c.deref.ensures.value) c.requires.drawing.ordered }
+twice_in_states-requires c = record { whole = c.requires.whole; numbers = c.messages_of-messages.ensures; ordered = c.requires.ordered }
 
 pub returns : goal.returns
 returns c =
-    let states = c.args.edges.now.states.items in
-    let edges = c.args.edges.now.edges.items in
+    let states = c.args.contract.now.states.items in
+    let edges = c.args.contract.now.edges.items in
     let size = sym (length-map states state_parts) in
     let a = c.in_ok-found.found.items in
     let b = c.in_ok-twice.twice.items in
     let both = c.in_ok-both.both.items in
     let round = c.in_ok-round.round.items in
-    let is = c.in_ok-append-3.ensures.items ∙ ap (λ l. l ++ round) (c.in_ok-append-2.ensures.items ∙ ap (λ l. l ++ both) c.in_ok-append.ensures.items) in
+    let is = c.in_ok-add-3.ensures ∙ ap (λ l. l ++ round) (c.in_ok-add-2.ensures ∙ ap (λ l. l ++ both) c.in_ok-add.ensures) in
     let cut = ap (map finding_parts) is ∙ map-append finding_parts (a ++ b ++ both) round ∙ ap (λ l. l ++ map finding_parts round) (map-append finding_parts (a ++ b) both ∙ ap (λ l. l ++ map finding_parts both) (map-append finding_parts a b)) in
     record {
-      exactly = subst (AreExactly (IsFault (parts_of c.args.edges.now))) (sym cut)
-          (all_found (parts_of c.args.edges.now) (map finding_parts a) (map finding_parts b) (map finding_parts both) (map finding_parts round)
+      exactly = subst (AreExactly (IsFault (contract_parts c.args.contract.now))) (sym cut)
+          (all_found (contract_parts c.args.contract.now) (map finding_parts a) (map finding_parts b) (map finding_parts both) (map finding_parts round)
           c.in_ok-found.ensures.found c.in_ok-twice.ensures.found
           (subst (λ n. FoundBelow (IsBoth (map state_parts states) edges) n (map finding_parts both)) size c.in_ok-both.ensures.found)
           (subst (λ n. FoundBelow (IsRound (map state_parts states) edges) n (map finding_parts round)) size c.in_ok-round.ensures.found));

@@ -8,7 +8,6 @@ use Rattle.source.specs.declared.finding.Code.TheVariants.{C04}
 use Rattle.program.specs.declared.contract.Sign.TheVariants.{Send, Receive}
 use Rattle.contracts.specs.Conditions.{IsRound, finding_parts}
 use Rattle.contracts.specs.Found.{FoundBelow}
-use Rattle.contracts.specs.Graphs.{rows}
 use Rattle.contracts.specs.Parts.{state_parts}
 use Rattle.contracts.specs.Walks.{IsRoundBy}
 use Rattle.contracts.proofs.ConditionLemmas.{parts_are, pushed}
@@ -22,28 +21,28 @@ use Rattle.contracts.proofs.conditions.one_direction.Goals.{then-index+in_ok-fin
 
 pub loop-i-preserved : goal.loop-i-preserved
 loop-i-preserved c =
-    let edges = c.args.edges.now.edges.items in
-    let all = c.args.edges.now.states.items in
+    let edges = c.args.contract.now.edges.items in
+    let all = c.args.contract.now.states.items in
     let states = map state_parts all in
     let numbers = map (λ s. s.id.0) all in
     let i = c.loop-i.i in
-    let size = c.args.edges.now.states.ok in
+    let size = c.args.contract.now.states.ok in
     let end = c.len-i-end.ensures in
     let test = c.loop-i-test.true in
     let lt : i < length all = omega (arith, size.0, end, test) in
     let long = length-map all (λ s. s.id.0) in
-    let sends = rows c.args.drawing.now.sends.rows in
-    let receives = rows c.args.drawing.now.receives.rows in
-    let send_rings = c.in_ok-sending.ensures.rings in
-    let receive_rings = c.in_ok-receiving.ensures.rings in
+    let sends = c.requires.drawing.sends.graph in
+    let receives = c.requires.drawing.receives.graph in
+    let send_rings = c.requires.drawing.sends.rings in
+    let receive_rings = c.requires.drawing.receives.rings in
     let long_sends = c.requires.drawing.sends.drawn.long in
     let long_receives = c.requires.drawing.receives.drawn.long in
     let long_sending = send_rings.long in
     let long_receiving = receive_rings.long in
     let send_tells = send_rings.tells i (omega (arith, lt, long, long_sends)) in
     let receive_tells = receive_rings.tells i (omega (arith, lt, long, long_receives)) in
-    let sending : c.index.result.now ≡ get_or c.in_ok-sending.sending.items i true = c.index.ensures ∙ get_again c.in_ok-sending.sending.items i true c.index.result.now (omega (arith, lt, long, long_sends, long_sending)) in
-    let receiving : c.index-in-loop-i.result.now ≡ get_or c.in_ok-receiving.receiving.items i true = c.index-in-loop-i.ensures ∙ get_again c.in_ok-receiving.receiving.items i true c.index-in-loop-i.result.now (omega (arith, lt, long, long_receives, long_receiving)) in
+    let sending : c.index.result.now ≡ get_or c.args.drawing.now.sends.rings.items i true = c.index.ensures ∙ get_again c.args.drawing.now.sends.rings.items i true c.index.result.now (omega (arith, lt, long, long_sends, long_sending)) in
+    let receiving : c.index-in-loop-i.result.now ≡ get_or c.args.drawing.now.receives.rings.items i true = c.index-in-loop-i.ensures ∙ get_again c.args.drawing.now.receives.rings.items i true c.index-in-loop-i.result.now (omega (arith, lt, long, long_receives, long_receiving)) in
     elim c.if-index.branch [
       | then-index+in_ok-finding+in_ok-push w ↦
           let state = w.index-state.result.now in
@@ -70,9 +69,9 @@ loop-i-preserved c =
 
 pub returns : goal.returns
 returns c =
-    let size = c.args.edges.now.states.ok in
+    let size = c.args.contract.now.states.ok in
     let end = c.len-i-end.ensures in
     let stop = c.loop-i-test.false in
     let most = c.loop-i.auto.i-end in
-    let done : c.loop-i.i ≡ length c.args.edges.now.states.items = omega (arith, size.0, end, stop, most) in
-    record { found = subst (λ n. FoundBelow (IsRound (map state_parts c.args.edges.now.states.items) c.args.edges.now.edges.items) n (map finding_parts c.loop-i.found.items)) done c.loop-i.invariant }
+    let done : c.loop-i.i ≡ length c.args.contract.now.states.items = omega (arith, size.0, end, stop, most) in
+    record { found = subst (λ n. FoundBelow (IsRound (map state_parts c.args.contract.now.states.items) c.args.contract.now.edges.items) n (map finding_parts c.loop-i.found.items)) done c.loop-i.invariant }

@@ -5,4 +5,4 @@ use Rattle.contracts.specs.Parts.{state_parts}
 use Rattle.contracts.proofs.conditions.one_direction.Given as goal
 
 abbrev pub invariant-loop-i : goal.invariant-loop-i
-invariant-loop-i l = FoundBelow (IsRound (map state_parts l.edges.states.items) l.edges.edges.items) l.i (map finding_parts l.found.items)
+invariant-loop-i l = FoundBelow (IsRound (map state_parts l.contract.states.items) l.contract.edges.items) l.i (map finding_parts l.found.items)

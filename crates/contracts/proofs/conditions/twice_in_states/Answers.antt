@@ -16,8 +16,8 @@ use Rattle.contracts.proofs.conditions.twice_in_states.Goals.{then-is_second+in_
 
 pub loop-at-preserved : goal.loop-at-preserved
 loop-at-preserved c =
-    let messages = map message_parts c.args.edges.now.messages.items in
-    let edges = c.args.edges.now.edges.items in
+    let messages = map message_parts c.args.contract.now.messages.items in
+    let edges = c.args.contract.now.edges.items in
     let order = c.args.order.now in
     let k = c.loop-at.at in
     let place = get_or order k 0 in
@@ -26,7 +26,7 @@ loop-at-preserved c =
           let e = w.index-edge.result.now in
           let m = message_parts w.message_of-message.result.now in
           let at = slice_get_read edges (length edges) place e refl (order_within edges order c.requires.ordered k c.loop-at-test.true) w.index-edge.ensures in
-          let listed = contains_map message_parts c.args.edges.now.messages.items w.message_of-message.result.now w.message_of-message.ensures.listed in
+          let listed = contains_map message_parts c.args.contract.now.messages.items w.message_of-message.result.now w.message_of-message.ensures.listed in
           subst (FoundBelow (TwiceAt messages edges order) (k + 1)) (sym (ap (λ v. map finding_parts v.items) w.found-is
           ∙ pushed c.loop-at.found.items _ _ _ w.in_ok-push.ensures.items (parts_are w.in_ok-finding.finding e.place C02 (utf8_lossy m.name ++ codes " twice in a state") w.in_ok-finding.ensures.place w.in_ok-finding.ensures.code (w.in_ok-finding.ensures.text ∙ ap (λ l. utf8_lossy l ++ codes " twice in a state") w.as_bytes.ensures.value))))
           (twice_more messages edges order k e m (map finding_parts c.loop-at.found.items) c.requires.whole.messages_once at listed w.message_of-message.ensures.its
@@ -39,8 +39,8 @@ loop-at-preserved c =
 
 pub returns : goal.returns
 returns c =
-    let messages = map message_parts c.args.edges.now.messages.items in
-    let edges = c.args.edges.now.edges.items in
+    let messages = map message_parts c.args.contract.now.messages.items in
+    let edges = c.args.contract.now.edges.items in
     let order = c.args.order.now in
     let stop = c.loop-at-test.false in
     let most = c.loop-at.auto.at-end in

@@ -6,4 +6,4 @@ use Rattle.contracts.proofs.ConditionLemmas.{TwiceAt}
 use Rattle.contracts.proofs.conditions.twice_in_states.Given as goal
 
 abbrev pub invariant-loop-at : goal.invariant-loop-at
-invariant-loop-at l = FoundBelow (TwiceAt (map message_parts l.edges.messages.items) l.edges.edges.items l.order) l.at (map finding_parts l.found.items)
+invariant-loop-at l = FoundBelow (TwiceAt (map message_parts l.contract.messages.items) l.contract.edges.items l.order) l.at (map finding_parts l.found.items)

@@ -1,40 +1,65 @@
-use Rattle.std.proofs.Common.{◌≡◌, ◌∙◌, length, ap, sym, subst}
-use Rattle.std.proofs.lemmas.List.{length-map}
+use Rattle.std.proofs.Common.{◌≡◌, Bool, List, ℕ, ap, map, sym, subst}
+use Rattle.std.specs.Prelude.{Vec}
+use Rattle.std.specs.Global.{Global}
+use Rattle.program.specs.declared.contract.Contract.{Contract}
+use Rattle.program.specs.declared.contract.Edge.{Edge}
+use Rattle.program.specs.declared.contract.Sign.{Sign}
 use Rattle.program.specs.declared.contract.Sign.TheVariants.{Send, Receive}
-use Rattle.contracts.specs.Arcs.{AllWithin, AreRows, EndsListed, IsDrawn}
+use Rattle.contracts.specs.Arcs.{EndsListed, IsDrawn}
+use Rattle.contracts.specs.Drawings.{DrawsSign}
 use Rattle.contracts.specs.Graphs.{rows}
-use Rattle.contracts.specs.Orders.{IsOrder}
+use Rattle.contracts.specs.Numbering.{AreRings}
 use Rattle.contracts.specs.Positions.{listed}
 use Rattle.contracts.proofs.PartLemmas.{ends_listed}
 use Rattle.contracts.proofs.drawing.drawing_of.Goals as goal
 
 pub new-requires : goal.new-requires
-new-requires c = record { listed = subst (EndsListed (listed c.states_of-states.result)) (sym c.deref-2.ensures.value) (ends_listed c.args.edges.now (listed c.states_of-states.result) c.requires.whole c.states_of-states.ensures) }
+new-requires c = record { listed = subst (EndsListed (listed c.states_of-states.result)) (sym c.deref.ensures.value) (ends_listed c.args.contract.now (listed c.states_of-states.result) c.requires.whole c.states_of-states.ensures) }
 
 pub new-requires-2 : goal.new-requires-2
-new-requires-2 c = record { listed = subst (EndsListed (listed c.states_of-states.result)) (sym c.deref-3.ensures.value) (ends_listed c.args.edges.now (listed c.states_of-states.result) c.requires.whole c.states_of-states.ensures) }
+new-requires-2 c = record { listed = subst (EndsListed (listed c.states_of-states.result)) (sym c.deref-2.ensures.value) (ends_listed c.args.contract.now (listed c.states_of-states.result) c.requires.whole c.states_of-states.ensures) }
+
+-- the graph of the edges between the positions that a listing gives is that of the contract
+drawn_as : (contract : Contract) (numbers : List ℕ) (edges : List Edge) (sign : Sign) (graph : List (List ℕ)) → numbers ≡ map (λ s. s.id.0) contract.states.items → edges ≡ contract.edges.items → IsDrawn numbers edges (λ e. e.sign ≡ sign) graph → DrawsSign contract sign graph
+drawn_as contract numbers edges sign graph is same h = subst (λ n. IsDrawn n contract.edges.items (λ e. e.sign ≡ sign) graph) is (subst (λ l. IsDrawn numbers l (λ e. e.sign ≡ sign) graph) same h)
+
+pub bounds_of-requires : goal.bounds_of-requires
+bounds_of-requires c =
+    let contract = c.args.contract.now in
+    let is = c.states_of-states.ensures in
+    record {
+      whole = c.requires.whole;
+      sends = record {
+        range = c.in_ok-sends.ensures.range;
+        heights = c.in_ok-sends.ensures.heights;
+        rings = c.in_ok-sends.ensures.rings;
+        drawn = drawn_as contract (listed c.states_of-states.result) c.deref.result.now Send (rows c.in_ok-sends.sends.rows) is c.deref.ensures.value c.in_ok-sends.ensures.drawn;
+      };
+      receives = record {
+        range = c.in_ok-receives.ensures.range;
+        heights = c.in_ok-receives.ensures.heights;
+        rings = c.in_ok-receives.ensures.rings;
+        drawn = drawn_as contract (listed c.states_of-states.result) c.deref-2.result.now Receive (rows c.in_ok-receives.receives.rows) is c.deref-2.ensures.value c.in_ok-receives.ensures.drawn;
+      };
+    }
 
 pub returns : goal.returns
 returns c =
+    let contract = c.args.contract.now in
     let is = c.states_of-states.ensures in
-    let size : length (listed c.states_of-states.result) ≡ length c.args.edges.now.states.items = ap length is ∙ length-map c.args.edges.now.states.items (λ s. s.id.0) in
-    let sends = c.in_ok-sends.sends in
-    let receives = c.in_ok-receives.receives in
-    let edges = c.args.edges.now.edges.items in
     record {
       sends = record {
-        range = subst (λ n. AllWithin n sends.arcs.items) size c.in_ok-sends.ensures.range;
-        heights = c.in_ok-sends.ensures.heights;
-        ends = subst (λ n. AreRows n sends.arcs.items (rows sends.rows)) size c.in_ok-sends.ensures.rows;
-        drawn = subst (λ n. IsDrawn n edges (λ e. e.sign ≡ Send) (rows sends.rows)) is
-            (subst (λ l. IsDrawn (listed c.states_of-states.result) l (λ e. e.sign ≡ Send) (rows sends.rows)) c.deref-2.ensures.value c.in_ok-sends.ensures.drawn);
+        graph = rows c.in_ok-sends.sends.rows;
+        drawn = drawn_as contract (listed c.states_of-states.result) c.deref.result.now Send (rows c.in_ok-sends.sends.rows) is c.deref.ensures.value c.in_ok-sends.ensures.drawn;
+        leaves = c.in_ok-into_marks.ensures.leaves;
+        rings = subst (AreRings (rows c.in_ok-sends.sends.rows)) (sym (ap (λ (v : Vec Bool Global). v.items) c.in_ok-into_marks.ensures.rings)) c.in_ok-sends.ensures.rings;
       };
       receives = record {
-        range = subst (λ n. AllWithin n receives.arcs.items) size c.in_ok-receives.ensures.range;
-        heights = c.in_ok-receives.ensures.heights;
-        ends = subst (λ n. AreRows n receives.arcs.items (rows receives.rows)) size c.in_ok-receives.ensures.rows;
-        drawn = subst (λ n. IsDrawn n edges (λ e. e.sign ≡ Receive) (rows receives.rows)) is
-            (subst (λ l. IsDrawn (listed c.states_of-states.result) l (λ e. e.sign ≡ Receive) (rows receives.rows)) c.deref-3.ensures.value c.in_ok-receives.ensures.drawn);
+        graph = rows c.in_ok-receives.receives.rows;
+        drawn = drawn_as contract (listed c.states_of-states.result) c.deref-2.result.now Receive (rows c.in_ok-receives.receives.rows) is c.deref-2.ensures.value c.in_ok-receives.ensures.drawn;
+        leaves = c.in_ok-into_marks-2.ensures.leaves;
+        rings = subst (AreRings (rows c.in_ok-receives.receives.rows)) (sym (ap (λ (v : Vec Bool Global). v.items) c.in_ok-into_marks-2.ensures.rings)) c.in_ok-receives.ensures.rings;
       };
-      ordered = subst (λ l. IsOrder l c.in_ok-order.order.items) c.deref.ensures.value c.in_ok-order.ensures;
+      to_imp = c.in_ok-bounds.ensures.to_imp;
+      to_exp = c.in_ok-bounds.ensures.to_exp;
     }

@@ -20,16 +20,16 @@ no_numbers (m ∷ messages) at = absurd (none-some m (sym at))
 
 pub returns-in-Some : goal.returns-in-Some
 returns-in-Some c =
-    let messages = c.args.edges.now.messages.items in
+    let messages = c.args.contract.now.messages.items in
     let numbers = map (λ (x : Message). x.id.0) messages in
     let m = c.in-Some.message.now in
     let at : slice_get messages 0 ≡ Some m = ap (λ l. slice_get l 0) (sym c.deref.ensures.value) ∙ sym c.first.ensures.value ∙ ap option_copied c.in-Some.is in
     let row = subst (λ l. AreInRow (get_or l 0 0) l) (message_numbers_are messages) c.requires.whole.messages_in_row in
-    let long = c.args.edges.now.messages.ok in
+    let long = c.args.contract.now.messages.ok in
     c.new.ensures ∙ ap (λ n. range_with_len n c.len.result) (first_number messages m at)
     ∙ ap (range_with_len (get_or numbers 0 0)) (c.len.ensures ∙ long.0 ∙ sym (length-map messages (λ (x : Message). x.id.0))) ∙ row_is (get_or numbers 0 0) numbers row
 
 pub returns-in-None : goal.returns-in-None
 returns-in-None c =
-    let messages = c.args.edges.now.messages.items in
+    let messages = c.args.contract.now.messages.items in
     c.new-in-None.ensures ∙ no_numbers messages (ap (λ l. slice_get l 0) (sym c.deref.ensures.value) ∙ sym c.first.ensures.value ∙ ap option_copied c.in-None.is)

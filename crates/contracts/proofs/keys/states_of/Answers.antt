@@ -8,8 +8,8 @@ use Rattle.contracts.proofs.keys.states_of.Goals as goal
 
 pub returns : goal.returns
 returns c =
-    let states = c.args.edges.now.states.items in
-    let first = c.args.edges.now.first.0 in
+    let states = c.args.contract.now.states.items in
+    let first = c.args.contract.now.first.0 in
     let row = subst (AreInRow first) (state_numbers_are states) c.requires.whole.states_in_row in
-    let long = c.args.edges.now.states.ok in
+    let long = c.args.contract.now.states.ok in
     c.new.ensures ∙ ap (range_with_len first) (c.len.ensures ∙ long.0 ∙ sym (length-map states (λ s. s.id.0))) ∙ row_is first (map (λ s. s.id.0) states) row

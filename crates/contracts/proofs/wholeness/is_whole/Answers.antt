@@ -7,7 +7,7 @@ use Rattle.program.specs.declared.contract.Edge.{Edge}
 use Rattle.program.specs.declared.limits.TheConstants.{MOST_STATES}
 use Rattle.program.specs.declared.number.MessageId.{MessageId}
 use Rattle.program.specs.declared.number.StateId.{StateId}
-use Rattle.contracts.specs.Parts.{AreInRow, state_ids, message_ids, parts_of}
+use Rattle.contracts.specs.Parts.{AreInRow, state_ids, message_ids, contract_parts}
 use Rattle.contracts.specs.Positions.{EndsHave, listed}
 use Rattle.contracts.proofs.PartLemmas.{all_from, contains_map, state_numbers_are, message_numbers_are}
 use Rattle.contracts.proofs.PositionLemmas.{row_is}
@@ -28,22 +28,22 @@ abbrev message_number : MessageId → ℕ
 message_number m = m.0
 
 abbrev states_of : After-new-message_list → List StateId
-states_of c = state_ids (parts_of c.args.edges.now)
+states_of c = state_ids (contract_parts c.args.contract.now)
 
 abbrev messages_of : After-new-message_list → List MessageId
-messages_of c = message_ids (parts_of c.args.edges.now)
+messages_of c = message_ids (contract_parts c.args.contract.now)
 
 -- the numbers that were read are those of the parts
 states_are : (c : After-new-message_list) → c.in_ok-states.states.items ≡ map state_number (states_of c)
-states_are c = c.in_ok-states.ensures ∙ ap (map (λ s. s.id.0)) c.deref.ensures.value ∙ sym (state_numbers_are c.args.edges.now.states.items)
+states_are c = c.in_ok-states.ensures ∙ ap (map (λ s. s.id.0)) c.deref.ensures.value ∙ sym (state_numbers_are c.args.contract.now.states.items)
 
 messages_are : (c : After-new-message_list) → c.in_ok-messages.messages.items ≡ map message_number (messages_of c)
-messages_are c = c.in_ok-messages.ensures ∙ ap (map (λ m. m.id.0)) c.deref-2.ensures.value ∙ sym (message_numbers_are c.args.edges.now.messages.items)
+messages_are c = c.in_ok-messages.ensures ∙ ap (map (λ m. m.id.0)) c.deref-2.ensures.value ∙ sym (message_numbers_are c.args.contract.now.messages.items)
 
 -- numbers that go up by one are listed by the first and their count
-states_listed : (c : After-new-message_list) → AreInRow c.args.edges.now.first.0 (map state_number (states_of c)) → listed c.new-state_list.result ≡ map state_number (states_of c)
+states_listed : (c : After-new-message_list) → AreInRow c.args.contract.now.first.0 (map state_number (states_of c)) → listed c.new-state_list.result ≡ map state_number (states_of c)
 states_listed c row =
-    c.new-state_list.ensures ∙ ap (range_with_len c.args.edges.now.first.0) (c.len.ensures ∙ c.in_ok-states.states.ok.0 ∙ ap length (states_are c)) ∙ row_is c.args.edges.now.first.0 (map state_number (states_of c)) row
+    c.new-state_list.ensures ∙ ap (range_with_len c.args.contract.now.first.0) (c.len.ensures ∙ c.in_ok-states.states.ok.0 ∙ ap length (states_are c)) ∙ row_is c.args.contract.now.first.0 (map state_number (states_of c)) row
 
 messages_listed : (c : After-new-message_list) → AreInRow c.first_or_0-first_message.result (map message_number (messages_of c)) → listed c.new-message_list.result ≡ map message_number (messages_of c)
 messages_listed c row =
@@ -59,8 +59,8 @@ Numbered q = q < MOST_STATES
 pub returns : goal.returns
 returns c =
     let before = (goal.at.returns c).After-new-message_list in
-    let edges = c.args.edges.now.edges.items in
-    let first = c.args.edges.now.first.0 in
+    let edges = c.args.contract.now.edges.items in
+    let first = c.args.contract.now.first.0 in
     let states = states_of before in
     let messages = messages_of before in
     let Listed : Edge → Type 0 = EndsHave (listed c.new-state_list.result) (listed c.new-message_list.result) in (
@@ -77,7 +77,7 @@ returns c =
           let state_in = λ (q : StateId) (h : Contains (listed c.new-state_list.result) q.0). id_in state_number states q (λ a b e. ap state_of e) (subst (λ l. Contains l q.0) listed_states h) in
           let message_in = λ (m : MessageId) (h : Contains (listed c.new-message_list.result) m.0). id_in message_number messages m (λ a b e. ap message_of e) (subst (λ l. Contains l m.0) listed_messages h) in
           record {
-            first = state_in c.args.edges.now.first (c.has.ensures.0 three.1);
+            first = state_in c.args.contract.now.first (c.has.ensures.0 three.1);
             from = λ e h. state_in e.from (each e h).from;
             to = λ e h. state_in e.to (each e h).to;
             message = λ e h. message_in e.message (each e h).message;
@@ -98,6 +98,6 @@ returns c =
           let each = all_from Listed edges (λ e h. record { from = state_has e.from (whole.from e h); to = state_has e.to (whole.to e h); message = message_has e.message (whole.message e h) }) in
           let numbered = All-map Numbered state_number states whole.numbered in
           and_from _ _
-          (and_from _ _ (and_from _ _ rows (c.are_listed-listed.ensures.1 (subst (All Listed) (sym c.deref-6.ensures.value) each))) (c.has.ensures.1 (state_has c.args.edges.now.first whole.first)))
+          (and_from _ _ (and_from _ _ rows (c.are_listed-listed.ensures.1 (subst (All Listed) (sym c.deref-6.ensures.value) each))) (c.has.ensures.1 (state_has c.args.contract.now.first whole.first)))
           (c.are_numbered.ensures.1 (subst (All Numbered) (sym (c.deref-7.ensures.value ∙ states_are before)) numbered)),
     )

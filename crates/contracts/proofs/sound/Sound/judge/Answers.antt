@@ -1,16 +1,10 @@
-use Rattle.std.proofs.Common.{◌≡◌, ◌∙◌, List, [], ◌∷◌, length, map, sym, refl, subst, arith}
+use Rattle.std.proofs.Common.{◌≡◌, ◌∙◌, List, [], ◌∷◌, length, map, sym, refl, arith}
 use Rattle.std.specs.Prelude.{Contains}
-use Rattle.program.specs.declared.contract.Sign.TheVariants.{Send, Receive}
-use Rattle.contracts.specs.Leaving.{AreLeaving}
 use Rattle.std.proofs.lemmas.Bool.{eqb-true, eqb-false}
 use Rattle.std.proofs.lemmas.List.{length-map}
 use Rattle.contracts.specs.Conditions.{FindingParts, finding_parts, AreExactly, IsFault, IsSound}
 use Rattle.source.specs.declared.finding.Finding.{Finding}
-use Rattle.contracts.specs.Parts.{Parts, parts_of}
-use Rattle.contracts.specs.Arcs.{EndsListed}
-use Rattle.contracts.specs.Graphs.{rows}
-use Rattle.contracts.specs.Positions.{listed}
-use Rattle.contracts.proofs.PartLemmas.{ends_listed}
+use Rattle.contracts.specs.Parts.{Parts, contract_parts}
 use Rattle.contracts.proofs.sound.Sound.judge.Goals as goal
 
 -- a list that isn't empty has something
@@ -34,24 +28,12 @@ none_found parts found exactly none = λ f fault.
     let size = length-map found finding_parts in
     absurd (omega (arith, size, none, lt))
 
-pub bounds_of-requires-clause-sound : goal.bounds_of-requires-clause-sound
-bounds_of-requires-clause-sound c =
+pub sound_of-requires-clause-sound : goal.sound_of-requires-clause-sound
+sound_of-requires-clause-sound c =
     let long = c.in_ok-found.found.ok in
-    none_found (parts_of c.args.edges) c.in_ok-found.found.items c.in_ok-found.ensures.exactly (sym long.0 ∙ eqb-true _ _ (sym c.is_empty.ensures ∙ c.if-not-is_empty.false))
+    none_found (contract_parts c.args.contract.now) c.in_ok-found.found.items c.in_ok-found.ensures.exactly (sym long.0 ∙ eqb-true _ _ (sym c.is_empty.ensures ∙ c.if-not-is_empty.false))
 
-pub invariant_of-sound-clause-sound : goal.invariant_of-sound-clause-sound
-invariant_of-sound-clause-sound c =
+pub returns : goal.returns
+returns c =
     let long = c.in_ok-found.found.ok in
-    none_found (parts_of c.args.edges) c.in_ok-found.found.items c.in_ok-found.ensures.exactly (sym long.0 ∙ eqb-true _ _ (sym c.is_empty.ensures ∙ c.if-not-is_empty.false))
-
-pub leaving-requires : goal.leaving-requires
-leaving-requires c = record { listed = subst (EndsListed (listed c.states_of-states.result)) (sym c.deref.ensures.value) (ends_listed c.args.edges (listed c.states_of-states.result) c.requires.whole c.states_of-states.ensures) }
-
-pub leaving-requires-2 : goal.leaving-requires-2
-leaving-requires-2 c = record { listed = subst (EndsListed (listed c.states_of-states.result)) (sym c.deref-2.ensures.value) (ends_listed c.args.edges (listed c.states_of-states.result) c.requires.whole c.states_of-states.ensures) }
-
-pub invariant_of-sound-clause-sent : goal.invariant_of-sound-clause-sent
-invariant_of-sound-clause-sent c = subst (λ edges. AreLeaving (listed c.states_of-states.result) edges Send (rows c.in_ok-sends.sends)) c.deref.ensures.value c.in_ok-sends.ensures
-
-pub invariant_of-sound-clause-received : goal.invariant_of-sound-clause-received
-invariant_of-sound-clause-received c = subst (λ edges. AreLeaving (listed c.states_of-states.result) edges Receive (rows c.in_ok-receives.receives)) c.deref-2.ensures.value c.in_ok-receives.ensures
+    (c.in_ok-sound.ensures, none_found (contract_parts c.args.contract.now) c.in_ok-found.found.items c.in_ok-found.ensures.exactly (sym long.0 ∙ eqb-true _ _ (sym c.is_empty.ensures ∙ c.if-not-is_empty.false)))

@@ -1,0 +1,49 @@
+use Rattle.std.proofs.Common.{◌≡◌, ◌∙◌, List, map, ap, sym, subst}
+use Rattle.program.specs.declared.contract.Contract.{Contract}
+use Rattle.program.specs.declared.contract.Message.{Message}
+use Rattle.program.specs.declared.contract.Sign.TheVariants.{Send, Receive}
+use Rattle.program.specs.declared.number.MessageId.{MessageId}
+use Rattle.contracts.specs.Arcs.{EndsListed}
+use Rattle.contracts.specs.Conditions.{IsSound}
+use Rattle.contracts.specs.Graphs.{rows}
+use Rattle.contracts.specs.Leaving.{AreLeaving}
+use Rattle.contracts.specs.Parts.{MessageParts, contract_parts, message_parts}
+use Rattle.contracts.specs.Positions.{listed}
+use Rattle.contracts.proofs.PartLemmas.{ends_listed, message_numbers_are}
+use Rattle.contracts.proofs.sound.sound_of.Goals as goal
+
+-- lists of messages with the same parts have the same numbers
+same_numbers : (one other : List Message) → map message_parts one ≡ map message_parts other → map (λ (m : Message). m.id.0) one ≡ map (λ (m : Message). m.id.0) other
+same_numbers one other same = sym (message_numbers_are one) ∙ ap (λ l. map (λ (i : MessageId). i.0) (map (λ (m : MessageParts). m.id) l)) same ∙ message_numbers_are other
+
+pub leaving-requires : goal.leaving-requires
+leaving-requires c =
+    let same = c.in_ok-edges.ensures.items_if_clones_equal (λ x y h. h) ∙ c.deref.ensures.value in
+    record { listed = subst (EndsListed (listed c.states_of-states.result)) (sym (c.deref-3.ensures.value ∙ same)) (ends_listed c.args.contract.now (listed c.states_of-states.result) c.requires.whole c.states_of-states.ensures) }
+
+pub leaving-requires-2 : goal.leaving-requires-2
+leaving-requires-2 c =
+    let same = c.in_ok-edges.ensures.items_if_clones_equal (λ x y h. h) ∙ c.deref.ensures.value in
+    record { listed = subst (EndsListed (listed c.states_of-states.result)) (sym (c.deref-4.ensures.value ∙ same)) (ends_listed c.args.contract.now (listed c.states_of-states.result) c.requires.whole c.states_of-states.ensures) }
+
+pub invariant_of-result-clause-sound : goal.invariant_of-result-clause-sound
+invariant_of-result-clause-sound c = subst (λ (k : Contract). IsSound (contract_parts k)) (sym c.of.ensures) c.requires.sound
+
+pub invariant_of-result-clause-edges_are : goal.invariant_of-result-clause-edges_are
+invariant_of-result-clause-edges_are c = c.in_ok-edges.ensures.items_if_clones_equal (λ x y h. h) ∙ c.deref.ensures.value ∙ ap (λ (k : Contract). k.edges.items) (sym c.of.ensures)
+
+pub invariant_of-result-clause-messages_are : goal.invariant_of-result-clause-messages_are
+invariant_of-result-clause-messages_are c = c.in_ok-messages.ensures.parts ∙ ap (map message_parts) c.deref-2.ensures.value ∙ ap (λ (k : Contract). map message_parts k.messages.items) (sym c.of.ensures)
+
+pub invariant_of-result-clause-named : goal.invariant_of-result-clause-named
+invariant_of-result-clause-named c = c.messages_of.ensures ∙ same_numbers c.args.contract.now.messages.items c.in_ok-messages.messages.items (sym (c.in_ok-messages.ensures.parts ∙ ap (map message_parts) c.deref-2.ensures.value))
+
+pub invariant_of-result-clause-sent : goal.invariant_of-result-clause-sent
+invariant_of-result-clause-sent c =
+    let same = c.in_ok-edges.ensures.items_if_clones_equal (λ x y h. h) ∙ c.deref.ensures.value ∙ ap (λ (k : Contract). k.edges.items) (sym c.of.ensures) in
+    subst (λ edges. AreLeaving (listed c.states_of-states.result) edges Send (rows c.in_ok-sends.sends)) (c.deref-3.ensures.value ∙ same) c.in_ok-sends.ensures
+
+pub invariant_of-result-clause-received : goal.invariant_of-result-clause-received
+invariant_of-result-clause-received c =
+    let same = c.in_ok-edges.ensures.items_if_clones_equal (λ x y h. h) ∙ c.deref.ensures.value ∙ ap (λ (k : Contract). k.edges.items) (sym c.of.ensures) in
+    subst (λ edges. AreLeaving (listed c.states_of-states.result) edges Receive (rows c.in_ok-receives.receives)) (c.deref-4.ensures.value ∙ same) c.in_ok-receives.ensures
