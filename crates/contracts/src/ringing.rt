@@ -32,7 +32,7 @@ pub fn rings(
         return Ok(vec![in alloc; false; graph.len()]?);
     }
     let numbers = found_numbers(alloc, graph, &arcs)?;
-    match rings_by_numbers(alloc, &arcs, &numbers)? {
+    match rings_by_numbers(alloc, arcs, &numbers)? {
         Some(rings) => Ok(rings),
         None => rings_by_search(alloc, graph),
     }
@@ -158,24 +158,25 @@ pub(crate) fn filled(alloc: Global, graph: &Rows<usize>) -> Result<Vec<bool>, Al
 /// vertex of each number is joined both ways with all others of it.
 fn rings_by_numbers(
     alloc: Global,
-    arcs: &[Arc],
+    arcs: Vec<Arc>,
     numbers: &[usize],
 ) -> Result<Option<Vec<bool>>, AllocError>
-    requires range { AllWithin (length numbers.now) arcs.now }
+    requires range { AllWithin (length numbers.now) arcs.items }
     ensures rings { IfOk result (λ found. IfSome found (λ rings. TellArcs
-        (length numbers.now) arcs.now rings.items)) }
+        (length numbers.now) arcs.items rings.items)) }
 {
-    if !falls(arcs, numbers) {
+    if !falls(&arcs, numbers) {
         return Ok(None);
     }
     let starts = starts_of(alloc, numbers)?;
-    let inner = inner_arcs(alloc, arcs, numbers)?;
+    let inner = inner_arcs(alloc, &arcs, numbers)?;
+    drop(arcs); // a large contract takes less memory so
     let down = rows_of(alloc, numbers.len(), &inner)?;
     if !reach_all(alloc, &down, &starts)? {
         return Ok(None);
     }
     let rings = filled(alloc, &down)?;
-    drop(down); // a large contract takes less memory so
+    drop(down);
     let up = turned_rows(alloc, numbers.len(), &inner)?;
     if !reach_all(alloc, &up, &starts)? {
         return Ok(None);

@@ -119,6 +119,22 @@ pub(crate) fn check_text<R: Threads + Wait + Sync, G: Gate>(
     }
 }
 
+/// The report of a text that nobody asks for again. It goes once its tokens are known, which spares its memory.
+pub(crate) fn check_alone<R: Threads + Wait + Sync, G: Gate>(
+    tools: &Tools<'_, R, G>,
+    text: Vec<u8>,
+) -> Result<Report, Memory>
+    ensures report { IfOk result (λ r. Checks text.items r.bytes.items r.status) }
+    ensures safe { IfOk result (λ r. r.status ≡ Status.Empty → IsSafeText text.items) }
+{
+    let parsed = parse_text(tools.alloc, &text)?;
+    drop(text);
+    match parsed {
+        Parsed::Found(findings) => reported(tools.alloc, findings),
+        Parsed::Program(tokens, tree) => check_program(tools, tokens, tree),
+    }
+}
+
 /// The report of findings.
 fn reported(alloc: Global, findings: Vec<Finding>) -> Result<Report, Memory>
     ensures bytes { IfOk result (λ r. IsReport (map finding_parts findings.items) r.bytes.items) }
