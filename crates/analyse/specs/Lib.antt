@@ -2,6 +2,7 @@ pub mod Hashes
 pub mod Kept
 pub mod Names
 pub mod Reach
+pub mod Remembering
 pub mod RowKeys
 pub mod Searches
 pub mod Tasks

@@ -2,12 +2,15 @@
 #![tactic(auto)]
 
 mod analysing;
+mod hand;
 mod keys;
 pub mod laws;
 mod naming;
 mod noting;
 mod own;
 mod pair;
+mod recalling;
+mod remembered;
 mod searching;
 mod seating;
 mod site;

@@ -1,9 +1,12 @@
 //! A seat taken by a worker, and given back.
 
 ghost use Rattle.std.specs.Prelude.{◌≡◌};
-ghost use Rattle.analyse.specs.Workers.{seat_of};
+ghost use Rattle.intern.specs.Seats.{IsSeatOf};
+ghost use Rattle.intern.specs.declared.rows.Rows.{Rows};
+ghost use Rattle.analyse.specs.Workers.{IsWorkerOf, seat_of};
 
 use crate::own::OwnRows;
+use crate::remembered::Remembered;
 use crate::worker::Worker;
 use indexmap::IndexSet;
 use intern::Seat;
@@ -12,13 +15,15 @@ use std::alloc::Global;
 impl Worker {
     /// A worker with this seat. It takes no memory before it analyses something.
     pub fn new(alloc: Global, seat: Seat) -> Worker
-        ensures { seat_of result ≡ seat }
+        ensures seat { seat_of result ≡ seat }
+        ensures worker { (rows : Rows) → IsSeatOf rows seat → IsWorkerOf rows result }
     {
         Worker {
             seat,
             alone: false,
             own: OwnRows::new(alloc),
             seen: IndexSet::new(alloc),
+            remembered: Remembered::new(alloc),
         }
     }
 

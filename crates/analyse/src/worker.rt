@@ -2,11 +2,12 @@
 
 use crate::own::OwnRows;
 use crate::pair::Pair;
+use crate::remembered::Remembered;
 use indexmap::IndexSet;
 use intern::Seat;
 
-/// What a worker keeps from method to method: its seat at the table of all rows, and tables of its own. These are emptied for each
-/// method, and keep their memory.
+/// What a worker keeps from method to method: its seat at the table of all rows, what it remembers of transfers, and tables of its own.
+/// These are emptied for each method, and keep their memory.
 #[derive(Drop)]
 pub struct Worker {
     pub(crate) seat: Seat,
@@ -14,4 +15,6 @@ pub struct Worker {
     pub(crate) alone: bool,
     pub(crate) own: OwnRows,
     pub(crate) seen: IndexSet<Pair>,
+    /// What came of transfers, from method to method: tokens name their rows for good.
+    pub(crate) remembered: Remembered,
 }

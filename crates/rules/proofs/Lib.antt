@@ -8,3 +8,4 @@ pub mod SwitchLemmas
 pub mod BackLemmas
 pub mod EndLemmas
 pub mod KindLemmas
+mod TransferLemmas

@@ -26,7 +26,7 @@ same_at f g (a ∷ xs) [] n x e h is = absurd (omega arith)
 same_at f g (a ∷ xs) (y ∷ ys) zero x e h is = let head : f a ≡ g y = cc in ap f is ∙ head
 same_at f g (a ∷ xs) (y ∷ ys) (suc n) x e h is = same_at f g xs ys n x (cc) (omega arith) is
 
-one_method : (a b : MethodSeen) → Path (Option MethodSeen) (Some a) (Some b) → a ≡ b
+pub one_method : (a b : MethodSeen) → Path (Option MethodSeen) (Some a) (Some b) → a ≡ b
 one_method a b e = cc
 
 -- the pair with which a method begins
@@ -38,7 +38,7 @@ entry_is (Some s) m g leaves its graph is =
     λ i. (first i, row i)
 
 -- what stands at a point of a method
-at_point : (s : MethodSeen) (g : Graph) (point : ℕ) (i : Option Instr) → graph_seen g ≡ graph_of s → slice_get g.instructions.items point ≡ i → slice_get (graph_of s).instructions point ≡ option_map instruction_seen i
+pub at_point : (s : MethodSeen) (g : Graph) (point : ℕ) (i : Option Instr) → graph_seen g ≡ graph_of s → slice_get g.instructions.items point ≡ i → slice_get (graph_of s).instructions point ≡ option_map instruction_seen i
 at_point s g point i graph is = ap (λ (h : GraphSeen). slice_get h.instructions point) (sym graph) ∙ slice_get-map instruction_seen g.instructions.items point ∙ ap (option_map instruction_seen) is
 
 -- the step at a point

@@ -13,3 +13,4 @@ pub mod Scopes
 pub mod Steps
 pub mod Switches
 pub mod Texts
+pub mod Transfers

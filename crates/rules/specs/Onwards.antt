@@ -20,9 +20,9 @@ onward_seen (Found finding) row = Fails (finding_parts finding)
 
 -- the row is as it was, where the answer says so
 abbrev pub IsKept : Onward → (before after : List Leaf) → Type 0
-IsKept (Same point) before after = after ≡ before
-IsKept (Both first second) before after = after ≡ before
-IsKept _ before after = Unit {0}
+IsKept (Changed point) before after = Unit {0}
+IsKept (Found finding) before after = Unit {0}
+IsKept _ before after = after ≡ before
 
 -- where a condition goes on, if one stands there
 abbrev pub condition_at : Option Instruction → Option Branches

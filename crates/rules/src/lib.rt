@@ -15,9 +15,11 @@ mod sending;
 mod stepping;
 mod switching;
 mod table;
+mod transfer;
 
 pub use lowered::Program;
 pub use onward::Onward;
 pub use outcome::Outcome;
 pub use row::{Leaf, Row};
 pub use stepping::{condition, entry, step, step_in_place};
+pub use transfer::{Transfer, transfer_at};

@@ -81,8 +81,8 @@ pub fn step(
 }
 
 /// What the instruction at a point of a method does to a row, by the rule table, as `step` has it. It works on the row in place: that
-/// is the row where the answer is `Changed`, and as it was where it is `Same` or `Both`. A condition, a use, a move and whatever else
-/// has one or two pairs behind it takes no memory for them.
+/// is the row where the answer is `Changed`, and as it was where it is `Ends`, `Same`, `Both` or `Ways`. A condition, a use, a move and
+/// whatever else has one or two pairs behind it takes no memory for them.
 ///
 /// `Memory` is answered where a growth was refused. The row may have any leaves then, and also where something is wrong.
 pub fn step_in_place(

@@ -1,0 +1,50 @@
+-- Transfers: what an instruction does to a row, where that depends on nothing but the leaves of a variable or two.
+use Rattle.std.specs.Prelude.{ℕ, ◌==◌, Bool, true, not, ◌&&◌, List, Option, Some, None, set, if◌then◌else◌}
+use Rattle.program.specs.Methods.{MethodSeen}
+use Rattle.flow.specs.Graphs as graphs
+use Rattle.flow.specs.Graphs.{Instruction}
+use Rattle.rules.specs.Mentions.{is_lent}
+use Rattle.rules.specs.Rows.{is_owned, leaf_at}
+use Rattle.rules.specs.declared.row.Leaf.{Leaf}
+use Rattle.rules.specs.declared.row.Leaf.TheVariants.{Nothing, Block}
+use Rattle.rules.specs.declared.transfer.Transfer.{Transfer}
+use Rattle.rules.specs.declared.transfer.Transfer.TheVariants.{Use, New, Move, Delete}
+
+-- whether a row passes the checks that ask it
+abbrev pub allows : Transfer → List Leaf → Bool
+allows (Use v) row = is_owned row v.0
+allows (New v) row = not (is_owned row v.0)
+allows (Move target source) row = is_owned row source.0 && not (is_owned row target.0)
+allows (Delete v) row = is_owned row v.0
+
+-- the row behind it
+abbrev pub transferred : Transfer → List Leaf → List Leaf
+transferred (Use v) row = row
+transferred (New v) row = set row v.0 Block
+transferred (Move target source) row = set (set row target.0 (leaf_at row source.0)) source.0 Nothing
+transferred (Delete v) row = set row v.0 Nothing
+
+-- whether the checks pass that ask no row: nothing is given to itself, and nothing that is lent is taken or given
+abbrev pub fits : MethodSeen → Transfer → Bool
+fits m (Use v) = true
+fits m (New v) = not (is_lent m v.0)
+fits m (Move target source) = not (target.0 == source.0) && (not (is_lent m source.0) && not (is_lent m target.0))
+fits m (Delete v) = not (is_lent m v.0)
+
+-- the transfer of an instruction and the point behind it, if it has one
+abbrev pub transfer_in : Instruction → Option (Transfer × ℕ)
+transfer_in (graphs.Use at next) = Some (Use at.variable, next)
+transfer_in (graphs.New at arguments next) = Some (New at.variable, next)
+transfer_in (graphs.Move target source next) = Some (Move target.variable source.variable, next)
+transfer_in (graphs.Delete at next) = Some (Delete at.variable, next)
+transfer_in _ = None
+
+-- that transfer, where it fits
+abbrev pub fitting : MethodSeen → Option (Transfer × ℕ) → Option (Transfer × ℕ)
+fitting m None = None
+fitting m (Some t) = if fits m t.0 then Some t else None
+
+-- the transfer that fits, if an instruction is there and has one
+abbrev pub transfer_at : MethodSeen → Option Instruction → Option (Transfer × ℕ)
+transfer_at m None = None
+transfer_at m (Some instruction) = fitting m (transfer_in instruction)

@@ -1,0 +1,127 @@
+//! Transfers: what an instruction does to a row by itself.
+
+ghost use Rattle.std.specs.Prelude.{◌≡◌, ◌<◌, ◌∷◌, [], IfSome, IsSomeAnd, List, Some, length, slice_get, true};
+ghost use Rattle.flow.specs.Graphs.{instruction_seen};
+ghost use Rattle.flow.specs.Lowering.{graph_of};
+ghost use Rattle.program.specs.Methods.{method_seen};
+ghost use Rattle.rules.specs.Outcomes.{Goes};
+ghost use Rattle.rules.specs.Programs.{seen_of};
+ghost use Rattle.rules.specs.Rows.{leaves_of};
+ghost use Rattle.rules.specs.Steps.{outcome};
+ghost use Rattle.rules.specs.Transfers as table;
+ghost use Rattle.rules.specs.Transfers.{allows, transferred};
+ghost use Rattle.rules.specs.declared.row.Leaf.{Leaf as LeafSeen};
+
+use crate::checks::lends;
+use crate::lowered::Program;
+use crate::row::{Leaf, Row};
+use flow::Instr;
+use program::{Method, MethodId, VarId};
+
+/// What an instruction does to a row, where that depends on nothing but the leaves of a variable or two. The same transfer does the
+/// same at any point of any method, so what came of it is worth remembering.
+#[derive(Clone, Copy, PartialEq, Eq)]
+pub enum Transfer {
+    /// The block that a variable has is read or written.
+    Use(VarId),
+    /// A variable takes a new block.
+    New(VarId),
+    /// The target takes what the source has.
+    Move {
+        target: VarId,
+        source: VarId,
+    },
+    /// The block that a variable has is freed.
+    Delete(VarId),
+}
+
+impl Transfer {
+    /// Whether a row passes the checks of the transfer.
+    pub fn allows(self, row: &Row) -> bool
+        ensures { result ≡ allows self (leaves_of row.now) }
+    {
+        match self {
+            Transfer::Use(variable) | Transfer::Delete(variable) => row.owns(variable),
+            Transfer::New(variable) => !row.owns(variable),
+            Transfer::Move { target, source } => row.owns(source) && !row.owns(target),
+        }
+    }
+
+    /// Changes a row as the transfer does.
+    pub fn apply(self, row: &mut Row)
+        ensures { leaves_of row.new ≡ transferred self (leaves_of row.old) }
+    {
+        match self {
+            Transfer::Use(_) => {}
+            Transfer::New(variable) => row.set(variable, Leaf::Block),
+            Transfer::Move { target, source } => {
+                let taken = row.leaf(source);
+                row.set(target, taken);
+                row.set(source, Leaf::Nothing);
+            }
+            Transfer::Delete(variable) => row.set(variable, Leaf::Nothing),
+        }
+    }
+
+    /// Whether its checks pass that ask no row.
+    fn fits(self, method: &Method) -> bool
+        ensures { result ≡ table.fits (method_seen method.now) self }
+    {
+        match self {
+            Transfer::Use(_) => true,
+            Transfer::New(variable) | Transfer::Delete(variable) => !lends(method, variable),
+            Transfer::Move { target, source } => {
+                target.0 != source.0 && !lends(method, source) && !lends(method, target)
+            }
+        }
+    }
+}
+
+/// The transfer of an instruction and the point behind it, if it has one.
+fn transfer_in(instruction: &Instr) -> Option<(Transfer, usize)>
+    ensures { result ≡ table.transfer_in (instruction_seen instruction.now) }
+{
+    match instruction {
+        Instr::Use { at, next } => Some((Transfer::Use(at.variable), *next)),
+        Instr::New { target, next, .. } => Some((Transfer::New(target.variable), *next)),
+        Instr::Move {
+            target,
+            source,
+            next,
+        } => {
+            let (target, source) = (target.variable, source.variable);
+            Some((Transfer::Move { target, source }, *next))
+        }
+        Instr::Delete { at, next } => Some((Transfer::Delete(at.variable), *next)),
+        Instr::NewChannel { .. } | Instr::Send(_) | Instr::Switch { .. } => None,
+        Instr::Branch { .. } | Instr::Forget { .. } | Instr::Call(_) => None,
+        Instr::Start(_) | Instr::Return(_) | Instr::Stop { .. } => None,
+    }
+}
+
+/// That transfer, where it fits.
+fn fitting(method: &Method, instruction: &Instr) -> Option<(Transfer, usize)>
+    ensures { result ≡ table.transfer_at (method_seen method.now) (Some (instruction_seen instruction.now)) }
+{
+    let (transfer, next) = transfer_in(instruction)?;
+    if transfer.fits(method) {
+        return Some((transfer, next));
+    }
+    None
+}
+
+/// The transfer at a point of a method and the point behind it, where an instruction stands there that has one, and its checks pass
+/// that ask no row. Of a row that the transfer allows that is all that comes there.
+pub fn transfer_at(program: &Program, method: MethodId, point: usize) -> Option<(Transfer, usize)>
+    requires there { method.0 < length (seen_of program.now).methods }
+    ensures goes { IfSome result (λ t. (row : List LeafSeen) → allows t.0 row ≡ true
+        → outcome (seen_of program.now) method.0 (point, row) ≡ Goes ((t.1, transferred t.0 row) ∷ [])) }
+    ensures which { IsSomeAnd (slice_get (seen_of program.now).methods method.0)
+        (λ m. result ≡ table.transfer_at m (slice_get (graph_of m).instructions point)) }
+{
+    let owner = program.method(method);
+    match program.graph(method).instructions.get(point) {
+        Some(instruction) => fitting(owner, instruction),
+        None => None,
+    }
+}
