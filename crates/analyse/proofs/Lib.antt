@@ -10,3 +10,4 @@ pub mod WorkerLemmas
 pub mod WholeLemmas
 pub mod SearchLemmas
 pub mod EachLemmas
+pub mod RowLemmas

@@ -26,7 +26,7 @@ pub fn code_of(leaf: Leaf) -> u64
 }
 
 /// The leaf of a number.
-pub(crate) fn leaf_at(number: u64) -> Leaf
+pub fn leaf_at(number: u64) -> Leaf
     requires { number < LEAF_CODES }
     ensures { code result ≡ number }
 {

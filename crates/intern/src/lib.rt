@@ -13,7 +13,7 @@ mod steps;
 mod table;
 mod token;
 
-pub use codes::code_of;
+pub use codes::{code_of, leaf_at};
 pub use fault::{Far, InternFault, InternNew};
 pub use layout::{MOST_LOOKS, MOST_SLOTS, word_of};
 pub use rows::Rows;
