@@ -47,11 +47,13 @@ pub(crate) enum Parsed {
     Program(Tokens, Tree),
 }
 
-/// The stages of a text.
-pub(crate) fn run_stages(alloc: Global, text: &[u8]) -> Result<Staged, Memory>
-    ensures { IfOk result (IsStaged text.now) }
+/// The stages of a text that nobody asks for again. It goes once its tokens are known, which spares its memory.
+pub(crate) fn run_stages(alloc: Global, text: Vec<u8>) -> Result<Staged, Memory>
+    ensures { IfOk result (IsStaged text.items) }
 {
-    match parse_text(alloc, text)? {
+    let parsed = parse_text(alloc, &text)?;
+    drop(text);
+    match parsed {
         Parsed::Found(findings) => Ok(Staged::Found(findings)),
         Parsed::Program(tokens, tree) => staged_names(alloc, tree, tokens),
     }
