@@ -4,6 +4,7 @@ use Rattle.std.specs.Prelude.{Result, Ok, Err, OnOk, Option, None, Some, is_some
 use Rattle.std.specs.Borrow.{Bor}
 use Rattle.std.specs.Cmp.Lexicographic.{slice_cmp}
 use Rattle.std.specs.Map.{lookup}
+use Rattle.std.specs.Option.{option_or}
 use Rattle.std.specs.Ordering.{is_eq, nat_cmp}
 use Rattle.std.proofs.lemmas.Bool.{cases_Bool, cond-true, cond-false}
 use Rattle.std.proofs.lemmas.Cmp.{nat_list_eq_equiv}
@@ -19,17 +20,19 @@ use Rattle.source.specs.declared.token.Span.{Span}
 use Rattle.names.specs.Firsts.{first_of}
 use Rattle.names.specs.Found.{Adds, declared_twice}
 use Rattle.names.specs.Frames.{AreApart, IsFrame, Turned, variable_seen, words_in}
-use Rattle.names.specs.Tables.{IsTable, entry_of}
+use Rattle.names.specs.Ends.{ends_of}
+use Rattle.names.specs.Tables.{IsTable, entry_of, numbered_of, other_of, place_as}
 use Rattle.names.specs.Variables as model
 use Rattle.names.specs.Variables.{Frame, Turn, turn, variable_named, entered_variable, past_heap, declared_variable}
 use Rattle.names.specs.Words.{word_at, words_at, same_word}
 use Rattle.names.specs.declared.kinds.Kind.{Kind}
 use Rattle.names.specs.declared.kinds.Kind.TheVariants as kind
+use Rattle.names.specs.declared.tables.Named.{Named}
 use Rattle.names.specs.declared.tables.Table.{Table}
 use Rattle.names.specs.declared.variables.Variable.{Variable}
 use Rattle.names.specs.declared.variables.Variables.{Variables}
 use Rattle.names.proofs.AddLemmas.{adds_none, adds_then}
-use Rattle.lemmas.proofs.FirstPlaces.{position_added}
+use Rattle.lemmas.proofs.FirstPlaces.{position_added, position_kept}
 
 pub apart_push : (before words : List (List ℕ)) (w : List ℕ) → AreApart before words → first_of (before ++ words) w ≡ None → AreApart before (words ++ w ∷ [])
 apart_push before [] w h new = (subst (λ l. first_of l w ≡ None) (append-nil before) new, tt)
@@ -57,8 +60,17 @@ table_added words word old new place h none at updates = record {
 }
 
 -- a table with the same entries
-pub table_kept : (words : List (List ℕ)) (old new : Table) → IsTable words old → new.first.entries ≡ old.first.entries → IsTable words new
-table_kept words old new h same = record { held = λ q. ap (lookup (λ (w : Bor (List ℕ)). is_eq (slice_cmp nat_cmp q w.now))) same ∙ h.held q }
+pub table_kept : (words : List (List ℕ)) (old new : Table) → IsTable words old → new.by_ends.entries ≡ old.by_ends.entries → new.others.entries ≡ old.others.entries
+    → IsTable words new
+table_kept words old new h ends others = record {
+  held = λ q. ap (λ (n : List (ℕ × Named)). option_or (place_as q (lookup (λ k. is_eq (nat_cmp (ends_of q) k)) n)) (other_of new q)) ends
+      ∙ ap (λ (o : List (Bor (List ℕ) × ℕ)). option_or (numbered_of old q) (lookup (λ (w : Bor (List ℕ)). is_eq (slice_cmp nat_cmp q w.now)) o)) others
+      ∙ h.held q;
+}
+
+-- a name that the table has already
+pub table_entered : (words : List (List ℕ)) (word : List ℕ) (table : Table) → IsTable words table → is_some (first_of words word) ≡ true → IsTable (words ++ word ∷ []) table
+table_entered words word table h some = record { held = λ q. h.held q ∙ sym (position_kept same_word nat_list_eq_equiv words word q some) }
 
 pub table_removed : (words : List (List ℕ)) (word : List ℕ) (old new : Table) → IsTable (words ++ word ∷ []) old → first_of words word ≡ None
     → ((q : List ℕ) → entry_of new q ≡ cond (same_word word q) None (entry_of old q)) → IsTable words new

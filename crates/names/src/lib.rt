@@ -9,6 +9,7 @@ mod cases;
 mod contracts;
 mod counted;
 mod edges;
+mod ends;
 mod expressions;
 mod fault;
 mod heads;

@@ -1,34 +1,30 @@
 //! Tables of first declarations.
 
-ghost use Rattle.std.specs.Prelude.{◌≡◌, ◌↔◌, ◌++◌, List, [], ◌∷◌, ℕ, length, map, IfOk, OnErr, OnOk, IsTrue, Some, None};
+ghost use Rattle.std.specs.Prelude.{◌≡◌, ◌↔◌, ◌++◌, List, [], ◌∷◌, ℕ, length, false, IfOk, OnErr, OnOk, IsTrue, Some, None};
 ghost use Rattle.names.specs.Firsts.{first_of};
-ghost use Rattle.names.specs.Tables.{IsTable};
-ghost use Rattle.names.specs.Words.{words_at};
+ghost use Rattle.names.specs.Tables.{IsTable, numbered_of};
+ghost use Rattle.names.specs.Words.{same_word, words_at};
 
-use lemmas::first_positions;
+use crate::ends::ends_of;
 use source::{Span, Tokens};
 use std::alloc::{AllocError, Global};
 use std::collections::BTreeMap;
 
-/// Where each name of a list is declared first. Names are compared and never hashed, so no choice of names makes it slow.
+/// Where each name of a list is declared first. A name stands under a number, its ends, since two numbers are compared sooner
+/// than two names. Names are compared and never hashed: those that share a number cost one look-up more, so no choice of names
+/// makes it slow.
 #[derive(Drop)]
 pub struct Table<'a> {
-    first: BTreeMap<&'a [u8], usize>,
+    by_ends: BTreeMap<u128, Named<'a>>,
+    /// The names that found their number taken.
+    others: BTreeMap<&'a [u8], usize>,
 }
 
-/// What is written at these names.
-pub(crate) fn words<'a>(
-    alloc: Global,
-    tokens: &'a Tokens,
-    names: &[Span],
-) -> Result<Vec<&'a [u8]>, AllocError>
-    ensures { IfOk result (λ words. map (λ w. w.now) words.items ≡ words_at tokens.now.text.items names.now) }
-{
-    let mut words = Vec::new(alloc);
-    for name in names {
-        words.push(tokens.slice(*name))?;
-    }
-    Ok(words)
+/// The name that has a number, and where it is declared first.
+#[derive(Clone, Copy)]
+pub(crate) struct Named<'a> {
+    name: &'a [u8],
+    place: usize,
 }
 
 impl<'a> Table<'a> {
@@ -40,9 +36,11 @@ impl<'a> Table<'a> {
     ) -> Result<Table<'a>, AllocError>
         ensures { IfOk result (IsTable (words_at tokens.now.text.items names.now)) }
     {
-        let words = words(alloc, tokens, names)?;
-        let first = first_positions(alloc, &words)?;
-        Ok(Table { first })
+        let mut table = Table::new(alloc);
+        for (place, name) in names.iter().enumerate() {
+            table.enter(tokens.slice(*name), place)?;
+        }
+        Ok(table)
     }
 
     /// The table of no names.
@@ -50,8 +48,20 @@ impl<'a> Table<'a> {
         ensures { IsTable [] result }
     {
         Table {
-            first: BTreeMap::new(alloc),
+            by_ends: BTreeMap::new(alloc),
+            others: BTreeMap::new(alloc),
         }
+    }
+
+    /// Enters a name behind the others. One that it has keeps its place.
+    fn enter(&mut self, name: &'a [u8], place: usize) -> Result<(), AllocError>
+        ensures { (words : List (List ℕ)) → IsTable words self.old → place ≡ length words
+            → OnOk result (IsTable (words ++ name.now ∷ []) self.new) }
+    {
+        if self.find(name).is_some() {
+            return Ok(());
+        }
+        self.add(name, place)
     }
 
     /// Adds a name that it lacks, behind the others. Where memory is refused, the table is as before.
@@ -60,7 +70,12 @@ impl<'a> Table<'a> {
             → OnOk result (IsTable (words ++ name.now ∷ []) self.new) }
         ensures kept { (words : List (List ℕ)) → IsTable words self.old → OnErr result (IsTable words self.new) }
     {
-        self.first.insert(name, place)?;
+        let ends = ends_of(name);
+        if self.by_ends.contains_key(&ends) {
+            self.others.insert(name, place)?;
+            return Ok(());
+        }
+        self.by_ends.insert(ends, Named { name, place })?;
         Ok(())
     }
 
@@ -69,14 +84,42 @@ impl<'a> Table<'a> {
         ensures { (words : List (List ℕ)) → IsTable (words ++ name.now ∷ []) self.old → first_of words name.now ≡ None
             → IsTable words self.new }
     {
-        self.first.remove(name);
+        self.others.remove(name);
+        self.free(name);
+    }
+
+    /// Frees the number of a name, if it is the one that has it.
+    fn free(&mut self, name: &[u8])
+        ensures others { self.new.others ≡ self.old.others }
+        ensures freed { numbered_of self.new name.now ≡ None }
+        ensures kept { (q : List ℕ) → same_word name.now q ≡ false → numbered_of self.new q ≡ numbered_of self.old q }
+    {
+        if self.numbered_place(name).is_none() {
+            return;
+        }
+        self.by_ends.remove(&ends_of(name));
     }
 
     /// Where the name is declared first, if it is.
     pub fn find(&self, name: &[u8]) -> Option<usize>
         ensures { (words : List (List ℕ)) → IsTable words self.now → result ≡ first_of words name.now }
     {
-        self.first.get(name).copied()
+        match self.numbered_place(name) {
+            Some(place) => Some(place),
+            None => self.others.get(name).copied(),
+        }
+    }
+
+    /// The same, where the name is the one that has its number.
+    fn numbered_place(&self, name: &[u8]) -> Option<usize>
+        ensures { result ≡ numbered_of self.now name.now }
+    {
+        let named = self.by_ends.get(&ends_of(name))?;
+        if named.name == name {
+            Some(named.place)
+        } else {
+            None
+        }
     }
 
     /// Whether this is the place where the name is declared first.

@@ -1,17 +1,28 @@
-use Rattle.std.proofs.Common.{rules}
+use Rattle.std.proofs.Common.{Some, cond, refl, sym, ap, ◌∙◌}
+use Rattle.std.specs.Ordering.{is_eq, nat_cmp}
 use Rattle.std.proofs.lemmas.Map.Text.{btree_map_updates_str}
-use Rattle.names.specs.Tables.{IsTable}
+use Rattle.names.specs.Tables.{named_at}
+use Rattle.names.specs.declared.tables.Named.{Named}
 use Rattle.names.specs.declared.tables.Table.{Table}
-use Rattle.names.proofs.VariableLemmas.{table_added, table_kept}
+use Rattle.names.proofs.TableLemmas.{enters_beside, enters_numbered, no_name}
+use Rattle.names.proofs.VariableLemmas.{table_added}
 use Rattle.names.proofs.tables.Table.add.Goals as goal
 
-pub returns-in_err-insert-clause-kept : goal.returns-in_err-insert-clause-kept
-returns-in_err-insert-clause-kept c = λ words h.
-    let new : Table = record { first = c.insert.new.self } in
-    let kept : IsTable words new = table_kept words c.args.self.now new h c.in_err-insert.ensures.err in
-    search rules
+pub returns-then-contains_key-clause-added : goal.returns-then-contains_key-clause-added
+returns-then-contains_key-clause-added c = λ words h none at.
+    let old = c.args.self.now in
+    let new : Table = record { by_ends = old.by_ends; others = c.insert.new.self } in
+    table_added words c.args.name.now old new c.args.place h none at
+    (enters_beside c.args.name.now c.args.place old new (h.held c.args.name.now ∙ none) (λ k. refl)
+    (btree_map_updates_str c.args.name.now old.others new.others _ c.in_ok-insert.ensures.updates))
 
 pub returns-clause-added : goal.returns-clause-added
 returns-clause-added c = λ words h none at.
-    table_added words c.args.name.now c.args.self.now (record { first = c.insert.new.self }) c.args.place h none at
-    (btree_map_updates_str c.args.name.now c.args.self.now.first c.insert.new.self _ c.in_ok-insert.ensures.updates)
+    let old = c.args.self.now in
+    let new : Table = record { by_ends = c.insert-2.new.self; others = old.others } in
+    let named : Named = record { name = c.args.name; place = c.args.place } in
+    let is = c.ends_of-ends.ensures in
+    let free = ap (named_at old) (sym is) ∙ no_name (named_at old c.ends_of-ends.result) (sym c.contains_key.ensures ∙ c.if-contains_key.false) in
+    table_added words c.args.name.now old new c.args.place h none at
+    (enters_numbered c.args.name.now named old new refl free
+    (λ k. c.in_ok-insert-2.ensures.updates.0 k ∙ ap (λ n. cond (is_eq (nat_cmp n k)) (Some named) (named_at old k)) is) (λ q. refl))
