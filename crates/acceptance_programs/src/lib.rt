@@ -1,0 +1,9 @@
+//! Tests of what no clause says, against the crates of contracts, of methods in numbers and of their graphs.
+#![tactic(auto)]
+
+#[cfg(test)]
+mod conditions;
+#[cfg(test)]
+mod numbers;
+#[cfg(test)]
+mod sounds;
