@@ -1,9 +1,7 @@
-//! Tests of what no clause says, against the crates from the bytes of a text to its tree and its names.
+//! Tests of what no clause says, against the crates from the bytes of a text to its tree.
 #![tactic(auto)]
 
 #[cfg(test)]
 mod lexing;
 #[cfg(test)]
 mod parsing;
-#[cfg(test)]
-mod resolution;
