@@ -1,7 +1,8 @@
 """Each growth of memory refused in turn. A small library in front of the C library's refuses the Nth one, for N = 1, 2, ..
-until a run meets no refusal. Each run has to give the answer of the stored case, or to say that memory is out and write
-nothing."""
+until runs meet no refusal. A thread that is asked for counts as a growth. Each run has to give the answer that the rules give, or to
+say that memory is out and write nothing."""
 import functools
+import itertools
 import os
 import pathlib
 import shutil
@@ -13,24 +14,33 @@ HERE = pathlib.Path(__file__).resolve().parent
 BUILT = HERE.parent / 'crates' / 'singcheck_cli' / 'out' / 'singcheck_cli'
 OUT_OF_MEMORY = (b'', b'singcheck: out of memory\n', 4)
 MOST = 5000
+SECONDS = 60
+QUIET = 3  # workers share tasks out anew in each run, so one run has a few growths more than another
 ONCE = threading.Lock()
 REFUSER = r'''
+#define _GNU_SOURCE
+#include <dlfcn.h>
 #include <errno.h>
 #include <fcntl.h>
+#include <pthread.h>
 #include <stdlib.h>
 #include <unistd.h>
 extern void *__libc_malloc(size_t);
 extern void *__libc_realloc(void *, size_t);
+typedef int maker(pthread_t *, const pthread_attr_t *, void *(*)(void *), void *);
 static long asked;
 static int refused(void) {
     const char *nth = getenv("REFUSE_NTH"), *mark = getenv("REFUSE_MARK");
-    if (!nth || !mark || ++asked != atol(nth)) return 0;
+    if (!nth || !mark || __atomic_add_fetch(&asked, 1, __ATOMIC_SEQ_CST) != atol(nth)) return 0;
     close(open(mark, O_CREAT | O_WRONLY, 0600));
     errno = ENOMEM;
     return 1;
 }
 void *malloc(size_t size) { return refused() ? NULL : __libc_malloc(size); }
 void *realloc(void *old, size_t size) { return refused() ? NULL : __libc_realloc(old, size); }
+int pthread_create(pthread_t *thread, const pthread_attr_t *with, void *(*run)(void *), void *on) {
+    return refused() ? EAGAIN : ((maker *)dlsym(RTLD_NEXT, "pthread_create"))(thread, with, run, on);
+}
 '''
 
 
@@ -49,7 +59,10 @@ def run(program, words, folder, nth, mark):
     with ONCE:
         library = refuser()[1]
     more = dict(os.environ, LD_PRELOAD=str(library), REFUSE_NTH=str(nth), REFUSE_MARK=str(mark))
-    ran = subprocess.run([program, *words], cwd=folder, stdin=subprocess.DEVNULL, capture_output=True, timeout=60, env=more)
+    try:
+        ran = subprocess.run([program, *words], cwd=folder, stdin=subprocess.DEVNULL, capture_output=True, timeout=SECONDS, env=more)
+    except subprocess.TimeoutExpired:
+        return b'', b'no end in %d seconds' % SECONDS, None
     return ran.stdout, ran.stderr, ran.returncode
 
 
@@ -58,23 +71,71 @@ def itself(program):
     return program if pathlib.Path(program).read_bytes()[:2] != b'#!' else str(BUILT)
 
 
-def each_refused(name, program):
-    folder, program = HERE / name, itself(program)
+def refused_runs(program, words, folder):
+    """A run for each N = 1, 2, ..: N, whether its Nth growth was there to be refused, and what the run gave."""
+    quiet = 0
+    with tempfile.TemporaryDirectory() as made:
+        mark = pathlib.Path(made) / 'refused'
+        for nth in itertools.count(1):
+            mark.unlink(missing_ok=True)
+            given = run(program, words, folder, nth, mark)
+            refused = mark.exists()
+            yield nth, refused, given
+            quiet = 0 if refused else quiet + 1
+            if quiet == QUIET:
+                return
+
+
+def is_allowed(refused, given, answer):
+    return given == answer or refused and given == OUT_OF_MEMORY
+
+
+def each_refused(program, words, folder, answer):
+    growths = 0
+    for nth, refused, given in refused_runs(itself(program), words, folder):
+        if not is_allowed(refused, given, answer):
+            return ['growth %d refused: %r' % (nth, given)]
+        if nth == MOST:
+            return ['more than %d growths' % MOST]
+        growths += refused
+    return [] if growths else ['no growth was refused']
+
+
+def stored(name, more, program):
+    """The case of that name, with some words more on its command line."""
+    folder = HERE / name
     words = (folder / 'command').read_text().split()
     answer = ((folder / 'stdout').read_bytes(), b'', int((folder / 'status').read_text()))
-    with tempfile.TemporaryDirectory() as made:
-        for nth in range(1, MOST):
-            mark = pathlib.Path(made) / str(nth)
-            given = run(program, words, folder, nth, mark)
-            if given not in ((answer, OUT_OF_MEMORY) if mark.exists() else (answer,)):
-                return ['growth %d refused: %r' % (nth, given)]
-            if not mark.exists():
-                return [] if nth > 1 else ['no growth was refused']
-    return ['more than %d growths' % MOST]
+    return each_refused(program, words + more, folder, answer)
 
 
-TESTS = [('refusals/' + name, functools.partial(each_refused, name)) for name in
-         ('bounds/ping', 'bounds/burst', 'bounds/two_contracts', 'conditions/one_direction_round',
-          'conditions/both_directions_and_twice', 'names/unknown_everywhere', 'text/comment_not_closed', 'text/trailing_comma',
-          'ownership/all_owned_and_given_back', 'ownership/a_finding_in_each_of_two_methods',
-          'replays/endpoint_in_its_own_queue', 'replays/sent_to_a_freed_peer', 'replays/finding_of_names')]
+def branching(methods, branches):
+    """Methods of so many blocks, each freed on one way of an `if`, and their report: each block may be the first that is left at
+    the end. A method has 2 to the power of `branches` rows there."""
+    lines, found = ['rep struct D { int n; }', 'class K {'], []
+    names = ['p%d' % number for number in range(1, branches + 1)]
+    for method in range(methods):
+        lines += ['static void F%d(bool b) {' % method]
+        lines += ['D* in ExHeap %s = new[ExHeap] D(); if (b) { delete %s; }' % (name, name) for name in names] + ['}']
+        found += ['%d:1 A08 %s still owned' % (len(lines), name) for name in sorted(names)]
+    return '\n'.join(lines + ['}', '']).encode(), '\n'.join(found + ['findings: %d' % len(found), '']).encode()
+
+
+def branches_in_a_full_table(methods, branches, program):
+    """Each method with a worker of its own. The table has two slots, so the workers keep almost all rows themselves."""
+    text, report = branching(methods, branches)
+    with tempfile.TemporaryDirectory() as folder:
+        pathlib.Path(folder, 'input.sg').write_bytes(text)
+        words = ['check', 'input.sg', '--slots', '2', '--workers', str(methods)]
+        return each_refused(program, words, folder, (report, b'', 1))
+
+
+CASES = ('bounds/ping', 'bounds/burst', 'bounds/two_contracts', 'conditions/one_direction_round',
+         'conditions/both_directions_and_twice', 'names/unknown_everywhere', 'text/comment_not_closed', 'text/trailing_comma',
+         'ownership/all_owned_and_given_back', 'ownership/a_finding_in_each_of_two_methods',
+         'replays/endpoint_in_its_own_queue', 'replays/sent_to_a_freed_peer', 'replays/queue_of_a_deleted_endpoint',
+         'replays/message_taken_of_a_freed_peer', 'replays/server_and_client_to_the_end', 'replays/finding_of_names')
+TESTS = [('refusals/' + name, functools.partial(stored, name, [])) for name in CASES]
+TESTS += [('refusals/%s by 2 workers' % name, functools.partial(stored, name, ['--workers', '2']))
+          for name in ('channels/blocks_between_two_processes',)]
+TESTS += [('refusals/%d methods of %d branches' % shape, functools.partial(branches_in_a_full_table, *shape)) for shape in ((1, 8), (3, 5))]

@@ -118,6 +118,7 @@ fn writes_nothing_where_a_read_fails(rt: HostRuntime) -> Result<(), Fail> {
         let mut writer = Page::new(rt.alloc(), 100, NEVER);
         match run_bounds(rt.alloc(), &mut reader, &mut writer) {
             Err(RunFault::Read(Input::Text)) => assert!(rt; writer.bytes.is_empty()),
+            Err(RunFault::Memory) => return Err(Fail::from("out of memory")),
             Err(_) => assert!(rt; false),
             Ok(_) => {
                 assert!(rt; failing > 5);
@@ -138,6 +139,7 @@ fn writes_a_beginning_where_a_write_fails(rt: HostRuntime) -> Result<(), Fail> {
             Err(RunFault::Write) => {
                 assert!(rt; PING_ANSWER.as_bytes().starts_with(&writer.bytes));
             }
+            Err(RunFault::Memory) => return Err(Fail::from("out of memory")),
             Err(_) => assert!(rt; false),
             Ok(_) => {
                 assert!(rt; failing > 5);

@@ -219,6 +219,7 @@ fn names_the_device_that_fails(rt: HostRuntime) -> Result<(), Fail> {
     let mut closed = Text::new(rt.alloc(), FREED_TWICE, 10, 3)?;
     let mut empty = Page::new(rt.alloc(), 100, NEVER);
     match run_check(&rt, &mut closed, &mut empty, 1, 1, &Open) {
+        Err(RunFault::Memory) => return Err(Fail::from("out of memory")),
         Err(fault) => assert!(rt; fault == RunFault::Read(Input::Text)),
         Ok(_) => assert!(rt; false),
     }
@@ -226,6 +227,7 @@ fn names_the_device_that_fails(rt: HostRuntime) -> Result<(), Fail> {
     let mut open = Text::new(rt.alloc(), FREED_TWICE, 10, NEVER)?;
     let mut full = Page::new(rt.alloc(), 7, 2);
     match run_check(&rt, &mut open, &mut full, 1, 1, &Open) {
+        Err(RunFault::Memory) => return Err(Fail::from("out of memory")),
         Err(fault) => assert!(rt; fault == RunFault::Write),
         Ok(_) => assert!(rt; false),
     }

@@ -52,13 +52,17 @@ fn answer_to(alloc: Global, text: &str, schedule: &str) -> Result<(Status, Vec<u
     Ok((status, writer.device))
 }
 
-/// Why a replay of this schedule from this entry gives up, if it does.
-fn fault_of(alloc: Global, entry: &str, schedule: &str) -> Option<RunFault> {
+/// Why a replay of this schedule from this entry gives up, if it does so with memory left.
+fn fault_of(alloc: Global, entry: &str, schedule: &str) -> Result<Option<RunFault>, Fail> {
     let mut reader = Counted::new(READS_WHAT_IT_SENT.as_bytes());
     let mut events = Counted::new(schedule.as_bytes());
     let mut writer = Counted::new(Vec::new(alloc));
     let entry = entry.as_bytes();
-    run_replay(alloc, &mut reader, entry, &mut events, &mut writer).err()
+    match run_replay(alloc, &mut reader, entry, &mut events, &mut writer) {
+        Ok(_) => Ok(None),
+        Err(RunFault::Memory) => Err(Fail::from("out of memory")),
+        Err(fault) => Ok(Some(fault)),
+    }
 }
 
 #[test]
@@ -79,10 +83,12 @@ fn replays_as_worked_out(rt: HostRuntime) -> Result<(), Fail> {
 }
 
 #[test]
-fn entries_and_schedules_are_refused(rt: HostRuntime) {
-    assert!(rt; fault_of(rt.alloc(), "K.None", "0 x") == Some(RunFault::Entry));
-    assert!(rt; fault_of(rt.alloc(), "K.Main", "0 0\n0 x") == Some(RunFault::Schedule(2)));
-    assert!(rt; fault_of(rt.alloc(), "K.Main", "0 0\n0 0") == None);
+fn entries_and_schedules_are_refused(rt: HostRuntime) -> Result<(), Fail> {
+    let alloc = rt.alloc();
+    assert!(rt; fault_of(alloc, "K.None", "0 x")? == Some(RunFault::Entry));
+    assert!(rt; fault_of(alloc, "K.Main", "0 0\n0 x")? == Some(RunFault::Schedule(2)));
+    assert!(rt; fault_of(alloc, "K.Main", "0 0\n0 0")? == None);
+    Ok(())
 }
 
 /// This is run with each growth of memory refused in turn.
@@ -119,6 +125,7 @@ fn writes_nothing_where_a_schedule_cannot_be_read(rt: HostRuntime) -> Result<(),
         let entry = b"K.Main".as_slice();
         match run_replay(rt.alloc(), &mut reader, entry, &mut events, &mut writer) {
             Err(RunFault::Read(Input::Schedule)) => assert!(rt; writer.bytes.is_empty()),
+            Err(RunFault::Memory) => return Err(Fail::from("out of memory")),
             Err(_) => assert!(rt; false),
             Ok(_) => {
                 assert!(rt; failing > 5);

@@ -1,6 +1,6 @@
 //! Rows put into a table of words and read back, and threads that share one.
 
-ghost use Rattle.std.specs.Prelude.{◌≡◌, IfSome};
+ghost use Rattle.std.specs.Prelude.{◌≡◌, IfOk, IfSome};
 ghost use Rattle.intern.specs.Seats.{IsSeatOf};
 
 use intern::laws::a_token_names_its_row_for_good;
@@ -164,12 +164,49 @@ fn seats_that_are_joined_agree(rt: HostRuntime) -> Result<(), Fail> {
     Ok(())
 }
 
+/// A table of so many slots. Where a growth is refused, it is asked for once more.
+fn table(alloc: Global, slots: usize) -> Result<(Rows, Seat), InternNew>
+    ensures { IfOk result (λ made. IsSeatOf made.0 made.1) }
+{
+    match Rows::new(alloc, slots) {
+        Ok(made) => Ok(made),
+        Err(InternNew::Memory) => Rows::new(alloc, slots),
+        Err(InternNew::Slots) => Err(InternNew::Slots),
+    }
+}
+
 #[test]
 fn a_table_has_its_limits(rt: HostRuntime) {
     let alloc = rt.alloc();
     assert!(rt; matches!(Rows::new(alloc, 0), Err(InternNew::Slots)));
     assert!(rt; matches!(Rows::new(alloc, 16_777_217), Err(InternNew::Slots)));
-    assert!(rt; Rows::new(alloc, 1).is_ok());
+    assert!(rt; table(alloc, 1).is_ok());
+}
+
+/// This is run with each growth of memory refused in turn: a token stands as before, and its row is read once more.
+#[test]
+fn a_row_is_read_again_where_memory_was_refused(rt: HostRuntime) -> Result<(), Fail> {
+    let alloc = rt.alloc();
+    let row = row_of_two(alloc, Leaf::CutOff, Leaf::Block)?;
+    let Ok((rows, mut seat)) = table(alloc, 4) else {
+        return Err(Fail::from("no table"));
+    };
+    let Ok(token) = rows.intern_near(&mut seat, &row) else {
+        return Err(Fail::from("no room"));
+    };
+    a_token_names_its_row_for_good();
+    let read = match rows.row_of(alloc, &mut seat, token) {
+        Ok(read) => read,
+        Err(_) => rows.row_of(alloc, &mut seat, token)?,
+    };
+    assert!(rt; read == row);
+    let mut over = Row::empty(alloc);
+    if rows.read(&mut seat, token, &mut over).is_err() {
+        rows.read(&mut seat, token, &mut over)?;
+    }
+    assert!(rt; over == row);
+    assert!(rt; rows.intern(&mut seat, &row) == Ok(token));
+    Ok(())
 }
 
 #[test]

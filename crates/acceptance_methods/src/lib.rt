@@ -8,4 +8,6 @@ mod interning;
 #[cfg(test)]
 mod steps;
 #[cfg(test)]
+mod verdicts;
+#[cfg(test)]
 mod worlds;

@@ -18,7 +18,7 @@ use syntax::parse;
 use wellformed::well_formed_methods;
 
 /// A method that claims `p`, moves it to `q`, frees `q` and reads `q`.
-const FREED_AND_READ: &str = "class K { static void F([Claims] int[] in ExHeap p) {
+pub(crate) const FREED_AND_READ: &str = "class K { static void F([Claims] int[] in ExHeap p) {
 int[] in ExHeap q; int n;
 q = p; delete q; n = q[0];
 } }";
@@ -77,11 +77,11 @@ fn plain(alloc: Global, action: Action) -> Statement {
     Statement::Simple(Simple { reads, action })
 }
 
-/// The program of that method.
-fn only(alloc: Global) -> Result<Program, Fail>
+/// The program of a text without contracts that has one method.
+pub(crate) fn only(alloc: Global, text: &str) -> Result<Program, Fail>
     ensures { IfOk result (λ p. length (seen_of p).methods ≡ 1) }
 {
-    let tokens = lex(alloc, FREED_AND_READ.as_bytes())?;
+    let tokens = lex(alloc, text.as_bytes())?;
     let tree = parse(alloc, &tokens)?;
     let contracts = resolve(alloc, &tree, &tokens)?;
     if contracts.contracts.len() > MOST_CONTRACTS {
@@ -150,7 +150,7 @@ fn lays_a_method_from_its_end(rt: HostRuntime) -> Result<(), Fail> {
 
 #[test]
 fn steps_by_the_rule_table(rt: HostRuntime) -> Result<(), Fail> {
-    let program = only(rt.alloc())?;
+    let program = only(rt.alloc(), FREED_AND_READ)?;
     assert!(rt; program.methods().len() == 1);
     assert!(rt; program.graph(MethodId(0)).first == 3);
     let (point, row) = entry(rt.alloc(), &program, MethodId(0))?;
@@ -171,7 +171,7 @@ fn steps_by_the_rule_table(rt: HostRuntime) -> Result<(), Fail> {
 
 #[test]
 fn has_a_task_for_each_method(rt: HostRuntime) -> Result<(), Fail> {
-    let program = only(rt.alloc())?;
+    let program = only(rt.alloc(), FREED_AND_READ)?;
     let mut left = tasks(rt.alloc(), &program)?.into_iter();
     match left.next() {
         Some(task) => {

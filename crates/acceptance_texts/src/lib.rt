@@ -1,15 +1,7 @@
-//! Tests of what no clause says, against the crates from the text to contracts, methods in numbers and their graphs.
+//! Tests of what no clause says, against the crates from the bytes of a text to its tree.
 #![tactic(auto)]
 
 #[cfg(test)]
-mod conditions;
-#[cfg(test)]
 mod lexing;
 #[cfg(test)]
-mod numbers;
-#[cfg(test)]
 mod parsing;
-#[cfg(test)]
-mod resolution;
-#[cfg(test)]
-mod sounds;

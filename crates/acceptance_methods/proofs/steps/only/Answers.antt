@@ -1,4 +1,4 @@
-use Rattle.std.proofs.Common.{◌≡◌, ◌∙◌, [], map, ap, sym, length}
+use Rattle.std.proofs.Common.{◌∙◌, map, ap, sym}
 use Rattle.std.proofs.lemmas.Bool.{eqb-true}
 use Rattle.contracts.specs.Sounds.{sound_parts}
 use Rattle.program.specs.Parts.{ContractSeen, contract_seen}
