@@ -27,10 +27,7 @@ pub enum Transfer {
     /// A variable takes a new block.
     New(VarId),
     /// The target takes what the source has.
-    Move {
-        target: VarId,
-        source: VarId,
-    },
+    Move { target: VarId, source: VarId },
     /// The block that a variable has is freed.
     Delete(VarId),
 }
