@@ -56,6 +56,7 @@ def schedules():
         ('schedule_1048577_of_whole_lines', rounds + b'0 0\n\n', b'', refused % 262145, 2),
         # The end of a line belongs to that line, also where it is the first byte past the limit.
         ('schedule_1048577_at_an_end', rounds + b'0  0\n', b'', refused % 262144, 2),
+        ('schedule_of_malformed_lines_alone', b'x\n' * 524288, b'', refused % 1, 2),
         ('schedule_1048577_after_a_malformed_line', b'x\n' + rounds + b'0 0\n', b'', refused % 1, 2),
     ]
 
