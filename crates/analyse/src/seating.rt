@@ -10,6 +10,7 @@ use crate::remembered::Remembered;
 use crate::worker::Worker;
 use indexmap::IndexSet;
 use intern::Seat;
+use rules::Spare;
 use std::alloc::Global;
 
 impl Worker {
@@ -24,6 +25,7 @@ impl Worker {
             own: OwnRows::new(alloc),
             seen: IndexSet::new(alloc),
             remembered: Remembered::new(alloc),
+            spare: Spare::new(alloc),
         }
     }
 

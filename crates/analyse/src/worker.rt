@@ -5,6 +5,7 @@ use crate::pair::Pair;
 use crate::remembered::Remembered;
 use indexmap::IndexSet;
 use intern::Seat;
+use rules::Spare;
 
 /// What a worker keeps from method to method: its seat at the table of all rows, what it remembers of transfers, and tables of its own.
 /// These are emptied for each method, and keep their memory.
@@ -15,6 +16,8 @@ pub struct Worker {
     pub(crate) alone: bool,
     pub(crate) own: OwnRows,
     pub(crate) seen: IndexSet<Pair>,
-    /// What came of transfers, from method to method: tokens name their rows for good.
+    /// What came of transfers: of tokens from method to method, since these name their rows for good.
     pub(crate) remembered: Remembered,
+    /// What a switch makes its rows of.
+    pub(crate) spare: Spare,
 }

@@ -20,6 +20,7 @@ use crate::lowered::Program;
 use crate::onward::Onward;
 use crate::outcome::Outcome;
 use crate::row::{Leaf, Row};
+use crate::spare::Spare;
 use crate::table::applied;
 use flow::{Branches, Instr};
 use program::{Kind, MethodId, Role, Variable};
@@ -76,13 +77,14 @@ pub fn step(
     ensures { IfOk result (λ o. outcome_seen o ≡ outcome (seen_of program.now) method.0 (point, leaves_of row.now)) }
 {
     let mut after = row.copied(alloc)?;
-    let onward = step_in_place(alloc, program, method, point, &mut after)?;
+    let mut spare = Spare::new(alloc);
+    let onward = step_in_place(alloc, program, method, point, &mut after, &mut spare)?;
     apart(alloc, onward, after)
 }
 
 /// What the instruction at a point of a method does to a row, by the rule table, as `step` has it. It works on the row in place: that
 /// is the row where the answer is `Changed`, and as it was where it is `Ends`, `Same`, `Both` or `Ways`. A condition, a use, a move and
-/// whatever else has one or two pairs behind it takes no memory for them.
+/// whatever else has one or two pairs behind it takes no memory for them, and a switch none but for what is not there to spare.
 ///
 /// `Memory` is answered where a growth was refused. The row may have any leaves then, and also where something is wrong.
 pub fn step_in_place(
@@ -91,6 +93,7 @@ pub fn step_in_place(
     method: MethodId,
     point: usize,
     row: &mut Row,
+    spare: &mut Spare,
 ) -> Result<Onward, Memory>
     requires there { method.0 < length (seen_of program.now).methods }
     ensures outcome { IfOk result (λ o. onward_seen o (leaves_of row.new)
@@ -102,7 +105,7 @@ pub fn step_in_place(
         method: program.method(method),
     };
     match program.graph(method).instructions.get(point) {
-        Some(instruction) => applied(alloc, &site, row, instruction),
+        Some(instruction) => applied(alloc, &site, row, instruction, spare),
         None => Ok(Onward::Ends),
     }
 }

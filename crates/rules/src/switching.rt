@@ -24,6 +24,7 @@ use crate::endpoints::{declared_leaf, kind_of};
 use crate::here::Here;
 use crate::onward::Onward;
 use crate::row::{Leaf, Row};
+use crate::spare::Spare;
 use flow::Cases;
 use program::{Edge, Kind, Mention, VarId};
 use source::texts::{not_covered, nothing_to_receive};
@@ -36,6 +37,7 @@ pub(crate) fn switch(
     here: &Here<'_>,
     place: Place,
     cases: &Cases,
+    spare: &mut Spare,
 ) -> Result<Onward, Memory>
     ensures { IfOk result (λ o. onward_seen o (leaves_of here.now.row.now)
         ≡ instruction_outcome (seen_of here.now.program.now) (method_seen here.now.method.now)
@@ -50,10 +52,10 @@ pub(crate) fn switch(
     if let Some(finding) = are_covered(alloc, here, cases)? {
         return Ok(Onward::Found(finding));
     }
-    let mut pairs = Vec::new(alloc);
+    let mut pairs = spare.no_pairs();
     let endpoints = cases.endpoints();
     for endpoint in endpoints {
-        come_at(alloc, here, cases, *endpoint, &mut pairs)?;
+        come_at(here, cases, *endpoint, spare, &mut pairs)?;
     }
     Ok(Onward::Ways(pairs))
 }
@@ -165,11 +167,11 @@ fn bind(row: &mut Row, bound: &[VarId], kinds: &[Kind])
 
 /// Adds where a switch goes on with the message of an edge.
 fn receive(
-    alloc: Global,
     here: &Here<'_>,
     cases: &Cases,
     endpoint: VarId,
     edge: Edge,
+    spare: &mut Spare,
     pairs: &mut Vec<(usize, Row)>,
 ) -> Result<(), Memory>
     requires numbered { edge.to.0 < MOST_STATES }
@@ -178,7 +180,7 @@ fn receive(
         (cases_seen cases.now) endpoint.0 edge) }
 {
     if let Some(case) = cases.find(endpoint, Some(edge.message)) {
-        let mut row = here.row.copied(alloc)?;
+        let mut row = spare.copy_of(here.row)?;
         row.set(endpoint, Leaf::State(edge.to.0));
         bind(&mut row, &case.bound, here.program.brought(edge.message));
         pairs.push((case.next, row))?;
@@ -188,10 +190,10 @@ fn receive(
 
 /// Adds where a switch goes on with the close of an endpoint, which is cut off then.
 fn close(
-    alloc: Global,
     here: &Here<'_>,
     cases: &Cases,
     endpoint: VarId,
+    spare: &mut Spare,
     pairs: &mut Vec<(usize, Row)>,
 ) -> Result<(), Memory>
     ensures { OnOk result (map pair_seen pairs.new.items ≡ map pair_seen pairs.old.items
@@ -199,7 +201,7 @@ fn close(
         (cases_seen cases.now) endpoint.0) }
 {
     if let Some(case) = cases.find(endpoint, None) {
-        let mut row = here.row.copied(alloc)?;
+        let mut row = spare.copy_of(here.row)?;
         row.set(endpoint, Leaf::CutOff);
         pairs.push((case.next, row))?;
     }
@@ -208,10 +210,10 @@ fn close(
 
 /// Adds where a switch goes on with what may come at an endpoint.
 fn come_at(
-    alloc: Global,
     here: &Here<'_>,
     cases: &Cases,
     endpoint: Mention,
+    spare: &mut Spare,
     pairs: &mut Vec<(usize, Row)>,
 ) -> Result<(), Memory>
     ensures { OnOk result (map pair_seen pairs.new.items ≡ map pair_seen pairs.old.items
@@ -220,7 +222,7 @@ fn come_at(
 {
     let edges = awaited_edges(here, endpoint);
     for edge in edges {
-        receive(alloc, here, cases, endpoint.variable, *edge, pairs)?;
+        receive(here, cases, endpoint.variable, *edge, spare, pairs)?;
     }
-    close(alloc, here, cases, endpoint.variable, pairs)
+    close(here, cases, endpoint.variable, spare, pairs)
 }

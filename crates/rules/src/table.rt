@@ -21,6 +21,7 @@ use crate::onward::Onward;
 use crate::returning::return_;
 use crate::row::{Leaf, Row};
 use crate::sending::send;
+use crate::spare::Spare;
 use crate::switching::switch;
 use flow::{Branches, Calling, Instr, Starting};
 use program::{Channel, Forget, Mention};
@@ -28,12 +29,13 @@ use source::texts::no_result;
 use source::{Memory, Place};
 use std::alloc::Global;
 
-/// What an instruction does to a row, in place.
+/// What an instruction does to a row, in place. A switch makes its rows of what there is to spare.
 pub(crate) fn applied(
     alloc: Global,
     site: &Site<'_>,
     row: &mut Row,
     instruction: &Instr,
+    spare: &mut Spare,
 ) -> Result<Onward, Memory>
     ensures outcome { IfOk result (λ o. onward_seen o (leaves_of row.new)
         ≡ instruction_outcome (seen_of site.now.program.now) (method_seen site.now.method.now) (instruction_seen instruction.now)
@@ -56,7 +58,7 @@ pub(crate) fn applied(
         } => move_(alloc, site, row, *target, *source, *next),
         Instr::Delete { at, next } => delete(alloc, site, row, *at, *next),
         Instr::Send(sending) => send(alloc, site, row, sending),
-        Instr::Switch { place, cases } => switch(alloc, &here, *place, cases),
+        Instr::Switch { place, cases } => switch(alloc, &here, *place, cases, spare),
         Instr::Call(calling) => call(alloc, site, row, calling),
         Instr::Start(starting) => start(alloc, site, row, starting),
         Instr::Branch { branches, .. } => Ok(branch(*branches)),
