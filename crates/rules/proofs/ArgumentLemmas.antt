@@ -3,7 +3,6 @@ use Rattle.std.proofs.Common.{◌≡◌, ℕ, ◌+◌, ◌<◌, ◌≤◌, Bool,
 use Rattle.std.specs.BTreeSet.{BTreeSet, contains, IsEmpty, Updates}
 use Rattle.std.specs.BTreeMap.{is_at}
 use Rattle.std.specs.List.{list_any}
-use Rattle.std.specs.Option.{option_map}
 use Rattle.std.specs.Ordering.{nat_cmp}
 use Rattle.std.proofs.lemmas.Bool.{cases_lt}
 use Rattle.std.proofs.lemmas.Bool.Decides.{nat_tests}
@@ -13,20 +12,17 @@ use Rattle.program.specs.Lists.{is_among}
 use Rattle.program.specs.Methods.{MethodSeen}
 use Rattle.program.specs.declared.call.Argument.{Argument}
 use Rattle.program.specs.declared.statement.Mention.{Mention}
-use Rattle.rules.specs.Checks.{AreIn, StandsFor, check_seen, first_again}
+use Rattle.rules.specs.Checks.{AreIn, StandsFor, check_seen}
 use Rattle.rules.specs.Arguments.{claimed, given_before}
 use Rattle.rules.specs.Mentions.{name_of}
 use Rattle.rules.specs.Outcomes.{Check, Pair, checked, refused}
+use Rattle.rules.specs.Repeats.{first_again, told_again}
 use Rattle.rules.specs.Texts.{twice}
 use Rattle.rules.specs.declared.row.Leaf.{Leaf}
 
--- so many arguments were looked at, the variables of these earlier ones are in the set, and none of them was given before
-pub record Looked (first : BTreeSet ℕ) (set : BTreeSet ℕ) (arguments : List Argument) (done : ℕ) : Type 0 where
-  pub same : (listed : List ℕ) → AreIn listed first → (earlier : List ℕ) × AreIn earlier set × (first_again listed arguments ≡ first_again earlier (drop done arguments))
-
--- none was looked at
-pub looked_first : (set : BTreeSet ℕ) (arguments : List Argument) → Looked set set arguments 0
-looked_first set arguments = record { same = λ listed are. (listed, are, refl) }
+-- so many arguments were looked at, the variables of these are in the set, and none of them was given before
+pub record Looked (set : BTreeSet ℕ) (arguments : List Argument) (done : ℕ) : Type 0 where
+  pub same : (earlier : List ℕ) × AreIn earlier set × (first_again [] arguments ≡ first_again earlier (drop done arguments))
 
 again_at : (arguments : List Argument) (done : ℕ) (d : Argument) (earlier : List ℕ) (b : Bool) → done < length arguments → is_among earlier (slice_index_or arguments done d).mention.variable.0 ≡ b
     → first_again earlier (drop done arguments)
@@ -51,43 +47,36 @@ same_test a true c is = ap (λ t. cond t true c) is
 same_test a false c is = ap (λ t. cond t true c) is
 
 -- the next one was given before
-pub looked_again : (first set : BTreeSet ℕ) (arguments : List Argument) (done : ℕ) (d : Argument) (added : Bool) → done < length arguments → added ≡ false → added ≡ not (contains nat_cmp set (slice_index_or arguments done d).mention.variable.0)
-    → Looked first set arguments done → (listed : List ℕ) → AreIn listed first → Some (slice_index_or arguments done d).mention ≡ first_again listed arguments
-looked_again first set arguments done d added lt old is h listed are =
+pub looked_again : (set : BTreeSet ℕ) (arguments : List Argument) (done : ℕ) (d : Argument) (added : Bool) → done < length arguments → added ≡ false → added ≡ not (contains nat_cmp set (slice_index_or arguments done d).mention.variable.0)
+    → Looked set arguments done → Some (slice_index_or arguments done d).mention ≡ first_again [] arguments
+looked_again set arguments done d added lt old is h =
     let a = slice_index_or arguments done d in
-    let so_far = h.same listed are in
-    sym (so_far.2 ∙ again_at arguments done d so_far.0 true lt (sym (so_far.1 a.mention.variable.0) ∙ was_there added _ old is))
+    sym (h.same.2 ∙ again_at arguments done d h.same.0 true lt (sym (h.same.1 a.mention.variable.0) ∙ was_there added _ old is))
 
 -- the next one was not
-pub looked_more : (first set more : BTreeSet ℕ) (arguments : List Argument) (done : ℕ) (d : Argument) (added : Bool) → done < length arguments → added ≡ true → added ≡ not (contains nat_cmp set (slice_index_or arguments done d).mention.variable.0)
-    → Updates nat_cmp set more (slice_index_or arguments done d).mention.variable.0 true → Looked first set arguments done → Looked first more arguments (done + 1)
-looked_more first set more arguments done d added lt fresh is updates h =
+pub looked_more : (set more : BTreeSet ℕ) (arguments : List Argument) (done : ℕ) (d : Argument) (added : Bool) → done < length arguments → added ≡ true → added ≡ not (contains nat_cmp set (slice_index_or arguments done d).mention.variable.0)
+    → Updates nat_cmp set more (slice_index_or arguments done d).mention.variable.0 true → Looked set arguments done → Looked more arguments (done + 1)
+looked_more set more arguments done d added lt fresh is updates h =
     let v = (slice_index_or arguments done d).mention.variable.0 in
     record {
-      same = λ listed are.
-          let so_far = h.same listed are in (
-            v ∷ so_far.0,
-            λ q. updates.0 q ∙ same_test (is_at (nat_cmp v) q) (v == q) _ (at_same v q) ∙ ap (λ b. (v == q) || b) (so_far.1 q),
-            so_far.2 ∙ again_at arguments done d so_far.0 false lt (sym (so_far.1 v) ∙ was_not added _ fresh is),
-          );
+      same = (
+        v ∷ h.same.0,
+        λ q. updates.0 q ∙ same_test (is_at (nat_cmp v) q) (v == q) _ (at_same v q) ∙ ap (λ b. (v == q) || b) (h.same.1 q),
+        h.same.2 ∙ again_at arguments done d h.same.0 false lt (sym (h.same.1 v) ∙ was_not added _ fresh is),
+      );
     }
 
 -- all were looked at
-pub looked_all : (first set : BTreeSet ℕ) (arguments : List Argument) (done : ℕ) → length arguments ≤ done → Looked first set arguments done → (listed : List ℕ) → AreIn listed first → None ≡ first_again listed arguments
-looked_all first set arguments done le h listed are =
-    let so_far = h.same listed are in
-    sym (so_far.2 ∙ at_drop_all (first_again so_far.0) arguments done le)
+pub looked_all : (set : BTreeSet ℕ) (arguments : List Argument) (done : ℕ) → length arguments ≤ done → Looked set arguments done → None ≡ first_again [] arguments
+looked_all set arguments done le h = sym (h.same.2 ∙ at_drop_all (first_again h.same.0) arguments done le)
 
--- nothing is in an empty set, and then one
+-- nothing is in an empty set
 pub none_in : (set : BTreeSet ℕ) → IsEmpty set → AreIn [] set
 none_in set empty = λ q. ap (list_any (is_at (nat_cmp q))) empty
 
-pub one_in : (set more : BTreeSet ℕ) (v : ℕ) → AreIn [] set → Updates nat_cmp set more v true → AreIn (v ∷ []) more
-one_in set more v none updates = λ q. updates.0 q ∙ same_test (is_at (nat_cmp v) q) (v == q) _ (at_same v q) ∙ ap (λ b. (v == q) || b) (none q)
-
--- what is said of the one that was given before
-abbrev pub told_again : MethodSeen → Option Mention → Check
-told_again m again = option_map (λ x. twice (name_of m x.variable.0) x.place) again
+-- none was looked at
+pub looked_first : (set : BTreeSet ℕ) (arguments : List Argument) → IsEmpty set → Looked set arguments 0
+looked_first set arguments empty = record { same = ([], none_in set empty, refl) }
 
 one : (m : MethodSeen) (b : Bool) (x : Mention) (checks more : List Check) (again : Option Mention) (after : List Pair) → checked (checks ++ more) after ≡ checked (told_again m again ∷ more) after
     → checked (refused b (twice (name_of m x.variable.0) x.place) ∷ (checks ++ more)) after ≡ checked (told_again m (if b then Some x else again) ∷ more) after
@@ -142,7 +131,7 @@ pub zip_more : {A B : Type 0} (xs : List A) (ys : List B) (i : ℕ) (d : A) (e :
 zip_more xs ys i d e first second =
     at_drop_more (λ l. zip l (drop i ys)) xs i d first ∙ at_drop_more (λ l. zip (slice_index_or xs i d ∷ drop (i + 1) xs) l) ys i e second
 
-zip_nil : {A B : Type 0} (xs : List A) (ys : List B) → ys ≡ [] → zip xs ys ≡ []
+pub zip_nil : {A B : Type 0} (xs : List A) (ys : List B) → ys ≡ [] → zip xs ys ≡ []
 zip_nil [] ys none = refl
 zip_nil (x ∷ xs) [] none = refl
 zip_nil (x ∷ xs) (y ∷ ys) none = absurd (cc)

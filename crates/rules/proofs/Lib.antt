@@ -2,10 +2,13 @@ pub mod ProgramLemmas
 pub mod RowLemmas
 pub mod ScopeLemmas
 pub mod GivenLemmas
+pub mod KeptLemmas
 pub mod ArgumentLemmas
+pub mod PayloadLemmas
 pub mod CallLemmas
 pub mod SwitchLemmas
 pub mod BackLemmas
+pub mod RepeatLemmas
 pub mod EndLemmas
 pub mod KindLemmas
 mod TransferLemmas

@@ -7,7 +7,6 @@ use Rattle.source.specs.Findings.{finding_parts}
 use Rattle.source.specs.declared.finding.Finding.{Finding}
 use Rattle.program.specs.Lists.{is_among}
 use Rattle.program.specs.Methods.{MethodSeen}
-use Rattle.program.specs.declared.call.Argument.{Argument}
 use Rattle.program.specs.declared.statement.Mention.{Mention}
 use Rattle.rules.specs.Mentions.{is_kept}
 use Rattle.rules.specs.Outcomes.{Check, Pair, checked}
@@ -33,12 +32,6 @@ kept_or (Some v) other = Some v
 -- the set has just these
 abbrev pub AreIn : List ℕ → BTreeSet ℕ → Type 0
 AreIn listed set = (q : ℕ) → contains nat_cmp set q ≡ is_among listed q
-
--- the first argument whose variable is one of these, or is given by an earlier argument too
-abbrev pub first_again : List ℕ → List Argument → Option Mention
-first_again earlier [] = None
-first_again earlier (a ∷ arguments) =
-    if is_among earlier a.mention.variable.0 then Some a.mention else first_again (a.mention.variable.0 ∷ earlier) arguments
 
 -- What was found stands for these checks, whatever checks come behind them.
 pub record StandsFor (found : Option Finding) (checks : List Check) : Type 0 where

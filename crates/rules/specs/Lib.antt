@@ -7,6 +7,7 @@ pub mod Mentions
 pub mod Onwards
 pub mod Outcomes
 pub mod Programs
+pub mod Repeats
 pub mod RuleTable
 pub mod Rows
 pub mod Scopes

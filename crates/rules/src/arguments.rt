@@ -1,61 +1,25 @@
-//! The checks of calls, starts and sends, and what their arguments leave behind.
+//! The checks of calls and starts, and what their arguments leave behind.
 
-ghost use Rattle.std.specs.Prelude.{◌≡◌, ◌&&◌, ℕ, List, [], ◌∷◌, IfOk, IfSome, map};
+ghost use Rattle.std.specs.Prelude.{◌≡◌, ◌&&◌, [], ◌∷◌, IfOk, IfSome};
 ghost use Rattle.program.specs.Methods.{method_seen};
-ghost use Rattle.rules.specs.Arguments as table;
-ghost use Rattle.rules.specs.Arguments.{all_arguments, all_payloads, argument_checks, claimed, given_before, given_leaf};
-ghost use Rattle.rules.specs.Arguments.{payload_checks, target_checks};
-ghost use Rattle.rules.specs.Checks.{AreIn, StandsFor, check_seen, first_again};
+ghost use Rattle.rules.specs.Arguments.{all_arguments, argument_checks, claimed, given_leaf, target_checks};
+ghost use Rattle.rules.specs.Checks.{StandsFor, check_seen};
 ghost use Rattle.rules.specs.Endpoints.{declared_leaf, is_wrong};
 ghost use Rattle.rules.specs.Mentions.{is_lent, name_of};
 ghost use Rattle.rules.specs.Outcomes.{refused};
-ghost use Rattle.rules.specs.Texts.{lent, wrong_for, wrong_for_call};
+ghost use Rattle.rules.specs.Repeats.{first_again};
+ghost use Rattle.rules.specs.Texts.{lent, wrong_for_call};
 ghost use Rattle.rules.specs.Leaves.{IsNumbered};
 ghost use Rattle.rules.specs.Rows.{leaf_at, leaves_of};
 
-use crate::checks::{given_again, has_nothing, has_something, is_not_lent, name_of};
+use crate::checks::{gives_none_again, has_nothing, has_something, is_not_lent, name_of};
 use crate::endpoints::{declared_leaf, is_wrong};
 use crate::here::Here;
 use crate::row::{Leaf, Row};
 use program::{Argument, Kind, Mention, Method};
-use source::texts::{in_a_wrong_state_for, in_a_wrong_state_for_the_call};
+use source::texts::in_a_wrong_state_for_the_call;
 use source::{Finding, Memory};
 use std::alloc::Global;
-use std::collections::BTreeSet;
-
-/// The first argument whose variable is one of these, or is given by an earlier argument too.
-fn first_again(
-    mut earlier: BTreeSet<usize>,
-    arguments: &[Argument],
-) -> Result<Option<Mention>, Memory>
-    ensures { IfOk result (λ found. (listed : List ℕ) → AreIn listed earlier → found ≡ first_again listed arguments.now) }
-{
-    for argument in arguments {
-        if !earlier.insert(argument.mention.variable.0)? {
-            return Ok(Some(argument.mention));
-        }
-    }
-    Ok(None)
-}
-
-/// That no argument gives one of these variables, and none is given twice.
-fn gives_none_again(
-    alloc: Global,
-    method: &Method,
-    earlier: BTreeSet<usize>,
-    arguments: &[Argument],
-) -> Result<Option<Finding>, Memory>
-    ensures { IfOk result (λ found. (listed : List ℕ) → AreIn listed earlier
-        → StandsFor found (given_before (method_seen method.now) listed arguments.now)) }
-{
-    match first_again(earlier, arguments)? {
-        Some(again) => {
-            let finding = given_again(alloc, method, again)?;
-            Ok(Some(finding))
-        }
-        None => Ok(None),
-    }
-}
 
 /// That what is claimed of an argument is not lent.
 fn can_be_claimed(
@@ -111,109 +75,23 @@ fn can_give(
     is_in_state(alloc, here, kind, argument.mention)
 }
 
-/// The checks of arguments, for parameters of these kinds.
+/// The checks of arguments, for parameters of these kinds, where it is known which argument is the first to give a variable again.
 pub(crate) fn can_give_all(
     alloc: Global,
     here: &Here<'_>,
+    again: Option<Mention>,
     kinds: &[Kind],
     arguments: &[Argument],
 ) -> Result<Option<Finding>, Memory>
+    requires { again ≡ first_again [] arguments.now }
     ensures { IfOk result
         (λ found. StandsFor found (all_arguments (method_seen here.now.method.now) (leaves_of here.now.row.now) kinds.now arguments.now)) }
 {
-    let earlier = BTreeSet::new(alloc);
-    if let Some(finding) = gives_none_again(alloc, here.method, earlier, arguments)? {
+    if let Some(finding) = gives_none_again(alloc, here.method, again)? {
         return Ok(Some(finding));
     }
     for number in 0..kinds.len().min(arguments.len()) {
         if let Some(finding) = can_give(alloc, here, kinds[number], arguments[number])? {
-            return Ok(Some(finding));
-        }
-    }
-    Ok(None)
-}
-
-/// A message claims what is given with it.
-pub(crate) fn payloads_of(alloc: Global, payloads: &[Mention]) -> Result<Vec<Argument>, Memory>
-    ensures { IfOk result (λ arguments. arguments.items ≡ map table.payload payloads.now) }
-{
-    let mut arguments = Vec::new(alloc);
-    for mention in payloads {
-        arguments.push(payload(*mention))?;
-    }
-    Ok(arguments)
-}
-
-fn payload(mention: Mention) -> Argument
-    ensures { result ≡ table.payload mention }
-{
-    Argument {
-        mention,
-        claimed: true,
-    }
-}
-
-/// That what is sent with a message for a parameter of this kind is in its state.
-fn is_in_state_for(
-    alloc: Global,
-    here: &Here<'_>,
-    message: &[u8],
-    kind: Kind,
-    mention: Mention,
-) -> Result<Option<Finding>, Memory>
-    ensures { IfOk result (λ found. check_seen found ≡ refused
-        (is_wrong kind (leaf_at (leaves_of here.now.row.now) mention.variable.0))
-        (wrong_for (name_of (method_seen here.now.method.now) mention.variable.0) message.now mention.place)) }
-{
-    if !is_wrong(kind, here.row.leaf(mention.variable)) {
-        return Ok(None);
-    }
-    let name = name_of(here.method, mention.variable);
-    let finding = in_a_wrong_state_for(alloc, mention.place, name, message)?;
-    Ok(Some(finding))
-}
-
-/// That what a message takes with it is not lent, there, and in the state that the message asks.
-fn can_send(
-    alloc: Global,
-    here: &Here<'_>,
-    message: &[u8],
-    kind: Kind,
-    payload: Argument,
-) -> Result<Option<Finding>, Memory>
-    ensures { IfOk result
-        (λ found. StandsFor found (payload_checks (method_seen here.now.method.now) (leaves_of here.now.row.now)
-        message.now kind payload)) }
-{
-    if let Some(finding) = is_not_lent(alloc, here.method, payload.mention)? {
-        return Ok(Some(finding));
-    }
-    if let Some(finding) = has_something(alloc, here, payload.mention)? {
-        return Ok(Some(finding));
-    }
-    is_in_state_for(alloc, here, message, kind, payload.mention)
-}
-
-/// The checks of what is sent along an endpoint with a message that brings these kinds.
-pub(crate) fn can_send_all(
-    alloc: Global,
-    here: &Here<'_>,
-    endpoint: Mention,
-    message: &[u8],
-    kinds: &[Kind],
-    payloads: &[Argument],
-) -> Result<Option<Finding>, Memory>
-    ensures { IfOk result
-        (λ found. StandsFor found
-        (all_payloads (method_seen here.now.method.now) (leaves_of here.now.row.now) endpoint message.now kinds.now payloads.now)) }
-{
-    let mut earlier = BTreeSet::new(alloc);
-    earlier.insert(endpoint.variable.0)?;
-    if let Some(finding) = gives_none_again(alloc, here.method, earlier, payloads)? {
-        return Ok(Some(finding));
-    }
-    for number in 0..kinds.len().min(payloads.len()) {
-        if let Some(finding) = can_send(alloc, here, message, kinds[number], payloads[number])? {
             return Ok(Some(finding));
         }
     }

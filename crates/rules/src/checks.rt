@@ -1,21 +1,18 @@
-//! The checks of the rule table: each answers the finding where it fails.
+//! The checks of a variable where it is named: each answers the finding where it fails.
 
-ghost use Rattle.std.specs.Prelude.{◌≡◌, IfOk, option_map};
+ghost use Rattle.std.specs.Prelude.{◌≡◌, IfOk};
 ghost use Rattle.source.specs.Findings.{finding_parts};
 ghost use Rattle.program.specs.Methods.{method_seen};
-ghost use Rattle.program.specs.Scopes.{outer_of};
-ghost use Rattle.rules.specs.Checks as checks;
-ghost use Rattle.rules.specs.Checks.{StandsFor, check_seen};
+ghost use Rattle.rules.specs.Checks.{check_seen};
 ghost use Rattle.rules.specs.Rows.{leaves_of};
 ghost use Rattle.rules.specs.Mentions as table;
-ghost use Rattle.rules.specs.Mentions.{given_back};
+ghost use Rattle.rules.specs.Repeats.{told_again};
 ghost use Rattle.rules.specs.Texts as texts;
-ghost use Rattle.rules.specs.Scopes.{declared_between, is_this};
 
 use crate::here::Here;
 use program::{Mention, Method, Role, VarId};
-use source::texts::{given_twice, is_lent, not_owned, overwritten, still_owned};
-use source::{Finding, Memory, Place};
+use source::texts::{given_twice, is_lent, not_owned, overwritten};
+use source::{Finding, Memory};
 use std::alloc::Global;
 
 /// The name of a variable: none, where there is no such variable.
@@ -29,7 +26,7 @@ pub(crate) fn name_of(method: &Method, variable: VarId) -> &[u8]
 }
 
 /// Whether this is how a method came to a parameter that is lent.
-fn is_lent_role(role: Role) -> bool
+pub(crate) fn is_lent_role(role: Role) -> bool
     ensures { result ≡ table.is_lent_role role }
 {
     match role {
@@ -99,15 +96,28 @@ pub(crate) fn is_not_lent(
 }
 
 /// A variable that is given a second time.
-pub(crate) fn given_again(
-    alloc: Global,
-    method: &Method,
-    mention: Mention,
-) -> Result<Finding, Memory>
+fn given_again(alloc: Global, method: &Method, mention: Mention) -> Result<Finding, Memory>
     ensures { IfOk result (λ finding. finding_parts finding
         ≡ texts.twice (table.name_of (method_seen method.now) mention.variable.0) mention.place) }
 {
     given_twice(alloc, mention.place, name_of(method, mention.variable))
+}
+
+/// That nothing is given a second time. This is the first mention that gives something again, if one does.
+pub(crate) fn gives_none_again(
+    alloc: Global,
+    method: &Method,
+    again: Option<Mention>,
+) -> Result<Option<Finding>, Memory>
+    ensures { IfOk result (λ found. check_seen found ≡ told_again (method_seen method.now) again) }
+{
+    match again {
+        Some(again) => {
+            let finding = given_again(alloc, method, again)?;
+            Ok(Some(finding))
+        }
+        None => Ok(None),
+    }
 }
 
 /// That the source is another variable than the target.
@@ -125,119 +135,4 @@ pub(crate) fn is_another(
     let name = name_of(method, source.variable);
     let finding = given_twice(alloc, source.place, name)?;
     Ok(Some(finding))
-}
-
-/// Whether the mention is there and names this variable.
-fn is_named(mention: Option<Mention>, variable: VarId) -> bool
-    ensures { result ≡ table.is_named mention variable.0 }
-{
-    match mention {
-        Some(mention) => mention.variable.0 == variable.0,
-        None => false,
-    }
-}
-
-/// Whether a variable still has something that is not lent, but for the one that is given.
-fn is_kept(here: &Here<'_>, given: Option<Mention>, variable: VarId) -> bool
-    ensures { result ≡ table.is_kept (method_seen here.now.method.now) (leaves_of here.now.row.now) given variable.0 }
-{
-    !is_named(given, variable) && !lends(here.method, variable) && here.row.owns(variable)
-}
-
-/// The variable of the exchange heap before this one in scope.
-fn outer_of(method: &Method, variable: VarId) -> Option<VarId>
-    ensures { result ≡ outer_of (method_seen method.now).variables variable }
-{
-    method.variables.get(variable.0)?.outer
-}
-
-/// Whether the second is there and the same variable.
-fn is_this(variable: VarId, other: Option<VarId>) -> bool
-    ensures { result ≡ is_this variable other }
-{
-    match other {
-        Some(other) => variable.0 == other.0,
-        None => false,
-    }
-}
-
-/// This variable if it still has something, and else the one that was found before.
-fn kept_or(
-    here: &Here<'_>,
-    given: Option<Mention>,
-    variable: VarId,
-    before: Option<VarId>,
-) -> Option<VarId>
-    ensures { option_map (λ v. v.0) result
-        ≡ checks.kept_or (checks.if_kept (method_seen here.now.method.now) (leaves_of here.now.row.now) given variable.0)
-        (option_map (λ v. v.0) before) }
-{
-    if is_kept(here, given, variable) {
-        Some(variable)
-    } else {
-        before
-    }
-}
-
-/// The first variable, in order of declaration, that still has something: of those in scope where `last` is the last one,
-/// without those in scope where `outer` is.
-fn first_kept(
-    here: &Here<'_>,
-    given: Option<Mention>,
-    outer: Option<VarId>,
-    last: Option<VarId>,
-) -> Option<VarId>
-    ensures { option_map (λ v. v.0) result
-        ≡ checks.first_kept (method_seen here.now.method.now) (leaves_of here.now.row.now) given
-        (declared_between (method_seen here.now.method.now) outer last) }
-{
-    let mut first = None;
-    let mut at = last;
-    for _ in 0..here.method.variables.len() {
-        let Some(variable) = at else {
-            return first;
-        };
-        if is_this(variable, outer) {
-            return first;
-        }
-        first = kept_or(here, given, variable, first);
-        at = outer_of(here.method, variable);
-    }
-    first
-}
-
-/// That a variable still has something at this place.
-fn told_owned(
-    alloc: Global,
-    method: &Method,
-    place: Place,
-    variable: VarId,
-) -> Result<Finding, Memory>
-    ensures { IfOk result (λ finding. finding_parts finding ≡ texts.still_owned (table.name_of (method_seen method.now) variable.0) place) }
-{
-    still_owned(alloc, place, name_of(method, variable))
-}
-
-/// That the variables which go out of scope at this place have nothing, but for the one that is given: those in scope where
-/// `last` is the last one, without those in scope where `outer` is.
-pub(crate) fn is_given_back(
-    alloc: Global,
-    here: &Here<'_>,
-    place: Place,
-    given: Option<Mention>,
-    outer: Option<VarId>,
-    last: Option<VarId>,
-) -> Result<Option<Finding>, Memory>
-    ensures { IfOk result
-        (λ found. StandsFor found
-        (given_back (method_seen here.now.method.now) (leaves_of here.now.row.now) place given
-        (declared_between (method_seen here.now.method.now) outer last))) }
-{
-    match first_kept(here, given, outer, last) {
-        Some(variable) => {
-            let finding = told_owned(alloc, here.method, place, variable)?;
-            Ok(Some(finding))
-        }
-        None => Ok(None),
-    }
 }

@@ -1,14 +1,17 @@
 //! Where a step is taken.
 
 use crate::lowered::Program;
+use crate::repeats::Repeats;
 use crate::row::Row;
 use program::Method;
 
-/// The program and the method in which a step is taken.
+/// The program, the method and the point at which a step is taken, and what the calls and starts of the method give again.
 #[derive(Clone, Copy)]
 pub(crate) struct Site<'a> {
     pub(crate) program: &'a Program,
     pub(crate) method: &'a Method,
+    pub(crate) point: usize,
+    pub(crate) repeats: &'a Repeats,
 }
 
 /// Where a step is taken: the program, the method and what its variables have.

@@ -8,7 +8,9 @@ ghost use Rattle.rules.specs.Outcomes.{Goes, Pair};
 ghost use Rattle.rules.specs.Rows.{IsRowOf};
 ghost use Rattle.rules.specs.Steps.{entry_of, outcome};
 ghost use Rattle.rules.specs.contracts.lowered.Program as program;
+ghost use Rattle.rules.specs.contracts.repeats.Repeats as repeats;
 
+use crate::repeats::Repeats;
 use contracts::laws::threads_share_a_contract;
 use flow::laws::threads_share_a_graph;
 use program::laws::threads_share_methods;
@@ -28,4 +30,17 @@ pub fn threads_share_a_program()
     threads_share_methods();
     threads_share_a_contract();
     threads_share_a_graph();
+    threads_share_repeats();
 }
+
+/// Threads may share by reference what calls and starts give again.
+fn threads_share_repeats()
+    ensures { IsSync repeats.the_row }
+{
+    shared::<Repeats>();
+}
+
+/// Values of this type may be shared.
+fn shared<T: Sync>()
+    ensures { IsSync T.row }
+{}

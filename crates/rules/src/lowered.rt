@@ -1,6 +1,7 @@
 //! A program as its methods and its contracts, and the graph of each method.
 
 ghost use Rattle.std.specs.Prelude.{◌≡◌, ◌<◌, ◌≤◌, IfOk, IsSomeAnd, Some, length, map, slice_get};
+ghost use Rattle.std.proofs.Props.{props};
 ghost use Rattle.contracts.specs.Sounds.{sound_parts};
 ghost use Rattle.flow.specs.Graphs.{graph_seen};
 ghost use Rattle.flow.specs.Lowering.{graph_of};
@@ -10,22 +11,27 @@ ghost use Rattle.program.specs.Programs.{contracts_seen, methods_seen, program_s
 ghost use Rattle.program.specs.WellFormed as formed;
 ghost use Rattle.program.specs.WellFormed.{IsWellFormed, parameters};
 ghost use Rattle.program.specs.declared.limits.TheConstants.{MOST_VARIABLES};
+ghost use Rattle.rules.specs.Repeats.{again_in, repeated_in};
 
+use crate::repeats::{Repeats, repeats_of};
 use contracts::Sound;
 use flow::{Graph, lower};
 use program::{Contract, ContractId, Kind, Method, MethodId, Methods, Role};
 use source::Memory;
 use std::alloc::Global;
 
-/// The methods of a text in order, which are well formed, its contracts, which are sound, and the graph of each method.
+/// The methods of a text in order, which are well formed, its contracts, which are sound, and for each method its graph and what its
+/// calls and starts give again.
 #[derive(Drop)]
 pub struct Program {
     pub(crate) methods: Methods,
     pub(crate) sounds: Vec<Sound>,
     graphs: Vec<Graph>,
+    repeats: Vec<Repeats>,
     pub(crate) parameters: Vec<Vec<Kind>>,
     ghost sound: { map sound_parts sounds.items ≡ map (λ c. c.parts) (contracts_seen methods) },
     ghost lowered: { map graph_seen graphs.items ≡ map graph_of (methods_seen methods) },
+    ghost told: { map repeated_in repeats.items ≡ map (λ m. again_in (graph_of m)) (methods_seen methods) } by { Prim.hlevel props },
     ghost asked: { rows parameters.items ≡ map (λ m. map (λ v. v.kind) (formed.parameters m)) (methods_seen methods) },
 }
 
@@ -40,11 +46,13 @@ impl Program {
         ensures { IfOk result (λ p. seen_of p ≡ program_seen methods) }
     {
         let graphs = graphs_of(alloc, methods.list())?;
+        let repeats = repeats_of(alloc, &graphs)?;
         let parameters = parameters_of(alloc, methods.list())?;
         Ok(Program {
             methods,
             sounds,
             graphs,
+            repeats,
             parameters,
         })
     }
@@ -84,6 +92,14 @@ impl Program {
         ensures { IsSomeAnd (slice_get (seen_of self.now).methods method.0) (λ m. graph_seen result.now ≡ graph_of m) }
     {
         &self.graphs[method.0 as usize]
+    }
+
+    /// What the calls and starts of a method give again.
+    pub(crate) fn repeats(&self, method: MethodId) -> &Repeats
+        requires there { method.0 < length (seen_of self.now).methods }
+        ensures { IsSomeAnd (slice_get (seen_of self.now).methods method.0) (λ m. repeated_in result.now ≡ again_in (graph_of m)) }
+    {
+        &self.repeats[method.0 as usize]
     }
 
     /// Whether a run may begin with a method: whether it gives nothing and has no parameter of any kind, numbers included.

@@ -1,6 +1,6 @@
 //! The rule table's line of a return.
 
-ghost use Rattle.std.specs.Prelude.{◌≡◌, IfOk, false};
+ghost use Rattle.std.specs.Prelude.{◌≡◌, ◌&&◌, IfOk, false};
 ghost use Rattle.std.specs.Option.{option_map_or};
 ghost use Rattle.flow.specs.Graphs as graphs;
 ghost use Rattle.program.specs.Methods.{method_seen};
@@ -16,10 +16,12 @@ ghost use Rattle.rules.specs.Rows.{leaf_at, leaves_of};
 ghost use Rattle.rules.specs.RuleTable as table;
 ghost use Rattle.rules.specs.RuleTable.{back_checks, instruction_outcome, value_checks};
 
-use crate::checks::{has_something, is_given_back, is_not_lent, lends, name_of};
-use crate::endpoints::{is_wrong, kind_of};
+use crate::checks::{has_something, is_lent_role, is_not_lent, name_of};
+use crate::endpoints::is_wrong;
 use crate::here::Here;
 use crate::onward::Onward;
+use crate::row::Leaf;
+use crate::scopes::is_given_back;
 use flow::Returning;
 use program::{Mention, Method, VarId};
 use source::texts::{in_a_wrong_state_for_the_result, not_back_in_its_state};
@@ -94,13 +96,26 @@ fn can_return(
     is_in_state(alloc, here, value)
 }
 
-/// Whether an endpoint was lent, and is neither cut off nor in its declared state.
+/// Whether an endpoint was lent, and is neither cut off nor in its declared state. The variable is looked up only where it has an
+/// endpoint in some state.
 fn is_not_back(here: &Here<'_>, variable: VarId) -> bool
     ensures { result ≡ table.is_not_back (seen_of here.now.program.now) (method_seen here.now.method.now) (leaves_of here.now.row.now)
         variable.0 }
 {
-    match kind_of(here.method, variable) {
-        Some(kind) => lends(here.method, variable) && is_wrong(kind, here.row.leaf(variable)),
+    match here.row.leaf(variable) {
+        Leaf::State(state) => is_lent_elsewhere(here.method, variable, state),
+        Leaf::Nothing | Leaf::Block | Leaf::CutOff => false,
+    }
+}
+
+/// Whether a variable is a lent endpoint whose declared state is another than this.
+fn is_lent_elsewhere(method: &Method, variable: VarId, state: u32) -> bool
+    ensures { result ≡ (mentions.is_lent (method_seen method.now) variable.0
+        && option_map_or (λ kind. endpoints.is_wrong kind (Leaf.State state)) (endpoints.kind_of (method_seen method.now) variable.0)
+        false) }
+{
+    match method.variables.get(variable.0) {
+        Some(found) => is_lent_role(found.role) && is_wrong(found.kind, Leaf::State(state)),
         None => false,
     }
 }

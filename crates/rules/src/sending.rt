@@ -16,12 +16,12 @@ ghost use Rattle.rules.specs.Rows.{leaves_of};
 ghost use Rattle.rules.specs.RuleTable.{instruction_outcome};
 ghost use Rattle.rules.specs.Texts as texts;
 
-use crate::arguments::{can_send_all, claim_all, payloads_of};
 use crate::checks::has_something;
 use crate::endpoints::kind_of;
 use crate::here::{Here, Site};
 use crate::lowered::Program;
 use crate::onward::Onward;
+use crate::payloads::{can_send_all, claim_payloads};
 use crate::row::{Leaf, Row};
 use flow::Sending;
 use program::{Kind, MessageId};
@@ -52,9 +52,9 @@ pub(crate) fn send(
     }
     let kind = kind_of(site.method, endpoint.variable);
     let name = site.program.message_name(kind, message);
-    let payloads = payloads_of(alloc, &sending.payloads)?;
+    let payloads = sending.payloads.as_slice();
     let kinds = site.program.brought(message);
-    if let Some(finding) = can_send_all(alloc, &here, endpoint, name, kinds, &payloads)? {
+    if let Some(finding) = can_send_all(alloc, &here, endpoint, name, kinds, payloads)? {
         return Ok(Onward::Found(finding));
     }
     let leaf = row.leaf(endpoint.variable);
@@ -63,7 +63,7 @@ pub(crate) fn send(
         let finding = not_sent_here(alloc, sending.place, name)?;
         return Ok(Onward::Found(finding));
     };
-    claim_all(row, &payloads);
+    claim_payloads(row, payloads);
     row.set(endpoint.variable, after);
     Ok(Onward::Changed(sending.next))
 }

@@ -83,8 +83,8 @@ pub fn step(
 }
 
 /// What the instruction at a point of a method does to a row, by the rule table, as `step` has it. It works on the row in place: that
-/// is the row where the answer is `Changed`, and as it was where it is `Ends`, `Same`, `Both` or `Ways`. A condition, a use, a move and
-/// whatever else has one or two pairs behind it takes no memory for them, and a switch none but for what is not there to spare.
+/// is the row where the answer is `Changed`, and as it was where it is `Ends`, `Same`, `Both` or `Ways`. It takes no memory, but for a
+/// finding, and for the rows of a switch that are not there to spare.
 ///
 /// `Memory` is answered where a growth was refused. The row may have any leaves then, and also where something is wrong.
 pub fn step_in_place(
@@ -103,6 +103,8 @@ pub fn step_in_place(
     let site = Site {
         program,
         method: program.method(method),
+        point,
+        repeats: program.repeats(method),
     };
     match program.graph(method).instructions.get(point) {
         Some(instruction) => applied(alloc, &site, row, instruction, spare),

@@ -9,17 +9,19 @@ ghost use Rattle.program.specs.Methods.{method_seen};
 ghost use Rattle.rules.specs.Onwards.{IsKept, onward_seen};
 ghost use Rattle.rules.specs.Outcomes.{Goes, Fails};
 ghost use Rattle.rules.specs.Programs.{seen_of};
+ghost use Rattle.rules.specs.Repeats.{first_again, given_again, repeated_in};
 ghost use Rattle.rules.specs.Rows.{leaves_of};
 ghost use Rattle.rules.specs.RuleTable.{ways, instruction_outcome};
 ghost use Rattle.rules.specs.Texts as texts;
 ghost use Rattle.rules.specs.declared.row.Leaf.{Leaf as LeafSeen};
 
 use crate::arguments::{can_give_all, can_take, claim_all, give};
-use crate::checks::{has_nothing, has_something, is_another, is_given_back, is_not_lent};
+use crate::checks::{has_nothing, has_something, is_another, is_not_lent};
 use crate::here::{Here, Site};
 use crate::onward::Onward;
 use crate::returning::return_;
 use crate::row::{Leaf, Row};
+use crate::scopes::is_given_back;
 use crate::sending::send;
 use crate::spare::Spare;
 use crate::switching::switch;
@@ -37,6 +39,7 @@ pub(crate) fn applied(
     instruction: &Instr,
     spare: &mut Spare,
 ) -> Result<Onward, Memory>
+    requires { repeated_in site.now.repeats.now site.now.point ≡ given_again (instruction_seen instruction.now) }
     ensures outcome { IfOk result (λ o. onward_seen o (leaves_of row.new)
         ≡ instruction_outcome (seen_of site.now.program.now) (method_seen site.now.method.now) (instruction_seen instruction.now)
         (leaves_of row.old)) }
@@ -212,6 +215,7 @@ fn delete(
 
 /// A call. What is claimed is gone, what is lent comes back as it was, and what takes something has it.
 fn call(alloc: Global, site: &Site<'_>, row: &mut Row, calling: &Calling) -> Result<Onward, Memory>
+    requires { repeated_in site.now.repeats.now site.now.point ≡ first_again [] calling.now.arguments.items }
     ensures outcome { IfOk result (λ o. onward_seen o (leaves_of row.new)
         ≡ instruction_outcome (seen_of site.now.program.now) (method_seen site.now.method.now) (instruction_seen (Instr.Call calling.now))
         (leaves_of row.old)) }
@@ -223,7 +227,8 @@ fn call(alloc: Global, site: &Site<'_>, row: &mut Row, calling: &Calling) -> Res
         row,
     };
     let kinds = site.program.parameter_kinds(calling.method);
-    if let Some(finding) = can_give_all(alloc, &here, kinds, &calling.arguments)? {
+    let again = site.repeats.at(site.point);
+    if let Some(finding) = can_give_all(alloc, &here, again, kinds, &calling.arguments)? {
         return Ok(Onward::Found(finding));
     }
     claim_all(row, &calling.arguments);
@@ -247,6 +252,7 @@ fn start(
     row: &mut Row,
     starting: &Starting,
 ) -> Result<Onward, Memory>
+    requires { repeated_in site.now.repeats.now site.now.point ≡ first_again [] starting.now.arguments.items }
     ensures outcome { IfOk result (λ o. onward_seen o (leaves_of row.new)
         ≡ instruction_outcome (seen_of site.now.program.now) (method_seen site.now.method.now)
         (instruction_seen (Instr.Start starting.now)) (leaves_of row.old)) }
@@ -258,7 +264,8 @@ fn start(
         row,
     };
     let kinds = site.program.parameter_kinds(starting.method);
-    if let Some(finding) = can_give_all(alloc, &here, kinds, &starting.arguments)? {
+    let again = site.repeats.at(site.point);
+    if let Some(finding) = can_give_all(alloc, &here, again, kinds, &starting.arguments)? {
         return Ok(Onward::Found(finding));
     }
     claim_all(row, &starting.arguments);

@@ -1,9 +1,21 @@
-use Rattle.std.proofs.Common.{◌<◌, ◌≤◌, refl, flat_map, length, min, ap, subst}
+use Rattle.std.proofs.Common.{◌<◌, ◌≤◌, [], refl, flat_map, length, ap, subst}
 use Rattle.program.specs.Methods.{method_seen}
 use Rattle.rules.specs.Arguments.{argument_checks}
 use Rattle.rules.specs.Rows.{leaves_of}
-use Rattle.rules.proofs.ArgumentLemmas.{below_both, left_all, left_found, left_less, left_none, past_one, zip_more, zip_none}
+use Rattle.rules.proofs.ArgumentLemmas.{again_stands, below_both, left_all, left_found, left_less, left_none, past_one, zip_more, zip_none}
 use Rattle.rules.proofs.arguments.can_give_all.Goals as goal
+
+pub returns-in-Some : goal.returns-in-Some
+returns-in-Some c =
+    let m = method_seen c.args.here.now.method.now in
+    left_found _ _ _ _ c.in_ok-finding.field-0 c.in-Some.finding refl c.in-Some.is
+    (again_stands m [] c.args.arguments.now c.args.again c.in_ok-finding.field-0 c.requires c.in_ok-finding.ensures) (left_all _)
+
+pub loop-number-init : goal.loop-number-init
+loop-number-init c =
+    let m = method_seen c.args.here.now.method.now in
+    left_less _ _ _ _ c.in_ok-finding.field-0 refl c.in_default.is
+    (again_stands m [] c.args.arguments.now c.args.again c.in_ok-finding.field-0 c.requires c.in_ok-finding.ensures) (left_all _)
 
 pub returns-in-Some-2 : goal.returns-in-Some-2
 returns-in-Some-2 c =

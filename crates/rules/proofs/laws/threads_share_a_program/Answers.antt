@@ -8,6 +8,7 @@ use denote.RattleType.{RattleType}
 use denote.Param.Send.{sendable}
 use denote.Param.SendFields.{declared_sync}
 use Rattle.rules.specs.contracts.lowered.Program as program
+use Rattle.rules.specs.contracts.repeats.Repeats as repeats
 use Rattle.contracts.specs.contracts.sound.Sound as sound
 use Rattle.flow.specs.contracts.graph.Graph as graph
 use Rattle.program.specs.contracts.kind.Kind as kind
@@ -28,7 +29,10 @@ returns c = declared_sync program.the_type (
     field_sync sound.the_row c.threads_share_a_contract.ensures,
     (
       field_sync graph.the_row c.threads_share_a_graph.ensures,
-      (field_sync (vec.the_row kind.the_row global.the_row ghosts) (list_sync kind.the_row c.threads_share_methods.ensures.kinds), tt),
+      (
+        field_sync repeats.the_row c.threads_share_repeats.ensures,
+        (field_sync (vec.the_row kind.the_row global.the_row ghosts) (list_sync kind.the_row c.threads_share_methods.ensures.kinds), tt),
+      ),
     ),
   ),
 )

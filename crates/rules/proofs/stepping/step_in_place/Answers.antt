@@ -3,7 +3,13 @@ use Rattle.std.proofs.lemmas.Option.{slice_get_read, slice_get_past}
 use Rattle.std.proofs.lemmas.Result.{IfOk-weaker}
 use Rattle.rules.specs.Programs.{seen_of}
 use Rattle.rules.proofs.ProgramLemmas.{outcome_at, outcome_is, outcome_past}
+use Rattle.rules.proofs.RepeatLemmas.{told_at}
 use Rattle.rules.proofs.stepping.step_in_place.Goals as goal
+
+pub applied-requires : goal.applied-requires
+applied-requires c =
+    let there = ap (λ l. slice_get l c.args.point) (sym c.deref.ensures.value) ∙ slice_get_read c.deref.result.now _ c.args.point c.in-Some.instruction.now refl c.in-Some.ensures.lookup.3.0 c.in-Some.ensures.lookup.1 in
+    told_at (slice_get (seen_of c.args.program.now).methods c.args.method.0) c.graph.result.now c.repeats.result.now c.args.point c.in-Some.instruction.now c.graph.ensures c.repeats.ensures there
 
 pub returns-in-Some-clause-outcome : goal.returns-in-Some-clause-outcome
 returns-in-Some-clause-outcome c =

@@ -3,8 +3,15 @@ use Rattle.std.specs.Option.{option_map}
 use Rattle.std.proofs.lemmas.List.{length-map}
 use Rattle.program.specs.Methods.{method_seen, variable_seen}
 use Rattle.rules.specs.Rows.{leaves_of}
+use Rattle.rules.specs.Scopes.{declared_between}
+use Rattle.rules.proofs.KeptLemmas.{first_none}
 use Rattle.rules.proofs.ScopeLemmas.{Looked, looked_first, looked_all, looked_none, looked_more}
-use Rattle.rules.proofs.checks.first_kept.Goals as goal
+use Rattle.rules.proofs.scopes.first_kept.Goals as goal
+
+pub returns-then-not-keeps_any : goal.returns-then-not-keeps_any
+returns-then-not-keeps_any c =
+    let m = method_seen c.args.here.now.method.now in
+    first_none m (leaves_of c.args.here.now.row.now) c.args.given (c.keeps_any.ensures c.if-not-keeps_any.true) (declared_between m c.args.outer c.args.last)
 
 pub loop-init : goal.loop-init
 loop-init c = looked_first (method_seen c.args.here.now.method.now) (leaves_of c.args.here.now.row.now) c.args.given c.args.outer c.args.last

@@ -4,7 +4,7 @@ use Rattle.rules.specs.Outcomes.{Fails}
 use Rattle.rules.specs.Rows.{leaves_of}
 use Rattle.rules.specs.Scopes.{declared_between}
 use Rattle.rules.proofs.GivenLemmas.{given, given_is}
-use Rattle.rules.proofs.checks.is_given_back.Goals as goal
+use Rattle.rules.proofs.scopes.is_given_back.Goals as goal
 
 pub returns-in_ok-finding-in-Some : goal.returns-in_ok-finding-in-Some
 returns-in_ok-finding-in-Some c = record {

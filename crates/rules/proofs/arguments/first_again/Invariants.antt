@@ -1,5 +1,0 @@
-use Rattle.rules.proofs.ArgumentLemmas.{Looked}
-use Rattle.rules.proofs.arguments.first_again.Given as goal
-
-abbrev pub invariant-loop-argument : goal.invariant-loop-argument
-invariant-loop-argument l = Looked l.fn.earlier l.earlier l.arguments l.argument-index

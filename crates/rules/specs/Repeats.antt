@@ -1,0 +1,38 @@
+-- What is given a second time. It asks no row.
+use Rattle.std.specs.Prelude.{ℕ, List, [], ◌∷◌, Option, None, Some, if◌then◌else◌, slice_get}
+use Rattle.std.specs.BTreeMap.{get}
+use Rattle.std.specs.Option.{option_and_then, option_map}
+use Rattle.std.specs.Ordering.{nat_cmp}
+use Rattle.flow.specs.Graphs.{GraphSeen, Instruction, Call, Start}
+use Rattle.program.specs.Lists.{is_among}
+use Rattle.program.specs.Methods.{MethodSeen}
+use Rattle.program.specs.declared.call.Argument.{Argument}
+use Rattle.program.specs.declared.statement.Mention.{Mention}
+use Rattle.rules.specs.Mentions.{name_of}
+use Rattle.rules.specs.Outcomes.{Check}
+use Rattle.rules.specs.Texts.{twice}
+use Rattle.rules.specs.declared.repeats.Repeats.{Repeats}
+
+-- the first argument whose variable is one of these, or is given by an earlier argument too
+abbrev pub first_again : List ℕ → List Argument → Option Mention
+first_again earlier [] = None
+first_again earlier (a ∷ arguments) =
+    if is_among earlier a.mention.variable.0 then Some a.mention else first_again (a.mention.variable.0 ∷ earlier) arguments
+
+-- what a call or a start gives again first
+abbrev pub given_again : Instruction → Option Mention
+given_again (Call place method arguments target next) = first_again [] arguments
+given_again (Start place method arguments next) = first_again [] arguments
+given_again _ = None
+
+-- what is given again first at a point of a graph
+abbrev pub again_in : GraphSeen → ℕ → Option Mention
+again_in graph point = option_and_then given_again (slice_get graph.instructions point)
+
+-- the same as the code has it
+abbrev pub repeated_in : Repeats → ℕ → Option Mention
+repeated_in repeats point = get nat_cmp repeats.firsts point
+
+-- what is said of what is given again
+abbrev pub told_again : MethodSeen → Option Mention → Check
+told_again m again = option_map (λ x. twice (name_of m x.variable.0) x.place) again
