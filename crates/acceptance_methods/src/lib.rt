@@ -8,6 +8,8 @@ mod interning;
 #[cfg(test)]
 mod steps;
 #[cfg(test)]
+mod transfers;
+#[cfg(test)]
 mod verdicts;
 #[cfg(test)]
 mod worlds;
