@@ -234,8 +234,16 @@ def contracts_of_1900_states(n):
     return ''.join(one % k for k in range(max(1, min(n // 1900, 256))))
 
 
+def many_rows(n):
+    """Methods with ten blocks each, of which each is given away on one way of an `if`: 3,070 pairs a method, some 96 for each of n."""
+    head = ''.join(',[Claims]D* in ExHeap p%d' % k for k in range(10))
+    ways = ''.join('D* in ExHeap q%d;if(b){q%d=p%d;}' % (k, k, k) for k in range(10))
+    one = 'static void F%d(bool b' + head + '){' + ways + 'while(true){}}\n'
+    return 'rep struct D { int n; }\nclass K {\n' + ''.join(one % k for k in range(max(1, n // 32))) + '}\n'
+
+
 LOADS = [path, ring, named_states, messages, contracts_256, comment, declared_twice, long_names,
          statements, else_ifs, long_sum, deep_parentheses, deep_blocks, methods,
          unknown_names, variables_twice, variables, cases, blocks_of_variables, starts, long_types]
 CHECKED = [reads, small_methods, scalars, many_variables, ways, loops, returns,
-           messages_with_cases, sends, endpoints_in_a_switch, calls_with_endpoints, contracts_of_1900_states]
+           messages_with_cases, sends, endpoints_in_a_switch, calls_with_endpoints, contracts_of_1900_states, many_rows]
