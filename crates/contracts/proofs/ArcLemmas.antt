@@ -1,5 +1,5 @@
 -- Arcs, their ends, and the graph that they are.
-use Rattle.std.proofs.Common.{◌≡◌, ◌==◌, ℕ, ◌<◌, List, [], ◌∷◌, ◌++◌, length, map, ap, ◌∙◌, subst, arith, ⊎_elim}
+use Rattle.std.proofs.Common.{◌≡◌, ◌==◌, ℕ, ◌<◌, List, [], ◌∷◌, ◌++◌, length, map, sym, ap, ◌∙◌, subst, arith, ⊎_elim}
 use Rattle.std.specs.Prelude.{Contains, All, filter}
 use Rattle.std.proofs.lemmas.List.Elements.{All-weaker, All-same, All-filter, All-map, Contains-push_cases, Contains-append_left, Contains-push}
 use Rattle.contracts.specs.declared.arcs.Arc.{Arc}
@@ -65,3 +65,10 @@ drawn numbers edges sign arcs graph h rows = record {
   right = λ v w edge. h.right (arc v w) (rows.right v w edge);
   all = λ e c s. let r = h.all e c s in (r.0.from, (r.0.to, rows.all r.0.from r.0.to r.1, r.2));
 }
+
+-- rows that have arcs of so many vertices have those of the edges
+pub arcs_made : (numbers : List ℕ) (edges : List Edge) (sign : Sign) (arcs seen : List Arc) (count : ℕ) (graph : List (List ℕ)) → AreArcs numbers edges sign arcs → seen ≡ arcs → count ≡ length numbers
+    → (AllWithin count seen → AreRows count seen graph) → AreRows (length numbers) arcs graph
+arcs_made numbers edges sign arcs seen count graph are same long made =
+    subst (λ n. AreRows n arcs graph) long (subst (λ l. AreRows count l graph) same
+    (made (subst (λ n. AllWithin n seen) (sym long) (subst (AllWithin (length numbers)) (sym same) (arcs_within numbers edges sign arcs are)))))

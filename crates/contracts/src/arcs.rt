@@ -8,10 +8,9 @@ ghost use Rattle.contracts.specs.Peeling.{AreHeights};
 ghost use Rattle.contracts.specs.Positions.{listed};
 
 use crate::grouping::rows_of;
-use crate::heights::all_heights;
-use crate::numbering::finishing;
+use crate::heights::{all_heights, first_heights};
 use crate::positions::Listing;
-use crate::ringing::{filled, rings};
+use crate::ringing::{filled, order_for, rings};
 use crate::rows::Rows;
 use program::{Edge, Sign};
 use std::alloc::{AllocError, Global};
@@ -56,10 +55,10 @@ impl SignGraph {
     {
         let arcs = arcs_of(alloc, edges, states, sign)?;
         let rows = rows_of(alloc, states.len(), &arcs)?;
-        let order = finishing(alloc, &rows)?;
-        let heights = all_heights(alloc, &rows, &order)?;
-        drop(order); // a large contract takes less memory so
-        let rings = rings(alloc, &rows, arcs, &heights)?;
+        let mut heights = first_heights(alloc, &rows)?;
+        let order = order_for(alloc, &rows, &heights)?;
+        all_heights(&rows, &order, &mut heights);
+        let rings = rings(alloc, &rows, arcs, order, &heights)?;
         Ok(SignGraph {
             rows,
             heights,

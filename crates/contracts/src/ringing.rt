@@ -21,6 +21,7 @@ pub fn rings(
     alloc: Global,
     graph: &Rows<usize>,
     arcs: Vec<Arc>,
+    order: Vec<usize>,
     heights: &[Option<usize>],
 ) -> Result<Vec<bool>, AllocError>
     requires rows { AreRows (length (rows graph.now)) arcs.items (rows graph.now) }
@@ -31,7 +32,7 @@ pub fn rings(
     if are_known(heights) {
         return Ok(vec![in alloc; false; graph.len()]?);
     }
-    let numbers = found_numbers(alloc, graph, &arcs)?;
+    let numbers = found_numbers(alloc, graph.len(), &arcs, order)?;
     match rings_by_numbers(alloc, arcs, &numbers)? {
         Some(rings) => Ok(rings),
         None => rings_by_search(alloc, graph),
@@ -45,14 +46,31 @@ fn are_known(heights: &[Option<usize>]) -> bool
     heights.iter().all(|height| height.is_some())
 }
 
+/// In which order to look at the vertices of the graph, where some height is not known yet. Where all are, there is nothing to look at.
+pub fn order_for(
+    alloc: Global,
+    graph: &Rows<usize>,
+    heights: &[Option<usize>],
+) -> Result<Vec<usize>, AllocError> {
+    if are_known(heights) {
+        Ok(Vec::new(alloc))
+    } else {
+        finishing(alloc, graph)
+    }
+}
+
 /// The same number for vertices that lead to each other, and no higher one for what a vertex leads to: a proposal,
 /// which is to be tested.
-fn found_numbers(alloc: Global, graph: &Rows<usize>, arcs: &[Arc]) -> Result<Vec<usize>, AllocError>
-    requires range { AllWithin (length (rows graph.now)) arcs.now }
-    ensures long { IfOk result (λ numbers. length numbers.items ≡ length (rows graph.now)) }
+fn found_numbers(
+    alloc: Global,
+    count: usize,
+    arcs: &[Arc],
+    order: Vec<usize>,
+) -> Result<Vec<usize>, AllocError>
+    requires range { AllWithin count arcs.now }
+    ensures long { IfOk result (λ numbers. length numbers.items ≡ count) }
 {
-    let order = finishing(alloc, graph)?;
-    let back = turned_rows(alloc, graph.len(), arcs)?;
+    let back = turned_rows(alloc, count, arcs)?;
     numbers(alloc, &back, &order)
 }
 
