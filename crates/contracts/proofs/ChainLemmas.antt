@@ -1,21 +1,19 @@
 -- Arcs linked from the last to the first, and rows that are made by following the links.
-use Rattle.std.proofs.Common.{◌≡◌, ◌==◌, ℕ, zero, suc, ◌+◌, ◌<◌, ◌≤◌, List, [], ◌∷◌, ◌++◌, length, map, get_or, take, drop, sym, refl, ap, ◌∙◌, subst, arith, ⊎_elim}
+use Rattle.std.proofs.Common.{◌≡◌, ◌==◌, ℕ, zero, suc, ◌+◌, ◌<◌, ◌≤◌, List, [], ◌∷◌, ◌++◌, length, map, get_or, drop, sym, refl, ap, ◌∙◌, subst, arith, ⊎_elim}
 use Rattle.std.specs.Prelude.{Contains, All, filter}
-use Rattle.std.specs.List.{between}
 use Rattle.std.proofs.Math.ListN.{set, replicate, length-set, length-append}
 use Rattle.std.proofs.lemmas.Bool.{eq-eqb, eqb-true, cond-true, cond-false, cases_eq, cases_lt, false_from_ne_true}
-use Rattle.std.proofs.lemmas.List.{get_or-set_same, get_or-set_other, get_or-replicate, get_or_past, length-replicate, drop_more, drop_all, drop_at, take_all, take-append-le, take-map, drop-map, map-append}
-use Rattle.std.proofs.lemmas.List.Elements.{All-head, All-tail, All-push, All-weaker, All-nil, All-map, All-filter, All-contains, Contains-append_cases}
-use Rattle.std.proofs.lemmas.Slice.{between_is}
+use Rattle.std.proofs.lemmas.List.{get_or-set_same, get_or-set_other, get_or-replicate, get_or_past, length-replicate, drop_more, drop_all}
+use Rattle.std.proofs.lemmas.List.Elements.{All-weaker, All-nil, All-map, All-filter, All-contains, Contains-append_cases}
 use Rattle.contracts.specs.declared.arcs.Arc.{Arc}
-use Rattle.contracts.specs.declared.rows.Span.{Span}
 use Rattle.contracts.specs.Arcs.{AllWithin, AreRows, arc, begins, ends_from}
 use Rattle.contracts.specs.Chains.{AreChained, AreEnds, IsFirst, start_at}
 use Rattle.contracts.specs.Graphs.{row_at}
-use Rattle.contracts.specs.Spans.{AreWithin, cut}
+use Rattle.contracts.specs.Spans.{AreWithin, cut, start_of}
 use Rattle.contracts.proofs.ArcLemmas.{none_in}
 use Rattle.contracts.proofs.PartLemmas.{contains_map}
 use Rattle.contracts.proofs.RingLemmas.{kept_in, in_kept, made_from}
+use Rattle.contracts.proofs.SpanLemmas.{closed_more, cut_more, within_more}
 
 none : Arc
 none = arc 0 0
@@ -82,50 +80,31 @@ ends_all arcs v k past = ap (λ l. ends_from l v) (drop_all k arcs past)
 pub ends_first : (arcs : List Arc) (v j : ℕ) → IsFirst arcs v 0 j → ends_from (drop j arcs) v ≡ ends_from arcs v
 ends_first arcs v j h = ap (map (λ (x : Arc). x.to)) (sym h.none)
 
--- more items behind change no row
-cut_same : {T : Type 0} (items more : List T) (spans : List Span) → AreWithin items spans → cut (items ++ more) spans ≡ cut items spans
-cut_same items more [] all = refl
-cut_same items more (s ∷ spans) all =
-    let here = All-head (λ (s : Span). (s.from ≤ s.to) × (s.to ≤ length items)) s spans all in
-    let rest = All-tail (λ (s : Span). (s.from ≤ s.to) × (s.to ≤ length items)) s spans all in
-    ap (λ r. r ∷ cut (items ++ more) spans) (between_is (items ++ more) s.from s.to ∙ ap (drop s.from) (take-append-le s.to items more here.1) ∙ sym (between_is items s.from s.to))
-    ∙ ap (λ l. between s.from s.to items ∷ l) (cut_same items more spans rest)
-
--- the items that came last are a row
-cut_last : {T : Type 0} (items more : List T) → between (length items) (length (items ++ more)) (items ++ more) ≡ more
-cut_last items more = between_is (items ++ more) (length items) (length (items ++ more)) ∙ ap (drop (length items)) (take_all (length (items ++ more)) (items ++ more) (omega arith)) ∙ drop_at items more (length items) refl
-
--- the rows of what a list is mapped to
-pub cut_map : {A B : Type 0} (f : A → B) (items : List A) (spans : List Span) → cut (map f items) spans ≡ map (map f) (cut items spans)
-cut_map f items [] = refl
-cut_map f items (s ∷ spans) =
-    ap (λ r. r ∷ cut (map f items) spans) (between_is (map f items) s.from s.to ∙ ap (drop s.from) (take-map f s.to items) ∙ drop-map f s.from (take s.to items) ∙ ap (map f) (sym (between_is items s.from s.to)))
-    ∙ ap (λ l. map f (between s.from s.to items) ∷ l) (cut_map f items spans)
-
--- the rows of the first n vertices, made of spans
-pub record AreFilled (arcs : List Arc) (n : ℕ) (items : List ℕ) (spans : List Span) : Type 0 where
-  pub within : AreWithin items spans
-  pub ends : AreEnds arcs n (cut items spans)
+-- the rows of the first n vertices, which are all that the items are
+pub record AreFilled (arcs : List Arc) (n : ℕ) (items ends : List ℕ) : Type 0 where
+  pub within : AreWithin items ends
+  pub closed : start_of 0 ends (length ends) ≡ length items
+  pub made : AreEnds arcs n (cut items ends)
   pub from : (w : ℕ) → Contains items w → (a : Arc) × Contains arcs a × (a.to ≡ w)
 
 pub filled_none : (arcs : List Arc) → AreFilled arcs 0 [] []
 filled_none arcs = record {
-  within = All-nil (λ (s : Span). (s.from ≤ s.to) × (s.to ≤ 0));
-  ends = record { long = refl; row = λ v lt. absurd (omega (arith, lt)) };
+  within = λ v lt. absurd (omega (arith, lt));
+  closed = refl;
+  made = record { long = refl; row = λ v lt. absurd (omega (arith, lt)) };
   from = λ w c. absurd (none_in w c);
 }
 
-pub filled_more : (arcs : List Arc) (n : ℕ) (items : List ℕ) (spans : List Span) (s : Span) → s.from ≡ length items → s.to ≡ length (items ++ ends_from arcs n) → AreFilled arcs n items spans
-    → AreFilled arcs (n + 1) (items ++ ends_from arcs n) (spans ++ s ∷ [])
-filled_more arcs n items spans s from to h = record {
-  within = All-push (λ (x : Span). (x.from ≤ x.to) × (x.to ≤ length all)) spans s
-      (All-weaker (λ (x : Span). (x.from ≤ x.to) × (x.to ≤ length items)) (λ (x : Span). (x.from ≤ x.to) × (x.to ≤ length all)) (λ x both. let b = both.1 in (both.0, omega (arith, b, longer))) spans h.within)
-      (omega (arith, from, to, longer), omega (arith, to));
-  ends = record {
-    long = ap length rows_are ∙ length-append (cut items spans) (new ∷ []) ∙ ap (λ k. k + 1) h.ends.long;
+pub filled_more : (arcs : List Arc) (n : ℕ) (items ends : List ℕ) (end : ℕ) → end ≡ length (items ++ ends_from arcs n) → AreFilled arcs n items ends
+    → AreFilled arcs (n + 1) (items ++ ends_from arcs n) (ends ++ end ∷ [])
+filled_more arcs n items ends end is h = record {
+  within = within_more items new ends end is h.closed h.within;
+  closed = closed_more ends end ∙ is;
+  made = record {
+    long = ap length rows_are ∙ length-append (cut items ends) (new ∷ []) ∙ ap (λ k. k + 1) h.made.long;
     row = λ v lt. ap (λ l. row_at l v) rows_are ∙ ⊎_elim
-        (λ same. ap (row_at (cut items spans ++ new ∷ [])) (same ∙ sym h.ends.long) ∙ last (cut items spans) new ∙ ap (ends_from arcs) (sym same))
-        (λ other. let less : v < n = grind (arith, lt, other) in before (cut items spans) new v (let size = h.ends.long in omega (arith, less, size)) ∙ h.ends.row v less)
+        (λ same. ap (row_at (cut items ends ++ new ∷ [])) (same ∙ sym h.made.long) ∙ last (cut items ends) new ∙ ap (ends_from arcs) (sym same))
+        (λ other. let less : v < n = grind (arith, lt, other) in before (cut items ends) new v (let size = h.made.long in omega (arith, less, size)) ∙ h.made.row v less)
         (cases_eq v n);
   };
   from = λ w c. ⊎_elim
@@ -137,15 +116,8 @@ filled_more arcs n items spans s from to h = record {
     new : List ℕ
     new = ends_from arcs n
 
-    all : List ℕ
-    all = items ++ new
-
-    longer : length items ≤ length all
-    longer = let size = length-append items new in omega (arith, size)
-
-    rows_are : cut all (spans ++ s ∷ []) ≡ cut items spans ++ new ∷ []
-    rows_are = map-append (λ (x : Span). between x.from x.to all) spans (s ∷ []) ∙ ap (λ l. l ++ between s.from s.to all ∷ []) (cut_same items new spans h.within)
-        ∙ ap (λ r. cut items spans ++ r ∷ []) (ap (λ k. between k s.to all) from ∙ ap (λ k. between (length items) k all) to ∙ cut_last items new)
+    rows_are : cut (items ++ new) (ends ++ end ∷ []) ≡ cut items ends ++ new ∷ []
+    rows_are = cut_more items new ends end is h.closed h.within
 
     last : (lists : List (List ℕ)) (l : List ℕ) → row_at (lists ++ l ∷ []) (length lists) ≡ l
     last [] l = refl

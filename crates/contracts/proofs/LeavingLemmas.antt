@@ -1,6 +1,6 @@
 -- The edges of one sign from a state, where a message leads along them, and the names of messages.
-use Rattle.std.proofs.Common.{◌≡◌, ℕ, zero, suc, ◌+◌, ◌<◌, ◌==◌, List, [], ◌∷◌, length, map, get_or, true, Option, Some, None, sym, refl, ap, ◌∙◌, subst, arith, inl, inr, ⊎_elim}
-use Rattle.std.specs.Prelude.{◌⊎◌, All, Contains, string_bytes}
+use Rattle.std.proofs.Common.{◌≡◌, ℕ, zero, suc, ◌+◌, ◌<◌, ◌==◌, Bool, cond, List, [], ◌∷◌, length, map, get_or, true, Option, Some, None, sym, refl, ap, ◌∙◌, subst, arith, inl, inr, ⊎_elim}
+use Rattle.std.specs.Prelude.{◌⊎◌, All, Contains, filter, slice_get, string_bytes}
 use Rattle.std.proofs.lemmas.Bool.{true≢false, eq-eqb, eqb-true, cases_Bool, cond-true, cond-false, and_parts, and_from, false_from_ne_true}
 use Rattle.std.proofs.lemmas.List.{length-map, get_or-map}
 use Rattle.std.proofs.lemmas.List.Elements.{All-contains, All-filter}
@@ -16,14 +16,14 @@ use Rattle.program.specs.declared.limits.TheConstants.{MOST_STATES}
 use Rattle.program.specs.declared.number.MessageId.{MessageId}
 use Rattle.program.specs.declared.number.StateId.{StateId}
 use Rattle.contracts.specs.Conditions.{IsSound}
-use Rattle.contracts.specs.Leaving.{same_sign, leaves, edges_from, end_on, name_among}
+use Rattle.contracts.specs.Leaving.{same_sign, leaves, all_from, edges_from, end_on, name_among}
 use Rattle.contracts.specs.Parts.{Parts, message_parts, state_ids, IsWhole}
 use Rattle.contracts.specs.Positions.{listed}
 use Rattle.contracts.specs.Walks.{IsNext}
 use Rattle.contracts.proofs.ArcLemmas.{none_in}
-use Rattle.contracts.proofs.PartLemmas.{all_from, contains_map}
+use Rattle.contracts.proofs.PartLemmas.{all_from as each_from, contains_map}
 use Rattle.contracts.proofs.RingLemmas.{contains_head, contains_tail, contains_either, kept_in, in_kept}
-use Rattle.contracts.proofs.SoundLemmas.{same_edge}
+use Rattle.contracts.proofs.SoundLemmas.{same_edge, same_sign as one_sign}
 
 state_of : ℕ → StateId
 state_of n = record { 0 = n }
@@ -42,6 +42,57 @@ is_same Send Send h = refl
 is_same Receive Receive h = refl
 is_same Send Receive h = cc
 is_same Receive Send h = cc
+
+-- tests that agree on a list keep the same of it
+filter_same : {A : Type 0} (p r : A → Bool) (xs : List A) → ((x : A) → Contains xs x → p x ≡ r x) → filter p xs ≡ filter r xs
+filter_same p r [] each = refl
+filter_same p r (x ∷ xs) each =
+    ap (λ l. cond (p x) (x ∷ l) l) (filter_same p r xs (λ y c. each y (contains_tail x y xs c)))
+    ∙ ap (λ b. cond b (x ∷ filter r xs) (filter r xs)) (each x (contains_head x xs))
+
+-- where nothing in a list passes, nothing is kept
+pub none_pass : {A : Type 0} (p : A → Bool) (xs : List A) → ((x : A) → Contains xs x → p x ≡ true → ⊥) → filter p xs ≡ []
+none_pass p [] each = refl
+none_pass p (x ∷ xs) each = cond-false (p x) (x ∷ filter p xs) (filter p xs) (false_from_ne_true (p x) (each x (contains_head x xs))) ∙ none_pass p xs (λ y c. each y (contains_tail x y xs c))
+
+from_same : (e d : Edge) (q : ℕ) → (e.from.0 == q) ≡ true → (d.from.0 == q) ≡ true → e.from ≡ d.from
+unfolding state_of
+from_same e d q here there = ap state_of (eqb-true e.from.0 q here ∙ sym (eqb-true d.from.0 q there))
+
+-- where one edge from a state of a sound contract has the sign, all have
+pub all_of_sign : (parts : Parts) → ∥ IsWhole parts ∥₁ → IsSound parts → (s : Sign) (q : ℕ) (d : Edge) → Contains (all_from parts.edges q) d → d.sign ≡ s → all_from parts.edges q ≡ edges_from parts.edges s q
+all_of_sign parts whole sound s q d c is = ∥∥₁_elim whole (Prim.hlevel props) (λ w.
+    let kept = kept_in (λ (x : Edge). x.from.0 == q) parts.edges d c in
+    filter_same (λ (x : Edge). x.from.0 == q) (leaves s q) parts.edges (λ e there. ⊎_elim
+    (λ here. here ∙ sym (and_from (e.from.0 == q) (same_sign e.sign s) here (is_same e.sign s (one_sign parts w sound e d there kept.0 (from_same e d q here kept.1) e.sign s refl is))))
+    (λ other. other ∙ sym (false_from_ne_true (leaves s q e) (λ both. true≢false (sym (and_parts (e.from.0 == q) (same_sign e.sign s) both).0 ∙ other))))
+    (cases_Bool (e.from.0 == q))))
+
+-- and where one has the other sign, none has it
+pub none_of_sign : (parts : Parts) → ∥ IsWhole parts ∥₁ → IsSound parts → (s : Sign) (q : ℕ) (d : Edge) → Contains (all_from parts.edges q) d → (d.sign ≡ s → ⊥) → [] ≡ edges_from parts.edges s q
+none_of_sign parts whole sound s q d c other =
+    let kept = kept_in (λ (x : Edge). x.from.0 == q) parts.edges d c in
+    ∥∥₁_elim whole (Prim.hlevel props) (λ w.
+    sym (none_pass (leaves s q) parts.edges (λ e there passes.
+    let both = and_parts (e.from.0 == q) (same_sign e.sign s) passes in
+    other (one_sign parts w sound d e kept.0 there (from_same d e q kept.1 both.0) d.sign s refl (same_is e.sign s both.1)))))
+
+-- the first of a list is in it
+pub first_in : (edges : List Edge) (d : Edge) → slice_get edges 0 ≡ Some d → Contains edges d
+first_in [] d is = cc
+first_in (e ∷ edges) d is = subst (Contains (e ∷ edges)) (one e d is) (contains_head e edges)
+  where
+    one : (a b : Edge) → Some a ≡ Some b → a ≡ b
+    one a b same = cc
+
+pub none_first : (edges : List Edge) → slice_get edges 0 ≡ None → edges ≡ []
+none_first [] is = refl
+none_first (e ∷ edges) is = cc
+
+-- where no edge leaves a state, none of the sign does
+pub none_from : (edges : List Edge) (s : Sign) (q : ℕ) → all_from edges q ≡ [] → [] ≡ edges_from edges s q
+none_from edges s q none = sym (none_pass (leaves s q) edges (λ e there passes.
+    none_in e (subst (λ l. Contains l e) none (in_kept (λ (x : Edge). x.from.0 == q) edges e there (and_parts (e.from.0 == q) (same_sign e.sign s) passes).0))))
 
 -- an edge of the sign from the state on the message
 record IsOn (edges : List Edge) (s : Sign) (q : StateId) (m : MessageId) (e : Edge) : Type 0 where
@@ -112,7 +163,7 @@ to_numbered parts whole e c = ∥∥₁_elim whole (Prim.hlevel props) (λ w.
 
 pub ends_numbered : (parts : Parts) → ∥ IsWhole parts ∥₁ → (s : Sign) (q : ℕ) → All (λ (e : Edge). e.to.0 < MOST_STATES) (edges_from parts.edges s q)
 ends_numbered parts whole s q = All-filter (leaves s q) (λ (e : Edge). e.to.0 < MOST_STATES) parts.edges
-    (all_from (λ (e : Edge). e.to.0 < MOST_STATES) parts.edges (to_numbered parts whole))
+    (each_from (λ (e : Edge). e.to.0 < MOST_STATES) parts.edges (to_numbered parts whole))
 
 -- the name of the first message of a number
 name_first : (messages : List Message) (x i : ℕ) (d : Message) → i < length messages → (get_or messages i d).id.0 ≡ x → ((k : ℕ) → k < i → (get_or messages k d).id.0 ≡ x → ⊥) → string_bytes (get_or messages i d).name ≡ name_among (map message_parts messages) x

@@ -25,5 +25,6 @@ pub mod SearchLemmas
 pub mod SignLemmas
 pub mod SoundLemmas
 pub mod SourceLemmas
+pub mod SpanLemmas
 pub mod WalkLemmas
 pub mod WholeLemmas

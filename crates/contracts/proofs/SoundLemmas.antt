@@ -32,7 +32,7 @@ mixed parts whole sound d e in_d in_e from send receive =
     let at = slice_get_read parts.states (length parts.states) s.1.0 s.0 refl s.1.1 (sym s.1.2) in
     sound (both s.0) (s.1.0, inr (inr (inl (record { state = s.0; at = at; sends = d; sends_in = in_d; sends_from = from ∙ sym s.2; sends_sign = send; receives = e; receives_in = in_e; receives_from = sym s.2; receives_sign = receive; is = refl }))))
 
-same_sign : (parts : Parts) → IsWhole parts → IsSound parts → (d e : Edge) → Contains parts.edges d → Contains parts.edges e → d.from ≡ e.from → (s t : Sign) → d.sign ≡ s → e.sign ≡ t → s ≡ t
+pub same_sign : (parts : Parts) → IsWhole parts → IsSound parts → (d e : Edge) → Contains parts.edges d → Contains parts.edges e → d.from ≡ e.from → (s t : Sign) → d.sign ≡ s → e.sign ≡ t → s ≡ t
 same_sign parts whole sound d e in_d in_e from Send Send a b = refl
 same_sign parts whole sound d e in_d in_e from Receive Receive a b = refl
 same_sign parts whole sound d e in_d in_e from Send Receive a b = absurd (mixed parts whole sound d e in_d in_e from a b)

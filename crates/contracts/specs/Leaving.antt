@@ -39,11 +39,15 @@ abbrev pub name_among : List MessageParts → ℕ → List ℕ
 name_among [] message = []
 name_among (m ∷ messages) message = if m.id.0 == message then m.name else name_among messages message
 
--- a row for each of the numbers has the edges of the sign from that state, and other states have none
-abbrev pub AreLeaving : List ℕ → List Edge → Sign → List (List Edge) → Type 0
-AreLeaving numbers edges sign lists = (length lists ≡ length numbers)
-    × ((v : ℕ) → v < length numbers → row_at lists v ≡ edges_from edges sign (get_or numbers v 0))
-    × ((q : ℕ) → (Contains numbers q → ⊥) → edges_from edges sign q ≡ [])
+-- the edges of either sign from the state, in order
+abbrev pub all_from : List Edge → ℕ → List Edge
+all_from edges q = filter (λ e. e.from.0 == q) edges
+
+-- a row for each of the numbers has the edges from that state, and other states have none
+abbrev pub AreLeaving : List ℕ → List Edge → List (List Edge) → Type 0
+AreLeaving numbers edges lists = (length lists ≡ length numbers)
+    × ((v : ℕ) → v < length numbers → row_at lists v ≡ all_from edges (get_or numbers v 0))
+    × ((q : ℕ) → (Contains numbers q → ⊥) → all_from edges q ≡ [])
 
 abbrev pub edge_at : List Edge → ℕ → Edge
 edge_at edges i = get_or edges i record {
@@ -54,7 +58,7 @@ edge_at edges i = get_or edges i record {
   place = record { line = 0; col = 0 };
 }
 
--- for each of the first n edges that has the sign, an arc from the position of its state to its place
-pub record AreSources (numbers : List ℕ) (edges : List Edge) (sign : Sign) (n : ℕ) (arcs : List Arc) : Type 0 where
+-- for each of the first n edges an arc from the position of its state to its place
+pub record AreSources (numbers : List ℕ) (edges : List Edge) (n : ℕ) (arcs : List Arc) : Type 0 where
   pub within : All (λ a. (a.from < length numbers) × (a.to < length edges)) arcs
-  pub row : (v : ℕ) → v < length numbers → map (edge_at edges) (ends_from arcs v) ≡ edges_from (take n edges) sign (get_or numbers v 0)
+  pub row : (v : ℕ) → v < length numbers → map (edge_at edges) (ends_from arcs v) ≡ all_from (take n edges) (get_or numbers v 0)

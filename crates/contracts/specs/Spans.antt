@@ -1,12 +1,20 @@
--- Spans of a list.
-use Rattle.std.specs.Prelude.{◌≤◌, List, length, map, All}
+-- Rows that lie one behind the other in a list, each by the place at which it ends.
+use Rattle.std.specs.Prelude.{ℕ, zero, suc, ◌<◌, ◌≤◌, List, [], ◌∷◌, length, get_or}
 use Rattle.std.specs.List.{between}
-use Rattle.contracts.specs.declared.rows.Span.{Span}
 
--- each span ends in the list, and not before it begins
-abbrev pub AreWithin : {T : Type 0} → List T → List Span → Type 0
-AreWithin items spans = All (λ s. (s.from ≤ s.to) × (s.to ≤ length items)) spans
+-- where a row begins: the first one at the start, each other one where the one before it ends
+abbrev pub start_of : ℕ → List ℕ → ℕ → ℕ
+start_of start ends zero = start
+start_of start ends (suc v) = get_or ends v 0
 
--- the rows that spans of a list are
-abbrev pub cut : {T : Type 0} → List T → List Span → List (List T)
-cut items spans = map (λ s. between s.from s.to items) spans
+-- each row ends in the list, and not before it begins
+abbrev pub AreWithin : {T : Type 0} → List T → List ℕ → Type 0
+AreWithin items ends = (v : ℕ) → v < length ends → (start_of 0 ends v ≤ get_or ends v 0) × (get_or ends v 0 ≤ length items)
+
+-- the rows, the first of which begins at the start
+abbrev pub cut_from : {T : Type 0} → ℕ → List T → List ℕ → List (List T)
+cut_from start items [] = []
+cut_from start items (end ∷ ends) = between start end items ∷ cut_from end items ends
+
+abbrev pub cut : {T : Type 0} → List T → List ℕ → List (List T)
+cut items ends = cut_from 0 items ends

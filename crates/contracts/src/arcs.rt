@@ -79,11 +79,6 @@ impl SignGraph {
     }
 }
 
-/// How many edges have the sign. It is only the room that is made for them.
-pub(crate) fn count_of(edges: &[Edge], sign: Sign) -> usize {
-    edges.iter().filter(|edge| edge.sign == sign).count()
-}
-
 /// The arcs of the edges that have the sign.
 fn arcs_of(
     alloc: Global,
@@ -95,7 +90,7 @@ fn arcs_of(
     ensures arcs { IfOk result
         (λ arcs. AreArcs (listed states) edges.now sign arcs.items) }
 {
-    let mut arcs = Vec::with_capacity(alloc, count_of(edges, sign))?;
+    let mut arcs = Vec::with_capacity(alloc, edges.len())?; // room that is not written to costs nothing
     for edge in edges {
         if edge.sign == sign {
             arcs.push(Arc {

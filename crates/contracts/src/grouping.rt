@@ -7,7 +7,7 @@ ghost use Rattle.contracts.specs.Graphs.{rows};
 ghost use Rattle.contracts.specs.declared.arcs.Arc.{Arc};
 
 use crate::arcs::Arc;
-use crate::rows::{Rows, Span};
+use crate::rows::Rows;
 use std::alloc::{AllocError, Global};
 
 /// For each vertex the first arc that begins there, and for each arc the next one that begins where it does, each by its place.
@@ -64,14 +64,10 @@ pub fn rows_of(alloc: Global, count: usize, arcs: &[Arc]) -> Result<Rows<usize>,
 {
     let chains = chains_of(alloc, count, arcs)?;
     let mut items = Vec::with_capacity(alloc, arcs.len())?;
-    let mut spans = Vec::with_capacity(alloc, count)?;
+    let mut ends = Vec::with_capacity(alloc, count)?;
     for vertex in 0..count {
-        let from = items.len();
         follow(&chains, arcs, vertex, &mut items)?;
-        spans.push(Span {
-            from,
-            to: items.len(),
-        })?;
+        ends.push(items.len())?;
     }
-    Ok(Rows { items, spans })
+    Ok(Rows { items, ends })
 }

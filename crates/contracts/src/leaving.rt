@@ -7,51 +7,43 @@ ghost use Rattle.contracts.specs.Graphs.{rows};
 ghost use Rattle.contracts.specs.Leaving.{AreLeaving, AreSources, edge_at, sign_from};
 ghost use Rattle.contracts.specs.Positions.{listed};
 
-use crate::arcs::{Arc, count_of};
+use crate::arcs::Arc;
 use crate::grouping::rows_of;
 use crate::positions::Listing;
 use crate::rows::Rows;
 use program::{Edge, Side, Sign};
 use std::alloc::{AllocError, Global};
 
-/// For each state the edges of this sign from there, in order of the text: a row for the position of each state.
+/// For each state the edges from there, in order of the text: a row for the position of each state.
 pub(crate) fn leaving(
     alloc: Global,
     edges: &[Edge],
     states: Listing,
-    sign: Sign,
 ) -> Result<Rows<Edge>, AllocError>
     requires listed { EndsListed (listed states) edges.now }
-    ensures { IfOk result (λ leaving. AreLeaving (listed states) edges.now sign (rows leaving)) }
+    ensures { IfOk result (λ leaving. AreLeaving (listed states) edges.now (rows leaving)) }
 {
-    let sources = sources_of(alloc, edges, states, sign)?;
+    let sources = sources_of(alloc, edges, states)?;
     let places = rows_of(alloc, states.len(), &sources)?;
+    drop(sources); // a large contract takes less memory so
     let items = edges_at(alloc, edges, &places.items)?;
     Ok(Rows {
         items,
-        spans: places.spans,
+        ends: places.ends,
     })
 }
 
-/// For each edge of the sign an arc from the position of its state to its own place.
-fn sources_of(
-    alloc: Global,
-    edges: &[Edge],
-    states: Listing,
-    sign: Sign,
-) -> Result<Vec<Arc>, AllocError>
+/// For each edge an arc from the position of its state to its own place.
+fn sources_of(alloc: Global, edges: &[Edge], states: Listing) -> Result<Vec<Arc>, AllocError>
     requires listed { EndsListed (listed states) edges.now }
-    ensures { IfOk result (λ sources. AreSources (listed states) edges.now sign (length edges.now) sources.items) }
+    ensures { IfOk result (λ sources. AreSources (listed states) edges.now (length edges.now) sources.items) }
 {
-    let mut sources = Vec::with_capacity(alloc, count_of(edges, sign))?;
+    let mut sources = Vec::with_capacity(alloc, edges.len())?;
     for i in 0..edges.len() {
-        let edge = edges[i];
-        if edge.sign == sign {
-            sources.push(Arc {
-                from: states.position(edge.from.0),
-                to: i,
-            })?;
-        }
+        sources.push(Arc {
+            from: states.position(edges[i].from.0),
+            to: i,
+        })?;
     }
     Ok(sources)
 }

@@ -3,30 +3,24 @@
 ghost use Rattle.std.proofs.Props.{props};
 ghost use Rattle.contracts.specs.Spans.{AreWithin};
 
-/// From a place of a list up to another one, which is left out.
-#[derive(Clone, Copy, PartialEq, Eq)]
-pub struct Span {
-    pub from: usize,
-    pub to: usize,
-}
-
-/// Rows of items. The items of all of them stand in one list, and each row is a span of it.
+/// Rows of items. The items of all of them stand in one list, and each row begins where the one before it ends.
 #[derive(Drop)]
 pub struct Rows<T> {
     pub items: Vec<T>,
-    pub spans: Vec<Span>,
-    pub ghost within: { AreWithin items.items spans.items } by { Prim.hlevel props },
+    pub ends: Vec<usize>,
+    pub ghost within: { AreWithin items.items ends.items } by { Prim.hlevel props },
 }
 
 impl<T> Rows<T> {
-    ghost use Rattle.std.specs.Prelude.{◌≡◌, ◌<◌, length};
+    ghost use Rattle.std.specs.Prelude.{◌≡◌, ◌<◌, ◌≤◌, get_or, length};
     ghost use Rattle.contracts.specs.Graphs.{rows, row_at};
+    ghost use Rattle.contracts.specs.Spans.{start_of};
 
     /// How many rows there are.
     pub fn len(&self) -> usize
         ensures { result ≡ length (rows self.now) }
     {
-        self.spans.len()
+        self.ends.len()
     }
 
     /// The row at a place.
@@ -34,7 +28,26 @@ impl<T> Rows<T> {
         requires { at < length (rows self.now) }
         ensures { result.now ≡ row_at (rows self.now) at }
     {
-        let span = self.spans[at];
-        &self.items[span.from..span.to]
+        let from = self.start(at);
+        let to = self.end(at);
+        &self.items[from..to]
+    }
+
+    /// Where the row at a place begins.
+    fn start(&self, at: usize) -> usize
+        requires { at < length (rows self.now) }
+        ensures start { result ≡ start_of 0 self.now.ends.items at }
+        ensures before { result ≤ get_or self.now.ends.items at 0 }
+    {
+        if at == 0 { 0 } else { self.ends[at - 1] }
+    }
+
+    /// Where it ends.
+    fn end(&self, at: usize) -> usize
+        requires { at < length (rows self.now) }
+        ensures end { result ≡ get_or self.now.ends.items at 0 }
+        ensures within { result ≤ length self.now.items.items }
+    {
+        self.ends[at]
     }
 }

@@ -7,7 +7,7 @@ ghost use Rattle.program.specs.declared.limits.TheConstants.{MOST_STATES};
 ghost use Rattle.contracts.specs.Bounds.{IsBound, sign_to};
 ghost use Rattle.contracts.specs.Conditions.{FindingParts, IsFault, IsSound};
 ghost use Rattle.contracts.specs.Graphs.{rows};
-ghost use Rattle.contracts.specs.Leaving.{AreLeaving, edges_from, end_on, name_among, sign_from};
+ghost use Rattle.contracts.specs.Leaving.{AreLeaving, all_from, edges_from, end_on, name_among, sign_from};
 ghost use Rattle.contracts.specs.Drawings.{IsDrawing};
 ghost use Rattle.contracts.specs.Parts.{IsWhole, contract_parts, message_parts};
 ghost use Rattle.contracts.specs.Orders.{IsOrder};
@@ -84,8 +84,7 @@ pub struct Sound {
     states: Listing,
     numbers: Listing,
     order: Vec<usize>,
-    sends: Rows<Edge>,
-    receives: Rows<Edge>,
+    leaving: Rows<Edge>,
     pub ghost whole: { ∥ IsWhole (contract_parts contract.value) ∥₁ },
     pub ghost sound: { IsSound (contract_parts contract.value) },
     ghost first_is: { first ≡ contract.value.first } by { Prim.hlevel props },
@@ -95,8 +94,7 @@ pub struct Sound {
     ghost to_exp: { ∥ IsBound contract.value.edges.items contract.value.first Receive bounds.to_exp ∥₁ },
     ghost ordered: { ∥ IsOrder edges.items order.items ∥₁ },
     ghost named: { listed numbers ≡ map (λ m. m.id.0) messages.items } by { Prim.hlevel props },
-    ghost sent: { AreLeaving (listed states) contract.value.edges.items Send (rows sends) } by { Prim.hlevel props },
-    ghost received: { AreLeaving (listed states) contract.value.edges.items Receive (rows receives) } by { Prim.hlevel props },
+    ghost leave: { AreLeaving (listed states) contract.value.edges.items (rows leaving) } by { Prim.hlevel props },
 }
 
 /// What a contract is judged to be.
@@ -194,16 +192,23 @@ impl Sound {
         self.edges_of(sign_to(side), state)
     }
 
-    /// The edges of this sign from a state, in order of the text.
+    /// The edges of this sign from a state, in order of the text. Those from one state have one sign.
     fn edges_of(&self, sign: Sign, state: StateId) -> &[Edge]
         ensures { result.now ≡ edges_from (sound_parts self.now).edges sign state.0 }
     {
-        let leaving = match sign {
-            Sign::Send => &self.sends,
-            Sign::Receive => &self.receives,
-        };
+        let row = self.edges_at(state);
+        match row.first() {
+            Some(edge) if edge.sign == sign => row,
+            _ => &[],
+        }
+    }
+
+    /// The edges of either sign from a state, in order of the text.
+    fn edges_at(&self, state: StateId) -> &[Edge]
+        ensures { result.now ≡ all_from (sound_parts self.now).edges state.0 }
+    {
         if self.states.has(state.0) {
-            leaving.row(self.states.position(state.0))
+            self.leaving.row(self.states.position(state.0))
         } else {
             &[]
         }
@@ -253,8 +258,7 @@ fn sound_of(
     let states = states_of(contract);
     let edges = contract.edges.to_vec(alloc)?;
     let messages = copied(alloc, &contract.messages)?;
-    let sends = leaving(alloc, &edges, states, Sign::Send)?;
-    let receives = leaving(alloc, &edges, states, Sign::Receive)?;
+    let leaving = leaving(alloc, &edges, states)?;
     Ok(Sound {
         contract: Snapshot::of(contract),
         first: contract.first,
@@ -264,8 +268,7 @@ fn sound_of(
         states,
         numbers: messages_of(contract),
         order,
-        sends,
-        receives,
+        leaving,
     })
 }
 

@@ -13,11 +13,11 @@ loop-vertex-preserved c =
     let listed = c.in_ok-follow.ensures in
     subst (λ l. AreFilled arcs (n + 1) l c.push.new.self.items) (sym listed)
     (subst (AreFilled arcs (n + 1) (items ++ ends_from arcs n)) (sym c.in_ok-push.ensures.items)
-    (filled_more arcs n items c.loop-vertex.spans.items (record { from = c.len-from.result; to = c.len.result }) (c.len-from.ensures ∙ c.loop-vertex.items.ok.0) (c.len.ensures ∙ c.follow.new.ends.ok.0 ∙ ap length listed) c.loop-vertex.invariant))
+    (filled_more arcs n items c.loop-vertex.ends.items c.len.result (c.len.ensures ∙ c.follow.new.ends.ok.0 ∙ ap length listed) c.loop-vertex.invariant))
 
 pub returns-clause-rows : goal.returns-clause-rows
 returns-clause-rows c = λ within.
     let stop = c.loop-vertex-test.false in
     let most = c.loop-vertex.auto.vertex-end in
     let all : c.loop-vertex.vertex ≡ c.args.count = omega (arith, stop, most) in
-    rows_are c.args.arcs.now c.args.count (cut c.loop-vertex.items.items c.loop-vertex.spans.items) within (subst (λ n. AreEnds c.args.arcs.now n (cut c.loop-vertex.items.items c.loop-vertex.spans.items)) all c.loop-vertex.invariant.ends)
+    rows_are c.args.arcs.now c.args.count (cut c.loop-vertex.items.items c.loop-vertex.ends.items) within (subst (λ n. AreEnds c.args.arcs.now n (cut c.loop-vertex.items.items c.loop-vertex.ends.items)) all c.loop-vertex.invariant.made)

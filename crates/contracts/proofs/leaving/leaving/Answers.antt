@@ -6,13 +6,13 @@ use Rattle.contracts.specs.Graphs.{rows}
 use Rattle.contracts.specs.Leaving.{edge_at}
 use Rattle.contracts.specs.Positions.{listed}
 use Rattle.contracts.specs.Spans.{cut}
-use Rattle.contracts.proofs.ChainLemmas.{cut_map}
+use Rattle.contracts.proofs.SpanLemmas.{cut_map}
 use Rattle.contracts.proofs.PartLemmas.{all_from}
 use Rattle.contracts.proofs.SourceLemmas.{leaving_is, sources_start}
 use Rattle.contracts.proofs.leaving.leaving.Goals as goal
 
 pub rows_of-requires : goal.rows_of-requires
-rows_of-requires c = record { starts = subst (λ n. All (λ a. a.from < n) c.deref.result.now) (sym c.len.ensures) (subst (All (λ a. a.from < length (listed c.args.states))) (sym c.deref.ensures.value) (sources_start _ _ _ _ _ c.in_ok-sources.ensures)) }
+rows_of-requires c = record { starts = subst (λ n. All (λ a. a.from < n) c.deref.result.now) (sym c.len.ensures) (subst (All (λ a. a.from < length (listed c.args.states))) (sym c.deref.ensures.value) (sources_start _ _ _ _ c.in_ok-sources.ensures)) }
 
 pub edges_at-requires : goal.edges_at-requires
 edges_at-requires c =
@@ -27,6 +27,6 @@ returns c =
     let numbers = listed c.args.states in
     let edges = c.args.edges.now in
     let places = c.in_ok-places.places in
-    leaving_is numbers edges c.args.sign c.in_ok-sources.sources.items (rows places) (cut c.in_ok-items.items.items places.spans.items) c.requires.listed c.in_ok-sources.ensures
+    leaving_is numbers edges c.in_ok-sources.sources.items (rows places) (cut c.in_ok-items.items.items places.ends.items) c.requires.listed c.in_ok-sources.ensures
     (subst (λ n. AreEnds c.in_ok-sources.sources.items n (rows places)) c.len.ensures (subst (λ l. AreEnds l c.len.result (rows places)) c.deref.ensures.value c.in_ok-places.ensures.exact))
-    (ap (λ l. cut l places.spans.items) (c.in_ok-items.ensures ∙ ap (map (edge_at edges)) c.deref-2.ensures.value) ∙ cut_map (edge_at edges) places.items.items places.spans.items)
+    (ap (λ l. cut l places.ends.items) (c.in_ok-items.ensures ∙ ap (map (edge_at edges)) c.deref-2.ensures.value) ∙ cut_map (edge_at edges) 0 places.items.items places.ends.items)

@@ -3,4 +3,4 @@ use Rattle.contracts.specs.Positions.{listed}
 use Rattle.contracts.proofs.leaving.sources_of.Given as goal
 
 abbrev pub invariant-loop-i : goal.invariant-loop-i
-invariant-loop-i l = AreSources (listed l.states) l.edges l.sign l.i l.sources.items
+invariant-loop-i l = AreSources (listed l.states) l.edges l.i l.sources.items

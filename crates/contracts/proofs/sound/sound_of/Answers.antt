@@ -1,7 +1,6 @@
 use Rattle.std.proofs.Common.{◌≡◌, ◌∙◌, List, map, ap, sym, subst}
 use Rattle.program.specs.declared.contract.Contract.{Contract}
 use Rattle.program.specs.declared.contract.Message.{Message}
-use Rattle.program.specs.declared.contract.Sign.TheVariants.{Send, Receive}
 use Rattle.program.specs.declared.number.MessageId.{MessageId}
 use Rattle.contracts.specs.Arcs.{EndsListed}
 use Rattle.contracts.specs.Conditions.{IsSound}
@@ -21,11 +20,6 @@ leaving-requires c =
     let same = c.in_ok-edges.ensures.items_if_clones_equal (λ x y h. h) ∙ c.deref.ensures.value in
     record { listed = subst (EndsListed (listed c.states_of-states.result)) (sym (c.deref-3.ensures.value ∙ same)) (ends_listed c.args.contract.now (listed c.states_of-states.result) c.requires.whole c.states_of-states.ensures) }
 
-pub leaving-requires-2 : goal.leaving-requires-2
-leaving-requires-2 c =
-    let same = c.in_ok-edges.ensures.items_if_clones_equal (λ x y h. h) ∙ c.deref.ensures.value in
-    record { listed = subst (EndsListed (listed c.states_of-states.result)) (sym (c.deref-4.ensures.value ∙ same)) (ends_listed c.args.contract.now (listed c.states_of-states.result) c.requires.whole c.states_of-states.ensures) }
-
 pub invariant_of-result-clause-sound : goal.invariant_of-result-clause-sound
 invariant_of-result-clause-sound c = subst (λ (k : Contract). IsSound (contract_parts k)) (sym c.of.ensures) c.requires.sound
 
@@ -38,12 +32,7 @@ invariant_of-result-clause-messages_are c = c.in_ok-messages.ensures.parts ∙ a
 pub invariant_of-result-clause-named : goal.invariant_of-result-clause-named
 invariant_of-result-clause-named c = c.messages_of.ensures ∙ same_numbers c.args.contract.now.messages.items c.in_ok-messages.messages.items (sym (c.in_ok-messages.ensures.parts ∙ ap (map message_parts) c.deref-2.ensures.value))
 
-pub invariant_of-result-clause-sent : goal.invariant_of-result-clause-sent
-invariant_of-result-clause-sent c =
+pub invariant_of-result-clause-leave : goal.invariant_of-result-clause-leave
+invariant_of-result-clause-leave c =
     let same = c.in_ok-edges.ensures.items_if_clones_equal (λ x y h. h) ∙ c.deref.ensures.value ∙ ap (λ (k : Contract). k.edges.items) (sym c.of.ensures) in
-    subst (λ edges. AreLeaving (listed c.states_of-states.result) edges Send (rows c.in_ok-sends.sends)) (c.deref-3.ensures.value ∙ same) c.in_ok-sends.ensures
-
-pub invariant_of-result-clause-received : goal.invariant_of-result-clause-received
-invariant_of-result-clause-received c =
-    let same = c.in_ok-edges.ensures.items_if_clones_equal (λ x y h. h) ∙ c.deref.ensures.value ∙ ap (λ (k : Contract). k.edges.items) (sym c.of.ensures) in
-    subst (λ edges. AreLeaving (listed c.states_of-states.result) edges Receive (rows c.in_ok-receives.receives)) (c.deref-4.ensures.value ∙ same) c.in_ok-receives.ensures
+    subst (λ edges. AreLeaving (listed c.states_of-states.result) edges (rows c.in_ok-leaving.leaving)) (c.deref-3.ensures.value ∙ same) c.in_ok-leaving.ensures
