@@ -1,11 +1,12 @@
 //! Edges of one sign as arcs between the positions of their states.
 
-ghost use Rattle.std.specs.Prelude.{◌≡◌, ◌==◌, length, map, not, IfOk};
+ghost use Rattle.std.specs.Prelude.{◌≡◌, ◌==◌, ◌≤◌, length, map, not, IfOk};
 ghost use Rattle.contracts.specs.Graphs.{InRange, rows};
 ghost use Rattle.contracts.specs.Arcs.{AreArcs, IsDrawn, EndsListed};
 ghost use Rattle.contracts.specs.Numbering.{AreRings};
 ghost use Rattle.contracts.specs.Peeling.{AreHeights};
 ghost use Rattle.contracts.specs.Positions.{listed};
+ghost use Rattle.program.specs.declared.limits.TheConstants.{MOST_STATES};
 
 use crate::grouping::rows_of;
 use crate::heights::{all_heights, first_heights};
@@ -27,7 +28,7 @@ pub struct Arc {
 #[derive(Drop)]
 pub struct SignGraph {
     pub rows: Rows<usize>,
-    pub heights: Vec<Option<usize>>,
+    pub heights: Vec<Option<u32>>,
     pub rings: Vec<bool>,
 }
 
@@ -46,6 +47,7 @@ impl SignGraph {
         states: Listing,
         sign: Sign,
     ) -> Result<SignGraph, AllocError>
+        requires few { length (listed states) ≤ MOST_STATES }
         requires listed { EndsListed (listed states) edges.now }
         ensures range { IfOk result (λ graph. InRange (rows graph.rows)) }
         ensures drawn { IfOk result (λ graph. IsDrawn (listed states) edges.now

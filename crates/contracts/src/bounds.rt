@@ -10,7 +10,6 @@ ghost use Rattle.contracts.specs.Parts.{IsWhole, contract_parts};
 ghost use Rattle.contracts.specs.Peeling.{AreHeights};
 ghost use Rattle.contracts.specs.Reached.{IsLongest, counted_height};
 ghost use Rattle.program.specs.declared.contract.Sign.TheVariants.{Send, Receive};
-ghost use Rattle.program.specs.declared.limits.TheConstants.{MOST_STATES};
 
 use crate::arcs::SignGraph;
 use crate::keys::states_of;
@@ -44,14 +43,11 @@ pub fn bounds_of(
     let reached = reached_from(alloc, &sends.rows, &receives.rows, first)?;
     let to_imp = longest(sends, &reached);
     let to_exp = longest(receives, &reached);
-    Ok(Bounds {
-        to_imp: narrowed(to_imp),
-        to_exp: narrowed(to_exp),
-    })
+    Ok(Bounds { to_imp, to_exp })
 }
 
 /// The greatest length of a walk from one of the marked vertices, where no vertex lies on a ring.
-fn longest(graph: &SignGraph, reached: &[bool]) -> usize
+fn longest(graph: &SignGraph, reached: &[bool]) -> u32
     requires range { InRange (rows graph.now.rows) }
     requires heights { AreHeights (rows graph.now.rows) graph.now.heights.items }
     requires reached { length reached.now ≡ length (rows graph.now.rows) }
@@ -63,7 +59,7 @@ fn longest(graph: &SignGraph, reached: &[bool]) -> usize
 }
 
 /// The greatest height of a marked vertex.
-fn tallest_of(heights: &[Option<usize>], reached: &[bool]) -> usize
+fn tallest_of(heights: &[Option<u32>], reached: &[bool]) -> u32
     requires reached { length reached.now ≡ length heights.now }
     ensures most { (v : ℕ) → v < length heights.now → counted_height (height_at heights.now v)
         (get_or reached.now v false) ≤ result }
@@ -78,16 +74,8 @@ fn tallest_of(heights: &[Option<usize>], reached: &[bool]) -> usize
 }
 
 /// The height, if the vertex is marked.
-fn counted(height: Option<usize>, mark: bool) -> usize
+fn counted(height: Option<u32>, mark: bool) -> u32
     ensures { result ≡ counted_height height mark }
 {
     if mark { height.unwrap_or(0) } else { 0 }
-}
-
-/// A number below the most states.
-fn narrowed(n: usize) -> u32
-    requires { n < MOST_STATES }
-    ensures { result ≡ n }
-{
-    n as u32
 }

@@ -22,7 +22,7 @@ pub fn rings(
     graph: &Rows<usize>,
     arcs: Vec<Arc>,
     order: Vec<usize>,
-    heights: &[Option<usize>],
+    heights: &[Option<u32>],
 ) -> Result<Vec<bool>, AllocError>
     requires rows { AreRows (length (rows graph.now)) arcs.items (rows graph.now) }
     requires range { AllWithin (length (rows graph.now)) arcs.items }
@@ -40,7 +40,7 @@ pub fn rings(
 }
 
 /// Whether each of the heights is known.
-fn are_known(heights: &[Option<usize>]) -> bool
+fn are_known(heights: &[Option<u32>]) -> bool
     ensures { IsTrue result → All (λ height. IsTrue (is_some height)) heights.now }
 {
     heights.iter().all(|height| height.is_some())
@@ -50,7 +50,7 @@ fn are_known(heights: &[Option<usize>]) -> bool
 pub fn order_for(
     alloc: Global,
     graph: &Rows<usize>,
-    heights: &[Option<usize>],
+    heights: &[Option<u32>],
 ) -> Result<Vec<usize>, AllocError> {
     if are_known(heights) {
         Ok(Vec::new(alloc))

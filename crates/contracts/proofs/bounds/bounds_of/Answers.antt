@@ -1,14 +1,13 @@
 use Rattle.std.proofs.Common.{◌≡◌, ◌<◌, ◌∙◌, ℕ, get_or, length, map, sym, subst, refl, arith}
 use Rattle.std.specs.Prelude.{Contains}
 use Rattle.std.proofs.lemmas.List.{length-map}
-use Rattle.contracts.specs.Bounds.{IsBound}
 use Rattle.contracts.specs.Marking.{IsMarked}
 use Rattle.contracts.specs.Reached.{IsLongest}
 use Rattle.program.specs.declared.contract.Sign.TheVariants.{Send, Receive}
 use Rattle.contracts.specs.Graphs.{OnRing, rows}
 use Rattle.contracts.proofs.BoundLemmas.{bound_is}
 use Rattle.contracts.proofs.RoundLemmas.{no_rings}
-use Rattle.contracts.proofs.PartLemmas.{few_numbers, numbers_once, state_number_in}
+use Rattle.contracts.proofs.PartLemmas.{numbers_once, state_number_in}
 use Rattle.contracts.proofs.bounds.bounds_of.Goals as goal
 
 pub position-first-requires : goal.position-first-requires
@@ -33,22 +32,6 @@ longest-to_imp-requires-clause-start c = subst (λ m. (s : ℕ) × IsMarked m s)
 pub longest-to_exp-requires-clause-start : goal.longest-to_exp-requires-clause-start
 longest-to_exp-requires-clause-start c = subst (λ m. (s : ℕ) × IsMarked m s) (sym c.deref-2.ensures.value) (c.position-first.result, c.in_ok-reached.ensures.reached.all c.position-first.result 0 refl)
 
-pub narrowed-requires : goal.narrowed-requires
-narrowed-requires c =
-    let below = c.longest-to_imp.ensures.below in
-    let long = c.requires.sends.drawn.long in
-    let size = length-map c.args.contract.now.states.items (λ s. s.id.0) in
-    let few = few_numbers c.args.contract.now c.requires.whole in
-    omega (arith, below, long, size, few)
-
-pub narrowed-requires-2 : goal.narrowed-requires-2
-narrowed-requires-2 c =
-    let below = c.longest-to_exp.ensures.below in
-    let long = c.requires.receives.drawn.long in
-    let size = length-map c.args.contract.now.states.items (λ s. s.id.0) in
-    let few = few_numbers c.args.contract.now c.requires.whole in
-    omega (arith, below, long, size, few)
-
 pub returns : goal.returns
 returns c =
     let all = c.args.contract.now.states.items in
@@ -66,10 +49,8 @@ returns c =
     let to_imp = subst (λ m. ((x : ℕ) → OnRing sends x → ⊥) → IsLongest sends m c.longest-to_imp.result) c.deref.ensures.value c.longest-to_imp.ensures.longest in
     let to_exp = subst (λ m. ((x : ℕ) → OnRing receives x → ⊥) → IsLongest receives m c.longest-to_exp.result) c.deref-2.ensures.value c.longest-to_exp.ensures.longest in
     record {
-      to_imp = λ sound. subst (IsBound edges first Send) (sym c.narrowed.ensures)
-          (bound_is n edges Send sends receives sends marks first v c.longest-to_imp.result once within at c.requires.sends.drawn c.requires.receives.drawn reached c.requires.sends.drawn
-          (to_imp (no_rings c.args.contract.now Send sends sound c.requires.sends.drawn)));
-      to_exp = λ sound. subst (IsBound edges first Receive) (sym c.narrowed-2.ensures)
-          (bound_is n edges Receive sends receives receives marks first v c.longest-to_exp.result once within at c.requires.sends.drawn c.requires.receives.drawn reached c.requires.receives.drawn
-          (to_exp (no_rings c.args.contract.now Receive receives sound c.requires.receives.drawn)));
+      to_imp = λ sound. bound_is n edges Send sends receives sends marks first v c.longest-to_imp.result once within at c.requires.sends.drawn c.requires.receives.drawn reached c.requires.sends.drawn
+          (to_imp (no_rings c.args.contract.now Send sends sound c.requires.sends.drawn));
+      to_exp = λ sound. bound_is n edges Receive sends receives receives marks first v c.longest-to_exp.result once within at c.requires.sends.drawn c.requires.receives.drawn reached c.requires.receives.drawn
+          (to_exp (no_rings c.args.contract.now Receive receives sound c.requires.receives.drawn));
     }

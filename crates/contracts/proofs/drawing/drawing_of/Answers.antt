@@ -1,23 +1,33 @@
-use Rattle.std.proofs.Common.{◌≡◌, Bool, List, ℕ, ap, map, sym, subst}
+use Rattle.std.proofs.Common.{◌≡◌, ◌≤◌, ◌∙◌, Bool, List, ℕ, ap, length, map, sym, subst, arith}
+use Rattle.std.proofs.lemmas.List.{length-map}
 use Rattle.std.specs.Prelude.{Vec}
 use Rattle.std.specs.Global.{Global}
 use Rattle.program.specs.declared.contract.Contract.{Contract}
 use Rattle.program.specs.declared.contract.Edge.{Edge}
 use Rattle.program.specs.declared.contract.Sign.{Sign}
 use Rattle.program.specs.declared.contract.Sign.TheVariants.{Send, Receive}
+use Rattle.program.specs.declared.limits.TheConstants.{MOST_STATES}
 use Rattle.contracts.specs.Arcs.{EndsListed, IsDrawn}
 use Rattle.contracts.specs.Drawings.{DrawsSign}
 use Rattle.contracts.specs.Graphs.{rows}
 use Rattle.contracts.specs.Numbering.{AreRings}
+use Rattle.contracts.specs.Parts.{IsWhole, contract_parts}
 use Rattle.contracts.specs.Positions.{listed}
-use Rattle.contracts.proofs.PartLemmas.{ends_listed}
+use Rattle.contracts.proofs.PartLemmas.{ends_listed, few_numbers}
 use Rattle.contracts.proofs.drawing.drawing_of.Goals as goal
 
+-- a listing of the states is no longer than a contract's states may be
+few_listed : (contract : Contract) (numbers : List ℕ) → IsWhole (contract_parts contract) → numbers ≡ map (λ s. s.id.0) contract.states.items → length numbers ≤ MOST_STATES
+few_listed contract numbers whole is =
+    let few = few_numbers contract whole in
+    let size = ap length is ∙ length-map contract.states.items (λ s. s.id.0) in
+    omega (arith, few, size)
+
 pub new-requires : goal.new-requires
-new-requires c = record { listed = subst (EndsListed (listed c.states_of-states.result)) (sym c.deref.ensures.value) (ends_listed c.args.contract.now (listed c.states_of-states.result) c.requires.whole c.states_of-states.ensures) }
+new-requires c = record { few = few_listed c.args.contract.now (listed c.states_of-states.result) c.requires.whole c.states_of-states.ensures; listed = subst (EndsListed (listed c.states_of-states.result)) (sym c.deref.ensures.value) (ends_listed c.args.contract.now (listed c.states_of-states.result) c.requires.whole c.states_of-states.ensures) }
 
 pub new-requires-2 : goal.new-requires-2
-new-requires-2 c = record { listed = subst (EndsListed (listed c.states_of-states.result)) (sym c.deref-2.ensures.value) (ends_listed c.args.contract.now (listed c.states_of-states.result) c.requires.whole c.states_of-states.ensures) }
+new-requires-2 c = record { few = few_listed c.args.contract.now (listed c.states_of-states.result) c.requires.whole c.states_of-states.ensures; listed = subst (EndsListed (listed c.states_of-states.result)) (sym c.deref-2.ensures.value) (ends_listed c.args.contract.now (listed c.states_of-states.result) c.requires.whole c.states_of-states.ensures) }
 
 -- the graph of the edges between the positions that a listing gives is that of the contract
 drawn_as : (contract : Contract) (numbers : List ℕ) (edges : List Edge) (sign : Sign) (graph : List (List ℕ)) → numbers ≡ map (λ s. s.id.0) contract.states.items → edges ≡ contract.edges.items → IsDrawn numbers edges (λ e. e.sign ≡ sign) graph → DrawsSign contract sign graph

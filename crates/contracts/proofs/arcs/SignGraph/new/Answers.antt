@@ -1,4 +1,4 @@
-use Rattle.std.proofs.Common.{◌<◌, length, sym, subst}
+use Rattle.std.proofs.Common.{◌<◌, length, sym, subst, arith}
 use Rattle.std.specs.Prelude.{All}
 use Rattle.contracts.specs.Graphs.{rows}
 use Rattle.contracts.specs.Positions.{listed}
@@ -14,9 +14,16 @@ rows_of-requires c = record {
 }
 
 pub first_heights-requires : goal.first_heights-requires
-first_heights-requires c = record {
-  range = (arcs_made _ c.args.edges.now _ _ _ _ _ c.in_ok-arcs.ensures.arcs c.deref.ensures.value c.len.ensures c.in_ok-rows.ensures.rows).range;
-}
+first_heights-requires c =
+    let made = arcs_made _ c.args.edges.now _ _ _ _ _ c.in_ok-arcs.ensures.arcs c.deref.ensures.value c.len.ensures c.in_ok-rows.ensures.rows in
+    let long = made.long in
+    record { few = omega (arith, long, c.requires.few); range = made.range }
+
+pub all_heights-requires-clause-few : goal.all_heights-requires-clause-few
+all_heights-requires-clause-few c =
+    let made = arcs_made _ c.args.edges.now _ _ _ _ _ c.in_ok-arcs.ensures.arcs c.deref.ensures.value c.len.ensures c.in_ok-rows.ensures.rows in
+    let long = made.long in
+    omega (arith, long, c.requires.few)
 
 pub all_heights-requires-clause-range : goal.all_heights-requires-clause-range
 all_heights-requires-clause-range c = (arcs_made _ c.args.edges.now _ _ _ _ _ c.in_ok-arcs.ensures.arcs c.deref.ensures.value c.len.ensures c.in_ok-rows.ensures.rows).range
