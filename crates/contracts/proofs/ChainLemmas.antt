@@ -1,9 +1,9 @@
 -- Arcs linked from the last to the first, and rows that are made by following the links.
-use Rattle.std.proofs.Common.{◌≡◌, ◌==◌, ℕ, zero, suc, ◌+◌, ◌<◌, ◌≤◌, List, [], ◌∷◌, ◌++◌, length, map, get_or, drop, sym, refl, ap, ◌∙◌, subst, arith, ⊎_elim}
+use Rattle.std.proofs.Common.{◌≡◌, ◌==◌, ℕ, zero, suc, ◌+◌, ◌<◌, ◌≤◌, List, [], ◌∷◌, ◌++◌, length, map, get_or, take, drop, sym, refl, ap, ◌∙◌, subst, arith, ⊎_elim}
 use Rattle.std.specs.Prelude.{Contains, All, filter}
 use Rattle.std.proofs.Math.ListN.{set, replicate, length-set, length-append}
 use Rattle.std.proofs.lemmas.Bool.{eq-eqb, eqb-true, cond-true, cond-false, cases_eq, cases_lt, false_from_ne_true}
-use Rattle.std.proofs.lemmas.List.{get_or-set_same, get_or-set_other, get_or-replicate, get_or_past, length-replicate, drop_more, drop_all}
+use Rattle.std.proofs.lemmas.List.{get_or-set_same, get_or-set_other, get_or-replicate, get_or_past, length-replicate, drop_more, drop_all, take_all, take_more_set}
 use Rattle.std.proofs.lemmas.List.Elements.{All-weaker, All-nil, All-map, All-filter, All-contains, Contains-append_cases}
 use Rattle.contracts.specs.declared.arcs.Arc.{Arc}
 use Rattle.contracts.specs.Arcs.{AllWithin, AreRows, arc, begins, ends_from}
@@ -80,6 +80,10 @@ ends_all arcs v k past = ap (λ l. ends_from l v) (drop_all k arcs past)
 pub ends_first : (arcs : List Arc) (v j : ℕ) → IsFirst arcs v 0 j → ends_from (drop j arcs) v ≡ ends_from arcs v
 ends_first arcs v j h = ap (map (λ (x : Arc). x.to)) (sym h.none)
 
+-- the links of the arcs alone
+pub linked : (arcs : List Arc) (firsts nexts : List ℕ) → AreChained arcs 0 firsts nexts → AreChained arcs 0 [] nexts
+linked arcs firsts nexts h = record { long = h.long; first = λ v lt. absurd (omega (arith, lt)); next = h.next }
+
 -- the rows of the first n vertices, which are all that the items are
 pub record AreFilled (arcs : List Arc) (n : ℕ) (items ends : List ℕ) : Type 0 where
   pub within : AreWithin items ends
@@ -127,6 +131,15 @@ filled_more arcs n items ends end is h = record {
     before [] l v lt = absurd (omega (arith, lt))
     before (x ∷ lists) l zero lt = refl
     before (x ∷ lists) l (suc v) lt = before lists l v (omega (arith, lt))
+
+-- one row more, whose end is put in its place
+pub filled_put : (arcs : List Arc) (n : ℕ) (items all ends : List ℕ) (end : ℕ) → n < length ends → all ≡ items ++ ends_from arcs n → end ≡ length all → AreFilled arcs n items (take n ends) → AreFilled arcs (n + 1) all (take (n + 1) (set ends n end))
+filled_put arcs n items all ends end lt is to h =
+    subst (AreFilled arcs (n + 1) all) (sym (take_more_set ends n end lt))
+    (subst (λ l. AreFilled arcs (n + 1) l (take n ends ++ end ∷ [])) (sym is) (filled_more arcs n items (take n ends) end (to ∙ ap length is) h))
+
+pub filled_all : (arcs : List Arc) (n : ℕ) (items ends : List ℕ) → length ends ≡ n → AreFilled arcs n items (take n ends) → AreFilled arcs n items ends
+filled_all arcs n items ends long h = subst (AreFilled arcs n items) (take_all n ends (omega (arith, long))) h
 
 arc_is : (a : Arc) (v w : ℕ) → a.from ≡ v → a.to ≡ w → a ≡ arc v w
 arc_is a v w from to = ap (λ x. arc x a.to) from ∙ ap (arc v) to

@@ -1,8 +1,8 @@
 //! Arcs by the vertices at which they begin.
 
-ghost use Rattle.std.specs.Prelude.{◌≡◌, ◌++◌, ◌<◌, ℕ, All, Contains, length, IfOk};
+ghost use Rattle.std.specs.Prelude.{◌≡◌, ◌++◌, ◌<◌, ℕ, [], All, Contains, get_or, length, IfOk};
 ghost use Rattle.contracts.specs.Arcs.{AllWithin, AreRows, ends_from};
-ghost use Rattle.contracts.specs.Chains.{AreChained, AreEnds};
+ghost use Rattle.contracts.specs.Chains.{AreChained, AreEnds, IsFirst};
 ghost use Rattle.contracts.specs.Graphs.{rows};
 ghost use Rattle.contracts.specs.declared.arcs.Arc.{Arc};
 
@@ -38,24 +38,28 @@ fn chains_of(alloc: Global, count: usize, arcs: &[Arc]) -> Result<Chains, AllocE
 
 /// Lists the ends of the arcs that begin at a vertex.
 fn follow(
-    chains: &Chains,
+    firsts: &[usize],
+    nexts: &[usize],
     arcs: &[Arc],
     vertex: usize,
     ends: &mut Vec<usize>,
 ) -> Result<(), AllocError>
-    requires chained { AreChained arcs.now 0 chains.now.firsts.items chains.now.nexts.items }
-    requires vertex { vertex < length chains.now.firsts.items }
+    requires vertex { vertex < length firsts.now }
+    requires first { IsFirst arcs.now vertex 0 (get_or firsts.now vertex 0) }
+    requires linked { AreChained arcs.now 0 [] nexts.now }
     ensures { IfOk result (λ _. ends.new.items ≡ ends.old.items ++ ends_from arcs.now vertex) }
 {
-    let mut at = chains.firsts[vertex];
+    let mut at = firsts[vertex];
     'chain: while at < arcs.len() {
         ends.push(arcs[at].to)?;
-        at = chains.nexts[at];
+        at = nexts[at];
     }
     Ok(())
 }
 
 /// For each vertex the ends of the arcs that begin there, in the order of the arcs.
+///
+/// The first arc of a vertex is asked for once. So the end of its row is put in its place, and no other list is made for the ends.
 pub fn rows_of(alloc: Global, count: usize, arcs: &[Arc]) -> Result<Rows<usize>, AllocError>
     requires starts { All (λ a. a.from < count) arcs.now }
     ensures exact { IfOk result (λ graph. AreEnds arcs.now count (rows graph)) }
@@ -63,11 +67,12 @@ pub fn rows_of(alloc: Global, count: usize, arcs: &[Arc]) -> Result<Rows<usize>,
     ensures rows { IfOk result (λ graph. AllWithin count arcs.now → AreRows count arcs.now (rows graph)) }
 {
     let chains = chains_of(alloc, count, arcs)?;
+    let nexts = chains.nexts;
+    let mut ends = chains.firsts;
     let mut items = Vec::with_capacity(alloc, arcs.len())?;
-    let mut ends = Vec::with_capacity(alloc, count)?;
     for vertex in 0..count {
-        follow(&chains, arcs, vertex, &mut items)?;
-        ends.push(items.len())?;
+        follow(&ends, &nexts, arcs, vertex, &mut items)?;
+        ends[vertex] = items.len();
     }
     Ok(Rows { items, ends })
 }
