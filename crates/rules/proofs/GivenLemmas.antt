@@ -6,7 +6,7 @@ use Rattle.program.specs.Methods.{MethodSeen}
 use Rattle.program.specs.declared.statement.Mention.{Mention}
 use Rattle.rules.specs.Checks.{first_kept}
 use Rattle.rules.specs.Mentions.{given_back, is_kept, name_of}
-use Rattle.rules.specs.Outcomes.{Check, Pair, Step, Goes, Fails, checked, refused}
+use Rattle.rules.specs.Outcomes.{Check, Pair, Step, Fails, checked, refused}
 use Rattle.rules.specs.Texts.{still_owned}
 use Rattle.rules.specs.declared.row.Leaf.{Leaf}
 

@@ -1,6 +1,6 @@
 -- Calls, starts and sends: the checks of what is given, and what is left of a row behind it.
-use Rattle.std.specs.Prelude.{ℕ, ◌==◌, Bool, true, false, ◌&&◌, List, [], ◌∷◌, ◌++◌, Option, Some, None}
-use Rattle.std.specs.Prelude.{flat_map, is_none, map, set, zip, if◌then◌else◌}
+use Rattle.std.specs.Prelude.{ℕ, Bool, true, false, ◌&&◌, List, [], ◌∷◌, ◌++◌, Option, Some, None}
+use Rattle.std.specs.Prelude.{flat_map, is_none, set, zip, if◌then◌else◌}
 use Rattle.std.specs.Option.{option_map_or}
 use Rattle.program.specs.Lists.{is_among}
 use Rattle.program.specs.Methods.{MethodSeen}

@@ -1,5 +1,5 @@
 use Rattle.std.proofs.Common.{◌≡◌, ◌+◌, ◌<◌, length, slice_index_or, ap, sym, subst, ◌∙◌}
-use Rattle.rules.proofs.KindLemmas.{Listed, listed_all, listed_first, listed_less, listed_more}
+use Rattle.rules.proofs.KindLemmas.{Listed, listed_less, listed_more}
 use Rattle.rules.proofs.lowered.kinds_of.Goals as goal
 use Rattle.rules.proofs.lowered.kinds_of.Goals.{then-is_parameter+in_ok-push, else-is_parameter}
 

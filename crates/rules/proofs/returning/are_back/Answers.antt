@@ -1,10 +1,10 @@
-use Rattle.std.proofs.Common.{◌≡◌, ◌<◌, length, Some, true, refl, sym, ap, subst, ◌∙◌}
+use Rattle.std.proofs.Common.{◌<◌, length, Some, refl, sym, ap, subst, ◌∙◌}
 use Rattle.std.proofs.lemmas.List.{length-map}
 use Rattle.program.specs.Methods.{method_seen, variable_seen}
 use Rattle.rules.specs.Programs.{seen_of}
 use Rattle.rules.specs.Rows.{leaves_of}
 use Rattle.rules.proofs.ArgumentLemmas.{left_found}
-use Rattle.rules.proofs.BackLemmas.{back_check, back_more, told_back}
+use Rattle.rules.proofs.BackLemmas.{back_more, told_back}
 use Rattle.rules.proofs.returning.are_back.Goals as goal
 
 pub returns-then-is_not_back : goal.returns-then-is_not_back

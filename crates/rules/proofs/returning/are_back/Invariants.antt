@@ -1,4 +1,3 @@
-use Rattle.std.proofs.Common.{map}
 use Rattle.program.specs.Methods.{method_seen}
 use Rattle.rules.specs.Programs.{seen_of}
 use Rattle.rules.specs.Rows.{leaves_of}

@@ -1,8 +1,7 @@
-use Rattle.std.proofs.Common.{◌<◌, ◌≤◌, length, subst, sym, ap, ◌∙◌}
+use Rattle.std.proofs.Common.{◌≤◌, length, subst, sym, ◌∙◌}
 use Rattle.rules.specs.Rows.{leaves_of}
-use Rattle.rules.specs.Switches.{bound_leaves}
-use Rattle.rules.proofs.ArgumentLemmas.{below_both, past_one}
-use Rattle.rules.proofs.SwitchLemmas.{bound_more, bound_none}
+use Rattle.rules.proofs.ArgumentLemmas.{past_one}
+use Rattle.rules.proofs.SwitchLemmas.{bound_none}
 use Rattle.rules.proofs.switching.bind.Goals as goal
 
 pub returns : goal.returns

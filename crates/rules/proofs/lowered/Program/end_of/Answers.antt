@@ -1,4 +1,4 @@
-use Rattle.std.proofs.Common.{◌≡◌, ◌∙◌, Some, None, map, slice_get, refl, sym, ap, subst}
+use Rattle.std.proofs.Common.{◌∙◌, Some, slice_get, refl, sym, ap, subst}
 use Rattle.std.proofs.lemmas.Option.{slice_get_read}
 use Rattle.contracts.specs.Sounds.{sound_parts}
 use Rattle.rules.specs.Ends.{IsEndOf}

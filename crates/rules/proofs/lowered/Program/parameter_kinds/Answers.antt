@@ -1,8 +1,5 @@
-use Rattle.std.proofs.Common.{◌≡◌, ◌∙◌, Some, None, map, slice_get, refl, sym, ap, subst}
-use Rattle.std.proofs.lemmas.Option.{slice_get-map, slice_get_past, slice_get_read}
-use Rattle.std.specs.Option.{option_map, option_map_or}
-use Rattle.program.specs.Methods.{MethodSeen}
-use Rattle.program.specs.WellFormed.{parameters}
+use Rattle.std.proofs.Common.{◌∙◌, slice_get, refl, sym, ap}
+use Rattle.std.proofs.lemmas.Option.{slice_get_past, slice_get_read}
 use Rattle.rules.specs.Programs.{seen_of}
 use Rattle.rules.proofs.KindLemmas.{kinds_past, kinds_there}
 use Rattle.rules.proofs.lowered.Program.parameter_kinds.Goals as goal
