@@ -3,6 +3,7 @@ pub mod RowLemmas
 pub mod ScopeLemmas
 pub mod GivenLemmas
 pub mod KeptLemmas
+pub mod NestedLemmas
 pub mod ArgumentLemmas
 pub mod PayloadLemmas
 pub mod CallLemmas

@@ -21,7 +21,7 @@ choice : (b : Bool) (v : ℕ) (rest : Option ℕ) → (if b then Some v else res
 choice true v rest = refl
 choice false v rest = refl
 
-kept_append : (m : MethodSeen) (row : List Leaf) (given : Option Mention) (xs : List ℕ) (v : ℕ) → first_kept m row given (xs ++ v ∷ []) ≡ kept_or (first_kept m row given xs) (if_kept m row given v)
+pub kept_append : (m : MethodSeen) (row : List Leaf) (given : Option Mention) (xs : List ℕ) (v : ℕ) → first_kept m row given (xs ++ v ∷ []) ≡ kept_or (first_kept m row given xs) (if_kept m row given v)
 kept_append m row given [] v = refl
 kept_append m row given (x ∷ xs) v =
     choice (is_kept m row given x) x (first_kept m row given (xs ++ v ∷ []))
@@ -29,15 +29,15 @@ kept_append m row given (x ∷ xs) v =
     ∙ sym (kept_assoc (if_kept m row given x) (first_kept m row given xs) (if_kept m row given v))
     ∙ ap (λ a. kept_or a (if_kept m row given v)) (sym (choice (is_kept m row given x) x (first_kept m row given xs)))
 
-between_none : (variables : List VariableSeen) (most : ℕ) (outer : Option VarId) → between variables most outer None ≡ []
+pub between_none : (variables : List VariableSeen) (most : ℕ) (outer : Option VarId) → between variables most outer None ≡ []
 between_none variables zero outer = refl
 between_none variables (suc most) outer = refl
 
-between_this : (variables : List VariableSeen) (most : ℕ) (outer : Option VarId) (v : VarId) → is_this v outer ≡ true → between variables most outer (Some v) ≡ []
+pub between_this : (variables : List VariableSeen) (most : ℕ) (outer : Option VarId) (v : VarId) → is_this v outer ≡ true → between variables most outer (Some v) ≡ []
 between_this variables zero outer v is = refl
 between_this variables (suc most) outer v is = ap (λ (b : Bool). if b then [] else between variables most outer (outer_of variables v) ++ v.0 ∷ []) is
 
-between_more : (variables : List VariableSeen) (most : ℕ) (outer : Option VarId) (v : VarId) → is_this v outer ≡ false → between variables (suc most) outer (Some v) ≡ between variables most outer (outer_of variables v) ++ v.0 ∷ []
+pub between_more : (variables : List VariableSeen) (most : ℕ) (outer : Option VarId) (v : VarId) → is_this v outer ≡ false → between variables (suc most) outer (Some v) ≡ between variables most outer (outer_of variables v) ++ v.0 ∷ []
 between_more variables most outer v is = ap (λ (b : Bool). if b then [] else between variables most outer (outer_of variables v) ++ v.0 ∷ []) is
 
 -- the first of all those is the first of those still to be looked at, and else the one that was found

@@ -1,12 +1,14 @@
 -- What a check answers, as the rule table has it.
-use Rattle.std.specs.Prelude.{◌≡◌, ℕ, List, [], ◌∷◌, ◌++◌, Option, None, Some, if◌then◌else◌}
+use Rattle.std.specs.Prelude.{◌≡◌, ◌<◌, ◌≤◌, ℕ, true, false, length, IfSome, List, [], ◌∷◌, ◌++◌, Option, None, Some, if◌then◌else◌}
 use Rattle.std.specs.BTreeSet.{BTreeSet, contains}
 use Rattle.std.specs.Option.{option_map}
 use Rattle.std.specs.Ordering.{nat_cmp}
 use Rattle.source.specs.Findings.{finding_parts}
 use Rattle.source.specs.declared.finding.Finding.{Finding}
 use Rattle.program.specs.Lists.{is_among}
-use Rattle.program.specs.Methods.{MethodSeen}
+use Rattle.program.specs.Methods.{MethodSeen, VariableSeen}
+use Rattle.program.specs.Scopes.{outer_of}
+use Rattle.program.specs.declared.number.VarId.{VarId}
 use Rattle.program.specs.declared.statement.Mention.{Mention}
 use Rattle.rules.specs.Mentions.{is_kept}
 use Rattle.rules.specs.Outcomes.{Check, Pair, checked}
@@ -28,6 +30,27 @@ if_kept m row given v = if is_kept m row given v then Some v else None
 abbrev pub kept_or : Option ℕ → Option ℕ → Option ℕ
 kept_or None other = other
 kept_or (Some v) other = Some v
+
+-- the first variable of a method that still has something, but for the one that is given
+pub record IsFirst (m : MethodSeen) (row : List Leaf) (given : Option Mention) (first : ℕ) : Type 0 where
+  pub kept : is_kept m row given first ≡ true
+  pub none : (v : ℕ) → v < first → is_kept m row given v ≡ false
+
+-- The variable before this one in scope was declared before it, and not before the first one if this was declared behind that.
+abbrev pub LeadsTo : (first variable : ℕ) → Option VarId → Type 0
+LeadsTo first variable None = variable ≤ first
+LeadsTo first variable (Some outer) = (outer.0 < variable) × (first < variable → first ≤ outer.0)
+
+-- so it is with all variables up to the last one
+pub record AllLeadTo (variables : List VariableSeen) (first last : ℕ) : Type 0 where
+  pub there : last < length variables
+  pub each : (v : ℕ) → v ≤ last → LeadsTo first v (outer_of variables (record { 0 = v }))
+
+-- the first one is plainly in scope where the last one is, and not where the outer one is
+abbrev pub IsPlain : List VariableSeen → ℕ → (outer last : Option VarId) → Type 0
+IsPlain variables first outer None = ⊥
+IsPlain variables first outer (Some last) =
+    IfSome outer (λ o. o.0 < first) × ((first ≤ last.0) × AllLeadTo variables first last.0)
 
 -- the set has just these
 abbrev pub AreIn : List ℕ → BTreeSet ℕ → Type 0

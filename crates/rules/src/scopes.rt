@@ -1,11 +1,11 @@
 //! The check of variables that go out of scope: they have nothing, but for the one that is given.
 
-ghost use Rattle.std.specs.Prelude.{◌≡◌, ℕ, IfOk, false, option_map};
+ghost use Rattle.std.specs.Prelude.{◌≡◌, ◌<◌, ℕ, IfOk, IfSome, None, false, option_map, true};
 ghost use Rattle.source.specs.Findings.{finding_parts};
 ghost use Rattle.program.specs.Methods.{method_seen};
 ghost use Rattle.program.specs.Scopes.{outer_of};
 ghost use Rattle.rules.specs.Checks as checks;
-ghost use Rattle.rules.specs.Checks.{StandsFor};
+ghost use Rattle.rules.specs.Checks.{AllLeadTo, IsFirst, IsPlain, LeadsTo, StandsFor};
 ghost use Rattle.rules.specs.Mentions as table;
 ghost use Rattle.rules.specs.Mentions.{given_back};
 ghost use Rattle.rules.specs.Rows.{leaves_of};
@@ -71,22 +71,69 @@ fn kept_or(
     }
 }
 
-/// Whether any variable at all still has something that is not lent, but for the one that is given. It goes over the row, which is
-/// short, and looks up only the variables that have something.
-fn keeps_any(here: &Here<'_>, given: Option<Mention>) -> bool
-    ensures { result ≡ false
+/// The first variable of all, whether it is in scope or not, that still has something which is not lent, but for the one that is given.
+/// It goes over the row, which is short, and looks up only the variables that have something.
+fn first_of_all(here: &Here<'_>, given: Option<Mention>) -> Option<VarId>
+    ensures none { result ≡ None
         → (v : ℕ) → table.is_kept (method_seen here.now.method.now) (leaves_of here.now.row.now) given v ≡ false }
+    ensures some { IfSome result (λ first. IsFirst (method_seen here.now.method.now) (leaves_of here.now.row.now) given first.0) }
 {
     for (number, leaf) in here.row.leaves().iter().enumerate() {
         if leaf.is_something() && is_kept(here, given, VarId(number)) {
-            return true;
+            return Some(VarId(number));
         }
     }
-    false
+    None
+}
+
+/// Whether the variable before this one in scope was declared before it, and not before the first one if this was declared behind that.
+fn leads_to(method: &Method, first: VarId, variable: VarId) -> bool
+    ensures { result ≡ true → LeadsTo first.0 variable.0 (outer_of (method_seen method.now).variables variable) }
+{
+    match outer_of(method, variable) {
+        Some(outer) => outer.0 < variable.0 && (variable.0 <= first.0 || first.0 <= outer.0),
+        None => variable.0 <= first.0,
+    }
+}
+
+/// Whether all variables up to the last one lead to the first one.
+fn all_lead_to(method: &Method, first: VarId, last: VarId) -> bool
+    ensures { result ≡ true → AllLeadTo (method_seen method.now).variables first.0 last.0 }
+{
+    for number in 0..method.variables.len() {
+        if number > last.0 {
+            return true;
+        }
+        if !leads_to(method, first, VarId(number)) {
+            return false;
+        }
+    }
+    last.0 < method.variables.len()
+}
+
+/// Whether a variable stands behind the outer one, if there is one.
+fn is_behind(variable: VarId, outer: Option<VarId>) -> bool
+    ensures { result ≡ true → IfSome outer (λ o. o.0 < variable.0) }
+{
+    match outer {
+        Some(outer) => outer.0 < variable.0,
+        None => true,
+    }
+}
+
+/// Whether the first one is plainly in scope where `last` is the last one, and not where `outer` is. To look at each variable up to the
+/// last takes less than half as long as to go from each to the one before it in scope, since none waits for another.
+fn is_in_scope(method: &Method, first: VarId, outer: Option<VarId>, last: Option<VarId>) -> bool
+    ensures { result ≡ true → IsPlain (method_seen method.now).variables first.0 outer last }
+{
+    let Some(last) = last else {
+        return false;
+    };
+    is_behind(first, outer) && first.0 <= last.0 && all_lead_to(method, first, last)
 }
 
 /// The first variable, in order of declaration, that still has something: of those in scope where `last` is the last one,
-/// without those in scope where `outer` is. Mostly none has, which the row alone tells.
+/// without those in scope where `outer` is. Mostly none has, which the row alone tells, or the first of all is in scope.
 fn first_kept(
     here: &Here<'_>,
     given: Option<Mention>,
@@ -97,9 +144,26 @@ fn first_kept(
         ≡ checks.first_kept (method_seen here.now.method.now) (leaves_of here.now.row.now) given
         (declared_between (method_seen here.now.method.now) outer last) }
 {
-    if !keeps_any(here, given) {
+    let Some(first) = first_of_all(here, given) else {
         return None;
+    };
+    if is_in_scope(here.method, first, outer, last) {
+        return Some(first);
     }
+    first_outwards(here, given, outer, last)
+}
+
+/// The same, found on the way from the last variable outwards.
+fn first_outwards(
+    here: &Here<'_>,
+    given: Option<Mention>,
+    outer: Option<VarId>,
+    last: Option<VarId>,
+) -> Option<VarId>
+    ensures { option_map (λ v. v.0) result
+        ≡ checks.first_kept (method_seen here.now.method.now) (leaves_of here.now.row.now) given
+        (declared_between (method_seen here.now.method.now) outer last) }
+{
     let mut first = None;
     let mut at = last;
     for _ in 0..here.method.variables.len() {

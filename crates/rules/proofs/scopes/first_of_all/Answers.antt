@@ -2,8 +2,8 @@ use Rattle.std.proofs.Common.{◌≤◌, length, sym, subst, ◌∙◌, below_mo
 use Rattle.program.specs.Methods.{method_seen}
 use Rattle.rules.specs.Rows.{leaves_of}
 use Rattle.rules.proofs.KeptLemmas.{none_kept, nothing_there}
-use Rattle.rules.proofs.scopes.keeps_any.Goals as goal
-use Rattle.rules.proofs.scopes.keeps_any.Goals.{else-is_something-via-then-is_something+else-is_kept, else-is_something-via-else-is_something}
+use Rattle.rules.proofs.scopes.first_of_all.Goals as goal
+use Rattle.rules.proofs.scopes.first_of_all.Goals.{else-is_something-via-then-is_something+else-is_kept, else-is_something-via-else-is_something}
 
 pub loop-number-preserved : goal.loop-number-preserved
 loop-number-preserved c =
@@ -14,7 +14,7 @@ loop-number-preserved c =
           (sym c.is_something.ensures ∙ w.if-is_something.false)
     ])
 
-pub returns : goal.returns
-returns c = λ none.
+pub returns-clause-none : goal.returns-clause-none
+returns-clause-none c = λ none.
     none_kept (method_seen c.args.here.now.method.now) (leaves_of c.args.here.now.row.now) c.args.given c.loop-number.number
     (subst (λ leaves. length leaves ≤ c.loop-number.number) c.leaves-leaf-items.ensures.leaves c.loop-number-test.false) c.loop-number.invariant
