@@ -102,10 +102,11 @@ pub struct Finding {
 pub fn compare(a: &Finding, b: &Finding) -> Ordering
     ensures { result ≡ finding_cmp a.now b.now }
 {
-    a.place
-        .line
-        .cmp(&b.place.line)
-        .then(a.place.col.cmp(&b.place.col))
-        .then(a.code.name().cmp(b.code.name()))
-        .then(a.text.as_bytes().cmp(b.text.as_bytes()))
+    let lines = a.place.line.cmp(&b.place.line);
+    let places = lines.then(a.place.col.cmp(&b.place.col));
+    if places != Ordering::Equal {
+        return places;
+    }
+    let codes = a.code.name().cmp(b.code.name());
+    codes.then(a.text.as_bytes().cmp(b.text.as_bytes()))
 }
