@@ -1,6 +1,7 @@
 //! Numbers for the messages and the states of a contract, in order of the text.
 
-ghost use Rattle.std.specs.Prelude.{◌≡◌, ◌++◌, ◌+◌, ◌^◌, ◌<◌, length, map, codes, IfOk, string_bytes};
+ghost use Rattle.std.specs.Prelude.{◌≡◌, ◌++◌, ◌+◌, ◌^◌, ◌<◌, length, map, codes, IfOk, OnOk, string_bytes};
+ghost use Rattle.std.specs.Str.Lossy.{utf8_lossy};
 ghost use Rattle.tree.specs.Trees.{message_tree};
 ghost use Rattle.names.specs.Numbered.{counted_as};
 ghost use Rattle.program.specs.Parts.{message_parts, state_parts};
@@ -75,9 +76,21 @@ fn state_of(alloc: Global, tokens: &Tokens, name: StateName, id: StateId) -> Res
 fn in_parentheses(alloc: Global, tokens: &Tokens, message: Span) -> Result<String, Memory>
     ensures { IfOk result (λ text. string_bytes text ≡ codes "(" ++ (printed tokens.now.text.items message ++ codes ")")) }
 {
-    let mut text = String::from_str(alloc, "(")?;
-    let name = String::from_utf8_lossy(alloc, tokens.slice(message))?;
-    text.push_str(name.as_str())?;
+    let word = tokens.slice(message);
+    let mut text = String::with_capacity(alloc, word.len().saturating_add(2))?;
+    text.push_str("(")?;
+    push_printed(alloc, word, &mut text)?;
     text.push_str(")")?;
     Ok(text)
+}
+
+/// Adds a name as it is printed. A name that is UTF-8 needs no text of its own for that.
+fn push_printed(alloc: Global, name: &[u8], text: &mut String) -> Result<(), Memory>
+    ensures { OnOk result (string_bytes text.new ≡ string_bytes text.old ++ utf8_lossy name.now) }
+{
+    match str::from_utf8(name) {
+        Ok(name) => text.push_str(name)?,
+        Err(_) => text.push_str(String::from_utf8_lossy(alloc, name)?.as_str())?,
+    }
+    Ok(())
 }
