@@ -1,3 +1,4 @@
+pub mod SeatLemmas
 pub mod TableLemmas
 pub mod ScopeLemmas
 pub mod ClassLemmas

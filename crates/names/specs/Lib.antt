@@ -1,6 +1,6 @@
 pub mod Words
 pub mod Firsts
-pub mod Ends
+pub mod Seats
 pub mod Tables
 pub mod Declarations
 pub mod Outlines

@@ -116,7 +116,7 @@ impl<'a> Variables<'a> {
             add_twice(alloc, tokens, name, found)?;
             return Ok(());
         }
-        self.names.add(word, self.list.len())?;
+        self.names.add(alloc, word, self.list.len())?;
         self.list.push(Variable { name, kind })?;
         Ok(())
     }

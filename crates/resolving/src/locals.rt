@@ -135,7 +135,7 @@ impl<'a> Locals<'a> {
     {
         match declaration.held {
             Some(held) => self.declare_heap(alloc, tokens, declaration, held),
-            None => self.enter(tokens, declaration, None),
+            None => self.enter(alloc, tokens, declaration, None),
         }
     }
 
@@ -151,7 +151,7 @@ impl<'a> Locals<'a> {
             → OnOk result (IsFrame tokens.now.text.items (declared_heap tokens.now.text.items declaration held f) self.new) }
     {
         let number = VarId(self.variables.len());
-        self.enter(tokens, declaration, Some(number))?;
+        self.enter(alloc, tokens, declaration, Some(number))?;
         self.count(alloc, tokens, declaration, held)?;
         self.last = Some(number);
         Ok(())
@@ -160,6 +160,7 @@ impl<'a> Locals<'a> {
     /// Brings a variable into scope, unless one there has its name.
     fn enter(
         &mut self,
+        alloc: Global,
         tokens: &'a Tokens,
         declaration: Declaration,
         number: Option<VarId>,
@@ -178,7 +179,7 @@ impl<'a> Locals<'a> {
         if self.names.find(word).is_some() {
             return Ok(());
         }
-        self.names.add(word, self.list.len())?;
+        self.names.add(alloc, word, self.list.len())?;
         self.list.push(Local { name, kind, number })?;
         Ok(())
     }
