@@ -107,7 +107,7 @@ none_so_far text names d old apart zero le = twice_start text names old
 none_so_far text names d old apart (suc k) le =
     let lt : k < length names = omega (arith, le) in
     let word = word_at text (get_or names k d) in
-    let at : slice_get (words_at text names) k ≡ Some word = sym (slice_get-map (word_at text) names k) ∙ ap (option_map (word_at text)) (slice_get-get_or names k d lt) in
+    let at : slice_get (words_at text names) k ≡ Some word = slice_get-map (word_at text) names k ∙ ap (option_map (word_at text)) (slice_get-get_or names k d lt) in
     let next : k + 1 ≡ suc k = omega arith in
     subst (λ i. TwiceSoFar text names i old old) next
     (twice_step text names k d old old old (none_so_far text names d old apart k (omega (arith, le))) lt (first_adds text names k d old lt (apart.first k word at)))
