@@ -9,5 +9,3 @@ mod numbers;
 mod resolution;
 #[cfg(test)]
 mod sounds;
-#[cfg(test)]
-mod tables;

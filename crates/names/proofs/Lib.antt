@@ -1,3 +1,5 @@
+pub mod SeatLemmas
+pub mod TableLemmas
 pub mod ScopeLemmas
 pub mod ClassLemmas
 pub mod AddLemmas

@@ -1,3 +1,7 @@
+pub mod Words
+pub mod Firsts
+pub mod Seats
+pub mod Tables
 pub mod Declarations
 pub mod Outlines
 pub mod Scopes

@@ -10,9 +10,9 @@ use Rattle.names.specs.Kinds.{type_kind}
 use Rattle.names.specs.Numbered.{places_named}
 use Rattle.names.specs.Outlines.{IsOutline}
 use Rattle.names.specs.Program.{Program, item_names}
-use Rattle.tables.specs.Tables.{IsTable}
+use Rattle.names.specs.Tables.{IsTable}
 use Rattle.names.specs.Values.{can_start}
-use Rattle.tables.specs.Words.{words_at}
+use Rattle.names.specs.Words.{words_at}
 use Rattle.names.specs.declared.members.Declared.{Declared}
 use Rattle.names.specs.declared.members.Fields.{Fields}
 use Rattle.names.specs.declared.members.Methods.{Methods}

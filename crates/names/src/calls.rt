@@ -17,7 +17,7 @@ ghost use Rattle.names.specs.Values.{sends, is_alone, message_findings, contract
 ghost use Rattle.names.specs.Values.{class_findings, class_meant, member_findings, call_findings};
 ghost use Rattle.names.specs.Variables.{Frame};
 ghost use Rattle.names.specs.Variables as model;
-ghost use Rattle.tables.specs.Words.{word_at, same_word};
+ghost use Rattle.names.specs.Words.{word_at, same_word};
 
 use crate::arguments::{judge_arguments, judge_message_arguments, judge_parameter_arguments};
 use crate::judging::add_unknown;

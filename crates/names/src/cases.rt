@@ -12,7 +12,7 @@ ghost use Rattle.names.specs.Kinds.{is_silent};
 ghost use Rattle.names.specs.Program.{Program, as_contract, item_at};
 ghost use Rattle.names.specs.Scopes.{IsScope};
 ghost use Rattle.names.specs.Values.{message_written};
-ghost use Rattle.tables.specs.Words.{word_at};
+ghost use Rattle.names.specs.Words.{word_at};
 ghost use Rattle.names.specs.Variables.{Frame, Variable};
 
 use crate::awaits::{

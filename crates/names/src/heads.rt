@@ -4,13 +4,13 @@ ghost use Rattle.std.specs.Prelude.{◌≡◌, ℕ, List, Option, Some, take, ma
 ghost use Rattle.tree.specs.StatementTrees.{switch_tree, case_tree};
 ghost use Rattle.names.specs.Bodies.{head_of};
 ghost use Rattle.names.specs.Heads.{awaiting_of, key_words, awaited_word, key_at, is_before, switch_heads};
-ghost use Rattle.tables.specs.Words.{word_at};
+ghost use Rattle.names.specs.Words.{word_at};
 
+use crate::tables::Table;
 use lemmas::first_positions;
 use source::{Memory, Span};
 use std::alloc::Global;
 use std::collections::BTreeMap;
-use tables::Table;
 use tree::{Awaited, Case, Switch};
 
 /// What is written at the endpoint of a case and at the message that it awaits; at no message where the other end is

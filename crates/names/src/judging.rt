@@ -4,12 +4,12 @@ ghost use Rattle.std.specs.Prelude.{◌≡◌, List, ◌∷◌, [], OnOk, slice_
 ghost use Rattle.source.specs.declared.token.Span.{Span};
 ghost use Rattle.names.specs.Listed.{twice_among, past_limit, asked_name};
 ghost use Rattle.names.specs.Found.{Adds, declared_twice, unknown};
-ghost use Rattle.tables.specs.Tables.{IsTable};
-ghost use Rattle.tables.specs.Words.{words_at};
+ghost use Rattle.names.specs.Tables.{IsTable};
+ghost use Rattle.names.specs.Words.{words_at};
 
+use crate::tables::Table;
 use source::{Finding, Memory, Span, texts};
 use std::alloc::Global;
-use tables::Table;
 
 /// Adds a name that nothing declares.
 pub(crate) fn add_unknown(
@@ -65,9 +65,6 @@ pub(crate) fn judge_twice(
     ensures { IsTable (words_at text.now names.now) table.now
         → OnOk result (Adds found.old.items found.new.items (twice_among text.now names.now)) }
 {
-    if table.is_apart() {
-        return Ok(());
-    }
     for (place, name) in names.iter().enumerate() {
         let word = name.slice(text);
         if !table.is_first(word, place) {

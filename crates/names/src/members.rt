@@ -12,9 +12,9 @@ ghost use Rattle.names.specs.Values.{message_written, method_named};
 use crate::outline::Outline;
 use crate::starts::{Callee, startable_methods};
 use crate::state_names::state_names;
+use crate::tables::Table;
 use source::Span;
 use std::alloc::{AllocError, Global};
-use tables::Table;
 use tree::{Class, Contract, Definition, Field, Message, Method, Struct};
 
 /// What a contract declares, where each of its names is declared first, and where its named states stand among all of its

@@ -13,7 +13,7 @@ ghost use Rattle.names.specs.Program.{Program, item_at, as_struct};
 ghost use Rattle.names.specs.Scopes.{IsScope, AreFields};
 ghost use Rattle.names.specs.Shapes as shapes;
 ghost use Rattle.names.specs.Shapes.{Shape};
-ghost use Rattle.tables.specs.Words.{word_at, same_word};
+ghost use Rattle.names.specs.Words.{word_at, same_word};
 
 use crate::judging::add_unknown;
 use crate::kinds::Kind;

@@ -11,11 +11,11 @@ ghost use Rattle.names.specs.Scopes.{IsScope};
 
 use crate::judging::{judge_limit, judge_twice};
 use crate::scope::Scope;
+use crate::tables::Table;
 use crate::types::judge_type;
 use program::MOST_PARAMETERS;
 use source::{Finding, Memory, Span};
 use std::alloc::Global;
-use tables::Table;
 use tree::{Message, Param};
 
 /// Adds what is wrong with the parameters of a message.

@@ -5,7 +5,7 @@ ghost use Rattle.tree.specs.Trees.{message_tree};
 ghost use Rattle.names.specs.Kinds.{type_kind};
 ghost use Rattle.names.specs.Places.{contract_place, message_place, sent_place, message_at, state_place};
 ghost use Rattle.names.specs.Program.{Program};
-ghost use Rattle.tables.specs.Words.{word_at};
+ghost use Rattle.names.specs.Words.{word_at};
 
 use crate::kinds::Kind;
 use crate::scope::Scope;

@@ -11,9 +11,9 @@ ghost use Rattle.names.specs.Scopes.{AllMembers};
 
 use crate::members::{Declared, Fields, Members, Methods};
 use crate::noted::NotedKinds;
+use crate::tables::Table;
 use source::Span;
 use std::alloc::{AllocError, Global};
-use tables::Table;
 use tree::{Definition, Field, Item};
 
 /// The items of a text by their names: what they declare, in order, and where each of their names is declared first. A name

@@ -8,15 +8,15 @@ ghost use Rattle.names.specs.ContractFindings.{path_findings, state_findings};
 ghost use Rattle.names.specs.Found.{Adds};
 ghost use Rattle.names.specs.Listed.{asked_name};
 ghost use Rattle.names.specs.Outlines.{outlined_states};
-ghost use Rattle.tables.specs.Tables.{IsTable};
-ghost use Rattle.tables.specs.Words.{words_at};
+ghost use Rattle.names.specs.Tables.{IsTable};
+ghost use Rattle.names.specs.Words.{words_at};
 
 use crate::judging::judge_name;
 use crate::members::Declared;
 use crate::outline::paths;
+use crate::tables::Table;
 use source::{Finding, Memory};
 use std::alloc::Global;
-use tables::Table;
 use tree::{Edge, Path, State};
 
 /// Adds the messages and states on the paths of a state that its contract does not declare.

@@ -7,10 +7,10 @@ ghost use Rattle.names.specs.Variables.{Frame, variable_named, past_heap, entere
 
 use crate::judging::add_twice;
 use crate::kinds::Kind;
+use crate::tables::Table;
 use program::MOST_VARIABLES;
 use source::{Finding, Memory, Span, texts};
 use std::alloc::Global;
-use tables::Table;
 
 /// A variable: the name that declares it, and what it holds.
 #[derive(Clone, Copy, PartialEq, Eq)]
@@ -116,7 +116,7 @@ impl<'a> Variables<'a> {
             add_twice(alloc, text, name, found)?;
             return Ok(());
         }
-        self.names.add(alloc, word)?;
+        self.names.add(alloc, word, self.list.len())?;
         self.list.push(Variable { name, kind })?;
         Ok(())
     }

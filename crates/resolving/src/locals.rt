@@ -9,10 +9,10 @@ ghost use Rattle.resolving.specs.Messages.{contract_of, end_contract};
 ghost use Rattle.resolving.specs.Methods.{no_variables};
 ghost use Rattle.resolving.specs.Locals.{Frame, local_named, mention, next_number, number_of, entered, counted, declared, declared_heap};
 
+use names::Table;
 use program::{Kind, Mention, Role, VarId, Variable};
 use source::Span;
 use std::alloc::{AllocError, Global};
-use tables::Table;
 
 /// A variable that is declared: its name, the kind of its type, what it holds where it is one of the exchange heap, and how its
 /// method comes to it.
@@ -179,7 +179,7 @@ impl<'a> Locals<'a> {
         if self.names.find(word).is_some() {
             return Ok(());
         }
-        self.names.add(alloc, word)?;
+        self.names.add(alloc, word, self.list.len())?;
         self.list.push(Local { name, kind, number })?;
         Ok(())
     }

@@ -8,8 +8,8 @@ use Rattle.names.specs.ContractFindings.{message_findings, state_findings}
 use Rattle.names.specs.Found.{Adds}
 use Rattle.names.specs.Listed.{twice_among}
 use Rattle.names.specs.Outlines.{outlined_states}
-use Rattle.tables.specs.Tables.{IsTable}
-use Rattle.tables.specs.Words.{words_at}
+use Rattle.names.specs.Tables.{IsTable}
+use Rattle.names.specs.Words.{words_at}
 use Rattle.names.proofs.AddLemmas.{adds_then}
 use Rattle.names.proofs.contracts.judge_contract.Goals as goal
 

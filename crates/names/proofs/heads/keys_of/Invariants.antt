@@ -1,6 +1,6 @@
 use Rattle.std.proofs.Common.{◌≡◌, map, take}
 use Rattle.names.specs.Heads.{key_words, awaited_word}
-use Rattle.tables.specs.Words.{word_at}
+use Rattle.names.specs.Words.{word_at}
 use Rattle.names.proofs.heads.keys_of.Given as goal
 
 abbrev pub invariant-loop-case : goal.invariant-loop-case

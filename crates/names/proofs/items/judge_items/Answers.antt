@@ -8,8 +8,8 @@ use Rattle.names.specs.Found.{Adds}
 use Rattle.names.specs.Listed.{twice_among, past_limit}
 use Rattle.names.specs.Methods.{methods_in}
 use Rattle.names.specs.Program.{defined_name, item_names}
-use Rattle.tables.specs.Tables.{IsTable}
-use Rattle.tables.specs.Words.{words_at}
+use Rattle.names.specs.Tables.{IsTable}
+use Rattle.names.specs.Words.{words_at}
 use Rattle.program.specs.declared.limits.TheConstants.{MOST_METHODS}
 use Rattle.names.proofs.AddLemmas.{adds_then}
 use Rattle.names.proofs.items.judge_items.Goals as goal

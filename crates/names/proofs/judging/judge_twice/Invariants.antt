@@ -1,5 +1,5 @@
-use Rattle.tables.specs.Tables.{IsTable}
-use Rattle.tables.specs.Words.{words_at}
+use Rattle.names.specs.Tables.{IsTable}
+use Rattle.names.specs.Words.{words_at}
 use Rattle.names.proofs.TwiceLemmas.{TwiceSoFar}
 use Rattle.names.proofs.judging.judge_twice.Given as goal
 

@@ -4,8 +4,8 @@ use Rattle.std.proofs.lemmas.Simd.{map-map}
 use Rattle.tree.specs.Trees.{MethodTree, method_tree}
 use Rattle.names.specs.Found.{Adds}
 use Rattle.names.specs.Listed.{twice_among}
-use Rattle.tables.specs.Tables.{IsTable}
-use Rattle.tables.specs.Words.{words_at}
+use Rattle.names.specs.Tables.{IsTable}
+use Rattle.names.specs.Words.{words_at}
 use Rattle.names.proofs.AddLemmas.{adds_then}
 use Rattle.names.proofs.methods.judge_class.Goals as goal
 

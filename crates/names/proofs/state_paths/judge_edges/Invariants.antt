@@ -4,8 +4,8 @@ use Rattle.std.specs.List.{flat_map}
 use Rattle.source.specs.declared.token.Span.{Span}
 use Rattle.names.specs.Listed.{asked_name}
 use Rattle.names.specs.Found.{Adds}
-use Rattle.tables.specs.Tables.{IsTable}
-use Rattle.tables.specs.Words.{words_at}
+use Rattle.names.specs.Tables.{IsTable}
+use Rattle.names.specs.Words.{words_at}
 use Rattle.names.proofs.state_paths.judge_edges.Given as goal
 
 abbrev pub invariant-loop-edge : goal.invariant-loop-edge

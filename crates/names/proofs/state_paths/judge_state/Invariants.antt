@@ -5,8 +5,8 @@ use Rattle.source.specs.declared.token.Span.{Span}
 use Rattle.tree.specs.Trees.{path_tree}
 use Rattle.names.specs.ContractFindings.{path_findings}
 use Rattle.names.specs.Found.{Adds}
-use Rattle.tables.specs.Tables.{IsTable}
-use Rattle.tables.specs.Words.{words_at}
+use Rattle.names.specs.Tables.{IsTable}
+use Rattle.names.specs.Words.{words_at}
 use Rattle.names.proofs.state_paths.judge_state.Given as goal
 
 abbrev pub invariant-loop-path : goal.invariant-loop-path

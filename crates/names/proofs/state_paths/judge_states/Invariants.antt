@@ -5,8 +5,8 @@ use Rattle.source.specs.declared.token.Span.{Span}
 use Rattle.tree.specs.Trees.{state_tree}
 use Rattle.names.specs.ContractFindings.{state_findings}
 use Rattle.names.specs.Found.{Adds}
-use Rattle.tables.specs.Tables.{IsTable}
-use Rattle.tables.specs.Words.{words_at}
+use Rattle.names.specs.Tables.{IsTable}
+use Rattle.names.specs.Words.{words_at}
 use Rattle.names.proofs.state_paths.judge_states.Given as goal
 
 abbrev pub invariant-loop-state : goal.invariant-loop-state

@@ -1,8 +1,8 @@
 use Rattle.std.proofs.Common.{◌≡◌, true, false, sym, ap, ◌∙◌}
 use Rattle.std.specs.Prelude.{is_some, if◌then◌else◌}
 use Rattle.names.specs.Declarations.{is_declared, names_of_states, states_of}
-use Rattle.tables.specs.Firsts.{first_of}
-use Rattle.tables.specs.Words.{words_at}
+use Rattle.names.specs.Firsts.{first_of}
+use Rattle.names.specs.Words.{words_at}
 use Rattle.names.specs.declared.kinds.Kind.TheVariants as kind
 use Rattle.names.proofs.types.kind_of_end_in.Goals as goal
 

@@ -1,7 +1,7 @@
 use Rattle.std.proofs.Common.{◌∙◌, ◌++◌, ◌∷◌, [], ap, sym}
 use Rattle.std.specs.Prelude.{codes}
 use Rattle.std.specs.Cmp.Lexicographic.{other_text, same_text}
-use Rattle.tables.specs.Words.{word_at}
+use Rattle.names.specs.Words.{word_at}
 use Rattle.singcheck.proofs.EntryLemmas.{strip_not, strip_rest, strip_there}
 use Rattle.singcheck.proofs.entries.is_named.Goals as goal
 

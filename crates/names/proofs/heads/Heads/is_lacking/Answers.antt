@@ -2,7 +2,7 @@ use Rattle.std.proofs.Common.{◌≡◌, take, ap, sym, ◌∙◌}
 use Rattle.std.specs.Prelude.{◌||◌, not, is_some, position, None, map}
 use Rattle.names.specs.Cases.{names_endpoint, awaits_closed}
 use Rattle.names.specs.Heads.{is_before, key_at}
-use Rattle.tables.specs.Words.{words_at, same_word}
+use Rattle.names.specs.Words.{words_at, same_word}
 use Rattle.names.proofs.HeadWords.{found_named, found_closed}
 use Rattle.names.proofs.heads.Heads.is_lacking.Goals as goal
 use Rattle.names.proofs.heads.Heads.is_lacking.Goals.{then-named, else-named}

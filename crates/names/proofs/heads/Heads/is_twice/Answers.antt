@@ -1,6 +1,6 @@
 use Rattle.std.proofs.Common.{ap, ◌∙◌}
 use Rattle.names.specs.Heads.{is_before, key_at, awaited_word}
-use Rattle.tables.specs.Words.{word_at}
+use Rattle.names.specs.Words.{word_at}
 use Rattle.names.proofs.HeadWords.{found_twice}
 use Rattle.names.proofs.heads.Heads.is_twice.Goals as goal
 

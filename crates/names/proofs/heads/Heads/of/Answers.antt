@@ -2,8 +2,8 @@ use Rattle.std.proofs.Common.{List, map, ap, ◌∙◌, subst}
 use Rattle.tree.specs.StatementTrees.{switch_tree}
 use Rattle.names.specs.declared.heads.Awaiting.{Awaiting}
 use Rattle.names.specs.Heads.{Written, awaited_word, key_words, switch_heads}
-use Rattle.tables.specs.Tables.{IsTable}
-use Rattle.tables.specs.Words.{word_at, words_at}
+use Rattle.names.specs.Tables.{IsTable}
+use Rattle.names.specs.Words.{word_at, words_at}
 use Rattle.names.proofs.HeadWords.{key_first, words_of_heads, endpoints_of_heads}
 use Rattle.names.proofs.heads.Heads.of.Goals as goal
 

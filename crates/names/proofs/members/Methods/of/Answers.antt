@@ -2,9 +2,9 @@ use Rattle.std.proofs.Common.{◌∙◌, sym, subst, ap, map}
 use Rattle.std.proofs.lemmas.Simd.{map-map}
 use Rattle.tree.specs.Trees.{method_tree}
 use Rattle.tree.specs.declared.class as made
-use Rattle.tables.specs.Tables.{IsTable}
+use Rattle.names.specs.Tables.{IsTable}
 use Rattle.names.specs.Values.{can_start}
-use Rattle.tables.specs.Words.{words_at}
+use Rattle.names.specs.Words.{words_at}
 use Rattle.names.proofs.members.Methods.of.Goals as goal
 
 pub returns : goal.returns

@@ -2,8 +2,8 @@ use Rattle.std.proofs.Common.{◌∙◌, sym, subst, refl, map}
 use Rattle.std.proofs.lemmas.Simd.{map-map}
 use Rattle.tree.specs.Trees.{item_tree}
 use Rattle.names.specs.Program.{Program, defined_name}
-use Rattle.tables.specs.Tables.{IsTable}
-use Rattle.tables.specs.Words.{words_at}
+use Rattle.names.specs.Tables.{IsTable}
+use Rattle.names.specs.Words.{words_at}
 use Rattle.names.proofs.scope.Scope.of.Goals as goal
 
 pub returns : goal.returns

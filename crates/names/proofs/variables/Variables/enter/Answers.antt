@@ -1,4 +1,4 @@
-use Rattle.std.proofs.Common.{refl, sym, ◌∙◌}
+use Rattle.std.proofs.Common.{arith, refl, sym, ◌∙◌}
 use Rattle.names.proofs.VariableLemmas.{entered_taken, entered_new}
 use Rattle.names.proofs.variables.Variables.enter.Goals as goal
 
@@ -10,4 +10,4 @@ returns-then-is_some c = λ f h.
 pub returns : goal.returns
 returns c = λ f h.
     entered_new c.args.text.now f c.args.self.now _ c.args.name c.args.kind c.slice-word.result.now c.find.result _ h c.slice-word.ensures c.find.ensures
-    (sym c.is_some.ensures ∙ c.if-is_some.false) c.in_ok-add.ensures.added c.in_ok-push.ensures.items refl
+    (sym c.is_some.ensures ∙ c.if-is_some.false) (λ words table none at. c.in_ok-add.ensures.added words table none (let len = c.len.ensures in let size = c.args.self.now.list.ok.0 in omega (arith, at))) c.in_ok-push.ensures.items refl

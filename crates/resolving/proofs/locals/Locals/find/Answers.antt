@@ -1,7 +1,7 @@
 use Rattle.std.proofs.Common.{List, ℕ, Some, refl, sym, ap, ◌∙◌}
 use Rattle.std.specs.Prelude.{option_map, slice_get}
 use Rattle.std.proofs.lemmas.Option.{slice_get_past, slice_get_read}
-use Rattle.tables.specs.Firsts.{first_of}
+use Rattle.names.specs.Firsts.{first_of}
 use Rattle.resolving.specs.Frames.{local_seen, words_in}
 use Rattle.resolving.proofs.LocalLemmas.{local_found}
 use Rattle.resolving.proofs.locals.Locals.find.Goals as goal

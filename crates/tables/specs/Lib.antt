@@ -1,4 +1,0 @@
-pub mod Words
-pub mod Firsts
-pub mod Seats
-pub mod Tables
