@@ -13,7 +13,7 @@ use Rattle.names.specs.declared.meaning.Meaning.{Meaning}
 use Rattle.program.specs.declared.contract.Edge.{Edge}
 
 abbrev pub text_of : Meaning → List ℕ
-text_of m = m.text.now
+text_of m = m.tokens.now.text.items
 
 -- the messages and the states of its contract
 abbrev pub messages_in : Meaning → List MessageTree

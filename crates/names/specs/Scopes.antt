@@ -95,7 +95,7 @@ pub record AreNoted (p : Program) (noted : NotedKinds) : Type 0 where
 
 -- what these items declare is in scope
 pub record IsScope (p : Program) (scope : Scope) : Type 0 where
-  pub text_is : scope.text.now ≡ p.text
+  pub text_is : scope.tokens.now.text.items ≡ p.text
   pub items_are : map item_tree scope.items.now ≡ p.items
   pub names : IsTable (words_at p.text (item_names p)) scope.names
   pub members : AllMembers p.text p.items scope.members.items

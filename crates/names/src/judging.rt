@@ -8,65 +8,65 @@ ghost use Rattle.names.specs.Tables.{IsTable};
 ghost use Rattle.names.specs.Words.{words_at};
 
 use crate::tables::Table;
-use source::{Finding, Memory, Span, texts};
+use source::{Finding, Memory, Span, Tokens, texts};
 use std::alloc::Global;
 
 /// Adds a name that nothing declares.
 pub(crate) fn add_unknown(
     alloc: Global,
-    text: &[u8],
+    tokens: &Tokens,
     name: Span,
     found: &mut Vec<Finding>,
 ) -> Result<(), Memory>
-    ensures { OnOk result (Adds found.old.items found.new.items (unknown text.now name ∷ [])) }
+    ensures { OnOk result (Adds found.old.items found.new.items (unknown tokens.now.text.items name ∷ [])) }
 {
-    found.push(texts::unknown(alloc, name.place, name.slice(text))?)?;
+    found.push(texts::unknown(alloc, name.place, tokens.slice(name))?)?;
     Ok(())
 }
 
 /// Adds a name that an earlier one has.
 pub(crate) fn add_twice(
     alloc: Global,
-    text: &[u8],
+    tokens: &Tokens,
     name: Span,
     found: &mut Vec<Finding>,
 ) -> Result<(), Memory>
-    ensures { OnOk result (Adds found.old.items found.new.items (declared_twice text.now name ∷ [])) }
+    ensures { OnOk result (Adds found.old.items found.new.items (declared_twice tokens.now.text.items name ∷ [])) }
 {
-    found.push(texts::declared_twice(alloc, name.place, name.slice(text))?)?;
+    found.push(texts::declared_twice(alloc, name.place, tokens.slice(name))?)?;
     Ok(())
 }
 
 /// Adds the name if its table lacks it.
 pub(crate) fn judge_name(
     alloc: Global,
-    text: &[u8],
+    tokens: &Tokens,
     table: &Table<'_>,
     name: Span,
     found: &mut Vec<Finding>,
 ) -> Result<(), Memory>
-    ensures { (names : List Span) → IsTable (words_at text.now names) table.now
-        → OnOk result (Adds found.old.items found.new.items (asked_name text.now names name)) }
+    ensures { (names : List Span) → IsTable (words_at tokens.now.text.items names) table.now
+        → OnOk result (Adds found.old.items found.new.items (asked_name tokens.now.text.items names name)) }
 {
-    match table.find(name.slice(text)) {
+    match table.find(tokens.slice(name)) {
         Some(_) => Ok(()),
-        None => add_unknown(alloc, text, name, found),
+        None => add_unknown(alloc, tokens, name, found),
     }
 }
 
 /// Adds each name that an earlier one has.
 pub(crate) fn judge_twice(
     alloc: Global,
-    text: &[u8],
+    tokens: &Tokens,
     table: &Table<'_>,
     names: &[Span],
     found: &mut Vec<Finding>,
 ) -> Result<(), Memory>
-    ensures { IsTable (words_at text.now names.now) table.now
-        → OnOk result (Adds found.old.items found.new.items (twice_among text.now names.now)) }
+    ensures { IsTable (words_at tokens.now.text.items names.now) table.now
+        → OnOk result (Adds found.old.items found.new.items (twice_among tokens.now.text.items names.now)) }
 {
     for (place, name) in names.iter().enumerate() {
-        let word = name.slice(text);
+        let word = tokens.slice(*name);
         if !table.is_first(word, place) {
             found.push(texts::declared_twice(alloc, name.place, word)?)?;
         }

@@ -30,8 +30,8 @@ pub(crate) fn judge_message(
 {
     judge_types(alloc, scope, &message.params, found)?;
     let names = names_of(alloc, &message.params)?;
-    let table = Table::of(alloc, scope.text, &names)?;
-    judge_twice(alloc, scope.text, &table, &names, found)?;
+    let table = Table::of(alloc, scope.tokens, &names)?;
+    judge_twice(alloc, scope.tokens, &table, &names, found)?;
     judge_limit(alloc, MOST_PARAMETERS, &names, found)
 }
 

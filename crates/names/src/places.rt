@@ -36,7 +36,7 @@ impl<'a> Scope<'a> {
         ensures { (p : Program) → IsScope p self.now → result ≡ message_place p contract (word_at p.text name) }
     {
         let declared = self.contract_at(contract)?;
-        declared.messages.find(name.slice(self.text))
+        declared.messages.find(self.tokens.slice(name))
     }
 
     /// The same of the message that a word like `SendM` sends.
@@ -44,7 +44,7 @@ impl<'a> Scope<'a> {
         ensures { (p : Program) → IsScope p self.now → result ≡ sent_place p contract word }
     {
         let declared = self.contract_at(contract)?;
-        let name = word.slice(self.text).strip_prefix(b"Send")?;
+        let name = self.tokens.slice(word).strip_prefix(b"Send")?;
         declared.messages.find(name)
     }
 
@@ -62,7 +62,7 @@ impl<'a> Scope<'a> {
         ensures { (p : Program) → IsScope p self.now → result ≡ state_place p contract name }
     {
         let declared = self.contract_at(contract)?;
-        let place = declared.states.find(name.slice(self.text))?;
+        let place = declared.states.find(self.tokens.slice(name))?;
         declared.named_place(place)
     }
 }

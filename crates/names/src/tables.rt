@@ -8,7 +8,7 @@ ghost use Rattle.names.specs.Tables.{Behind, IsBuilt, IsTable, NoneOr, crowded_i
 ghost use Rattle.names.specs.Words.{words_at};
 
 use crate::seats::{Bucket, home};
-use source::Span;
+use source::{Span, Tokens};
 use std::alloc::{AllocError, Global};
 use std::collections::BTreeMap;
 
@@ -28,12 +28,16 @@ const LEAST_BUCKETS: usize = 8;
 
 impl<'a> Table<'a> {
     /// The table of these names, in order of declaration.
-    pub(crate) fn of(alloc: Global, text: &'a [u8], names: &[Span]) -> Result<Table<'a>, AllocError>
-        ensures { IfOk result (IsTable (words_at text.now names.now)) }
+    pub(crate) fn of(
+        alloc: Global,
+        tokens: &'a Tokens,
+        names: &[Span],
+    ) -> Result<Table<'a>, AllocError>
+        ensures { IfOk result (IsTable (words_at tokens.now.text.items names.now)) }
     {
         let mut table = Table::with_room(alloc, names.len())?;
         for name in names {
-            table.enter(name.slice(text))?;
+            table.enter(tokens.slice(*name))?;
         }
         Ok(table)
     }

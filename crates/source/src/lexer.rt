@@ -44,7 +44,7 @@ fn cut(alloc: Global, body: &[u8], mark: usize) -> Result<Lexed, TextFault>
     ensures fault { IfErr result (λ fault. fault ≢ TextFault.Memory → HasFirst body.now fault) }
 {
     let closing = Finder::new(b"*/");
-    let mut list = Vec::with_capacity(alloc, body.len())?; // each token has a byte at least, so the list never grows
+    let mut list = Vec::new(alloc);
     let mut place = place::START;
     let mut depth = 0;
     let mut at = 0;
@@ -85,6 +85,7 @@ fn cut(alloc: Global, body: &[u8], mark: usize) -> Result<Lexed, TextFault>
 /// `TooLarge` at a number above 2147483647. `Memory` comes where a growth of memory was refused. After an error nothing
 /// of the answer stays.
 pub fn lex(alloc: Global, text: &[u8]) -> Result<Tokens, TextFault>
+    ensures text { IfOk result (λ found. found.text.items ≡ text.now) }
     ensures tokens { IfOk result (λ found. AreTokens text.now found.list.items) }
     ensures spelled { IfOk result (λ found. All (IsSpelled text.now) found.list.items) }
     ensures ordered { IfOk result (λ found. AreInOrder 0 (length text.now) found.list.items) }
@@ -99,5 +100,9 @@ pub fn lex(alloc: Global, text: &[u8]) -> Result<Tokens, TextFault>
     }
     let mark = mark_len(text);
     let Lexed { list, end } = cut(alloc, &text[mark..], mark)?;
-    Ok(Tokens { list, end })
+    Ok(Tokens {
+        text: Vec::from_slice(alloc, text)?,
+        list,
+        end,
+    })
 }

@@ -65,7 +65,11 @@ fn tokens_of(alloc: Global, text: &str) -> Result<Tokens, AllocError> {
         };
         list.push(Token { kind, span })?;
     }
-    Ok(Tokens { list, end: place })
+    Ok(Tokens {
+        text: Vec::new(alloc),
+        list,
+        end: place,
+    })
 }
 
 /// Whether this value stands well in a method, or the token of this number in it is the first wrong one.

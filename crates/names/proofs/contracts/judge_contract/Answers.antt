@@ -16,7 +16,7 @@ use Rattle.names.proofs.contracts.judge_contract.Goals as goal
 pub returns : goal.returns
 returns c = λ p contract h k.
     let declared = c.args.declared.now in
-    let here = c.args.scope.now.text.now in
+    let here = c.args.scope.now.tokens.now.text.items in
     let messages = names_of_messages (messages_of contract) in
     let states = names_of_states (states_of contract) in
     let message_table = subst (λ t. IsTable (words_at t messages) declared.messages) (sym h.text_is) k.messages in

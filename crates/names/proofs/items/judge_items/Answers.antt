@@ -16,7 +16,7 @@ use Rattle.names.proofs.items.judge_items.Goals as goal
 
 pub returns : goal.returns
 returns c = λ p h.
-    let here = c.args.scope.now.text.now in
+    let here = c.args.scope.now.tokens.now.text.items in
     let table = c.args.scope.now.names in
     let listed = c.deref.ensures.value ∙ c.in_ok-names.ensures ∙ sym (map-map (λ i. defined_name i.definition) item_tree c.args.scope.now.items.now)
     ∙ ap (map (λ (i : ItemTree). defined_name i.definition)) h.items_are in

@@ -14,12 +14,12 @@ nowhere : Span
 nowhere = record { start = 0; end = 0; place = record { line = 0; col = 0 } }
 
 pub loop-place-init : goal.loop-place-init
-loop-place-init c = λ h. twice_start c.args.text.now c.args.names.now c.args.found.now.items
+loop-place-init c = λ h. twice_start c.args.tokens.now.text.items c.args.names.now c.args.found.now.items
 
 pub loop-place-preserved : goal.loop-place-preserved
 unfolding nowhere
 loop-place-preserved c = λ h.
-    let text = c.args.text.now in
+    let text = c.args.tokens.now.text.items in
     let names = c.args.names.now in
     let i = c.loop-place.place in
     let name = get_or names i nowhere in

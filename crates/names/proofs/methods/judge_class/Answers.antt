@@ -11,7 +11,7 @@ use Rattle.names.proofs.methods.judge_class.Goals as goal
 
 pub returns : goal.returns
 returns c = λ p k h j.
-    let here = c.args.scope.now.text.now in
+    let here = c.args.scope.now.tokens.now.text.items in
     let table = c.args.methods.now.table in
     let names = map (λ (m : MethodTree). m.name) k.methods in
     let listed = c.deref.ensures.value ∙ c.in_ok-names.ensures ∙ sym (map-map (λ (m : MethodTree). m.name) method_tree c.args.methods.now.list.now) ∙ ap (map (λ (m : MethodTree). m.name)) j.list in

@@ -15,7 +15,7 @@ past = record { claims = false; kind = Scalar Int; name = record { start = 0; en
 
 pub loop-parameter-preserved : goal.loop-parameter-preserved
 loop-parameter-preserved c = λ items own f round h.
-    let text = c.args.text.now in
+    let text = c.args.tokens.now.text.items in
     let p = program_in text items in
     let params = c.args.params.now in
     let i = c.loop-parameter.parameter-index in

@@ -9,7 +9,7 @@ use Rattle.names.proofs.heads.Heads.is_lacking.Goals.{then-named, else-named}
 
 pub returns : goal.returns
 returns c = λ all h is endpoint.
-    let text = c.args.text.now in
+    let text = c.args.tokens.now.text.items in
     let place = c.args.place in
     let name = c.args.endpoint in
     let named : c.stands_before-named.result ≡ names_endpoint text name (take place all) =

@@ -6,7 +6,7 @@ use Rattle.names.proofs.heads.Heads.is_twice.Goals as goal
 
 pub returns : goal.returns
 returns c = λ all h is case.
-    let text = c.args.text.now in
+    let text = c.args.tokens.now.text.items in
     let place = c.args.place in
     c.stands_before.ensures
     ∙ ap (is_before place) (c.place_of.ensures text all is)

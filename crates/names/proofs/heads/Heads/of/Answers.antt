@@ -9,7 +9,7 @@ use Rattle.names.proofs.heads.Heads.of.Goals as goal
 
 pub returns : goal.returns
 returns c =
-    let text = c.args.text.now in
+    let text = c.args.tokens.now.text.items in
     let all = switch_heads (switch_tree c.args.switch.now) in
     let words : List Awaiting → List Written = λ list. map (λ a. (word_at text a.endpoint, awaited_word text a.awaited)) list in
     let keys = ap (map key_words) c.deref-3.ensures.value ∙ c.in_ok-keys.ensures ∙ ap words (c.deref-2.ensures.value ∙ c.in_ok-list.ensures) ∙ words_of_heads text all in

@@ -11,7 +11,7 @@ pub returns : goal.returns
 returns c = record {
   list = ap (map method_tree) c.deref-4.ensures.value;
   startable = c.in_ok-startable.ensures ∙ ap (λ l. map can_start (map method_tree l)) c.deref-3.ensures.value;
-  table = subst (λ names. IsTable (words_at c.args.text.now names) c.in_ok-table.table)
+  table = subst (λ names. IsTable (words_at c.args.tokens.now.text.items names) c.in_ok-table.table)
       (c.deref-2.ensures.value ∙ c.in_ok-names.ensures ∙ ap (map (λ (m : made.Method.Method). m.name)) c.deref.ensures.value ∙ sym (map-map (λ m. m.name) method_tree c.args.class.now.methods.items))
       c.in_ok-table.ensures;
 }

@@ -4,4 +4,4 @@ use Rattle.names.specs.Words.{words_at}
 use Rattle.names.proofs.tables.Table.of.Given as goal
 
 abbrev pub invariant-loop-name : goal.invariant-loop-name
-invariant-loop-name l = IsBuilt (words_at l.text (take l.name-index l.names)) l.table
+invariant-loop-name l = IsBuilt (words_at l.tokens.text.items (take l.name-index l.names)) l.table
