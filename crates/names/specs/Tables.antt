@@ -1,5 +1,6 @@
 -- Tables of first declarations.
-use Rattle.std.specs.Prelude.{◌≡◌, ◌⊎◌, ℕ, Bool, true, false, cond, length, map, List, ◌++◌, Option, None, Some, option_and_then, option_map, slice_get}
+use Rattle.std.specs.Prelude.{◌≡◌, ◌⊎◌, ℕ, Bool, true, false, cond, length, map, List, ◌++◌}
+use Rattle.std.specs.Prelude.{Option, None, Some, option_and_then, option_map, slice_get}
 use Rattle.std.specs.Option.{option_or, unwrap_or}
 use Rattle.std.specs.Map.{lookup}
 use Rattle.std.specs.Ordering.{is_eq, nat_cmp}
@@ -59,7 +60,9 @@ NoneOr place found = (found ≡ None) ⊎ (found ≡ Some place)
 
 -- no seat is kept for a name that is still to come
 abbrev pub Behind : Table → Type 0
-Behind table = (more : List (Bor (List ℕ))) (name : List ℕ) → seated_in (table.names.items ++ more) table.buckets.items name ≡ seated_of table name
+Behind table =
+    (more : List (Bor (List ℕ))) (name : List ℕ)
+    → seated_in (table.names.items ++ more) table.buckets.items name ≡ seated_of table name
 
 -- a table that names were added to, and none was taken from
 pub record IsBuilt (all : List (List ℕ)) (table : Table) : Type 0 where

@@ -128,7 +128,8 @@ impl<'a> Table<'a> {
         ensures names { self.new.names ≡ self.old.names }
         ensures others { self.new.others ≡ self.old.others }
         ensures seated { (names : List (Bor (List ℕ))) → IsTrue result → place_of names name.now place ≡ Some place
-            → NoneOr place (seated_in names self.old.buckets.items name.now) → seated_in names self.new.buckets.items name.now ≡ Some place }
+            → NoneOr place (seated_in names self.old.buckets.items name.now)
+            → seated_in names self.new.buckets.items name.now ≡ Some place }
         ensures kept { (names : List (Bor (List ℕ))) (q : List ℕ) → place_of names q place ≡ None
             → seated_in names self.new.buckets.items q ≡ seated_in names self.old.buckets.items q }
         ensures full { (names : List (Bor (List ℕ))) (q : List ℕ) → result ≡ false
@@ -187,7 +188,8 @@ impl<'a> Table<'a> {
 
     /// The same, where this is its bucket.
     fn find_from(&self, bucket: Bucket, name: &[u8]) -> Option<usize>
-        ensures { result ≡ option_or (seated_by self.now.names.items name.now bucket) (cond bucket.crowded (other_of self.now name.now) None) }
+        ensures { result ≡ option_or (seated_by self.now.names.items name.now bucket)
+            (cond bucket.crowded (other_of self.now name.now) None) }
     {
         match self.seated_by(bucket, name) {
             Some(place) => Some(place),

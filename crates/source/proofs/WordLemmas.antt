@@ -1,6 +1,6 @@
--- Reserved words by their length.
-use Rattle.std.proofs.Common.{◌≡◌, ◌≢◌, ℕ, Bool, true, false, cond, List, [], ◌∷◌, length, Some, sym, refl, ◌∙◌, ap, arith, eqb-true, eq-eqb}
-use Rattle.std.specs.Prelude.{◌==◌, ◌||◌, find, nat_eq, unwrap_or, if◌then◌else◌}
+-- Reserved words by the byte that they begin with.
+use Rattle.std.proofs.Common.{◌≡◌, ◌≢◌, ℕ, Bool, true, false, cond, List, [], ◌∷◌, Some, sym, refl, ◌∙◌, ap, arith, eqb-true, eq-eqb}
+use Rattle.std.specs.Prelude.{◌==◌, ◌||◌, find, nat_eq, slice_index, unwrap_or, if◌then◌else◌}
 use Rattle.std.specs.List.{list_all}
 use Rattle.std.specs.Cmp.Lexicographic.{pointwise}
 use Rattle.std.proofs.lemmas.Bool.{false≢true, and_parts}
@@ -9,57 +9,57 @@ use Rattle.source.specs.declared.kind.Kind.{Kind}
 use Rattle.source.specs.declared.kind.Kind.TheVariants.{Name}
 use Rattle.source.specs.Words.{reserved, word_kind, word_text, kind_among}
 
--- those of the words that have n bytes
-abbrev pub of_length : ℕ → List Kind → List Kind
-of_length n [] = []
-of_length n (k ∷ ks) = if length (word_text k) == n then k ∷ of_length n ks else of_length n ks
+-- those of the words that begin with this byte
+abbrev pub of_first : ℕ → List Kind → List Kind
+of_first b [] = []
+of_first b (k ∷ ks) = if slice_index (word_text k) 0 == b then k ∷ of_first b ks else of_first b ks
 
--- the same texts have the same length
-same_length : (xs ys : List ℕ) → pointwise nat_eq xs ys ≡ true → length xs ≡ length ys
-same_length [] [] h = refl
-same_length [] (y ∷ ys) h = absurd (false≢true h)
-same_length (x ∷ xs) [] h = absurd (false≢true h)
-same_length (x ∷ xs) (y ∷ ys) h = omega (arith, same_length xs ys ((and_parts (nat_eq x y) (pointwise nat_eq xs ys) h).1))
+-- the same texts begin with the same byte
+same_first : (xs ys : List ℕ) → pointwise nat_eq xs ys ≡ true → slice_index xs 0 ≡ slice_index ys 0
+same_first [] [] h = refl
+same_first [] (y ∷ ys) h = absurd (false≢true h)
+same_first (x ∷ xs) [] h = absurd (false≢true h)
+same_first (x ∷ xs) (y ∷ ys) h = eqb-true x y ((and_parts (nat_eq x y) (pointwise nat_eq xs ys) h).0)
 
 abbrev is_written : List ℕ → Kind → Bool
 is_written word k = pointwise nat_eq (word_text k) word
 
-not_written : (word : List ℕ) (k : Kind) (t : Bool) → is_written word k ≡ t → (length (word_text k) == length word) ≡ false → t ≡ false
-not_written word k true is h = absurd (false≢true (sym h ∙ eq-eqb (length (word_text k)) (length word) (same_length (word_text k) word is)))
+not_written : (word : List ℕ) (k : Kind) (t : Bool) → is_written word k ≡ t → (slice_index (word_text k) 0 == slice_index word 0) ≡ false → t ≡ false
+not_written word k true is h = absurd (false≢true (sym h ∙ eq-eqb (slice_index (word_text k) 0) (slice_index word 0) (same_first (word_text k) word is)))
 not_written word k false is h = refl
 
--- a word is sought only among the words of its length
-of_length_find : (ks : List Kind) (word : List ℕ) → find (is_written word) (of_length (length word) ks) ≡ find (is_written word) ks
-of_length_find [] word = refl
-of_length_find (k ∷ ks) word = by (of_length_find ks word) (length (word_text k) == length word) refl
+-- a word is sought only among the words that begin as it does
+of_first_find : (ks : List Kind) (word : List ℕ) → find (is_written word) (of_first (slice_index word 0) ks) ≡ find (is_written word) ks
+of_first_find [] word = refl
+of_first_find (k ∷ ks) word = by (of_first_find ks word) (slice_index (word_text k) 0 == slice_index word 0) refl
   where
-    by : find (is_written word) (of_length (length word) ks) ≡ find (is_written word) ks → (t : Bool) → (length (word_text k) == length word) ≡ t → find (is_written word) (if t then k ∷ of_length (length word) ks else of_length (length word) ks) ≡ find (is_written word) (k ∷ ks)
+    by : find (is_written word) (of_first (slice_index word 0) ks) ≡ find (is_written word) ks → (t : Bool) → (slice_index (word_text k) 0 == slice_index word 0) ≡ t → find (is_written word) (if t then k ∷ of_first (slice_index word 0) ks else of_first (slice_index word 0) ks) ≡ find (is_written word) (k ∷ ks)
     by same true h = ap (λ r. cond (is_written word k) (Some k) r) same
     by same false h = same ∙ ap (λ t. cond t (Some k) (find (is_written word) ks)) (sym (not_written word k (is_written word k) refl h))
 
--- the kind of a word of n bytes
-pub kind_of_length : (word : List ℕ) (n : ℕ) → length word ≡ n → kind_among (of_length n reserved) word ≡ word_kind word
+-- the kind of a word that begins with this byte
+pub kind_of_first : (word : List ℕ) (b : ℕ) → slice_index word 0 ≡ b → kind_among (of_first b reserved) word ≡ word_kind word
 unfolding word_kind
-kind_of_length word n e = ap (λ m. kind_among (of_length m reserved) word) (sym e) ∙ ap (λ r. unwrap_or r Name) (of_length_find reserved word)
+kind_of_first word b e = ap (λ m. kind_among (of_first m reserved) word) (sym e) ∙ ap (λ r. unwrap_or r Name) (of_first_find reserved word)
 
--- the lengths of the reserved words
-abbrev has_length : ℕ → Bool
-has_length n = n == 2 || n == 3 || n == 4 || n == 5 || n == 6 || n == 7 || n == 8 || n == 10 || n == 13
+-- the bytes that reserved words begin with
+abbrev pub is_first : ℕ → Bool
+is_first b = b == 98 || b == 99 || b == 67 || b == 100 || b == 101 || b == 69 || b == 102 || b == 105 || b == 73 || b == 109 || b == 110 || b == 78 || b == 111 || b == 112 || b == 114 || b == 115 || b == 116 || b == 118 || b == 119
 
-of_no_length : (ks : List Kind) (n : ℕ) → list_all (λ k. has_length (length (word_text k))) ks ≡ true → has_length n ≡ false → of_length n ks ≡ []
-of_no_length [] n all h = refl
-of_no_length (k ∷ ks) n all h =
-    by (of_no_length ks n ((and_parts (has_length (length (word_text k))) (list_all (λ k. has_length (length (word_text k))) ks) all).1) h) (length (word_text k) == n) refl
+of_no_first : (ks : List Kind) (b : ℕ) → list_all (λ k. is_first (slice_index (word_text k) 0)) ks ≡ true → is_first b ≡ false → of_first b ks ≡ []
+of_no_first [] b all h = refl
+of_no_first (k ∷ ks) b all h =
+    by (of_no_first ks b ((and_parts (is_first (slice_index (word_text k) 0)) (list_all (λ k. is_first (slice_index (word_text k) 0)) ks) all).1) h) (slice_index (word_text k) 0 == b) refl
   where
-    by : of_length n ks ≡ [] → (t : Bool) → (length (word_text k) == n) ≡ t → (if t then k ∷ of_length n ks else of_length n ks) ≡ []
-    by none true is = absurd (false≢true (sym h ∙ ap has_length (sym (eqb-true (length (word_text k)) n is)) ∙ (and_parts (has_length (length (word_text k))) (list_all (λ k. has_length (length (word_text k))) ks) all).0))
+    by : of_first b ks ≡ [] → (t : Bool) → (slice_index (word_text k) 0 == b) ≡ t → (if t then k ∷ of_first b ks else of_first b ks) ≡ []
+    by none true is = absurd (false≢true (sym h ∙ ap is_first (sym (eqb-true (slice_index (word_text k) 0) b is)) ∙ (and_parts (is_first (slice_index (word_text k) 0)) (list_all (λ k. is_first (slice_index (word_text k) 0)) ks) all).0))
     by none false is = none
 
-no_length : (n : ℕ) → n ≢ 2 → n ≢ 3 → n ≢ 4 → n ≢ 5 → n ≢ 6 → n ≢ 7 → n ≢ 8 → n ≢ 10 → n ≢ 13 → has_length n ≡ false
-no_length n a b c d e f g h k = grind (arith, nat_tests)
+pub no_first : (b : ℕ) → b ≢ 98 → b ≢ 99 → b ≢ 67 → b ≢ 100 → b ≢ 101 → b ≢ 69 → b ≢ 102 → b ≢ 105 → b ≢ 73 → b ≢ 109 → b ≢ 110 → b ≢ 78 → b ≢ 111 → b ≢ 112 → b ≢ 114 → b ≢ 115 → b ≢ 116 → b ≢ 118 → b ≢ 119 → is_first b ≡ false
+no_first b x0 x1 x2 x3 x4 x5 x6 x7 x8 x9 x10 x11 x12 x13 x14 x15 x16 x17 x18 = grind (arith, nat_tests)
 
--- a word of no such length is a name
-pub name_of_length : (word : List ℕ) → length word ≢ 2 → length word ≢ 3 → length word ≢ 4 → length word ≢ 5 → length word ≢ 6 → length word ≢ 7 → length word ≢ 8 → length word ≢ 10 → length word ≢ 13 → Name ≡ word_kind word
-name_of_length word a b c d e f g h k =
-    ap (λ ks. kind_among ks word) (sym (of_no_length reserved (length word) refl (no_length (length word) a b c d e f g h k)))
-    ∙ kind_of_length word (length word) refl
+-- a word that begins with no such byte is a name
+pub name_of_first : (word : List ℕ) → is_first (slice_index word 0) ≡ false → Name ≡ word_kind word
+name_of_first word none =
+    ap (λ ks. kind_among ks word) (sym (of_no_first reserved (slice_index word 0) refl none))
+    ∙ kind_of_first word (slice_index word 0) refl

@@ -44,7 +44,7 @@ fn cut(alloc: Global, body: &[u8], mark: usize) -> Result<Lexed, TextFault>
     ensures fault { IfErr result (λ fault. fault ≢ TextFault.Memory → HasFirst body.now fault) }
 {
     let closing = Finder::new(b"*/");
-    let mut list = Vec::new(alloc);
+    let mut list = Vec::with_capacity(alloc, body.len())?; // each token has a byte at least, so the list never grows
     let mut place = place::START;
     let mut depth = 0;
     let mut at = 0;

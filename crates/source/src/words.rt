@@ -73,76 +73,53 @@ fn among(kinds: &[Kind], word: &[u8]) -> Kind
     Kind::Name
 }
 
-/// The kind of a whole word. Only words of its length are compared with it.
+/// The kind of a whole word. Only words that begin as it does are compared with it.
 pub(crate) fn of_word(word: &[u8]) -> Kind
+    requires { 0 < length word.now }
     ensures { result ≡ word_kind word.now }
 {
-    match word.len() {
-        2 => among(&[Kind::If, Kind::In], word),
-        3 => among(
-            &[
-                Kind::Exp,
-                Kind::Imp,
-                Kind::Int,
-                Kind::New,
-                Kind::One,
-                Kind::Out,
-                Kind::Rep,
-            ],
+    match word[0] {
+        b'b' => among(&[Kind::Bool, Kind::Break, Kind::Byte], word),
+        b'c' => among(
+            &[Kind::Case, Kind::Class, Kind::Continue, Kind::Contract],
             word,
         ),
-        4 => among(
-            &[
-                Kind::Bool,
-                Kind::Byte,
-                Kind::Case,
-                Kind::Else,
-                Kind::True,
-                Kind::Void,
-            ],
-            word,
-        ),
-        5.. => of_long_word(word),
+        b'C' => among(&[Kind::ChannelClosed, Kind::Claims], word),
+        b'd' => among(&[Kind::Delete], word),
+        b'e' => among(&[Kind::Else], word),
+        b'E' => among(&[Kind::Exp, Kind::ExHeap], word),
+        b'f' => among(&[Kind::False], word),
+        b'i' => among(&[Kind::If, Kind::In, Kind::Int, Kind::Internal], word),
+        b'I' => among(&[Kind::Imp], word),
+        b'm' => among(&[Kind::Message], word),
+        b'n' => among(&[Kind::New], word),
+        b'N' => among(&[Kind::NewChannel], word),
+        b'o' => among(&[Kind::One, Kind::Out], word),
+        b'p' => among(&[Kind::Private, Kind::Public], word),
+        b'r' => among(&[Kind::Receive, Kind::Rep, Kind::Return], word),
+        b's' => of_word_in_s(word),
+        b't' => among(&[Kind::True], word),
+        b'v' => among(&[Kind::Void], word),
+        b'w' => among(&[Kind::While], word),
         _ => Kind::Name,
     }
 }
 
-/// The kind of a whole word of five bytes or more.
-fn of_long_word(word: &[u8]) -> Kind
-    requires { 5 ≤ length word.now }
+/// The same, where the word begins with an `s`.
+fn of_word_in_s(word: &[u8]) -> Kind
+    requires { slice_index word.now 0 ≡ 115 }
     ensures { result ≡ word_kind word.now }
 {
-    match word.len() {
-        5 => among(
-            &[
-                Kind::Break,
-                Kind::Class,
-                Kind::False,
-                Kind::Start,
-                Kind::State,
-                Kind::While,
-            ],
-            word,
-        ),
-        6 => among(
-            &[
-                Kind::Claims,
-                Kind::Delete,
-                Kind::ExHeap,
-                Kind::Public,
-                Kind::Return,
-                Kind::Static,
-                Kind::Struct,
-                Kind::Switch,
-            ],
-            word,
-        ),
-        7 => among(&[Kind::Message, Kind::Private, Kind::Receive], word),
-        8 => among(&[Kind::Continue, Kind::Contract, Kind::Internal], word),
-        10 => among(&[Kind::NewChannel], word),
-        13 => among(&[Kind::ChannelClosed], word),
-        _ => Kind::Name,
-    }
+    among(
+        &[
+            Kind::Start,
+            Kind::State,
+            Kind::Static,
+            Kind::Struct,
+            Kind::Switch,
+        ],
+        word,
+    )
 }
 
 /// Whether a word may begin with it.

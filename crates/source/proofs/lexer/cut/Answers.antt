@@ -21,7 +21,7 @@ pub returns-in_err-piece-clause-fault : goal.returns-in_err-piece-clause-fault
 returns-in_err-piece-clause-fault c =
     let body = c.args.body.now in
     let fault = c.in_err-piece.field-0.0 in
-    let exit = err_from_is_err_and c.from_residual.result c.from_residual.ensures.1 in
+    let exit = err_from_is_err_and c.from_residual-in_err-piece.result c.from_residual-in_err-piece.ensures.1 in
     let stands : StandsAt fault c.pieces.place c.pieces.depth (drop c.pieces.at body) = subst (λ r. StandsAt fault c.pieces.place c.pieces.depth r) (take_rest body c.pieces.at) (c.in_err-piece.ensures.fault c.pieces.depth) in
     rw (exit.1, exit.2)
     (λ _. fault_here c.args.mark body c.pieces.at c.pieces.list.items c.pieces.place c.pieces.depth fault c.pieces.invariant stands)
