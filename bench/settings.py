@@ -2,12 +2,15 @@
 import os
 import pathlib
 import re
+import subprocess
 
-LINE = re.compile(r'^export (\w+)=\$\{\1-(\S*)\}$', re.M)
+NAME = re.compile(r'^export (\w+)=', re.M)
+LINE = re.compile(r'^(?:settings\+?=|export ).*$', re.M)
 
 
 def set_as_script():
     """Sets in this process, for the programs that it runs, each variable that the script sets and that is not set yet."""
-    script = pathlib.Path(__file__).resolve().parent.parent / 'singcheck'
-    for name, value in LINE.findall(script.read_text()):
-        os.environ.setdefault(name, value)
+    script = (pathlib.Path(__file__).resolve().parent.parent / 'singcheck').read_text()
+    for name in NAME.findall(script):
+        asked = '\n'.join([*LINE.findall(script), f'printf %s "${name}"'])
+        os.environ[name] = subprocess.run(['bash', '-c', asked], stdout=subprocess.PIPE, text=True, check=True).stdout

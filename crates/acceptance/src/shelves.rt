@@ -29,11 +29,11 @@ const TURNS: u64 = 10_000_000;
 fn methods(alloc: Global) -> Result<Methods, Fail> {
     let tokens = lex(alloc, THREE.as_bytes())?;
     let tree = parse(alloc, &tokens)?;
-    let contracts = resolve(alloc, &tree, &tokens)?;
+    let contracts = resolve(alloc, &tree, THREE.as_bytes())?;
     if contracts.contracts.len() > MOST_CONTRACTS {
         return Err(Fail::from("too many contracts"));
     }
-    Ok(well_formed_methods(alloc, &tree, &tokens, contracts)?)
+    Ok(well_formed_methods(alloc, &tree, THREE.as_bytes(), contracts)?)
 }
 
 /// The program of that text.

@@ -31,7 +31,7 @@ fn with_contract(alloc: Global, text: &str) -> Result<Program, Fail>
 {
     let tokens = lex(alloc, text.as_bytes())?;
     let tree = parse(alloc, &tokens)?;
-    let resolved = resolve(alloc, &tree, &tokens)?;
+    let resolved = resolve(alloc, &tree, text.as_bytes())?;
     if resolved.contracts.len() != 1 {
         return Err(Fail::from("not one contract"));
     }
@@ -41,7 +41,7 @@ fn with_contract(alloc: Global, text: &str) -> Result<Program, Fail>
     };
     let mut sounds = Vec::new(alloc);
     sounds.push(sound)?;
-    let methods = well_formed_methods(alloc, &tree, &tokens, resolved)?;
+    let methods = well_formed_methods(alloc, &tree, text.as_bytes(), resolved)?;
     let program = Program::new(alloc, methods, sounds)?;
     if program.methods().len() != 1 {
         return Err(Fail::from("not one method"));

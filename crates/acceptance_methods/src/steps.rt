@@ -83,11 +83,11 @@ pub(crate) fn only(alloc: Global, text: &str) -> Result<Program, Fail>
 {
     let tokens = lex(alloc, text.as_bytes())?;
     let tree = parse(alloc, &tokens)?;
-    let contracts = resolve(alloc, &tree, &tokens)?;
+    let contracts = resolve(alloc, &tree, text.as_bytes())?;
     if contracts.contracts.len() > MOST_CONTRACTS {
         return Err(Fail::from("too many contracts"));
     }
-    let methods = well_formed_methods(alloc, &tree, &tokens, contracts)?;
+    let methods = well_formed_methods(alloc, &tree, text.as_bytes(), contracts)?;
     if !methods.contracts().contracts.is_empty() {
         return Err(Fail::from("contracts"));
     }

@@ -9,3 +9,5 @@ mod numbers;
 mod resolution;
 #[cfg(test)]
 mod sounds;
+#[cfg(test)]
+mod tables;

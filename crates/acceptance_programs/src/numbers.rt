@@ -29,11 +29,11 @@ case i.ChannelClosed(): delete i;
 fn methods_of(alloc: Global, text: &str) -> Result<Methods, Fail> {
     let tokens = lex(alloc, text.as_bytes())?;
     let tree = parse(alloc, &tokens)?;
-    let resolved = resolve(alloc, &tree, &tokens)?;
+    let resolved = resolve(alloc, &tree, text.as_bytes())?;
     if resolved.contracts.len() > MOST_CONTRACTS {
         return Err(Fail::from("too many contracts"));
     }
-    Ok(well_formed_methods(alloc, &tree, &tokens, resolved)?)
+    Ok(well_formed_methods(alloc, &tree, text.as_bytes(), resolved)?)
 }
 
 /// Variables by their numbers.

@@ -11,7 +11,7 @@ use syntax::parse;
 fn resolved(alloc: Global, text: &str) -> Result<Resolved, Fail> {
     let tokens = lex(alloc, text.as_bytes())?;
     let tree = parse(alloc, &tokens)?;
-    Ok(resolve(alloc, &tree, &tokens)?)
+    Ok(resolve(alloc, &tree, text.as_bytes())?)
 }
 
 /// The findings of an answer; none where it is a program.
@@ -29,7 +29,7 @@ fn findings_in(alloc: Global, answer: Result<Resolved, NameFaults>) -> Result<Ve
 fn wrong(alloc: Global, text: &str) -> Result<String, Fail> {
     let tokens = lex(alloc, text.as_bytes())?;
     let tree = parse(alloc, &tokens)?;
-    let mut findings = findings_in(alloc, resolve(alloc, &tree, &tokens))?;
+    let mut findings = findings_in(alloc, resolve(alloc, &tree, text.as_bytes()))?;
     findings.sort_by(|a, b| compare(a, b))?;
     let mut lines = String::new(alloc);
     for finding in &findings {

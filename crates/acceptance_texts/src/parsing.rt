@@ -101,11 +101,7 @@ fn tokens_of(alloc: Global, words: &[&str]) -> Result<Tokens, AllocError> {
             span,
         })?;
     }
-    Ok(Tokens {
-        text: Vec::new(alloc),
-        list,
-        end: place,
-    })
+    Ok(Tokens { list, end: place })
 }
 
 /// What a slow reading says of these words: the number of the first with which no text goes on, that of the words for the

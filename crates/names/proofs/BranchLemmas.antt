@@ -7,9 +7,9 @@ use Rattle.std.proofs.Math.Seq.{drop-cons}
 use Rattle.std.proofs.lemmas.List.{drop_all}
 use Rattle.source.specs.declared.finding.Finding.{Finding}
 use Rattle.tree.specs.StatementTrees as trees
-use Rattle.tree.specs.StatementTrees.{CaseTree, block_tree, test_tree, case_tree, case_row, other_row, switch_tree}
+use Rattle.tree.specs.StatementTrees.{BlockTree, CaseTree, block_tree, test_tree, case_tree, case_row, other_row, switch_tree}
 use Rattle.tree.specs.declared.statement as made
-use Rattle.names.specs.Bodies.{Surroundings, block_turn, others_turn, case_turn, cases_turn, head_of, heads_of}
+use Rattle.names.specs.Bodies.{Surroundings, block_turn, others_turn, test_turn, case_turn, cases_turn, head_of, heads_of}
 use Rattle.names.specs.Cases.{Head}
 use Rattle.names.specs.Variables.{Frame, Turn, turn, follow}
 use Rattle.names.specs.declared.variables.Variables.{Variables}
@@ -28,6 +28,13 @@ pub no_branch : {text : List ℕ} {old mid : List Finding} {v : Variables} {whol
 no_branch {text = text} {old = old} {mid = mid} {v = v} {whole = whole} m ts i otherwise past is o =
     subst (λ last. Ongoing text old mid v whole (others_turn m (other_row [] (option_map block_tree last)))) is
     (subst (λ rest. Ongoing text old mid v whole (others_turn m (other_row (map test_tree rest) (option_map block_tree otherwise)))) (drop_all i ts past) o)
+
+-- the next test of an `if`, and what is left behind it
+pub next_test : (m : Surroundings) (ts : List made.Test.Test) (i : ℕ) (x : made.Test.Test) (last : Option BlockTree) → i < length ts → x ≡ get_or ts i x
+    → others_turn m (other_row (map test_tree (drop i ts)) last) ≡ (λ f. follow (test_turn m (test_tree x) f) (others_turn m (other_row (map test_tree (drop (i + 1) ts)) last)))
+next_test m ts i x last lt is =
+    let behind : ℕ → Frame → Turn = λ n f. follow (test_turn m (test_tree x) f) (others_turn m (other_row (map test_tree (drop n ts)) last)) in
+    ap (λ l. others_turn m (other_row (map test_tree l) last)) (drop-cons ts i x lt ∙ ap (λ k. k ∷ drop (suc i) ts) (sym is)) ∙ ap behind (sym (add-one i))
 
 -- the head of a case
 head_found : (cases : List CaseTree) (i : ℕ) (x : CaseTree) → i < length cases → x ≡ get_or cases i x → slice_get (heads_of (case_row cases)) i ≡ Some (head_of x)

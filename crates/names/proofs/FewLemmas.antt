@@ -1,14 +1,11 @@
--- A program has no more messages than tokens.
-use Rattle.std.proofs.Common.{◌≡◌, suc, ◌≤◌, List, [], ◌∷◌, ◌++◌, length, refl, ap, arith}
+-- A program has no more messages than symbols that spell it.
+use Rattle.std.proofs.Common.{◌≤◌, List, [], ◌∷◌, ◌++◌, length, ap, arith}
 use Rattle.std.specs.List.{flat_map}
 use Rattle.std.proofs.lemmas.List.{length-append}
 use Rattle.source.specs.declared.kind.Kind.TheVariants.{CloseBrace}
-use Rattle.source.specs.declared.token.Token.{Token}
 use Rattle.tree.specs.Grammar as grammar
 use Rattle.tree.specs.Programs as programs
-use Rattle.tree.specs.Spelled.{Spells}
 use Rattle.tree.specs.Spelling.{optional, placed, word}
-use Rattle.tree.specs.Symbols.{End, symbols}
 use Rattle.std.proofs.lemmas.Grind.{flat_map-append}
 use Rattle.tree.specs.Trees.{ContractTree, DefinitionTree, Contract, Struct, Class, ItemTree, MemberTree, Message, MessageTree, State, contract_of, contracts_of, program_tree}
 use Rattle.tree.specs.declared.item as tree
@@ -64,15 +61,6 @@ in_items (i ∷ items) =
     let spelled = length-append (programs.item i) (flat_map programs.item items) in
     omega (arith, here, rest, front, both, messages, spelled)
 
-as_many_symbols : (tokens : List Token) → length (symbols tokens) ≡ suc (length tokens)
-as_many_symbols [] = refl
-as_many_symbols (t ∷ tokens) = ap suc (as_many_symbols tokens)
-
 -- each message has a symbol of its own
-pub few_messages : (t : tree.Tree.Tree) (tokens : List Token) → Spells programs.program (program_tree t) tokens → message_count (contracts_of (program_tree t)) ≤ length tokens
-few_messages t tokens spelled =
-    let messages = in_items (program_tree t) in
-    let size = ap length spelled in
-    let end = length-append (programs.program (program_tree t)) (End ∷ []) in
-    let many = as_many_symbols tokens in
-    omega (arith, messages, size, end, many)
+pub few_messages : (t : tree.Tree.Tree) → message_count (contracts_of (program_tree t)) ≤ length (programs.program (program_tree t))
+few_messages t = in_items (program_tree t)

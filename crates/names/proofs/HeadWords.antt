@@ -1,12 +1,14 @@
 -- What is written at the heads of a switch, and which of them are written alike.
-use Rattle.std.proofs.Common.{◌≡◌, ℕ, List, [], ◌∷◌, map, take, Option, Some, None, Bool, true, false, not, Bor, sym, refl, ap, ◌∙◌, subst}
+use Rattle.std.proofs.Common.{◌≡◌, ℕ, ◌+◌, List, [], ◌∷◌, length, map, take, Option, Some, None, Bool, true, false, not, cond, ltb, Bor, sym, refl, ap, ◌∙◌, subst}
 use Rattle.std.specs.Prelude.{is_some, position, ◌&&◌, ◌||◌, if◌then◌else◌, Result, OnOk}
 use Rattle.std.specs.Cmp.{tied_then}
 use Rattle.std.specs.Cmp.Lexicographic.{slice_cmp}
+use Rattle.std.specs.List.{position_or_len}
 use Rattle.std.specs.Option.{option_cmp}
 use Rattle.std.specs.declared.cmp.Ordering.{Ordering}
 use Rattle.std.specs.Ordering.{is_eq, nat_cmp, ordering_then}
 use Rattle.std.proofs.lemmas.Cmp.{nat_list_eq_equiv}
+use Rattle.std.proofs.lemmas.List.{length-map}
 use Rattle.std.proofs.lemmas.Map.Text.{is_eq-slice_cmp}
 use Rattle.source.specs.declared.token.Span.{Span}
 use Rattle.tree.specs.StatementTrees.{CaseTree, SwitchTree, case_row, case_tree, switch_tree}
@@ -24,11 +26,10 @@ use Rattle.names.specs.declared.kinds.Kind.TheVariants as kind
 use Rattle.program.specs.declared.kind.Side.{Side}
 use Rattle.names.specs.Heads.{awaiting_of, awaited_word, key_words, head_words, same_message, same_key, key_at, is_before, switch_heads}
 use Rattle.lemmas.specs.Places.{first_position}
-use Rattle.names.specs.Words.{word_at, words_at, same_word}
+use Rattle.tables.specs.Words.{word_at, words_at, same_word}
 use Rattle.names.proofs.HeadLemmas.{some_of, first_before, first_of_some}
 use Rattle.lemmas.proofs.FirstPlaces.{same_position}
 use Rattle.names.proofs.StatementTwins.{switch_is}
-use Rattle.names.proofs.TableLemmas.{position_mapped}
 
 abbrev pub Key : Type 0
 Key = Bor (List ℕ) × Option (Bor (List ℕ))
@@ -49,6 +50,16 @@ key_same : (x y : Key) → is_eq (key_cmp x y) ≡ same_key (key_words x) (key_w
 key_same x y = sym (tied_then (word_cmp x.0 y.0) (option_cmp word_cmp x.1 y.1))
     ∙ ap (λ b. b && is_eq (option_cmp word_cmp x.1 y.1)) (is_eq-slice_cmp x.0.now y.0.now)
     ∙ ap (λ b. same_word x.0.now y.0.now && b) (same_option x.1 y.1)
+
+abbrev within : ℕ → ℕ → Option ℕ
+within i n = cond (ltb i n) (Some i) None
+
+first_mapped : {X Y : Type 0} (p : Y → Bool) (f : X → Y) (xs : List X) → position_or_len p (map f xs) ≡ position_or_len (λ x. p (f x)) xs
+first_mapped p f [] = refl
+first_mapped p f (x ∷ xs) = ap (λ n. cond (not (p (f x))) (1 + n) 0) (first_mapped p f xs)
+
+position_mapped : {X Y : Type 0} (p : Y → Bool) (f : X → Y) (xs : List X) → position p (map f xs) ≡ position (λ x. p (f x)) xs
+position_mapped p f xs = ap (λ i. within i (length (map f xs))) (first_mapped p f xs) ∙ ap (within (position_or_len (λ x. p (f x)) xs)) (length-map xs f)
 
 mapped : {X Y Z : Type 0} (f : Y → Z) (g : X → Y) (xs : List X) → map f (map g xs) ≡ map (λ x. f (g x)) xs
 mapped f g [] = refl

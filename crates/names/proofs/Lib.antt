@@ -1,5 +1,3 @@
-pub mod SeatLemmas
-pub mod TableLemmas
 pub mod ScopeLemmas
 pub mod ClassLemmas
 pub mod AddLemmas

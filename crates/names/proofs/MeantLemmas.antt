@@ -10,12 +10,12 @@ use Rattle.source.specs.declared.token.Span.{Span}
 use Rattle.tree.specs.Trees.{StateTree, Empty}
 use Rattle.tree.specs.declared.contract as tree
 use Rattle.names.specs.Declarations.{counted_states, counted_in_state, first_among, names_of_states, paths_of, unnamed_of}
-use Rattle.names.specs.Firsts.{first_of}
+use Rattle.tables.specs.Firsts.{first_of}
 use Rattle.names.specs.Meant.{IsMeaning, path_left, state_names, states_in, text_of}
 use Rattle.names.specs.Numbered.{places_named, names_in, unnamed_names, counted_as}
 use Rattle.names.specs.Resolution.{Meanings, counted_in, edge_between, edges_through, named_state, state_meant, unnamed_state}
-use Rattle.names.specs.Tables.{IsTable}
-use Rattle.names.specs.Words.{same_word, word_at, words_at}
+use Rattle.tables.specs.Tables.{IsTable}
+use Rattle.tables.specs.Words.{same_word, word_at, words_at}
 use Rattle.names.specs.declared.meaning.Meaning.{Meaning}
 use Rattle.program.specs.declared.contract.Edge.{Edge}
 use Rattle.names.specs.declared.state_names.StateName.TheVariants.{Unnamed}

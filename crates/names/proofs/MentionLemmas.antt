@@ -51,7 +51,7 @@ given_in s field f old new k place (Some x) is h all = rw is (all x.1 h)
 
 pub given_pointed : (scope : Scope) (field : Span) (f : Fields) (old new : List Finding) (place : ℕ) (r : Result Kind Memory)
     → ((p : Program) → IsScope p scope → IsStruct p.text (item_at as_struct p place) (Some f))
-    → IfOk r (λ k. (s : InScope) → InStruct s scope.tokens.now.text.items field f old new k)
+    → IfOk r (λ k. (s : InScope) → InStruct s scope.text.now field f old new k)
     → IfOk r (GivesIn scope (λ s. field_kind s (kind.Pointer place) field) (λ s. field_findings s (kind.Pointer place) field field) old new)
 given_pointed scope field f old new place (Err e) struct all = tt
 given_pointed scope field f old new place (Ok k) struct all = record {

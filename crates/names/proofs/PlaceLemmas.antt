@@ -9,7 +9,7 @@ use Rattle.tree.specs.Trees.{ContractTree, StateTree}
 use Rattle.names.specs.Declarations.{counted_states, first_among, names_of_states, states_of}
 use Rattle.names.specs.Places.{place_among}
 use Rattle.names.specs.Scopes.{IsDeclared}
-use Rattle.names.specs.Words.{same_word, word_at, words_at}
+use Rattle.tables.specs.Words.{same_word, word_at, words_at}
 use Rattle.names.specs.declared.members.Declared.{Declared}
 use Rattle.names.proofs.BehindLemmas.{single_at, singles}
 

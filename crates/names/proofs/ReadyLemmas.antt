@@ -24,8 +24,8 @@ use Rattle.names.specs.Ready.{IsReady, all_resolved, declared_in, declared_messa
 use Rattle.program.specs.Parts.{ContractSeen}
 use Rattle.names.specs.Resolution.{each_behind, message_count, resolved_contract, resolved_contracts, state_count}
 use Rattle.names.specs.Scopes.{AreDeclared, IsDeclared, IsScope}
-use Rattle.names.specs.Tables.{IsTable}
-use Rattle.names.specs.Words.{words_at}
+use Rattle.tables.specs.Tables.{IsTable}
+use Rattle.tables.specs.Words.{words_at}
 use Rattle.program.specs.declared.limits.TheConstants.{MOST_CONTRACTS, MOST_STATES}
 use Rattle.names.specs.declared.members.Declared.{Declared}
 use Rattle.names.specs.declared.scope.Scope.{Scope}

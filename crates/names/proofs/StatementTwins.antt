@@ -1,13 +1,13 @@
 -- Statements in memory and as trees, a form at a time.
-use Rattle.std.proofs.Common.{◌≡◌, Box, map, sym, ap, ◌∙◌}
-use Rattle.std.specs.Prelude.{Option}
+use Rattle.std.proofs.Common.{◌≡◌, Box, Vec, map, sym, ap, ◌∙◌}
+use Rattle.std.specs.Prelude.{Option, None, Some}
 use Rattle.std.specs.Global.{Global}
 use Rattle.std.specs.Option.{option_map}
 use Rattle.source.specs.declared.token.Span.{Span}
 use Rattle.tree.specs.ExpressionTrees.{expression_tree}
 use Rattle.tree.specs.Values.{call_tree}
 use Rattle.tree.specs.StatementTrees as trees
-use Rattle.tree.specs.StatementTrees.{StatementTree, BlockTree, CaseTree, IfTree, SwitchTree, TestTree, statement_tree, block_tree, case_tree, if_tree, switch_tree, test_tree, statement_step, block_step, case_step, if_step, switch_step, test_step, statement_row, case_row, declare_tree, assign_tree}
+use Rattle.tree.specs.StatementTrees.{StatementTree, BlockTree, CaseTree, IfTree, SwitchTree, TestTree, statement_tree, block_tree, case_tree, if_tree, switch_tree, test_tree, statement_step, block_step, case_step, if_step, switch_step, test_step, statement_row, case_row, other_row, declare_tree, assign_tree}
 use Rattle.tree.specs.declared.expression.Expression.{Expression}
 use Rattle.tree.specs.declared.value.Call.{Call}
 use Rattle.tree.specs.declared.statement as made
@@ -28,6 +28,13 @@ switch_is = folds.fold_out-Switch StatementTree BlockTree CaseTree IfTree Switch
 
 pub test_is : (t : made.Test.Test) → test_tree t ≡ trees.Test t.word t.«open» (expression_tree t.test) (block_tree t.body)
 test_is = folds.fold_out-Test StatementTree BlockTree CaseTree IfTree SwitchTree TestTree statement_step block_step case_step if_step switch_step test_step
+
+if_made : (first : made.Test.Test) (others : Vec made.Test.Test Global) (o : Option made.Block.Block) → if_tree (made.If.roll-If (record { first = first; others = others; otherwise = o })) ≡ record { first = test_tree first; others = other_row (map test_tree others.items) (option_map block_tree o) }
+if_made first others None = folds.fold-roll-If StatementTree BlockTree CaseTree IfTree SwitchTree TestTree statement_step block_step case_step if_step switch_step test_step (record { first = first; others = others; otherwise = None })
+if_made first others (Some b) = folds.fold-roll-If StatementTree BlockTree CaseTree IfTree SwitchTree TestTree statement_step block_step case_step if_step switch_step test_step (record { first = first; others = others; otherwise = Some b })
+
+pub if_is : (i : made.If.If) → if_tree i ≡ record { first = test_tree (made.If.out-If i).first; others = other_row (map test_tree (made.If.out-If i).others.items) (option_map block_tree (made.If.out-If i).otherwise) }
+if_is i = ap if_tree (sym (made.If.roll-out-If i)) ∙ if_made (made.If.out-If i).first (made.If.out-If i).others (made.If.out-If i).otherwise
 
 -- the forms of a statement
 

@@ -1,19 +1,20 @@
 -- Names that an earlier one has.
-use Rattle.std.proofs.Common.{◌≡◌, ℕ, ◌+◌, ◌<◌, ◌≤◌, suc, Bool, true, false, not, cond, ltb, List, [], ◌∷◌, ◌++◌, length, take, drop, get_or, Some, None, if◌then◌else◌, sym, refl, ap, ◌∙◌, subst, arith, append_assoc, take-append-drop, drop-cons, ⊎_elim}
-use Rattle.std.specs.Prelude.{is_some}
+use Rattle.std.proofs.Common.{◌≡◌, ℕ, ◌+◌, ◌<◌, ◌≤◌, zero, suc, Bool, true, false, not, cond, ltb, List, [], ◌∷◌, ◌++◌, length, take, drop, get_or, Some, None, if◌then◌else◌, sym, refl, ap, ◌∙◌, subst, arith, append_assoc, take-append-drop, drop-cons, ⊎_elim}
+use Rattle.std.specs.Prelude.{is_some, option_map, slice_get}
 use Rattle.std.specs.List.{position_or_len}
 use Rattle.std.proofs.lemmas.Bool.{cond-true, cond-false, lt-ltb, le-ltb, cases_lt}
 use Rattle.std.proofs.lemmas.List.{take_more, map-append, length-map, length-take-le, drop_all, append-nil}
 use Rattle.std.proofs.lemmas.List.Sums.{prefix_len-le-length}
+use Rattle.std.proofs.lemmas.Option.{slice_get-map, slice_get-get_or}
 use Rattle.std.proofs.lemmas.Slice.Eq.{bytes_eq-Decides}
 use Rattle.std.proofs.Math.ListN.{length-append}
 use Rattle.source.specs.declared.finding.Finding.{Finding}
 use Rattle.source.specs.declared.token.Span.{Span}
 use Rattle.names.specs.Declarations.{is_declared}
 use Rattle.names.specs.Listed.{twice_behind, twice_among}
-use Rattle.names.specs.Firsts.{first_of}
+use Rattle.tables.specs.Firsts.{IsApart, first_of}
 use Rattle.names.specs.Found.{Adds, FindingParts, declared_twice}
-use Rattle.names.specs.Words.{word_at, words_at, same_word}
+use Rattle.tables.specs.Words.{word_at, words_at, same_word}
 use Rattle.names.proofs.AddLemmas.{adds_then, adds_none}
 
 -- what passes a test behind others stands first there, or before
@@ -99,3 +100,17 @@ later_adds text names i d old new lt later one =
     let name = get_or names i d in
     let is = (behind_here text names i d lt).old (λ e. later (e ∙ ap Some (count_here text names i lt))) in
     subst (λ b. Adds old new (if b then declared_twice text name ∷ [] else [])) (sym is) one
+
+-- where no name stands twice, none adds anything
+none_so_far : (text : List ℕ) (names : List Span) (d : Span) (old : List Finding) → IsApart (words_at text names) → (k : ℕ) → k ≤ length names → TwiceSoFar text names k old old
+none_so_far text names d old apart zero le = twice_start text names old
+none_so_far text names d old apart (suc k) le =
+    let lt : k < length names = omega (arith, le) in
+    let word = word_at text (get_or names k d) in
+    let at : slice_get (words_at text names) k ≡ Some word = slice_get-map (word_at text) names k ∙ ap (option_map (word_at text)) (slice_get-get_or names k d lt) in
+    let next : k + 1 ≡ suc k = omega arith in
+    subst (λ i. TwiceSoFar text names i old old) next
+    (twice_step text names k d old old old (none_so_far text names d old apart k (omega (arith, le))) lt (first_adds text names k d old lt (apart.first k word at)))
+
+pub apart_adds : (text : List ℕ) (names : List Span) (d : Span) (old : List Finding) → IsApart (words_at text names) → Adds old old (twice_among text names)
+apart_adds text names d old apart = twice_end (none_so_far text names d old apart (length names) (omega arith)) (omega arith)

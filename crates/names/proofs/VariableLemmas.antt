@@ -1,34 +1,26 @@
 -- Variables that come into scope and go out of it.
-use Rattle.std.proofs.Common.{◌≡◌, ℕ, if◌then◌else◌, ◌+◌, ◌-◌, ◌<◌, List, [], ◌∷◌, ◌++◌, length, map, take, cond, Bool, true, false, sym, refl, ap, ◌∙◌, subst, arith, append_assoc, append-nil, ⊎_elim}
+use Rattle.std.proofs.Common.{◌≡◌, ℕ, if◌then◌else◌, ◌+◌, ◌-◌, ◌<◌, List, [], ◌∷◌, ◌++◌, length, map, take, Bool, true, false, sym, refl, ap, ◌∙◌, subst, arith, append_assoc, append-nil}
 use Rattle.std.specs.Prelude.{Result, Ok, Err, OnOk, Option, None, Some, is_some, option_map, option_and_then, slice_get}
-use Rattle.std.specs.Borrow.{Bor}
-use Rattle.std.specs.Option.{option_or}
-use Rattle.std.proofs.lemmas.Bool.{cases_Bool, cond-true, cond-false}
-use Rattle.std.proofs.lemmas.Cmp.{nat_list_eq_equiv}
 use Rattle.std.proofs.lemmas.List.{map-append, length-map, take-take}
 use Rattle.std.proofs.lemmas.List.Quantifiers.{position-Some}
 use Rattle.std.proofs.lemmas.Option.{slice_get-map, slice_get-get_or}
-use Rattle.std.proofs.lemmas.Slice.Eq.{bytes_eq-Decides}
 use Rattle.lemmas.proofs.Options.{none_is}
 use Rattle.lemmas.proofs.Lists.{front_of}
 use Rattle.source.specs.declared.fault.Memory.{Memory}
 use Rattle.source.specs.declared.finding.Finding.{Finding}
 use Rattle.source.specs.declared.token.Span.{Span}
-use Rattle.names.specs.Firsts.{first_of}
+use Rattle.tables.specs.Firsts.{first_of}
 use Rattle.names.specs.Found.{Adds, declared_twice}
 use Rattle.names.specs.Frames.{AreApart, IsFrame, Turned, variable_seen, words_in}
-use Rattle.names.specs.Tables.{IsTable, crowded_in, entry_of, other_of, place_of, seated_in, seated_of, words_of}
+use Rattle.tables.specs.Tables.{IsTable}
 use Rattle.names.specs.Variables as model
 use Rattle.names.specs.Variables.{Frame, Turn, turn, variable_named, entered_variable, past_heap, declared_variable}
-use Rattle.names.specs.Words.{word_at, words_at, same_word}
+use Rattle.tables.specs.Words.{word_at, words_at, same_word}
 use Rattle.names.specs.declared.kinds.Kind.{Kind}
 use Rattle.names.specs.declared.kinds.Kind.TheVariants as kind
-use Rattle.names.specs.declared.tables.Table.{Table}
 use Rattle.names.specs.declared.variables.Variable.{Variable}
 use Rattle.names.specs.declared.variables.Variables.{Variables}
-use Rattle.names.proofs.TableLemmas.{LastAway, leaves}
 use Rattle.names.proofs.AddLemmas.{adds_none, adds_then}
-use Rattle.lemmas.proofs.FirstPlaces.{position_added, position_kept}
 
 pub apart_push : (before words : List (List ℕ)) (w : List ℕ) → AreApart before words → first_of (before ++ words) w ≡ None → AreApart before (words ++ w ∷ [])
 apart_push before [] w h new = (subst (λ l. first_of l w ≡ None) (append-nil before) new, tt)
@@ -44,85 +36,6 @@ apart_pop before [] w h = record { rest = tt; last = subst (λ l. first_of l w �
 apart_pop before (v ∷ words) w h =
     let r = apart_pop (before ++ v ∷ []) words w h.1 in
     record { rest = (h.0, r.rest); last = subst (λ l. first_of l w ≡ None) (append_assoc before (v ∷ []) words) r.last }
-
--- where a word stands first among these and one more
-added : (words : List (List ℕ)) (word q : List ℕ) → first_of words word ≡ None → first_of (words ++ word ∷ []) q ≡ cond (same_word word q) (Some (length words)) (first_of words q)
-added words word q none = position_added same_word nat_list_eq_equiv words word q (ap is_some none)
-
--- the words of a list of names and one more
-more_words : (names : List (Bor (List ℕ))) (w : Bor (List ℕ)) (all : List (Bor (List ℕ))) (words : List (List ℕ)) → words_of names ≡ words → all ≡ names ++ w ∷ []
-    → words_of all ≡ words ++ w.now ∷ []
-more_words names w all words is more = ap words_of more ∙ map-append (λ (v : Bor (List ℕ)). v.now) names (w ∷ []) ∙ ap (λ l. l ++ w.now ∷ []) is
-
-pub table_added : (words : List (List ℕ)) (w : Bor (List ℕ)) (old new : Table) (place : ℕ) → IsTable words old → first_of words w.now ≡ None → place ≡ length words
-    → new.names.items ≡ old.names.items ++ w ∷ [] → ((q : List ℕ) → entry_of new q ≡ cond (same_word w.now q) (Some place) (entry_of old q))
-    → ((q : List ℕ) → crowded_in new.buckets.items q ≡ false → other_of new q ≡ None) → IsTable (words ++ w.now ∷ []) new
-table_added words w old new place h none at more updates crowded = record {
-  words = more_words old.names.items w new.names.items words h.words more;
-  held = λ q. updates q ∙ ap (cond (same_word w.now q) (Some place)) (h.held q) ∙ ap (λ k. cond (same_word w.now q) (Some k) (first_of words q)) at ∙ sym (added words w.now q none);
-  crowded = crowded;
-}
-
--- how many names a table has
-pub table_size : (words : List (List ℕ)) (table : Table) → IsTable words table → length table.names.items ≡ length words
-table_size words table h = sym (length-map table.names.items (λ (v : Bor (List ℕ)). v.now)) ∙ ap length h.words
-
--- a name that the table has already
-pub table_entered : (words : List (List ℕ)) (w : Bor (List ℕ)) (old new : Table) → IsTable words old → is_some (first_of words w.now) ≡ true
-    → new.names.items ≡ old.names.items ++ w ∷ [] → ((q : List ℕ) → seated_of new q ≡ seated_of old q)
-    → ((q : List ℕ) → crowded_in new.buckets.items q ≡ crowded_in old.buckets.items q) → ((q : List ℕ) → other_of new q ≡ other_of old q)
-    → IsTable (words ++ w.now ∷ []) new
-table_entered words w old new h some more seats crowds others = record {
-  words = more_words old.names.items w new.names.items words h.words more;
-  held = λ q. ap (λ o. option_or o (other_of new q)) (seats q) ∙ ap (option_or (seated_of old q)) (others q)
-      ∙ h.held q ∙ sym (position_kept same_word nat_list_eq_equiv words w.now q some);
-  crowded = λ q none. others q ∙ h.crowded q (sym (crowds q) ∙ none);
-}
-
-pub table_removed : (words : List (List ℕ)) (word : List ℕ) (old new : Table) → IsTable (words ++ word ∷ []) old → first_of words word ≡ None
-    → words_of new.names.items ≡ words → ((q : List ℕ) → entry_of new q ≡ cond (same_word word q) None (entry_of old q))
-    → ((q : List ℕ) → crowded_in new.buckets.items q ≡ false → other_of new q ≡ None) → IsTable words new
-table_removed words word old new h none is updates crowded = record {
-  words = is;
-  held = λ q. ⊎_elim
-      (λ same. let e : word ≡ q = (bytes_eq-Decides word q).0 same in
-      updates q ∙ cond-true (same_word word q) None (entry_of old q) same ∙ sym none ∙ ap (first_of words) e)
-      (λ other. updates q ∙ cond-false (same_word word q) None (entry_of old q) other ∙ h.held q ∙ added words word q none
-      ∙ cond-false (same_word word q) (Some (length words)) (first_of words q) other)
-      (cases_Bool (same_word word q));
-  crowded = crowded;
-}
-
-none_left : (b : Bool) (o : Option ℕ) → o ≡ None → cond b None o ≡ None
-none_left true o h = refl
-none_left false o h = h
-
--- a table whose last name is away, from its seat and from those that found none
-pub table_left : (words : List (List ℕ)) (word : List ℕ) (old new : Table) → IsTable (words ++ word ∷ []) old → first_of words word ≡ None
-    → LastAway old.names.items new.names.items words word
-    → ((q : List ℕ) → place_of new.names.items q (length new.names.items) ≡ None → seated_of new q ≡ seated_in new.names.items old.buckets.items q)
-    → ((q : List ℕ) → crowded_in new.buckets.items q ≡ crowded_in old.buckets.items q)
-    → ((q : List ℕ) → other_of new q ≡ cond (same_word word q) None (other_of old q)) → IsTable words new
-table_left words word old new h none p kept crowds others =
-    table_removed words word old new h none p.rest
-    (subst (λ v. (q : List ℕ) → entry_of new q ≡ cond (same_word v q) None (entry_of old q)) p.is (leaves p.last old new p.more absent kept gone
-    (λ q other. others q ∙ cond-false (same_word word q) None (other_of old q) (ap (λ v. same_word v q) (sym p.is) ∙ other))))
-    (λ q free. others q ∙ none_left (same_word word q) (other_of old q) (h.crowded q (sym (crowds q) ∙ free)))
-  where
-    absent : first_of (words_of new.names.items) p.last.now ≡ None
-    absent = ap (λ l. first_of l p.last.now) p.rest ∙ ap (first_of words) p.is ∙ none
-
-    gone : other_of new p.last.now ≡ None
-    gone = ap (other_of new) p.is ∙ others word ∙ cond-true (same_word word word) None (other_of old word) (nat_list_eq_equiv.refl word)
-
--- a name that has its seat stands beside no other
-pub seat_alone : (words : List (List ℕ)) (word : List ℕ) (table : Table) → IsTable words table → crowded_in table.buckets.items word ≡ false
-    → (q : List ℕ) → other_of table q ≡ cond (same_word word q) None (other_of table q)
-seat_alone words word table h free q = ⊎_elim
-    (λ same. let e : word ≡ q = (bytes_eq-Decides word q).0 same in
-    ap (other_of table) (sym e) ∙ h.crowded word free ∙ sym (cond-true (same_word word q) None (other_of table q) same))
-    (λ other. sym (cond-false (same_word word q) None (other_of table q) other))
-    (cases_Bool (same_word word q))
 
 -- the words of the variables and one more
 pub words_push : (text : List ℕ) (variables : List model.Variable) (v : model.Variable) → words_in text (variables ++ v ∷ []) ≡ words_in text variables ++ word_at text v.name ∷ []
@@ -168,21 +81,19 @@ entered_taken text f v name k word found old new h at is taken adds =
 -- a new name
 pub entered_new : (text : List ℕ) (f : Frame) (v w : Variables) (name : Span) (k : Kind) (word : List ℕ) (found : Option ℕ) (old : List Finding) → IsFrame text f v → word ≡ word_at text name
     → ((words : List (List ℕ)) → IsTable words v.names → found ≡ first_of words word) → is_some found ≡ false
-    → ((words : List (List ℕ)) → IsTable words v.names → first_of words word ≡ None → length v.list.items ≡ length words → IsTable (words ++ word ∷ []) w.names)
+    → ((words : List (List ℕ)) → IsTable words v.names → first_of words word ≡ None → IsTable (words ++ word ∷ []) w.names)
     → w.list.items ≡ v.list.items ++ record { name = name; kind = k } ∷ [] → w.heap ≡ v.heap → Turned text old old w (entered_variable text name k f)
 entered_new text f v w name k word found old h at is taken table list heap =
     let words = words_in text f.variables in
     let found_none : first_of words word ≡ None = sym (is words h.names) ∙ none_is found taken in
     let none : first_of words (word_at text name) ≡ None = subst (λ x. first_of words x ≡ None) at found_none in
     let there = is_named text f.variables name ∙ ap is_some none in
-    let many = length-map (map (λ (x : model.Variable). x.name) f.variables) (word_at text) ∙ length-map f.variables (λ (x : model.Variable). x.name) in
-    let size = ap length (sym h.list) ∙ length-map v.list.items variable_seen in
     let more = words_push text f.variables (record { name = name; kind = k }) in
     subst (λ b. Turned text old old w (entered_if b text name k f)) (sym there) (record {
       found = adds_none old;
       frame = record {
         list = ap (map variable_seen) list ∙ map-append variable_seen v.list.items (record { name = name; kind = k } ∷ []) ∙ ap (λ l. l ++ record { name = name; kind = k } ∷ []) h.list;
-        names = subst (λ l. IsTable l w.names) (sym more) (subst (λ x. IsTable (words ++ x ∷ []) w.names) at (table words h.names found_none (sym (many ∙ size))));
+        names = subst (λ l. IsTable l w.names) (sym more) (subst (λ x. IsTable (words ++ x ∷ []) w.names) at (table words h.names found_none));
         apart = subst (AreApart []) (sym more) (apart_push [] words (word_at text name) h.apart none);
         heap = heap ∙ h.heap;
       };

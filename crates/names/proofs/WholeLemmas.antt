@@ -21,7 +21,7 @@ use Rattle.names.specs.Meant.{path_left}
 use Rattle.program.specs.Parts.{IsWhole, contract_parts, ContractSeen, contract_seen}
 use Rattle.names.specs.Program.{Program}
 use Rattle.names.specs.Resolution.{Meanings, counted_in, edges_from, message_count, message_meant, numbered_message, numbered_state, path_edges, paths_edges, resolved_contract, resolved_contracts, state_count, state_meant}
-use Rattle.names.specs.Words.{same_word, word_at, words_at}
+use Rattle.tables.specs.Words.{same_word, word_at, words_at}
 use Rattle.program.specs.declared.contract.Contract.{Contract}
 use Rattle.program.specs.declared.contract.Edge.{Edge}
 use Rattle.program.specs.declared.limits.TheConstants.{MOST_STATES}

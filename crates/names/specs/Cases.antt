@@ -16,7 +16,7 @@ use Rattle.tree.specs.declared.statement as made
 use Rattle.tree.specs.declared.statement.Awaited.TheVariants.{Message, Closed}
 use Rattle.names.specs.Values.{message_written, number_of_arguments, receives}
 use Rattle.names.specs.Variables.{Frame, Turn, turn, before, follow, declared_variable}
-use Rattle.names.specs.Words.{word_at, same_word}
+use Rattle.tables.specs.Words.{word_at, same_word}
 use Rattle.names.specs.declared.kinds.Kind.{Kind}
 use Rattle.names.specs.declared.kinds.Kind.TheVariants as kind
 

@@ -14,7 +14,7 @@ use Rattle.names.specs.Shapes.{Joined, Joint, Logic, Likeness, Order, Sum, Sign,
 use Rattle.tree.specs.Trees.{StructTree}
 use Rattle.tree.specs.declared.class as made
 use Rattle.names.specs.Variables.{Variable, variable_named}
-use Rattle.names.specs.Words.{word_at, same_word}
+use Rattle.tables.specs.Words.{word_at, same_word}
 use Rattle.names.specs.declared.kinds.Kind.{Kind}
 use Rattle.names.specs.declared.kinds.Kind.TheVariants as kind
 

@@ -2,13 +2,13 @@
 use Rattle.std.specs.Prelude.{◌≡◌, ℕ, ◌+◌, min, List, [], ◌∷◌, ◌++◌, map, None}
 use Rattle.source.specs.declared.finding.Finding.{Finding}
 use Rattle.names.specs.Bodies as bodies
-use Rattle.names.specs.Firsts.{first_of}
+use Rattle.tables.specs.Firsts.{first_of}
 use Rattle.names.specs.Found.{Adds}
 use Rattle.names.specs.Scopes.{IsScope, AreMethods}
-use Rattle.names.specs.Tables.{IsTable}
+use Rattle.tables.specs.Tables.{IsTable}
 use Rattle.names.specs.Variables as model
 use Rattle.names.specs.Variables.{Frame, Turn}
-use Rattle.names.specs.Words.{words_at}
+use Rattle.tables.specs.Words.{words_at}
 use Rattle.names.specs.declared.surroundings.Surroundings.{Surroundings}
 use Rattle.program.specs.declared.limits.TheConstants.{MOST_VARIABLES}
 use Rattle.names.specs.declared.variables.Variable.{Variable}

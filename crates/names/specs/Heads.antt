@@ -11,8 +11,8 @@ use Rattle.tree.specs.declared.statement.Awaited.{Awaited}
 use Rattle.tree.specs.declared.statement.Awaited.TheVariants.{Message, Closed}
 use Rattle.names.specs.Bodies.{head_of, heads_of}
 use Rattle.names.specs.Cases.{Head, names_endpoint, awaits_closed}
-use Rattle.names.specs.Tables.{IsTable}
-use Rattle.names.specs.Words.{word_at, words_at, same_word}
+use Rattle.tables.specs.Tables.{IsTable}
+use Rattle.tables.specs.Words.{word_at, words_at, same_word}
 use Rattle.names.specs.declared.heads.Awaiting.{Awaiting}
 use Rattle.names.specs.declared.heads.Heads.{Heads}
 

@@ -1,7 +1,3 @@
-pub mod Words
-pub mod Firsts
-pub mod Seats
-pub mod Tables
 pub mod Declarations
 pub mod Outlines
 pub mod Scopes

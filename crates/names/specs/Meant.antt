@@ -7,13 +7,13 @@ use Rattle.names.specs.Declarations.{names_of_messages, names_of_states, counted
 use Rattle.names.specs.Numbered.{places_named}
 use Rattle.names.specs.Outlines.{outlined_messages, outlined_states}
 use Rattle.names.specs.Resolution.{Meanings, message_meant, state_meant, edge_between}
-use Rattle.names.specs.Tables.{IsTable}
-use Rattle.names.specs.Words.{words_at}
+use Rattle.tables.specs.Tables.{IsTable}
+use Rattle.tables.specs.Words.{words_at}
 use Rattle.names.specs.declared.meaning.Meaning.{Meaning}
 use Rattle.program.specs.declared.contract.Edge.{Edge}
 
 abbrev pub text_of : Meaning → List ℕ
-text_of m = m.tokens.now.text.items
+text_of m = m.text.now
 
 -- the messages and the states of its contract
 abbrev pub messages_in : Meaning → List MessageTree

@@ -6,8 +6,8 @@ use Rattle.names.specs.ContractFindings.{state_findings}
 use Rattle.names.specs.Outlines.{outlined_messages, outlined_states}
 use Rattle.program.specs.Parts.{ContractSeen}
 use Rattle.names.specs.Resolution.{each_behind, resolved_contract}
-use Rattle.names.specs.Tables.{IsTable}
-use Rattle.names.specs.Words.{words_at}
+use Rattle.tables.specs.Tables.{IsTable}
+use Rattle.tables.specs.Words.{words_at}
 use Rattle.names.specs.Scopes.{declared_among}
 use Rattle.names.specs.declared.members.Declared.{Declared}
 use Rattle.names.specs.declared.members.Members.{Members}

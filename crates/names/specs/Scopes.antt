@@ -10,9 +10,9 @@ use Rattle.names.specs.Kinds.{type_kind}
 use Rattle.names.specs.Numbered.{places_named}
 use Rattle.names.specs.Outlines.{IsOutline}
 use Rattle.names.specs.Program.{Program, item_names}
-use Rattle.names.specs.Tables.{IsTable}
+use Rattle.tables.specs.Tables.{IsTable}
 use Rattle.names.specs.Values.{can_start}
-use Rattle.names.specs.Words.{words_at}
+use Rattle.tables.specs.Words.{words_at}
 use Rattle.names.specs.declared.members.Declared.{Declared}
 use Rattle.names.specs.declared.members.Fields.{Fields}
 use Rattle.names.specs.declared.members.Methods.{Methods}
@@ -95,7 +95,7 @@ pub record AreNoted (p : Program) (noted : NotedKinds) : Type 0 where
 
 -- what these items declare is in scope
 pub record IsScope (p : Program) (scope : Scope) : Type 0 where
-  pub text_is : scope.tokens.now.text.items ≡ p.text
+  pub text_is : scope.text.now ≡ p.text
   pub items_are : map item_tree scope.items.now ≡ p.items
   pub names : IsTable (words_at p.text (item_names p)) scope.names
   pub members : AllMembers p.text p.items scope.members.items

@@ -12,7 +12,7 @@ use Rattle.program.specs.declared.contract.Direction.TheVariants as direction
 use Rattle.tree.specs.declared.types as type_nodes
 use Rattle.std.specs.Str.Lossy.{utf8_lossy}
 use Rattle.names.specs.Declarations.{first_among, messages_of, names_of_messages}
-use Rattle.names.specs.Firsts.{first_of}
+use Rattle.tables.specs.Firsts.{first_of}
 use Rattle.names.specs.Found.{FindingParts, unknown}
 use Rattle.names.specs.Kinds.{agree, is_silent, is_unknown, is_block, is_heap, unless, type_kind, pointer_kind, pointer_unknown}
 use Rattle.names.specs.Program.{Program, struct_named, class_named, as_contract, item_at}
@@ -24,7 +24,7 @@ use Rattle.tree.specs.Values as values
 use Rattle.tree.specs.Values.{CallTree, ValueTree, NewTree, MadeTree, Expression, Call, New}
 use Rattle.tree.specs.declared.class as made
 use Rattle.names.specs.Variables as variables
-use Rattle.names.specs.Words.{word_at, words_at, same_word}
+use Rattle.tables.specs.Words.{word_at, words_at, same_word}
 pub use Rattle.names.specs.declared.calls.Role.{Role}
 pub use Rattle.names.specs.declared.calls.Role.TheVariants.{Asked, Alone, Started}
 use Rattle.names.specs.declared.kinds.Kind.{Kind}

@@ -11,7 +11,7 @@ ghost use Rattle.tree.specs.Trees.{message_tree};
 use crate::operands::{add_wrong_type, ask};
 use crate::told::judge_number;
 use program::{Direction, Side};
-use source::{Finding, Memory, Span, Tokens, texts};
+use source::{Finding, Memory, Span, texts};
 use std::alloc::Global;
 use tree::{Awaited, Bind, Message};
 
@@ -40,13 +40,13 @@ pub(crate) fn judge_closed(
 /// Adds that an endpoint has no case for its close.
 pub(crate) fn add_lacking(
     alloc: Global,
-    tokens: &Tokens,
+    text: &[u8],
     name: Span,
     found: &mut Vec<Finding>,
 ) -> Result<(), Memory>
-    ensures { OnOk result (Adds found.old.items found.new.items (lacks_closed tokens.now.text.items name ∷ [])) }
+    ensures { OnOk result (Adds found.old.items found.new.items (lacks_closed text.now name ∷ [])) }
 {
-    let word = tokens.slice(name);
+    let word = name.slice(text);
     found.push(texts::lacks_closed(alloc, name.place, word)?)?;
     Ok(())
 }
@@ -54,17 +54,17 @@ pub(crate) fn add_lacking(
 /// Adds that an endpoint has no case for its close, where it lacks one.
 pub(crate) fn judge_lacking(
     alloc: Global,
-    tokens: &Tokens,
+    text: &[u8],
     lacking: bool,
     name: Span,
     found: &mut Vec<Finding>,
 ) -> Result<(), Memory>
-    ensures { OnOk result (Adds found.old.items found.new.items (if lacking then lacks_closed tokens.now.text.items name ∷ [] else [])) }
+    ensures { OnOk result (Adds found.old.items found.new.items (if lacking then lacks_closed text.now name ∷ [] else [])) }
 {
     if !lacking {
         return Ok(());
     }
-    add_lacking(alloc, tokens, name, found)
+    add_lacking(alloc, text, name, found)
 }
 
 fn awaited_span(awaited: Awaited) -> Span
@@ -79,16 +79,16 @@ fn awaited_span(awaited: Awaited) -> Span
 /// Adds that an earlier case awaits the same.
 fn add_case_twice(
     alloc: Global,
-    tokens: &Tokens,
+    text: &[u8],
     endpoint: Span,
     awaited: Awaited,
     found: &mut Vec<Finding>,
 ) -> Result<(), Memory>
     ensures { OnOk result (Adds found.old.items found.new.items
-        (case_twice tokens.now.text.items (record { endpoint = endpoint; awaited = awaited; binds = [] }) ∷ [])) }
+        (case_twice text.now (record { endpoint = endpoint; awaited = awaited; binds = [] }) ∷ [])) }
 {
-    let name = tokens.slice(endpoint);
-    let word = tokens.slice(awaited_span(awaited));
+    let name = endpoint.slice(text);
+    let word = awaited_span(awaited).slice(text);
     found.push(texts::case_twice(alloc, endpoint.place, name, word)?)?;
     Ok(())
 }
@@ -96,19 +96,19 @@ fn add_case_twice(
 /// Adds that an earlier case awaits the same, where one does.
 pub(crate) fn judge_case_twice(
     alloc: Global,
-    tokens: &Tokens,
+    text: &[u8],
     twice: bool,
     endpoint: Span,
     awaited: Awaited,
     found: &mut Vec<Finding>,
 ) -> Result<(), Memory>
     ensures { OnOk result (Adds found.old.items found.new.items (if twice
-        then case_twice tokens.now.text.items (record { endpoint = endpoint; awaited = awaited; binds = [] }) ∷ [] else [])) }
+        then case_twice text.now (record { endpoint = endpoint; awaited = awaited; binds = [] }) ∷ [] else [])) }
 {
     if !twice {
         return Ok(());
     }
-    add_case_twice(alloc, tokens, endpoint, awaited, found)
+    add_case_twice(alloc, text, endpoint, awaited, found)
 }
 
 /// Adds what is wrong with a case on what is no endpoint.

@@ -72,7 +72,7 @@ fn declare_in<'a>(
     ensures { (p : Program) (f : Frame) → IsScope p scope.now → IsFrame p.text f variables.old
         → OnOk result (Turned p.text found.old.items found.new.items variables.new (declared_variable p.text name kind heap f)) }
 {
-    variables.declare(alloc, scope.tokens, name, kind, heap, found)
+    variables.declare(alloc, scope.text, name, kind, heap, found)
 }
 
 /// Adds what is wrong with a name that a case binds, and declares it.

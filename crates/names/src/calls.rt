@@ -17,7 +17,7 @@ ghost use Rattle.names.specs.Values.{sends, is_alone, message_findings, contract
 ghost use Rattle.names.specs.Values.{class_findings, class_meant, member_findings, call_findings};
 ghost use Rattle.names.specs.Variables.{Frame};
 ghost use Rattle.names.specs.Variables as model;
-ghost use Rattle.names.specs.Words.{word_at, same_word};
+ghost use Rattle.tables.specs.Words.{word_at, same_word};
 
 use crate::arguments::{judge_arguments, judge_message_arguments, judge_parameter_arguments};
 use crate::judging::add_unknown;
@@ -71,7 +71,7 @@ fn judge_start(
         → OnOk result (Adds found.old.items found.new.items (start_findings p.text m role name)) }
 {
     match role {
-        Role::Started if !startable => add_not_started(alloc, scope.tokens, name, found),
+        Role::Started if !startable => add_not_started(alloc, scope.text, name, found),
         _ => Ok(()),
     }
 }
@@ -114,7 +114,7 @@ fn judge_unknown(
         → OnOk result (Adds found.old.items found.new.items (unknown p.text name
         ∷ argument_findings (record { program = p; variables = f.variables }) [] (map shape (map expression_tree arguments.now)))) }
 {
-    add_unknown(alloc, scope.tokens, name, found)?;
+    add_unknown(alloc, scope.text, name, found)?;
     judge_arguments(alloc, scope, variables, &[], arguments, found)
 }
 
@@ -170,7 +170,7 @@ fn sent_message<'a>(scope: &Scope<'a>, place: usize, word: Span) -> Option<&'a M
         → option_map (λ m. message_tree m.now) result ≡ contract_message (record { program = p; variables = vs }) place word }
 {
     let declared = scope.contract_at(place)?;
-    let name = scope.tokens.slice(word).strip_prefix(b"Send")?;
+    let name = word.slice(scope.text).strip_prefix(b"Send")?;
     declared.message(name)
 }
 
@@ -269,7 +269,7 @@ fn judge_class(
 {
     match scope.class(class) {
         Some(methods) => {
-            let callee = methods.find(scope.tokens, name);
+            let callee = methods.find(scope.text, name);
             judge_method(
                 alloc, scope, variables, callee, role, name, arguments, found,
             )
@@ -293,7 +293,7 @@ fn judge_member(
         → OnOk result (Adds found.old.items found.new.items (member_findings (record { program = p; variables = f.variables }) (meant
         (record { program = p; variables = f.variables }) front) role front word (map shape (map expression_tree arguments.now)))) }
 {
-    match variables.find(scope.tokens, front) {
+    match variables.find(scope.text, front) {
         Some(variable) => judge_send(
             alloc,
             scope,
@@ -325,7 +325,7 @@ pub(crate) fn judge_call(
     let arguments = &call.arguments;
     match call.member {
         None => {
-            let callee = around.methods.find(scope.tokens, call.name);
+            let callee = around.methods.find(scope.text, call.name);
             judge_method(
                 alloc, scope, variables, callee, role, call.name, arguments, found,
             )

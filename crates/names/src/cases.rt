@@ -12,7 +12,7 @@ ghost use Rattle.names.specs.Kinds.{is_silent};
 ghost use Rattle.names.specs.Program.{Program, as_contract, item_at};
 ghost use Rattle.names.specs.Scopes.{IsScope};
 ghost use Rattle.names.specs.Values.{message_written};
-ghost use Rattle.names.specs.Words.{word_at};
+ghost use Rattle.tables.specs.Words.{word_at};
 ghost use Rattle.names.specs.Variables.{Frame, Variable};
 
 use crate::awaits::{
@@ -68,10 +68,10 @@ fn judge_endpoint_head<'a>(
         → OnOk result (Adds found.old.items found.new.items (kind_head_findings (record { program = p; variables = vs }) all
         (take place all) (Kind.Endpoint item end) (case_head case.now))) }
 {
-    let twice = heads.is_twice(scope.tokens, place, awaiting_at(case));
+    let twice = heads.is_twice(scope.text, place, awaiting_at(case));
     judge_awaited(alloc, scope, item, end, twice, case, found)?;
-    let lacking = heads.is_lacking(scope.tokens, place, case.endpoint);
-    judge_lacking(alloc, scope.tokens, lacking, case.endpoint, found)
+    let lacking = heads.is_lacking(scope.text, place, case.endpoint);
+    judge_lacking(alloc, scope.text, lacking, case.endpoint, found)
 }
 
 /// Adds what is wrong with what such a case awaits. An earlier one may await the same.
@@ -91,14 +91,7 @@ fn judge_awaited(
     match case.message {
         Awaited::Closed(word) => {
             judge_closed(alloc, &case.binds, word, found)?;
-            judge_case_twice(
-                alloc,
-                scope.tokens,
-                twice,
-                case.endpoint,
-                case.message,
-                found,
-            )
+            judge_case_twice(alloc, scope.text, twice, case.endpoint, case.message, found)
         }
         Awaited::Message(word) => {
             judge_message(alloc, scope, item, end, twice, word, case, found)
@@ -124,16 +117,9 @@ fn judge_message(
     match message_named(scope, item, word) {
         Some(message) => {
             judge_message_case(alloc, message, end, word, &case.binds, found)?;
-            judge_case_twice(
-                alloc,
-                scope.tokens,
-                twice,
-                case.endpoint,
-                case.message,
-                found,
-            )
+            judge_case_twice(alloc, scope.text, twice, case.endpoint, case.message, found)
         }
-        None => add_unknown(alloc, scope.tokens, word, found),
+        None => add_unknown(alloc, scope.text, word, found),
     }
 }
 
@@ -184,7 +170,7 @@ fn message_named<'a>(scope: &Scope<'a>, place: usize, word: Span) -> Option<&'a 
         ≡ option_and_then (λ c. message_written p.text c.1 (word_at p.text word)) (item_at as_contract p place) }
 {
     let declared = scope.contract_at(place)?;
-    declared.message(scope.tokens.slice(word))
+    declared.message(word.slice(scope.text))
 }
 
 /// The message that a case awaits at this end of the contract that is the item at this place.

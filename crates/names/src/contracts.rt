@@ -30,11 +30,11 @@ pub(crate) fn judge_contract(
         → OnOk result (Adds found.old.items found.new.items (contract_findings p contract)) }
 {
     let messages = declared.outline.message_names(alloc)?;
-    judge_twice(alloc, scope.tokens, &declared.messages, &messages, found)?;
+    judge_twice(alloc, scope.text, &declared.messages, &messages, found)?;
     let states = declared.outline.state_names(alloc)?;
-    judge_twice(alloc, scope.tokens, &declared.states, &states, found)?;
+    judge_twice(alloc, scope.text, &declared.states, &states, found)?;
     judge_messages(alloc, scope, &declared.outline.messages, found)?;
-    judge_states(alloc, scope.tokens, declared, found)
+    judge_states(alloc, scope.text, declared, found)
 }
 
 /// Adds the contract, and the state, one past the limit.

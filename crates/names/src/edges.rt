@@ -64,6 +64,7 @@ fn add_path(
     requires room { unnamed + length path.now.others.items < 2 ^ 32 }
     ensures { OnOk result (edges.new.items ≡ edges.old.items ++ path_edges (meanings meaning.now) state unnamed (path_tree path.now)) }
 {
+    edges.reserve(path.others.len().saturating_add(1))?;
     let mut from = state;
     let mut edge = path.first;
     let mut to = unnamed;

@@ -39,6 +39,7 @@ pub(crate) fn judge_operand(
 {
     match expression {
         Expression::Atom(atom) => judge_atom(alloc, scope, variables, atom, found),
+        Expression::Sum(sum) => judge_sum(alloc, scope, variables, sum, found),
         Expression::Joined(joined) => judge_disjunction(alloc, scope, variables, joined, found),
     }
 }

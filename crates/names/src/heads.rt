@@ -4,13 +4,13 @@ ghost use Rattle.std.specs.Prelude.{◌≡◌, ℕ, List, Option, Some, take, ma
 ghost use Rattle.tree.specs.StatementTrees.{switch_tree, case_tree};
 ghost use Rattle.names.specs.Bodies.{head_of};
 ghost use Rattle.names.specs.Heads.{awaiting_of, key_words, awaited_word, key_at, is_before, switch_heads};
-ghost use Rattle.names.specs.Words.{word_at};
+ghost use Rattle.tables.specs.Words.{word_at};
 
-use crate::tables::Table;
 use lemmas::first_positions;
-use source::{Memory, Span, Tokens};
+use source::{Memory, Span};
 use std::alloc::Global;
 use std::collections::BTreeMap;
+use tables::Table;
 use tree::{Awaited, Case, Switch};
 
 /// What is written at the endpoint of a case and at the message that it awaits; at no message where the other end is
@@ -37,35 +37,31 @@ impl<'a> Heads<'a> {
     ghost use Rattle.names.specs.Heads.{IsHeads, lacks};
 
     /// The heads of a switch.
-    pub(crate) fn of(
-        alloc: Global,
-        tokens: &'a Tokens,
-        switch: &Switch,
-    ) -> Result<Heads<'a>, Memory>
-        ensures { IfOk result (IsHeads tokens.now.text.items (switch_heads (switch_tree switch.now))) }
+    pub(crate) fn of(alloc: Global, text: &'a [u8], switch: &Switch) -> Result<Heads<'a>, Memory>
+        ensures { IfOk result (IsHeads text.now (switch_heads (switch_tree switch.now))) }
     {
         let list = awaiting_in(alloc, switch)?;
         let names = endpoints_of(alloc, &list)?;
-        let keys = keys_of(alloc, tokens, &list)?;
+        let keys = keys_of(alloc, text, &list)?;
         let cases = first_positions(alloc, &keys)?;
-        let endpoints = Table::of(alloc, tokens, &names)?;
+        let endpoints = Table::of(alloc, text, &names)?;
         Ok(Heads { cases, endpoints })
     }
 
     /// Whether one of the heads before this place awaits the same as this case.
-    pub(crate) fn is_twice(&self, tokens: &'a Tokens, place: usize, case: Awaiting) -> bool
-        ensures { (all : List Head) (h : Head) → IsHeads tokens.now.text.items all self.now → case ≡ awaiting_of h
-            → result ≡ awaits_too tokens.now.text.items h (take place all) }
+    pub(crate) fn is_twice(&self, text: &'a [u8], place: usize, case: Awaiting) -> bool
+        ensures { (all : List Head) (h : Head) → IsHeads text.now all self.now → case ≡ awaiting_of h
+            → result ≡ awaits_too text.now h (take place all) }
     {
-        stands_before(self.place_of(key_of(tokens, case)), place)
+        stands_before(self.place_of(key_of(text, case)), place)
     }
 
     /// Whether the endpoint has no case for its close, and none of the heads before this place names it.
-    pub(crate) fn is_lacking(&self, tokens: &'a Tokens, place: usize, endpoint: Span) -> bool
-        ensures { (all : List Head) (h : Head) → IsHeads tokens.now.text.items all self.now → endpoint ≡ h.endpoint
-            → result ≡ lacks tokens.now.text.items all (take place all) h }
+    pub(crate) fn is_lacking(&self, text: &'a [u8], place: usize, endpoint: Span) -> bool
+        ensures { (all : List Head) (h : Head) → IsHeads text.now all self.now → endpoint ≡ h.endpoint
+            → result ≡ lacks text.now all (take place all) h }
     {
-        let word = tokens.slice(endpoint);
+        let word = endpoint.slice(text);
         let named = stands_before(self.endpoints.find(word), place);
         let closed = self.place_of((word, None)).is_some();
         !(named || closed)
@@ -90,24 +86,24 @@ fn stands_before(found: Option<usize>, place: usize) -> bool
 }
 
 /// What is written at a head.
-fn key_of<'a>(tokens: &'a Tokens, case: Awaiting) -> Key<'a>
-    ensures { key_words result ≡ (word_at tokens.now.text.items case.endpoint, awaited_word tokens.now.text.items case.awaited) }
+fn key_of<'a>(text: &'a [u8], case: Awaiting) -> Key<'a>
+    ensures { key_words result ≡ (word_at text.now case.endpoint, awaited_word text.now case.awaited) }
 {
-    let word = tokens.slice(case.endpoint);
+    let word = case.endpoint.slice(text);
     match case.awaited {
-        Awaited::Message(message) => (word, Some(tokens.slice(message))),
+        Awaited::Message(message) => (word, Some(message.slice(text))),
         Awaited::Closed(_) => (word, None),
     }
 }
 
 /// What is written at these heads.
-fn keys_of<'a>(alloc: Global, tokens: &'a Tokens, list: &[Awaiting]) -> Result<Vec<Key<'a>>, Memory>
+fn keys_of<'a>(alloc: Global, text: &'a [u8], list: &[Awaiting]) -> Result<Vec<Key<'a>>, Memory>
     ensures { IfOk result (λ keys. map key_words keys.items
-        ≡ map (λ a. (word_at tokens.now.text.items a.endpoint, awaited_word tokens.now.text.items a.awaited)) list.now) }
+        ≡ map (λ a. (word_at text.now a.endpoint, awaited_word text.now a.awaited)) list.now) }
 {
     let mut keys = Vec::new(alloc);
     for case in list {
-        keys.push(key_of(tokens, *case))?;
+        keys.push(key_of(text, *case))?;
     }
     Ok(keys)
 }

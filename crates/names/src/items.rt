@@ -15,7 +15,7 @@ use crate::members::{Fields, Members, names_of_fields};
 use crate::methods::judge_class;
 use crate::scope::{Scope, names_of_items};
 use program::MOST_METHODS;
-use source::{Finding, Memory, Span, Tokens};
+use source::{Finding, Memory, Span};
 use std::alloc::{AllocError, Global};
 use tree::{Definition, Item, Method};
 
@@ -37,7 +37,7 @@ fn judge_items(alloc: Global, scope: &Scope<'_>, found: &mut Vec<Finding>) -> Re
     ensures { (p : Program) → IsScope p scope.now → OnOk result (Adds found.old.items found.new.items (items_findings p)) }
 {
     let names = names_of_items(alloc, scope.items)?;
-    judge_twice(alloc, scope.tokens, &scope.names, &names, found)?;
+    judge_twice(alloc, scope.text, &scope.names, &names, found)?;
     let methods = all_method_names(alloc, scope.items)?;
     judge_limit(alloc, MOST_METHODS, &methods, found)
 }
@@ -69,7 +69,7 @@ fn judge_definition<'a>(
 {
     match members {
         Members::Contract(declared) => judge_contract(alloc, scope, declared, found),
-        Members::Struct(fields) => judge_struct(alloc, scope.tokens, fields, found),
+        Members::Struct(fields) => judge_struct(alloc, scope.text, fields, found),
         Members::Class(methods) => judge_class(alloc, scope, methods, found),
     }
 }
@@ -77,15 +77,15 @@ fn judge_definition<'a>(
 /// Adds each field of a struct whose name an earlier one has.
 fn judge_struct(
     alloc: Global,
-    tokens: &Tokens,
+    text: &[u8],
     fields: &Fields<'_>,
     found: &mut Vec<Finding>,
 ) -> Result<(), Memory>
-    ensures { (p : Program) (s : StructTree) → tokens.now.text.items ≡ p.text → AreFields p.text s fields.now
+    ensures { (p : Program) (s : StructTree) → text.now ≡ p.text → AreFields p.text s fields.now
         → OnOk result (Adds found.old.items found.new.items (struct_findings p s)) }
 {
     let names = names_of_fields(alloc, fields.list)?;
-    judge_twice(alloc, tokens, &fields.table, &names, found)
+    judge_twice(alloc, text, &fields.table, &names, found)
 }
 
 /// The names of all methods in these items, in order.

@@ -4,69 +4,72 @@ ghost use Rattle.std.specs.Prelude.{◌≡◌, List, ◌∷◌, [], OnOk, slice_
 ghost use Rattle.source.specs.declared.token.Span.{Span};
 ghost use Rattle.names.specs.Listed.{twice_among, past_limit, asked_name};
 ghost use Rattle.names.specs.Found.{Adds, declared_twice, unknown};
-ghost use Rattle.names.specs.Tables.{IsTable};
-ghost use Rattle.names.specs.Words.{words_at};
+ghost use Rattle.tables.specs.Tables.{IsTable};
+ghost use Rattle.tables.specs.Words.{words_at};
 
-use crate::tables::Table;
-use source::{Finding, Memory, Span, Tokens, texts};
+use source::{Finding, Memory, Span, texts};
 use std::alloc::Global;
+use tables::Table;
 
 /// Adds a name that nothing declares.
 pub(crate) fn add_unknown(
     alloc: Global,
-    tokens: &Tokens,
+    text: &[u8],
     name: Span,
     found: &mut Vec<Finding>,
 ) -> Result<(), Memory>
-    ensures { OnOk result (Adds found.old.items found.new.items (unknown tokens.now.text.items name ∷ [])) }
+    ensures { OnOk result (Adds found.old.items found.new.items (unknown text.now name ∷ [])) }
 {
-    found.push(texts::unknown(alloc, name.place, tokens.slice(name))?)?;
+    found.push(texts::unknown(alloc, name.place, name.slice(text))?)?;
     Ok(())
 }
 
 /// Adds a name that an earlier one has.
 pub(crate) fn add_twice(
     alloc: Global,
-    tokens: &Tokens,
+    text: &[u8],
     name: Span,
     found: &mut Vec<Finding>,
 ) -> Result<(), Memory>
-    ensures { OnOk result (Adds found.old.items found.new.items (declared_twice tokens.now.text.items name ∷ [])) }
+    ensures { OnOk result (Adds found.old.items found.new.items (declared_twice text.now name ∷ [])) }
 {
-    found.push(texts::declared_twice(alloc, name.place, tokens.slice(name))?)?;
+    found.push(texts::declared_twice(alloc, name.place, name.slice(text))?)?;
     Ok(())
 }
 
 /// Adds the name if its table lacks it.
 pub(crate) fn judge_name(
     alloc: Global,
-    tokens: &Tokens,
+    text: &[u8],
     table: &Table<'_>,
     name: Span,
     found: &mut Vec<Finding>,
 ) -> Result<(), Memory>
-    ensures { (names : List Span) → IsTable (words_at tokens.now.text.items names) table.now
-        → OnOk result (Adds found.old.items found.new.items (asked_name tokens.now.text.items names name)) }
+    ensures { (names : List Span) → IsTable (words_at text.now names) table.now
+        → OnOk result (Adds found.old.items found.new.items (asked_name text.now names name)) }
 {
-    match table.find(tokens.slice(name)) {
+    match table.find(name.slice(text)) {
         Some(_) => Ok(()),
-        None => add_unknown(alloc, tokens, name, found),
+        None => add_unknown(alloc, text, name, found),
     }
 }
 
 /// Adds each name that an earlier one has.
 pub(crate) fn judge_twice(
     alloc: Global,
-    tokens: &Tokens,
+    text: &[u8],
     table: &Table<'_>,
     names: &[Span],
     found: &mut Vec<Finding>,
 ) -> Result<(), Memory>
-    ensures { IsTable (words_at tokens.now.text.items names.now) table.now
-        → OnOk result (Adds found.old.items found.new.items (twice_among tokens.now.text.items names.now)) }
+    ensures { IsTable (words_at text.now names.now) table.now
+        → OnOk result (Adds found.old.items found.new.items (twice_among text.now names.now)) }
 {
+    if table.is_apart() {
+        return Ok(());
+    }
     for (place, name) in names.iter().enumerate() {
-        let word = tokens.slice(*name);
+        let word = name.slice(text);
         if !table.is_first(word, place) {
             found.push(texts::declared_twice(alloc, name.place, word)?)?;
         }

@@ -6,12 +6,12 @@ ghost use Rattle.names.specs.Resolution.{edge_between};
 
 use crate::members::Declared;
 use program::{Edge, MessageId, StateId};
-use source::{Span, Tokens};
+use source::Span;
 
 /// What a contract declares, and how its messages and states are numbered.
 #[derive(Clone, Copy)]
 pub(crate) struct Meaning<'a, 't> {
-    pub(crate) tokens: &'a Tokens,
+    pub(crate) text: &'a [u8],
     pub(crate) declared: &'a Declared<'t>,
     /// How many messages and how many states stand before its own in the text.
     pub(crate) messages_before: u32,
@@ -29,11 +29,7 @@ impl Meaning<'_, '_> {
         requires declared { asked_name (text_of self.now) (message_names self.now) name ≡ [] }
         ensures { result ≡ (meanings self.now).message name }
     {
-        let place = self
-            .declared
-            .messages
-            .find(self.tokens.slice(name))
-            .unwrap();
+        let place = self.declared.messages.find(name.slice(self.text)).unwrap();
         self.messages_before + place as u32
     }
 
@@ -43,7 +39,7 @@ impl Meaning<'_, '_> {
         requires declared { asked_name (text_of self.now) (state_names self.now) name ≡ [] }
         ensures { result ≡ (meanings self.now).state name }
     {
-        let place = self.declared.states.find(self.tokens.slice(name)).unwrap();
+        let place = self.declared.states.find(name.slice(self.text)).unwrap();
         self.states_before + self.named[place] as u32
     }
 

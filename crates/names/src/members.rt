@@ -12,9 +12,9 @@ ghost use Rattle.names.specs.Values.{message_written, method_named};
 use crate::outline::Outline;
 use crate::starts::{Callee, startable_methods};
 use crate::state_names::state_names;
-use crate::tables::Table;
-use source::{Span, Tokens};
+use source::Span;
 use std::alloc::{AllocError, Global};
+use tables::Table;
 use tree::{Class, Contract, Definition, Field, Message, Method, Struct};
 
 /// What a contract declares, where each of its names is declared first, and where its named states stand among all of its
@@ -57,19 +57,19 @@ impl<'a> Members<'a> {
     /// What a definition declares within it.
     pub(crate) fn of(
         alloc: Global,
-        tokens: &'a Tokens,
+        text: &'a [u8],
         definition: &'a Definition,
     ) -> Result<Members<'a>, AllocError>
-        ensures { IfOk result (AreMembers tokens.now.text.items (definition_tree definition.now)) }
+        ensures { IfOk result (AreMembers text.now (definition_tree definition.now)) }
     {
         match definition {
             Definition::Contract(contract) => {
-                Ok(Members::Contract(Declared::of(alloc, tokens, contract)?))
+                Ok(Members::Contract(Declared::of(alloc, text, contract)?))
             }
             Definition::Struct(structure) => {
-                Ok(Members::Struct(Fields::of(alloc, tokens, structure)?))
+                Ok(Members::Struct(Fields::of(alloc, text, structure)?))
             }
-            Definition::Class(class) => Ok(Members::Class(Methods::of(alloc, tokens, class)?)),
+            Definition::Class(class) => Ok(Members::Class(Methods::of(alloc, text, class)?)),
         }
     }
 
@@ -110,16 +110,16 @@ impl<'a> Declared<'a> {
     /// What a contract declares.
     pub(crate) fn of(
         alloc: Global,
-        tokens: &'a Tokens,
+        text: &'a [u8],
         contract: &'a Contract,
     ) -> Result<Declared<'a>, AllocError>
-        ensures { IfOk result (IsDeclared tokens.now.text.items (contract_tree contract.now)) }
+        ensures { IfOk result (IsDeclared text.now (contract_tree contract.now)) }
     {
         let outline = Outline::of(alloc, contract)?;
         let messages = outline.message_names(alloc)?;
         let states = outline.state_names(alloc)?;
-        let messages = Table::of(alloc, tokens, &messages)?;
-        let states = Table::of(alloc, tokens, &states)?;
+        let messages = Table::of(alloc, text, &messages)?;
+        let states = Table::of(alloc, text, &states)?;
         let named = state_names(alloc, &outline.states)?.named;
         Ok(Declared {
             outline,
@@ -152,13 +152,13 @@ impl<'a> Fields<'a> {
     /// The fields of a struct.
     pub(crate) fn of(
         alloc: Global,
-        tokens: &'a Tokens,
+        text: &'a [u8],
         structure: &'a Struct,
     ) -> Result<Fields<'a>, AllocError>
-        ensures { IfOk result (AreFields tokens.now.text.items (struct_tree structure.now)) }
+        ensures { IfOk result (AreFields text.now (struct_tree structure.now)) }
     {
         let names = names_of_fields(alloc, &structure.fields)?;
-        let table = Table::of(alloc, tokens, &names)?;
+        let table = Table::of(alloc, text, &names)?;
         Ok(Fields {
             list: &structure.fields,
             table,
@@ -166,10 +166,10 @@ impl<'a> Fields<'a> {
     }
 
     /// The first field of this name.
-    pub(crate) fn find(&self, tokens: &Tokens, name: Span) -> Option<Field>
-        ensures { (s : StructTree) → AreFields tokens.now.text.items s self.now → result ≡ field_named tokens.now.text.items s name }
+    pub(crate) fn find(&self, text: &[u8], name: Span) -> Option<Field>
+        ensures { (s : StructTree) → AreFields text.now s self.now → result ≡ field_named text.now s name }
     {
-        let place = self.table.find(tokens.slice(name))?;
+        let place = self.table.find(name.slice(text))?;
         self.list.get(place).copied()
     }
 }
@@ -180,13 +180,13 @@ impl<'a> Methods<'a> {
     /// The methods of a class.
     pub(crate) fn of(
         alloc: Global,
-        tokens: &'a Tokens,
+        text: &'a [u8],
         class: &'a Class,
     ) -> Result<Methods<'a>, AllocError>
-        ensures { IfOk result (AreMethods tokens.now.text.items (class_tree class.now)) }
+        ensures { IfOk result (AreMethods text.now (class_tree class.now)) }
     {
         let names = names_of_methods(alloc, &class.methods)?;
-        let table = Table::of(alloc, tokens, &names)?;
+        let table = Table::of(alloc, text, &names)?;
         let startable = startable_methods(alloc, &class.methods)?;
         Ok(Methods {
             list: &class.methods,
@@ -196,19 +196,19 @@ impl<'a> Methods<'a> {
     }
 
     /// How many methods of the class stand before the first one of this name.
-    pub(crate) fn place(&self, tokens: &Tokens, name: Span) -> Option<usize>
-        ensures { (c : ClassTree) → AreMethods tokens.now.text.items c self.now
-            → result ≡ first_among tokens.now.text.items (map (λ m. m.name) c.methods) name }
+    pub(crate) fn place(&self, text: &[u8], name: Span) -> Option<usize>
+        ensures { (c : ClassTree) → AreMethods text.now c self.now
+            → result ≡ first_among text.now (map (λ m. m.name) c.methods) name }
     {
-        self.table.find(tokens.slice(name))
+        self.table.find(name.slice(text))
     }
 
     /// The first method of this name.
-    pub(crate) fn find(&self, tokens: &Tokens, name: Span) -> Option<Callee<'a>>
-        ensures { (c : ClassTree) → AreMethods tokens.now.text.items c self.now
-            → IsCallee (method_named tokens.now.text.items c name) result }
+    pub(crate) fn find(&self, text: &[u8], name: Span) -> Option<Callee<'a>>
+        ensures { (c : ClassTree) → AreMethods text.now c self.now
+            → IsCallee (method_named text.now c name) result }
     {
-        let place = self.place(tokens, name)?;
+        let place = self.place(text, name)?;
         self.callee(place)
     }
 

@@ -13,7 +13,7 @@ ghost use Rattle.names.specs.Program.{Program, item_at, as_struct};
 ghost use Rattle.names.specs.Scopes.{IsScope, AreFields};
 ghost use Rattle.names.specs.Shapes as shapes;
 ghost use Rattle.names.specs.Shapes.{Shape};
-ghost use Rattle.names.specs.Words.{word_at, same_word};
+ghost use Rattle.tables.specs.Words.{word_at, same_word};
 
 use crate::judging::add_unknown;
 use crate::kinds::Kind;
@@ -22,7 +22,7 @@ use crate::operands::{Operand, ask, ask_number};
 use crate::scope::Scope;
 use crate::variables::Variables;
 use program::Scalar;
-use source::{Finding, Memory, Span, Tokens};
+use source::{Finding, Memory, Span};
 use std::alloc::Global;
 
 /// What a variable holds; adds the name if nothing declares it.
@@ -36,10 +36,10 @@ pub(crate) fn judge_variable(
     ensures { IfOk result
         (Gives scope.now variables.now (λ s. held (meant s name)) (λ s. variable_findings s name) found.old.items found.new.items) }
 {
-    match variables.find(scope.tokens, name) {
+    match variables.find(scope.text, name) {
         Some(variable) => Ok(variable.kind),
         None => {
-            add_unknown(alloc, scope.tokens, name, found)?;
+            add_unknown(alloc, scope.text, name, found)?;
             Ok(Kind::Unknown)
         }
     }
@@ -143,7 +143,7 @@ pub(crate) fn judge_field(
         (GivesIn scope.now (λ s. field_kind s held field) (λ s. field_findings s held variable field) found.old.items found.new.items) }
 {
     match held {
-        Kind::Array(_) => judge_length(alloc, scope.tokens, field, found),
+        Kind::Array(_) => judge_length(alloc, scope.text, field, found),
         Kind::Pointer(place) => judge_struct_field(alloc, scope, place, field, found),
         Kind::Unknown => Ok(Kind::Unknown),
         _ => {
@@ -156,26 +156,26 @@ pub(crate) fn judge_field(
 /// The kind of a field of an array; adds any but its length.
 fn judge_length(
     alloc: Global,
-    tokens: &Tokens,
+    text: &[u8],
     field: Span,
     found: &mut Vec<Finding>,
 ) -> Result<Kind, Memory>
-    ensures { IfOk result (let is_length = same_word (word_at tokens.now.text.items field) (codes "Length") in
+    ensures { IfOk result (let is_length = same_word (word_at text.now field) (codes "Length") in
         IsGiven (if is_length then Kind.Scalar Scalar.Int else Kind.Unknown)
-        (if is_length then [] else unknown tokens.now.text.items field ∷ []) found.old.items found.new.items) }
+        (if is_length then [] else unknown text.now field ∷ []) found.old.items found.new.items) }
 {
-    if is_length(tokens, field) {
+    if is_length(text, field) {
         return Ok(Kind::Scalar(Scalar::Int));
     }
-    add_unknown(alloc, tokens, field, found)?;
+    add_unknown(alloc, text, field, found)?;
     Ok(Kind::Unknown)
 }
 
 /// Whether this name is `Length`.
-pub(crate) fn is_length(tokens: &Tokens, name: Span) -> bool
-    ensures { result ≡ same_word (word_at tokens.now.text.items name) (codes "Length") }
+pub(crate) fn is_length(text: &[u8], name: Span) -> bool
+    ensures { result ≡ same_word (word_at text.now name) (codes "Length") }
 {
-    tokens.slice(name) == b"Length".as_slice()
+    name.slice(text) == b"Length".as_slice()
 }
 
 /// The kind of a field of what a pointer leads to; adds one that the struct lacks.
@@ -191,7 +191,7 @@ fn judge_struct_field(
         (λ s. field_findings s (Kind.Pointer place) field field) found.old.items found.new.items) }
 {
     match struct_at(scope, place) {
-        Some(fields) => judge_field_in(alloc, scope.tokens, fields, field, found),
+        Some(fields) => judge_field_in(alloc, scope.text, fields, field, found),
         None => Ok(Kind::Unknown),
     }
 }
@@ -199,20 +199,20 @@ fn judge_struct_field(
 /// The kind of a field of a struct; adds one that it lacks.
 fn judge_field_in(
     alloc: Global,
-    tokens: &Tokens,
+    text: &[u8],
     fields: &Fields<'_>,
     field: Span,
     found: &mut Vec<Finding>,
 ) -> Result<Kind, Memory>
-    ensures { IfOk result (λ k. (s : InScope) (x : StructTree) → AreFields tokens.now.text.items x fields.now
-        → IsGiven (struct_field_kind s (field_named tokens.now.text.items x field))
-        (if is_some (field_named tokens.now.text.items x field) then [] else unknown tokens.now.text.items field ∷ [])
+    ensures { IfOk result (λ k. (s : InScope) (x : StructTree) → AreFields text.now x fields.now
+        → IsGiven (struct_field_kind s (field_named text.now x field))
+        (if is_some (field_named text.now x field) then [] else unknown text.now field ∷ [])
         found.old.items found.new.items k) }
 {
-    match fields.find(tokens, field) {
+    match fields.find(text, field) {
         Some(declared) => Ok(Kind::Scalar(declared.kind)),
         None => {
-            add_unknown(alloc, tokens, field, found)?;
+            add_unknown(alloc, text, field, found)?;
             Ok(Kind::Unknown)
         }
     }

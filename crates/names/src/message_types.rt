@@ -11,11 +11,11 @@ ghost use Rattle.names.specs.Scopes.{IsScope};
 
 use crate::judging::{judge_limit, judge_twice};
 use crate::scope::Scope;
-use crate::tables::Table;
 use crate::types::judge_type;
 use program::MOST_PARAMETERS;
 use source::{Finding, Memory, Span};
 use std::alloc::Global;
+use tables::Table;
 use tree::{Message, Param};
 
 /// Adds what is wrong with the parameters of a message.
@@ -30,8 +30,8 @@ pub(crate) fn judge_message(
 {
     judge_types(alloc, scope, &message.params, found)?;
     let names = names_of(alloc, &message.params)?;
-    let table = Table::of(alloc, scope.tokens, &names)?;
-    judge_twice(alloc, scope.tokens, &table, &names, found)?;
+    let table = Table::of(alloc, scope.text, &names)?;
+    judge_twice(alloc, scope.text, &table, &names, found)?;
     judge_limit(alloc, MOST_PARAMETERS, &names, found)
 }
 

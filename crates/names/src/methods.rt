@@ -32,7 +32,7 @@ pub(crate) fn judge_class<'a>(
         → OnOk result (Adds found.old.items found.new.items (class_findings p c)) }
 {
     let names = names_of_methods(alloc, methods.list)?;
-    judge_twice(alloc, scope.tokens, &methods.table, &names, found)?;
+    judge_twice(alloc, scope.text, &methods.table, &names, found)?;
     judge_methods(alloc, scope, methods, found)
 }
 
@@ -122,5 +122,5 @@ fn judge_parameter<'a>(
     judge_type(alloc, scope, parameter.kind, found)?;
     let kind = kind_of_type(scope, parameter.kind);
     let heap = is_heap(parameter.kind);
-    variables.declare(alloc, scope.tokens, parameter.name, kind, heap, found)
+    variables.declare(alloc, scope.text, parameter.name, kind, heap, found)
 }

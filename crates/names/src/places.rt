@@ -5,7 +5,7 @@ ghost use Rattle.tree.specs.Trees.{message_tree};
 ghost use Rattle.names.specs.Kinds.{type_kind};
 ghost use Rattle.names.specs.Places.{contract_place, message_place, sent_place, message_at, state_place};
 ghost use Rattle.names.specs.Program.{Program};
-ghost use Rattle.names.specs.Words.{word_at};
+ghost use Rattle.tables.specs.Words.{word_at};
 
 use crate::kinds::Kind;
 use crate::scope::Scope;
@@ -36,7 +36,7 @@ impl<'a> Scope<'a> {
         ensures { (p : Program) → IsScope p self.now → result ≡ message_place p contract (word_at p.text name) }
     {
         let declared = self.contract_at(contract)?;
-        declared.messages.find(self.tokens.slice(name))
+        declared.messages.find(name.slice(self.text))
     }
 
     /// The same of the message that a word like `SendM` sends.
@@ -44,7 +44,7 @@ impl<'a> Scope<'a> {
         ensures { (p : Program) → IsScope p self.now → result ≡ sent_place p contract word }
     {
         let declared = self.contract_at(contract)?;
-        let name = self.tokens.slice(word).strip_prefix(b"Send")?;
+        let name = word.slice(self.text).strip_prefix(b"Send")?;
         declared.messages.find(name)
     }
 
@@ -62,7 +62,7 @@ impl<'a> Scope<'a> {
         ensures { (p : Program) → IsScope p self.now → result ≡ state_place p contract name }
     {
         let declared = self.contract_at(contract)?;
-        let place = declared.states.find(self.tokens.slice(name))?;
+        let place = declared.states.find(name.slice(self.text))?;
         declared.named_place(place)
     }
 }

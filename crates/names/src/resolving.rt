@@ -3,7 +3,6 @@
 ghost use Rattle.std.specs.Prelude.{◌≡◌, [], ◌∷◌, ◌++◌, ◌+◌, ◌^◌, ◌<◌, All, length, map, IfErr, IfOk, OnOk};
 ghost use Rattle.tree.specs.Trees.{contracts_of, program_tree};
 ghost use Rattle.tree.specs.Programs.{program};
-ghost use Rattle.tree.specs.Spelled.{Spells};
 ghost use Rattle.names.specs.Declarations.{counted_states};
 ghost use Rattle.names.specs.Findings.{program_findings};
 ghost use Rattle.names.specs.Outlines.{outlined_messages, outlined_states};
@@ -23,34 +22,33 @@ use crate::numbering::{number_messages, number_states};
 use crate::scope::Scope;
 use crate::state_names::state_names;
 use program::{Contract, Resolved, StateId};
-use source::{Memory, Tokens};
+use source::Memory;
 use std::alloc::Global;
 use tree::Tree;
 
 /// Resolves a program: its contracts in order of the text, each with its messages, states and edges.
 ///
-/// The tokens are the spelling of the tree, as `lex` and `parse` make them. Messages and states are counted through the
-/// whole program, each from 0, so no two of them share a number; a named state is counted at its name, and behind it the
+/// The tree is that of the text, as `parse` makes it, and fewer than 2^32 symbols spell it. Messages and states are counted
+/// through the whole program, each from 0, so no two of them share a number; a named state is counted at its name, and behind it the
 /// unnamed ones of its paths. A name in an edge means the first declaration of that name in its contract.
 ///
 /// `Found` has all that is wrong with the names and kinds of the program, and comes exactly where something is; `Memory`
 /// is answered where a growth was refused.
-pub fn resolve(alloc: Global, tree: &Tree, tokens: &Tokens) -> Result<Resolved, NameFaults>
-    requires spelled { Spells program (program_tree tree.now) tokens.now.list.items }
-    requires few { length tokens.now.list.items < 2 ^ 32 }
-    ensures found { IfErr result (Explains (program_of tokens.now.text.items tree.now)) }
-    ensures clean { OnOk result (program_findings (program_of tokens.now.text.items tree.now) ≡ []) }
+pub fn resolve(alloc: Global, tree: &Tree, text: &[u8]) -> Result<Resolved, NameFaults>
+    requires { length (program (program_tree tree.now)) < 2 ^ 32 }
+    ensures found { IfErr result (Explains (program_of text.now tree.now)) }
+    ensures clean { OnOk result (program_findings (program_of text.now tree.now) ≡ []) }
     ensures resolved { IfOk result (λ r. map contract_seen r.contracts.items
-        ≡ resolved_contracts tokens.now.text.items (contracts_of (program_tree tree.now))) }
+        ≡ resolved_contracts text.now (contracts_of (program_tree tree.now))) }
     ensures apart { IfOk result (λ r. AreApart (map contract_parts r.contracts.items)) }
     ensures whole { IfOk result (λ r. All (λ c. IsWhole (contract_parts c)) r.contracts.items) }
 {
-    let scope = Scope::of(alloc, tokens, &tree.items)?;
+    let scope = Scope::of(alloc, text, &tree.items)?;
     let mut found = Vec::new(alloc);
     judge_program(alloc, &scope, &mut found)?;
     if found.is_empty() {
         Ok(Resolved {
-            contracts: resolve_contracts(alloc, tokens, &scope.members)?,
+            contracts: resolve_contracts(alloc, text, &scope.members)?,
         })
     } else {
         Err(NameFaults::Found(found))
@@ -67,13 +65,13 @@ struct Before {
 /// The contracts among these, in order. The numbers of each begin behind those of the contracts before it.
 fn resolve_contracts(
     alloc: Global,
-    tokens: &Tokens,
+    text: &[u8],
     items: &[Members<'_>],
 ) -> Result<Vec<Contract>, Memory>
-    requires ready { All (IsReady tokens.now.text.items) (declared_in items.now) }
+    requires ready { All (IsReady text.now) (declared_in items.now) }
     requires messages { declared_messages (declared_in items.now) < 2 ^ 32 }
     requires states { declared_states (declared_in items.now) < 2 ^ 32 }
-    ensures { IfOk result (λ contracts. map contract_seen contracts.items ≡ all_resolved tokens.now.text.items (declared_in items.now)) }
+    ensures { IfOk result (λ contracts. map contract_seen contracts.items ≡ all_resolved text.now (declared_in items.now)) }
 {
     let mut contracts = Vec::new(alloc);
     let mut before = Before {
@@ -81,7 +79,7 @@ fn resolve_contracts(
         states: 0,
     };
     for item in items {
-        add_item(alloc, tokens, item, &mut before, &mut contracts)?;
+        add_item(alloc, text, item, &mut before, &mut contracts)?;
     }
     Ok(contracts)
 }
@@ -89,21 +87,21 @@ fn resolve_contracts(
 /// Adds the contract that an item is, if it is one.
 fn add_item(
     alloc: Global,
-    tokens: &Tokens,
+    text: &[u8],
     item: &Members<'_>,
     before: &mut Before,
     contracts: &mut Vec<Contract>,
 ) -> Result<(), Memory>
-    requires ready { All (IsReady tokens.now.text.items) (declared_among item.now) }
+    requires ready { All (IsReady text.now) (declared_among item.now) }
     requires messages { before.old.messages + declared_messages (declared_among item.now) < 2 ^ 32 }
     requires states { before.old.states + declared_states (declared_among item.now) < 2 ^ 32 }
     ensures messages { OnOk result (before.new.messages ≡ before.old.messages + declared_messages (declared_among item.now)) }
     ensures states { OnOk result (before.new.states ≡ before.old.states + declared_states (declared_among item.now)) }
     ensures contracts { OnOk result (map contract_seen contracts.new.items ≡ map contract_seen contracts.old.items
-        ++ map (resolved_declared tokens.now.text.items before.old.messages before.old.states) (declared_among item.now)) }
+        ++ map (resolved_declared text.now before.old.messages before.old.states) (declared_among item.now)) }
 {
     match item {
-        Members::Contract(declared) => add_contract(alloc, tokens, declared, before, contracts),
+        Members::Contract(declared) => add_contract(alloc, text, declared, before, contracts),
         _ => Ok(()),
     }
 }
@@ -111,20 +109,20 @@ fn add_item(
 /// Adds the contract, and counts its messages and states.
 fn add_contract(
     alloc: Global,
-    tokens: &Tokens,
+    text: &[u8],
     declared: &Declared<'_>,
     before: &mut Before,
     contracts: &mut Vec<Contract>,
 ) -> Result<(), Memory>
-    requires ready { IsReady tokens.now.text.items declared.now }
+    requires ready { IsReady text.now declared.now }
     requires messages { before.old.messages + length (outlined_messages declared.now.outline) < 2 ^ 32 }
     requires states { before.old.states + length (counted_states (outlined_states declared.now.outline)) < 2 ^ 32 }
     ensures messages { OnOk result (before.new.messages ≡ before.old.messages + length (outlined_messages declared.now.outline)) }
     ensures states { OnOk result (before.new.states ≡ before.old.states + length (counted_states (outlined_states declared.now.outline))) }
     ensures contracts { OnOk result (map contract_seen contracts.new.items ≡ map contract_seen contracts.old.items
-        ++ resolved_declared tokens.now.text.items before.old.messages before.old.states declared.now ∷ []) }
+        ++ resolved_declared text.now before.old.messages before.old.states declared.now ∷ []) }
 {
-    let contract = resolve_contract(alloc, tokens, declared, before.messages, before.states)?;
+    let contract = resolve_contract(alloc, text, declared, before.messages, before.states)?;
     before.messages += contract.messages.len() as u32;
     before.states += contract.states.len() as u32;
     contracts.push(contract)?;
@@ -134,22 +132,22 @@ fn add_contract(
 /// The contract. So many messages and so many states stand before its own in the text.
 fn resolve_contract(
     alloc: Global,
-    tokens: &Tokens,
+    text: &[u8],
     declared: &Declared<'_>,
     messages_before: u32,
     states_before: u32,
 ) -> Result<Contract, Memory>
-    requires ready { IsReady tokens.now.text.items declared.now }
+    requires ready { IsReady text.now declared.now }
     requires messages { messages_before + length (outlined_messages declared.now.outline) < 2 ^ 32 }
     requires states { states_before + length (counted_states (outlined_states declared.now.outline)) < 2 ^ 32 }
-    ensures { IfOk result (λ c. contract_seen c ≡ resolved_declared tokens.now.text.items messages_before states_before declared.now) }
+    ensures { IfOk result (λ c. contract_seen c ≡ resolved_declared text.now messages_before states_before declared.now) }
 {
     let outline = &declared.outline;
     let names = state_names(alloc, &outline.states)?;
-    let messages = number_messages(alloc, tokens, &outline.messages, messages_before)?;
-    let states = number_states(alloc, tokens, &names.all, states_before)?;
+    let messages = number_messages(alloc, text, &outline.messages, messages_before)?;
+    let states = number_states(alloc, text, &names.all, states_before)?;
     let meaning = Meaning {
-        tokens,
+        text,
         declared,
         messages_before,
         states_before,
@@ -157,7 +155,7 @@ fn resolve_contract(
     };
     let edges = edges_of(alloc, &meaning)?;
     Ok(Contract {
-        name: String::from_utf8_lossy(alloc, tokens.slice(outline.name))?,
+        name: String::from_utf8_lossy(alloc, outline.name.slice(text))?,
         first: StateId(states_before),
         states,
         messages,

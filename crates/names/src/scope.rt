@@ -11,16 +11,16 @@ ghost use Rattle.names.specs.Scopes.{AllMembers};
 
 use crate::members::{Declared, Fields, Members, Methods};
 use crate::noted::NotedKinds;
-use crate::tables::Table;
-use source::{Span, Tokens};
+use source::Span;
 use std::alloc::{AllocError, Global};
+use tables::Table;
 use tree::{Definition, Field, Item};
 
 /// The items of a text by their names: what they declare, in order, and where each of their names is declared first. A name
 /// means the first item that declares it.
 #[derive(Drop)]
 pub struct Scope<'a> {
-    pub(crate) tokens: &'a Tokens,
+    pub(crate) text: &'a [u8],
     pub(crate) items: &'a [Item],
     pub(crate) names: Table<'a>,
     pub(crate) members: Vec<Members<'a>>,
@@ -33,14 +33,14 @@ impl<'a> Scope<'a> {
     /// What these items declare.
     ///
     /// `AllocError` is answered where a growth was refused.
-    pub fn of(alloc: Global, tokens: &'a Tokens, items: &'a [Item]) -> Result<Scope<'a>, AllocError>
-        ensures { IfOk result (IsScope (record { text = tokens.now.text.items; items = map item_tree items.now })) }
+    pub fn of(alloc: Global, text: &'a [u8], items: &'a [Item]) -> Result<Scope<'a>, AllocError>
+        ensures { IfOk result (IsScope (record { text = text.now; items = map item_tree items.now })) }
     {
         let names = names_of_items(alloc, items)?;
-        let names = Table::of(alloc, tokens, &names)?;
-        let members = members_of_items(alloc, tokens, items)?;
+        let names = Table::of(alloc, text, &names)?;
+        let members = members_of_items(alloc, text, items)?;
         let mut scope = Scope {
-            tokens,
+            text,
             items,
             names,
             members,
@@ -82,7 +82,7 @@ impl<'a> Scope<'a> {
             → result ≡ option_and_then (λ s. field_named p.text s.1 name) (item_at as_struct p place) }
     {
         let fields = self.fields_at(place)?;
-        fields.find(self.tokens, name)
+        fields.find(self.text, name)
     }
 
     /// The first item of this name, if it is a class.
@@ -108,14 +108,14 @@ impl<'a> Scope<'a> {
             → result ≡ option_and_then (λ c. first_among p.text (map (λ m. m.name) c.1.methods) name) (item_at as_class p class) }
     {
         let methods = self.methods_at(class)?;
-        methods.place(self.tokens, name)
+        methods.place(self.text, name)
     }
 
     /// How many items stand before the first item of this name.
     fn place(&self, name: Span) -> Option<usize>
         ensures { (p : Program) → IsScope p self.now → result ≡ first_among p.text (item_names p) name }
     {
-        self.names.find(self.tokens.slice(name))
+        self.names.find(name.slice(self.text))
     }
 
     fn declared_at(&self, place: usize) -> Option<&Declared<'a>>
@@ -161,14 +161,14 @@ fn name_of(definition: &Definition) -> Span
 /// What these items declare within them, in order.
 fn members_of_items<'a>(
     alloc: Global,
-    tokens: &'a Tokens,
+    text: &'a [u8],
     items: &'a [Item],
 ) -> Result<Vec<Members<'a>>, AllocError>
-    ensures { IfOk result (λ members. AllMembers tokens.now.text.items (map item_tree items.now) members.items) }
+    ensures { IfOk result (λ members. AllMembers text.now (map item_tree items.now) members.items) }
 {
     let mut members = Vec::new(alloc);
     for item in items {
-        members.push(Members::of(alloc, tokens, &item.definition)?)?;
+        members.push(Members::of(alloc, text, &item.definition)?)?;
     }
     Ok(members)
 }

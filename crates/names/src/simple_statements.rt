@@ -74,7 +74,7 @@ pub(crate) fn judge_declare<'a>(
     judge_type(alloc, scope, declare.kind, found)?;
     judge_given(alloc, around, variables, kind, &declare.value, found)?;
     let heap = is_heap(declare.kind);
-    variables.declare(alloc, scope.tokens, declare.name, kind, heap, found)
+    variables.declare(alloc, scope.text, declare.name, kind, heap, found)
 }
 
 /// Adds what is wrong with an assignment.
@@ -99,7 +99,7 @@ pub(crate) fn kind_held(scope: &Scope<'_>, variables: &Variables<'_>, name: Span
     ensures { (p : Program) (f : Frame) → IsScope p scope.now → IsFrame p.text f variables.now
         → result ≡ held (meant (record { program = p; variables = f.variables }) name) }
 {
-    match variables.find(scope.tokens, name) {
+    match variables.find(scope.text, name) {
         Some(variable) => variable.kind,
         None => Kind::Unknown,
     }
@@ -203,7 +203,7 @@ fn judge_new_ends(
             channel.second,
             found,
         ),
-        None => add_unknown(alloc, scope.tokens, channel.contract, found),
+        None => add_unknown(alloc, scope.text, channel.contract, found),
     }
 }
 

@@ -53,6 +53,7 @@ fn add_paths(paths: &[Path], names: &mut Vec<StateName>) -> Result<(), AllocErro
 fn add_unnamed(others: &[Edge], names: &mut Vec<StateName>) -> Result<(), AllocError>
     ensures { OnOk result (names.new.items ≡ names.old.items ++ unnamed_names (map (λ e. e.message) others.now)) }
 {
+    names.reserve(others.len())?;
     for edge in others {
         names.push(StateName::Unnamed(edge.message))?;
     }

@@ -8,63 +8,63 @@ ghost use Rattle.names.specs.ContractFindings.{path_findings, state_findings};
 ghost use Rattle.names.specs.Found.{Adds};
 ghost use Rattle.names.specs.Listed.{asked_name};
 ghost use Rattle.names.specs.Outlines.{outlined_states};
-ghost use Rattle.names.specs.Tables.{IsTable};
-ghost use Rattle.names.specs.Words.{words_at};
+ghost use Rattle.tables.specs.Tables.{IsTable};
+ghost use Rattle.tables.specs.Words.{words_at};
 
 use crate::judging::judge_name;
 use crate::members::Declared;
 use crate::outline::paths;
-use crate::tables::Table;
-use source::{Finding, Memory, Tokens};
+use source::{Finding, Memory};
 use std::alloc::Global;
+use tables::Table;
 use tree::{Edge, Path, State};
 
 /// Adds the messages and states on the paths of a state that its contract does not declare.
 pub(crate) fn judge_state(
     alloc: Global,
-    tokens: &Tokens,
+    text: &[u8],
     declared: &Declared<'_>,
     state: &State,
     found: &mut Vec<Finding>,
 ) -> Result<(), Memory>
-    ensures { (messages states : List Span) → IsTable (words_at tokens.now.text.items messages) declared.now.messages
-        → IsTable (words_at tokens.now.text.items states) declared.now.states → OnOk result
-        (Adds found.old.items found.new.items (state_findings tokens.now.text.items messages states (state_tree state.now))) }
+    ensures { (messages states : List Span) → IsTable (words_at text.now messages) declared.now.messages
+        → IsTable (words_at text.now states) declared.now.states → OnOk result
+        (Adds found.old.items found.new.items (state_findings text.now messages states (state_tree state.now))) }
 {
     for path in paths(state) {
-        judge_path(alloc, tokens, declared, path, found)?;
+        judge_path(alloc, text, declared, path, found)?;
     }
     Ok(())
 }
 
 fn judge_path(
     alloc: Global,
-    tokens: &Tokens,
+    text: &[u8],
     declared: &Declared<'_>,
     path: &Path,
     found: &mut Vec<Finding>,
 ) -> Result<(), Memory>
-    ensures { (messages states : List Span) → IsTable (words_at tokens.now.text.items messages) declared.now.messages
-        → IsTable (words_at tokens.now.text.items states) declared.now.states → OnOk result
-        (Adds found.old.items found.new.items (path_findings tokens.now.text.items messages states (path_tree path.now))) }
+    ensures { (messages states : List Span) → IsTable (words_at text.now messages) declared.now.messages
+        → IsTable (words_at text.now states) declared.now.states → OnOk result
+        (Adds found.old.items found.new.items (path_findings text.now messages states (path_tree path.now))) }
 {
-    judge_name(alloc, tokens, &declared.messages, path.first.message, found)?;
-    judge_edges(alloc, tokens, &declared.messages, &path.others, found)?;
-    judge_name(alloc, tokens, &declared.states, path.target, found)
+    judge_name(alloc, text, &declared.messages, path.first.message, found)?;
+    judge_edges(alloc, text, &declared.messages, &path.others, found)?;
+    judge_name(alloc, text, &declared.states, path.target, found)
 }
 
 fn judge_edges(
     alloc: Global,
-    tokens: &Tokens,
+    text: &[u8],
     table: &Table<'_>,
     edges: &[Edge],
     found: &mut Vec<Finding>,
 ) -> Result<(), Memory>
-    ensures { (names : List Span) → IsTable (words_at tokens.now.text.items names) table.now → OnOk result
-        (Adds found.old.items found.new.items (flat_map (λ e. asked_name tokens.now.text.items names e.message) edges.now)) }
+    ensures { (names : List Span) → IsTable (words_at text.now names) table.now → OnOk result
+        (Adds found.old.items found.new.items (flat_map (λ e. asked_name text.now names e.message) edges.now)) }
 {
     for edge in edges {
-        judge_name(alloc, tokens, table, edge.message, found)?;
+        judge_name(alloc, text, table, edge.message, found)?;
     }
     Ok(())
 }
@@ -72,16 +72,16 @@ fn judge_edges(
 /// Adds the messages and states on the paths of these states that their contract does not declare.
 pub(crate) fn judge_states(
     alloc: Global,
-    tokens: &Tokens,
+    text: &[u8],
     declared: &Declared<'_>,
     found: &mut Vec<Finding>,
 ) -> Result<(), Memory>
-    ensures { (messages states : List Span) → IsTable (words_at tokens.now.text.items messages) declared.now.messages
-        → IsTable (words_at tokens.now.text.items states) declared.now.states → OnOk result (Adds found.old.items found.new.items
-        (flat_map (state_findings tokens.now.text.items messages states) (outlined_states declared.now.outline))) }
+    ensures { (messages states : List Span) → IsTable (words_at text.now messages) declared.now.messages
+        → IsTable (words_at text.now states) declared.now.states → OnOk result (Adds found.old.items found.new.items
+        (flat_map (state_findings text.now messages states) (outlined_states declared.now.outline))) }
 {
     for state in &declared.outline.states {
-        judge_state(alloc, tokens, declared, state, found)?;
+        judge_state(alloc, text, declared, state, found)?;
     }
     Ok(())
 }

@@ -60,7 +60,7 @@ pub(crate) fn judge_block<'a>(
 {
     let outer = variables.len();
     judge_statements(alloc, around, variables, &block.statements, found)?;
-    variables.leave(around.scope.tokens, outer);
+    variables.leave(around.scope.text, outer);
     Ok(())
 }
 
@@ -177,7 +177,7 @@ fn judge_switch<'a>(
         (follow (case_turn m (switch_heads (switch_tree switch.now)) [] (switch_tree switch.now).first f) (cases_turn m (switch_heads
         (switch_tree switch.now)) (head_of (switch_tree switch.now).first ∷ []) (case_row (switch_tree switch.now).others)))) }
 {
-    let heads = Heads::of(alloc, around.scope.tokens, switch)?;
+    let heads = Heads::of(alloc, around.scope.text, switch)?;
     judge_case(alloc, around, variables, &heads, 0, &switch.first, found)?;
     for (place, case) in switch.others.iter().enumerate() {
         judge_case(alloc, around, variables, &heads, place + 1, case, found)?;
@@ -215,6 +215,6 @@ fn judge_case<'a>(
         found,
     )?;
     judge_statements(alloc, around, variables, &case.statements, found)?;
-    variables.leave(scope.tokens, outer);
+    variables.leave(scope.text, outer);
     Ok(())
 }

@@ -73,7 +73,7 @@ fn judge_written(
         → OnOk result (Adds found.old.items found.new.items (length_findings s held field)) }
 {
     match held {
-        Kind::Array(_) => ask(alloc, !is_length(scope.tokens, field), field.place, found),
+        Kind::Array(_) => ask(alloc, !is_length(scope.text, field), field.place, found),
         _ => Ok(()),
     }
 }

@@ -5,7 +5,7 @@ ghost use Rattle.names.specs.Bodies.{outside};
 ghost use Rattle.names.specs.Found.{Adds};
 ghost use Rattle.names.specs.Values.{wrong_number, not_started};
 
-use source::{Finding, Memory, Place, Span, Tokens, texts};
+use source::{Finding, Memory, Place, Span, texts};
 use std::alloc::Global;
 
 fn add_wrong_number(alloc: Global, place: Place, found: &mut Vec<Finding>) -> Result<(), Memory>
@@ -66,13 +66,13 @@ pub(crate) fn judge_continue(
 /// Adds that a method cannot be started.
 pub(crate) fn add_not_started(
     alloc: Global,
-    tokens: &Tokens,
+    text: &[u8],
     name: Span,
     found: &mut Vec<Finding>,
 ) -> Result<(), Memory>
-    ensures { OnOk result (Adds found.old.items found.new.items (not_started tokens.now.text.items name ∷ [])) }
+    ensures { OnOk result (Adds found.old.items found.new.items (not_started text.now name ∷ [])) }
 {
-    let word = tokens.slice(name);
+    let word = name.slice(text);
     found.push(texts::cannot_be_started(alloc, name.place, word)?)?;
     Ok(())
 }

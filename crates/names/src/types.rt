@@ -12,7 +12,7 @@ use crate::kinds::Kind;
 use crate::members::Declared;
 use crate::scope::Scope;
 use program::Side;
-use source::{Finding, Memory, Span, Tokens};
+use source::{Finding, Memory, Span};
 use std::alloc::Global;
 use tree::{Heap, Type};
 
@@ -72,38 +72,38 @@ fn kind_of_endpoint(scope: &Scope<'_>, contract: Span, side: Side, state: Option
     ensures { (p : Program) → IsScope p scope.now → result ≡ endpoint_kind p.text (contract_named p contract) side state }
 {
     match scope.contract(contract) {
-        Some((place, declared)) => kind_of_end(scope.tokens, place, declared, side, state),
+        Some((place, declared)) => kind_of_end(scope.text, place, declared, side, state),
         None => Kind::Unknown,
     }
 }
 
 fn kind_of_end(
-    tokens: &Tokens,
+    text: &[u8],
     place: usize,
     declared: &Declared<'_>,
     side: Side,
     state: Option<Span>,
 ) -> Kind
-    ensures { (c : ContractTree) → IsDeclared tokens.now.text.items c declared.now
-        → result ≡ endpoint_kind tokens.now.text.items (Some (place, c)) side state }
+    ensures { (c : ContractTree) → IsDeclared text.now c declared.now
+        → result ≡ endpoint_kind text.now (Some (place, c)) side state }
 {
     match state {
-        Some(state) => kind_of_end_in(tokens, place, declared, side, state),
+        Some(state) => kind_of_end_in(text, place, declared, side, state),
         None => Kind::Endpoint(place, side),
     }
 }
 
 fn kind_of_end_in(
-    tokens: &Tokens,
+    text: &[u8],
     place: usize,
     declared: &Declared<'_>,
     side: Side,
     state: Span,
 ) -> Kind
-    ensures { (c : ContractTree) → IsDeclared tokens.now.text.items c declared.now
-        → result ≡ endpoint_kind tokens.now.text.items (Some (place, c)) side (Some state) }
+    ensures { (c : ContractTree) → IsDeclared text.now c declared.now
+        → result ≡ endpoint_kind text.now (Some (place, c)) side (Some state) }
 {
-    match declared.states.find(tokens.slice(state)) {
+    match declared.states.find(state.slice(text)) {
         Some(_) => Kind::Endpoint(place, side),
         None => Kind::Unknown,
     }
@@ -155,7 +155,7 @@ pub(crate) fn judge_pointer(
 {
     match scope.structure(name) {
         Some(_) => Ok(()),
-        None => add_unknown(alloc, scope.tokens, name, found),
+        None => add_unknown(alloc, scope.text, name, found),
     }
 }
 
@@ -172,9 +172,9 @@ fn judge_endpoint(
 {
     match (scope.contract(contract), state) {
         (Some((_, declared)), Some(state)) => {
-            judge_name(alloc, scope.tokens, &declared.states, state, found)
+            judge_name(alloc, scope.text, &declared.states, state, found)
         }
         (Some(_), None) => Ok(()),
-        (None, _) => add_unknown(alloc, scope.tokens, contract, found),
+        (None, _) => add_unknown(alloc, scope.text, contract, found),
     }
 }

@@ -37,7 +37,7 @@ fn judge_structure(
     match scope.structure(name) {
         Some(place) => Ok(Kind::Pointer(place)),
         None => {
-            add_unknown(alloc, scope.tokens, name, found)?;
+            add_unknown(alloc, scope.text, name, found)?;
             Ok(Kind::Unknown)
         }
     }

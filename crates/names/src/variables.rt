@@ -7,10 +7,10 @@ ghost use Rattle.names.specs.Variables.{Frame, variable_named, past_heap, entere
 
 use crate::judging::add_twice;
 use crate::kinds::Kind;
-use crate::tables::Table;
 use program::MOST_VARIABLES;
-use source::{Finding, Memory, Span, Tokens, texts};
+use source::{Finding, Memory, Span, texts};
 use std::alloc::Global;
+use tables::Table;
 
 /// A variable: the name that declares it, and what it holds.
 #[derive(Clone, Copy, PartialEq, Eq)]
@@ -48,11 +48,11 @@ impl<'a> Variables<'a> {
     }
 
     /// The variable of this name.
-    pub(crate) fn find(&self, tokens: &Tokens, name: Span) -> Option<Variable>
-        ensures { (f : Frame) → IsFrame tokens.now.text.items f self.now
-            → option_map variable_seen result ≡ variable_named tokens.now.text.items f.variables name }
+    pub(crate) fn find(&self, text: &[u8], name: Span) -> Option<Variable>
+        ensures { (f : Frame) → IsFrame text.now f self.now
+            → option_map variable_seen result ≡ variable_named text.now f.variables name }
     {
-        let place = self.names.find(tokens.slice(name))?;
+        let place = self.names.find(name.slice(text))?;
         self.list.get(place).copied()
     }
 
@@ -60,21 +60,21 @@ impl<'a> Variables<'a> {
     pub(crate) fn declare(
         &mut self,
         alloc: Global,
-        tokens: &'a Tokens,
+        text: &'a [u8],
         name: Span,
         kind: Kind,
         heap: bool,
         found: &mut Vec<Finding>,
     ) -> Result<(), Memory>
-        ensures { (f : Frame) → IsFrame tokens.now.text.items f self.old → OnOk result (Turned tokens.now.text.items found.old.items
-            found.new.items self.new (declared_variable tokens.now.text.items name kind heap f)) }
+        ensures { (f : Frame) → IsFrame text.now f self.old → OnOk result (Turned text.now found.old.items
+            found.new.items self.new (declared_variable text.now name kind heap f)) }
     {
         if !heap {
-            return self.enter(alloc, tokens, name, kind, found);
+            return self.enter(alloc, text, name, kind, found);
         }
         self.judge_heap(alloc, name, found)?;
         self.count();
-        self.enter(alloc, tokens, name, kind, found)
+        self.enter(alloc, text, name, kind, found)
     }
 
     /// Adds the name of one more of the exchange heap if it is one past the limit.
@@ -103,42 +103,42 @@ impl<'a> Variables<'a> {
     fn enter(
         &mut self,
         alloc: Global,
-        tokens: &'a Tokens,
+        text: &'a [u8],
         name: Span,
         kind: Kind,
         found: &mut Vec<Finding>,
     ) -> Result<(), Memory>
-        ensures { (f : Frame) → IsFrame tokens.now.text.items f self.old → OnOk result (Turned tokens.now.text.items found.old.items
-            found.new.items self.new (entered_variable tokens.now.text.items name kind f)) }
+        ensures { (f : Frame) → IsFrame text.now f self.old → OnOk result (Turned text.now found.old.items
+            found.new.items self.new (entered_variable text.now name kind f)) }
     {
-        let word = tokens.slice(name);
+        let word = name.slice(text);
         if self.names.find(word).is_some() {
-            add_twice(alloc, tokens, name, found)?;
+            add_twice(alloc, text, name, found)?;
             return Ok(());
         }
-        self.names.add(alloc, word, self.list.len())?;
+        self.names.add(alloc, word)?;
         self.list.push(Variable { name, kind })?;
         Ok(())
     }
 
     /// Leaves a scope: the first so many stay.
-    pub(crate) fn leave(&mut self, tokens: &Tokens, outer: usize)
-        ensures { (f : Frame) → IsFrame tokens.now.text.items f self.old
-            → IsFrame tokens.now.text.items (record { variables = take outer f.variables; heap = f.heap }) self.new }
+    pub(crate) fn leave(&mut self, text: &[u8], outer: usize)
+        ensures { (f : Frame) → IsFrame text.now f self.old
+            → IsFrame text.now (record { variables = take outer f.variables; heap = f.heap }) self.new }
     {
         while self.list.len() > outer {
-            self.drop_last(tokens);
+            self.drop_last(text);
         }
     }
 
     /// Takes the last variable out of scope.
-    fn drop_last(&mut self, tokens: &Tokens)
-        ensures frame { (f : Frame) → IsFrame tokens.now.text.items f self.old
-            → IsFrame tokens.now.text.items (record { variables = take (length f.variables - 1) f.variables; heap = f.heap }) self.new }
+    fn drop_last(&mut self, text: &[u8])
+        ensures frame { (f : Frame) → IsFrame text.now f self.old
+            → IsFrame text.now (record { variables = take (length f.variables - 1) f.variables; heap = f.heap }) self.new }
         ensures shorter { length self.new.list.items ≡ length self.old.list.items - 1 }
     {
         match self.list.pop() {
-            Some(variable) => self.names.remove(tokens.slice(variable.name)),
+            Some(variable) => self.names.remove(variable.name.slice(text)),
             None => {}
         }
     }

@@ -99,6 +99,7 @@ fn mention_alone(expression: &Expression) -> Option<Span>
 {
     match expression {
         Expression::Atom(atom) => in_atom(atom),
+        Expression::Sum(sum) => in_sum(sum),
         Expression::Joined(joined) => in_disjunction(joined),
     }
 }

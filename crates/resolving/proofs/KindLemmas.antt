@@ -7,9 +7,11 @@ use Rattle.std.proofs.lemmas.Option.{slice_get-map, slice_get_past, slice_get_re
 use Rattle.tree.specs.Trees.{contracts_of}
 use Rattle.names.specs.Declarations.{messages_of, states_of}
 use Rattle.names.specs.Program.{Program}
-use Rattle.program.specs.Parts.{contract_seen}
+use Rattle.program.specs.Parts.{contract_seen, message_parts, state_parts}
 use Rattle.names.specs.Resolution.{each_behind, message_count, resolved_contract, resolved_contracts, state_count}
 use Rattle.program.specs.declared.contract.Contract.{Contract}
+use Rattle.program.specs.declared.contract.Message.{Message}
+use Rattle.program.specs.declared.contract.State.{State}
 use Rattle.program.specs.declared.number.ContractId.{ContractId}
 use Rattle.program.specs.declared.kind.Kind.{Kind}
 use Rattle.program.specs.declared.kind.Kind.TheVariants.{Struct}
@@ -28,6 +30,17 @@ LooksUp xs k r = MatchOption r (length xs ≤ k) (λ x. (k < length xs) × Holds
 seen_at : {X Y : Type 0} (seen : X → Y) (xs : List X) (k : ℕ) (r : Option (Bor X)) → LooksUp xs k r → option_map (λ x. seen x.now) r ≡ slice_get (map seen xs) k
 seen_at seen xs k None past = let long = length-map xs seen in sym (slice_get_past (map seen xs) k (omega (arith, past, long)))
 seen_at seen xs k (Some x) found = sym (slice_get-map seen xs k ∙ ap (option_map seen) (slice_get_read xs (length xs) k x.now refl found.0 (found.1 x.now)))
+
+-- the numbers of a state and of a message that are looked up in a contract
+pub state_found : (contract : Contract) (states : List State) (at : ℕ) (r : Option (Bor State)) → states ≡ contract.states.items → LooksUp states at r
+    → option_map (λ s. s.now.id) r ≡ option_map (λ s. s.id) (slice_get (contract_seen contract).parts.states at)
+state_found contract states at None same found = ap (option_map (λ s. s.id)) (seen_at state_parts states at None found ∙ ap (λ l. slice_get (map state_parts l) at) same)
+state_found contract states at (Some s) same found = ap (option_map (λ s. s.id)) (seen_at state_parts states at (Some s) found ∙ ap (λ l. slice_get (map state_parts l) at) same)
+
+pub message_found : (contract : Contract) (messages : List Message) (at : ℕ) (r : Option (Bor Message)) → messages ≡ contract.messages.items → LooksUp messages at r
+    → option_map (λ m. m.now.id) r ≡ option_map (λ m. m.id) (slice_get (contract_seen contract).parts.messages at)
+message_found contract messages at None same found = ap (option_map (λ m. m.id)) (seen_at message_parts messages at None found ∙ ap (λ l. slice_get (map message_parts l) at) same)
+message_found contract messages at (Some m) same found = ap (option_map (λ m. m.id)) (seen_at message_parts messages at (Some m) found ∙ ap (λ l. slice_get (map message_parts l) at) same)
 
 singles : {X Y : Type 0} (f : List X → X → Y) (before xs : List X) → length (each_behind (λ b x. f b x ∷ []) before xs) ≡ length xs
 singles f before [] = refl

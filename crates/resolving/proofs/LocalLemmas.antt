@@ -6,9 +6,9 @@ use Rattle.std.proofs.lemmas.List.Quantifiers.{position-Some}
 use Rattle.std.proofs.lemmas.Option.{slice_get-map, slice_get-get_or}
 use Rattle.lemmas.proofs.Options.{none_is}
 use Rattle.source.specs.declared.token.Span.{Span}
-use Rattle.names.specs.Firsts.{first_of}
-use Rattle.names.specs.Tables.{IsTable}
-use Rattle.names.specs.Words.{word_at, same_word}
+use Rattle.tables.specs.Firsts.{first_of}
+use Rattle.tables.specs.Tables.{IsTable}
+use Rattle.tables.specs.Words.{word_at, same_word}
 use Rattle.names.specs.declared.kinds.Kind.TheVariants.{Missing}
 use Rattle.program.specs.Methods.{variable_seen}
 use Rattle.program.specs.declared.kind.Kind.{Kind}
@@ -57,7 +57,7 @@ entered_taken text f l d number word found h at is taken =
 -- a new name
 pub entered_new : (text : List ℕ) (f : Frame) (l m : Locals) (d : Declaration) (number : Option VarId) (word : List ℕ) (found : Option ℕ) → IsFrame text f l → word ≡ word_at text d.name
     → ((words : List (List ℕ)) → IsTable words l.names → found ≡ first_of words word) → is_some found ≡ false
-    → ((words : List (List ℕ)) → IsTable words l.names → first_of words word ≡ None → length l.list.items ≡ length words → IsTable (words ++ word ∷ []) m.names)
+    → ((words : List (List ℕ)) → IsTable words l.names → first_of words word ≡ None → IsTable (words ++ word ∷ []) m.names)
     → m.list.items ≡ l.list.items ++ record { name = d.name; kind = d.kind; number = number } ∷ [] → m.last ≡ l.last → m.variables.items ≡ l.variables.items
     → IsFrame text (scoped (entered text d (number_seen number) f.locals) f.last f) m
 entered_new text f l m d number word found h at is taken table list last variables =
@@ -65,12 +65,10 @@ entered_new text f l m d number word found h at is taken table list last variabl
     let found_none : first_of words word ≡ None = sym (is words h.names) ∙ none_is found taken in
     let none : first_of words (word_at text d.name) ≡ None = subst (λ x. first_of words x ≡ None) at found_none in
     let there = is_named text f.locals d.name ∙ ap is_some none in
-    let many = length-map (map (λ (x : model.Local). x.name) f.locals) (word_at text) ∙ length-map f.locals (λ (x : model.Local). x.name) in
-    let size = ap length (sym h.list) ∙ length-map l.list.items local_seen in
     let more = words_push text f.locals (here d (number_seen number)) in
     subst (λ b. IsFrame text (entered_if b d (number_seen number) f) m) (sym there) (record {
       list = ap (map local_seen) list ∙ map-append local_seen l.list.items (record { name = d.name; kind = d.kind; number = number } ∷ []) ∙ ap (λ x. x ++ here d (number_seen number) ∷ []) h.list;
-      names = subst (λ x. IsTable x m.names) (sym more) (subst (λ x. IsTable (words ++ x ∷ []) m.names) at (table words h.names found_none (sym (many ∙ size))));
+      names = subst (λ x. IsTable x m.names) (sym more) (subst (λ x. IsTable (words ++ x ∷ []) m.names) at (table words h.names found_none));
       apart = subst (AreApart []) (sym more) (apart_push [] words (word_at text d.name) h.apart none);
       last = ap number_seen last ∙ h.last;
       variables = ap (map _) variables ∙ h.variables;

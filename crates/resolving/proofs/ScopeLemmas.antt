@@ -2,9 +2,9 @@
 use Rattle.std.proofs.Common.{◌≡◌, ℕ, ◌-◌, ◌<◌, List, [], ◌∷◌, ◌++◌, length, map, take, Option, None, sym, ap, ◌∙◌, subst, arith, append_assoc, append-nil}
 use Rattle.std.proofs.lemmas.List.{map-append, length-map, take-take}
 use Rattle.lemmas.proofs.Lists.{front_of}
-use Rattle.names.specs.Firsts.{first_of}
-use Rattle.names.specs.Tables.{IsTable}
-use Rattle.names.specs.Words.{word_at, words_at}
+use Rattle.tables.specs.Firsts.{first_of}
+use Rattle.tables.specs.Tables.{IsTable}
+use Rattle.tables.specs.Words.{word_at, words_at}
 use Rattle.program.specs.Methods.{variable_seen}
 use Rattle.resolving.specs.Frames.{AreApart, IsFrame, local_seen, number_seen, words_in}
 use Rattle.resolving.specs.Locals as model

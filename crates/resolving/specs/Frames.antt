@@ -1,8 +1,8 @@
 -- The variables in scope, as the code has them.
 use Rattle.std.specs.Prelude.{◌≡◌, ℕ, List, [], ◌∷◌, ◌++◌, map, Option, None, option_map}
-use Rattle.names.specs.Firsts.{first_of}
-use Rattle.names.specs.Tables.{IsTable}
-use Rattle.names.specs.Words.{words_at}
+use Rattle.tables.specs.Firsts.{first_of}
+use Rattle.tables.specs.Tables.{IsTable}
+use Rattle.tables.specs.Words.{words_at}
 use Rattle.program.specs.Methods.{variable_seen}
 use Rattle.program.specs.declared.number.VarId.{VarId}
 use Rattle.resolving.specs.Locals as model

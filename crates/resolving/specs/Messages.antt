@@ -4,7 +4,7 @@ use Rattle.source.specs.declared.token.Span.{Span}
 use Rattle.tree.specs.Trees.{MessageTree}
 use Rattle.names.specs.Places.{message_at, message_place, sent_place}
 use Rattle.names.specs.Program.{Program}
-use Rattle.names.specs.Words.{word_at}
+use Rattle.tables.specs.Words.{word_at}
 use Rattle.names.specs.declared.kinds as names
 use Rattle.names.specs.declared.kinds.Kind.TheVariants as name
 use Rattle.program.specs.declared.number.MessageId.{MessageId}

@@ -72,6 +72,7 @@ fn atom_alone(expression: &Expression) -> Option<&Atom>
 {
     match expression {
         Expression::Atom(atom) => Some(atom),
+        Expression::Sum(sum) => in_sum(sum),
         Expression::Joined(joined) => in_disjunction(joined),
     }
 }

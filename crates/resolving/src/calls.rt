@@ -21,7 +21,7 @@ use crate::methods::methods_of;
 use crate::reads::add_reads;
 use crate::values::{alone, unread};
 use program::{Action, Argument, Call, Mention, MethodId, Statement};
-use source::{Span, Tokens};
+use source::Span;
 use std::alloc::{AllocError, Global};
 use tree::{Expression, Method, Parameter};
 
@@ -34,13 +34,13 @@ pub(crate) struct Callee<'a> {
 
 /// The first method of this name in the class that is the item at this place.
 fn method_at<'a>(
-    tokens: &Tokens,
+    text: &[u8],
     around: &Around<'_, 'a>,
     class: usize,
     name: Span,
 ) -> Option<Callee<'a>>
-    ensures { (items : List ItemTree) (own : ℕ) → IsAround (program_in tokens.now.text.items items) own around.now
-        → option_map callee_seen result ≡ method_at (program_in tokens.now.text.items items) class name }
+    ensures { (items : List ItemTree) (own : ℕ) → IsAround (program_in text.now items) own around.now
+        → option_map callee_seen result ≡ method_at (program_in text.now items) class name }
 {
     let place = around.scope.method_place(class, name)?;
     let item = around.items.get(class)?;
@@ -54,50 +54,50 @@ fn method_at<'a>(
 
 /// The first method of the second name in the class of the first.
 fn method_of<'a>(
-    tokens: &Tokens,
+    text: &[u8],
     around: &Around<'_, 'a>,
     class: Span,
     name: Span,
 ) -> Option<Callee<'a>>
-    ensures { (items : List ItemTree) (own : ℕ) → IsAround (program_in tokens.now.text.items items) own around.now
-        → option_map callee_seen result ≡ method_of (program_in tokens.now.text.items items) class name }
+    ensures { (items : List ItemTree) (own : ℕ) → IsAround (program_in text.now items) own around.now
+        → option_map callee_seen result ≡ method_of (program_in text.now items) class name }
 {
     let class = around.scope.class_place(class)?;
-    method_at(tokens, around, class, name)
+    method_at(text, around, class, name)
 }
 
 /// The method that a call by two names means, unless a variable in scope has the first one.
 fn member_callee<'a>(
-    tokens: &Tokens,
+    text: &[u8],
     around: &Around<'_, 'a>,
     locals: &Locals<'_>,
     class: Span,
     name: Span,
 ) -> Option<Callee<'a>>
-    ensures { (items : List ItemTree) (own : ℕ) (f : Frame) → IsAround (program_in tokens.now.text.items items) own around.now
-        → IsFrame tokens.now.text.items f locals.now → option_map callee_seen result
-        ≡ member_callee (program_in tokens.now.text.items items) (local_named tokens.now.text.items f.locals class) class name }
+    ensures { (items : List ItemTree) (own : ℕ) (f : Frame) → IsAround (program_in text.now items) own around.now
+        → IsFrame text.now f locals.now → option_map callee_seen result
+        ≡ member_callee (program_in text.now items) (local_named text.now f.locals class) class name }
 {
-    if locals.is_in_scope(tokens, class) {
+    if locals.is_in_scope(text, class) {
         return None;
     }
-    method_of(tokens, around, class, name)
+    method_of(text, around, class, name)
 }
 
 /// The method that a call means.
 fn callee_of<'a>(
-    tokens: &Tokens,
+    text: &[u8],
     around: &Around<'_, 'a>,
     locals: &Locals<'_>,
     call: &tree::Call,
 ) -> Option<Callee<'a>>
     ensures { (items : List ItemTree) (own : ℕ) (f : Frame)
-        → IsAround (program_in tokens.now.text.items items) own around.now → IsFrame tokens.now.text.items f locals.now
-        → option_map callee_seen result ≡ model.callee (program_in tokens.now.text.items items) own f.locals (call_tree call.now) }
+        → IsAround (program_in text.now items) own around.now → IsFrame text.now f locals.now
+        → option_map callee_seen result ≡ model.callee (program_in text.now items) own f.locals (call_tree call.now) }
 {
     match call.member {
-        Some(name) => member_callee(tokens, around, locals, call.name, name),
-        None => method_at(tokens, around, around.class, call.name),
+        Some(name) => member_callee(text, around, locals, call.name, name),
+        None => method_at(text, around, around.class, call.name),
     }
 }
 
@@ -113,16 +113,16 @@ fn called_name(call: &tree::Call) -> Span
 
 /// Adds what arguments read.
 pub(crate) fn add_argument_reads(
-    tokens: &Tokens,
+    text: &[u8],
     locals: &Locals<'_>,
     arguments: &[Expression],
     found: &mut Vec<Mention>,
 ) -> Result<(), AllocError>
-    ensures { (items : List ItemTree) (own : ℕ) → OnOk result (AddsReads tokens.now.text.items locals.now (λ f. argument_reads
-        (program_in tokens.now.text.items items) own f (map expression_tree arguments.now)) found.old.items found.new.items) }
+    ensures { (items : List ItemTree) (own : ℕ) → OnOk result (AddsReads text.now locals.now (λ f. argument_reads
+        (program_in text.now items) own f (map expression_tree arguments.now)) found.old.items found.new.items) }
 {
     for argument in arguments {
-        add_reads(tokens, locals, argument, found)?;
+        add_reads(text, locals, argument, found)?;
     }
     Ok(())
 }
@@ -145,17 +145,17 @@ fn add_given(
 /// What is given for each parameter of the exchange heap, in order.
 fn arguments_of(
     alloc: Global,
-    tokens: &Tokens,
+    text: &[u8],
     locals: &Locals<'_>,
     parameters: &[Parameter],
     arguments: &[Expression],
 ) -> Result<Vec<Argument>, AllocError>
-    ensures { (items : List ItemTree) (own : ℕ) (f : Frame) → IsFrame tokens.now.text.items f locals.now → IfOk result (λ list.
-        list.items ≡ told.arguments (program_in tokens.now.text.items items) own f parameters.now (map expression_tree arguments.now)) }
+    ensures { (items : List ItemTree) (own : ℕ) (f : Frame) → IsFrame text.now f locals.now → IfOk result (λ list.
+        list.items ≡ told.arguments (program_in text.now items) own f parameters.now (map expression_tree arguments.now)) }
 {
     let mut given = Vec::new(alloc);
     for (parameter, argument) in parameters.iter().zip(arguments) {
-        let mention = alone(tokens, locals, argument);
+        let mention = alone(text, locals, argument);
         add_given(*parameter, mention, &mut given)?;
     }
     Ok(given)
@@ -164,26 +164,20 @@ fn arguments_of(
 /// What a call of this method comes to.
 fn call_of(
     alloc: Global,
-    tokens: &Tokens,
+    text: &[u8],
     locals: &Locals<'_>,
     call: &tree::Call,
     callee: Callee<'_>,
     target: Option<Mention>,
     behind: Vec<Mention>,
 ) -> Result<Call, AllocError>
-    ensures { (items : List ItemTree) (own : ℕ) (f : Frame) → IsFrame tokens.now.text.items f locals.now
-        → IfOk result (λ c. call_seen c ≡ told.call_of (program_in tokens.now.text.items items) own f
+    ensures { (items : List ItemTree) (own : ℕ) (f : Frame) → IsFrame text.now f locals.now
+        → IfOk result (λ c. call_seen c ≡ told.call_of (program_in text.now items) own f
         (call_tree call.now) target behind.items (callee_seen callee.entry)) }
 {
     let mut reads = Vec::new(alloc);
-    add_argument_reads(tokens, locals, &call.arguments, &mut reads)?;
-    let arguments = arguments_of(
-        alloc,
-        tokens,
-        locals,
-        &callee.method.params,
-        &call.arguments,
-    )?;
+    add_argument_reads(text, locals, &call.arguments, &mut reads)?;
+    let arguments = arguments_of(alloc, text, locals, &callee.method.params, &call.arguments)?;
     Ok(Call {
         reads,
         place: called_name(call).place,
@@ -197,20 +191,20 @@ fn call_of(
 /// What a call comes to, if it is one of a method: what takes what it gives, and what is used behind it.
 fn tell_called(
     alloc: Global,
-    tokens: &Tokens,
+    text: &[u8],
     around: &Around<'_, '_>,
     locals: &Locals<'_>,
     call: &tree::Call,
     target: Option<Mention>,
     behind: Vec<Mention>,
 ) -> Result<Option<Call>, AllocError>
-    ensures { (items : List ItemTree) (own : ℕ) → IsAround (program_in tokens.now.text.items items) own around.now
-        → IfOk result (TellsCall tokens.now.text.items locals.now
-        (λ f. call_told (program_in tokens.now.text.items items) own f (call_tree call.now) target behind.items)) }
+    ensures { (items : List ItemTree) (own : ℕ) → IsAround (program_in text.now items) own around.now
+        → IfOk result (TellsCall text.now locals.now
+        (λ f. call_told (program_in text.now items) own f (call_tree call.now) target behind.items)) }
 {
-    match callee_of(tokens, around, locals, call) {
+    match callee_of(text, around, locals, call) {
         Some(callee) => {
-            let call = call_of(alloc, tokens, locals, call, callee, target, behind)?;
+            let call = call_of(alloc, text, locals, call, callee, target, behind)?;
             Ok(Some(call))
         }
         None => Ok(None),
@@ -220,18 +214,18 @@ fn tell_called(
 /// What a call comes to as a statement.
 pub(crate) fn tell_call(
     alloc: Global,
-    tokens: &Tokens,
+    text: &[u8],
     around: &Around<'_, '_>,
     locals: &Locals<'_>,
     call: &tree::Call,
     target: Option<Mention>,
     behind: Vec<Mention>,
 ) -> Result<Statement, AllocError>
-    ensures { (items : List ItemTree) (own : ℕ) → IsAround (program_in tokens.now.text.items items) own around.now
-        → IfOk result (Tells tokens.now.text.items locals.now
-        (λ f. told.called (program_in tokens.now.text.items items) own f (call_tree call.now) target behind.items)) }
+    ensures { (items : List ItemTree) (own : ℕ) → IsAround (program_in text.now items) own around.now
+        → IfOk result (Tells text.now locals.now
+        (λ f. told.called (program_in text.now items) own f (call_tree call.now) target behind.items)) }
 {
-    match tell_called(alloc, tokens, around, locals, call, target, behind)? {
+    match tell_called(alloc, text, around, locals, call, target, behind)? {
         Some(call) => Ok(Statement::Call(Box::new(alloc, call)?)),
         None => Ok(unread(alloc, Action::Nothing)),
     }
@@ -240,16 +234,16 @@ pub(crate) fn tell_call(
 /// What a start comes to.
 pub(crate) fn tell_start(
     alloc: Global,
-    tokens: &Tokens,
+    text: &[u8],
     around: &Around<'_, '_>,
     locals: &Locals<'_>,
     call: &tree::Call,
 ) -> Result<Statement, AllocError>
-    ensures { (items : List ItemTree) (own : ℕ) → IsAround (program_in tokens.now.text.items items) own around.now → IfOk result (Tells
-        tokens.now.text.items locals.now (λ f. told.started (program_in tokens.now.text.items items) own f (call_tree call.now))) }
+    ensures { (items : List ItemTree) (own : ℕ) → IsAround (program_in text.now items) own around.now → IfOk result (Tells
+        text.now locals.now (λ f. told.started (program_in text.now items) own f (call_tree call.now))) }
 {
     let behind = Vec::new(alloc);
-    match tell_called(alloc, tokens, around, locals, call, None, behind)? {
+    match tell_called(alloc, text, around, locals, call, None, behind)? {
         Some(call) => Ok(Statement::Start(Box::new(alloc, call)?)),
         None => Ok(unread(alloc, Action::Nothing)),
     }

@@ -16,16 +16,16 @@ use crate::kinds::{kind_held, type_held};
 use crate::locals::{Declaration, Locals};
 use crate::messages::{Meant, message_named};
 use program::{Awaited, Mention, MessageId, Role, VarId};
-use source::{Span, Tokens};
+use source::Span;
 use std::alloc::{AllocError, Global};
 use tree::{Bind, Param};
 
 /// The endpoint of a case.
-pub(crate) fn case_endpoint(tokens: &Tokens, locals: &Locals<'_>, name: Span) -> Mention
-    ensures { (items : List ItemTree) (f : Frame) → IsFrame tokens.now.text.items f locals.now
-        → result ≡ told.case_endpoint (program_in tokens.now.text.items items) f name }
+pub(crate) fn case_endpoint(text: &[u8], locals: &Locals<'_>, name: Span) -> Mention
+    ensures { (items : List ItemTree) (f : Frame) → IsFrame text.now f locals.now
+        → result ≡ told.case_endpoint (program_in text.now items) f name }
 {
-    match locals.mention(tokens, name) {
+    match locals.mention(text, name) {
         Some(mention) => mention,
         None => Mention {
             variable: VarId(0),
@@ -36,20 +36,20 @@ pub(crate) fn case_endpoint(tokens: &Tokens, locals: &Locals<'_>, name: Span) ->
 
 /// The message that a case waits for.
 pub(crate) fn awaited_message<'a>(
-    tokens: &Tokens,
+    text: &[u8],
     around: &Around<'_, 'a>,
     locals: &Locals<'_>,
     name: Span,
     awaited: tree::Awaited,
 ) -> Option<Meant<'a>>
     ensures { (items : List ItemTree) (own : ℕ) (f : Frame)
-        → IsAround (program_in tokens.now.text.items items) own around.now → IsFrame tokens.now.text.items f locals.now
-        → option_map meant_seen result ≡ told.awaited_message (program_in tokens.now.text.items items) f name awaited }
+        → IsAround (program_in text.now items) own around.now → IsFrame text.now f locals.now
+        → option_map meant_seen result ≡ told.awaited_message (program_in text.now items) f name awaited }
 {
     let tree::Awaited::Message(word) = awaited else {
         return None;
     };
-    let contract = locals.contract(tokens, name)?;
+    let contract = locals.contract(text, name)?;
     message_named(around, contract, word)
 }
 
@@ -134,21 +134,21 @@ fn add_number(number: Option<VarId>, bound: &mut Vec<VarId>) -> Result<(), Alloc
 /// heap.
 fn declare_bind<'a>(
     alloc: Global,
-    tokens: &'a Tokens,
+    text: &'a [u8],
     around: &Around<'_, '_>,
     locals: &mut Locals<'a>,
     param: Option<&Param>,
     bind: Bind,
     bound: &mut Vec<VarId>,
 ) -> Result<(), AllocError>
-    ensures { (items : List ItemTree) (own : ℕ) (f : Frame) → IsAround (program_in tokens.now.text.items items) own around.now
-        → IsFrame tokens.now.text.items f locals.old → OnOk result (IsBound tokens.now.text.items bound.old.items bound.new.items
-        locals.new (model.bind_told (program_in tokens.now.text.items items) (option_map (λ x. x.now) param.entry) bind f)) }
+    ensures { (items : List ItemTree) (own : ℕ) (f : Frame) → IsAround (program_in text.now items) own around.now
+        → IsFrame text.now f locals.old → OnOk result (IsBound text.now bound.old.items bound.new.items
+        locals.new (model.bind_told (program_in text.now items) (option_map (λ x. x.now) param.entry) bind f)) }
 {
     let declaration = bind_declaration(around, param, bind);
     let number = locals.next_number(declaration.held);
     add_number(number, bound)?;
-    locals.declare(alloc, tokens, declaration)
+    locals.declare(alloc, text, declaration)
 }
 
 /// The parameter at this place, if there is one.
@@ -162,20 +162,20 @@ fn param_at(params: &[Param], place: usize) -> Option<&Param>
 /// exchange heap.
 pub(crate) fn declare_binds<'a>(
     alloc: Global,
-    tokens: &'a Tokens,
+    text: &'a [u8],
     around: &Around<'_, '_>,
     locals: &mut Locals<'a>,
     params: &[Param],
     binds: &[Bind],
 ) -> Result<Vec<VarId>, AllocError>
-    ensures { (items : List ItemTree) (own : ℕ) (f : Frame) → IsAround (program_in tokens.now.text.items items) own around.now
-        → IsFrame tokens.now.text.items f locals.old → IfOk result (λ bound. IsTold tokens.now.text.items
-        (model.binds_told (program_in tokens.now.text.items items) params.now binds.now f) bound.items locals.new) }
+    ensures { (items : List ItemTree) (own : ℕ) (f : Frame) → IsAround (program_in text.now items) own around.now
+        → IsFrame text.now f locals.old → IfOk result (λ bound. IsTold text.now
+        (model.binds_told (program_in text.now items) params.now binds.now f) bound.items locals.new) }
 {
     let mut bound = Vec::new(alloc);
     for (place, bind) in binds.iter().enumerate() {
         let param = param_at(params, place);
-        declare_bind(alloc, tokens, around, locals, param, *bind, &mut bound)?;
+        declare_bind(alloc, text, around, locals, param, *bind, &mut bound)?;
     }
     Ok(bound)
 }

@@ -9,10 +9,10 @@ ghost use Rattle.resolving.specs.Messages.{contract_of, end_contract};
 ghost use Rattle.resolving.specs.Methods.{no_variables};
 ghost use Rattle.resolving.specs.Locals.{Frame, local_named, mention, next_number, number_of, entered, counted, declared, declared_heap};
 
-use names::Table;
 use program::{Kind, Mention, Role, VarId, Variable};
-use source::{Span, Tokens};
+use source::Span;
 use std::alloc::{AllocError, Global};
+use tables::Table;
 
 /// A variable that is declared: its name, the kind of its type, what it holds where it is one of the exchange heap, and how its
 /// method comes to it.
@@ -77,28 +77,28 @@ impl<'a> Locals<'a> {
     }
 
     /// The variable of this name.
-    fn find(&self, tokens: &Tokens, name: Span) -> Option<Local>
-        ensures { (f : Frame) → IsFrame tokens.now.text.items f self.now
-            → option_map local_seen result ≡ local_named tokens.now.text.items f.locals name }
+    fn find(&self, text: &[u8], name: Span) -> Option<Local>
+        ensures { (f : Frame) → IsFrame text.now f self.now
+            → option_map local_seen result ≡ local_named text.now f.locals name }
     {
-        let place = self.names.find(tokens.slice(name))?;
+        let place = self.names.find(name.slice(text))?;
         let local = self.list.get(place)?;
         Some(*local)
     }
 
     /// Whether a variable in scope has this name.
-    pub(crate) fn is_in_scope(&self, tokens: &Tokens, name: Span) -> bool
-        ensures { (f : Frame) → IsFrame tokens.now.text.items f self.now
-            → result ≡ is_some (local_named tokens.now.text.items f.locals name) }
+    pub(crate) fn is_in_scope(&self, text: &[u8], name: Span) -> bool
+        ensures { (f : Frame) → IsFrame text.now f self.now
+            → result ≡ is_some (local_named text.now f.locals name) }
     {
-        self.find(tokens, name).is_some()
+        self.find(text, name).is_some()
     }
 
     /// A name, where it means a variable of the exchange heap.
-    pub(crate) fn mention(&self, tokens: &Tokens, name: Span) -> Option<Mention>
-        ensures { (f : Frame) → IsFrame tokens.now.text.items f self.now → result ≡ mention tokens.now.text.items f.locals name }
+    pub(crate) fn mention(&self, text: &[u8], name: Span) -> Option<Mention>
+        ensures { (f : Frame) → IsFrame text.now f self.now → result ≡ mention text.now f.locals name }
     {
-        let variable = self.find(tokens, name)?.number?;
+        let variable = self.find(text, name)?.number?;
         Some(Mention {
             variable,
             place: name.place,
@@ -106,11 +106,11 @@ impl<'a> Locals<'a> {
     }
 
     /// The place of the contract of the endpoint that a name means.
-    pub(crate) fn contract(&self, tokens: &Tokens, name: Span) -> Option<usize>
-        ensures { (items : List ItemTree) (f : Frame) → IsFrame tokens.now.text.items f self.now
-            → result ≡ end_contract (program_in tokens.now.text.items items) f.locals name }
+    pub(crate) fn contract(&self, text: &[u8], name: Span) -> Option<usize>
+        ensures { (items : List ItemTree) (f : Frame) → IsFrame text.now f self.now
+            → result ≡ end_contract (program_in text.now items) f.locals name }
     {
-        contract_of(self.find(tokens, name)?.kind)
+        contract_of(self.find(text, name)?.kind)
     }
 
     /// The number of a variable that is declared next, where it is one of the exchange heap and holds this.
@@ -127,15 +127,15 @@ impl<'a> Locals<'a> {
     pub(crate) fn declare(
         &mut self,
         alloc: Global,
-        tokens: &'a Tokens,
+        text: &'a [u8],
         declaration: Declaration,
     ) -> Result<(), AllocError>
-        ensures { (f : Frame) → IsFrame tokens.now.text.items f self.old
-            → OnOk result (IsFrame tokens.now.text.items (declared tokens.now.text.items declaration f) self.new) }
+        ensures { (f : Frame) → IsFrame text.now f self.old
+            → OnOk result (IsFrame text.now (declared text.now declaration f) self.new) }
     {
         match declaration.held {
-            Some(held) => self.declare_heap(alloc, tokens, declaration, held),
-            None => self.enter(alloc, tokens, declaration, None),
+            Some(held) => self.declare_heap(alloc, text, declaration, held),
+            None => self.enter(alloc, text, declaration, None),
         }
     }
 
@@ -143,16 +143,16 @@ impl<'a> Locals<'a> {
     fn declare_heap(
         &mut self,
         alloc: Global,
-        tokens: &'a Tokens,
+        text: &'a [u8],
         declaration: Declaration,
         held: Kind,
     ) -> Result<(), AllocError>
-        ensures { (f : Frame) → IsFrame tokens.now.text.items f self.old
-            → OnOk result (IsFrame tokens.now.text.items (declared_heap tokens.now.text.items declaration held f) self.new) }
+        ensures { (f : Frame) → IsFrame text.now f self.old
+            → OnOk result (IsFrame text.now (declared_heap text.now declaration held f) self.new) }
     {
         let number = VarId(self.variables.len());
-        self.enter(alloc, tokens, declaration, Some(number))?;
-        self.count(alloc, tokens, declaration, held)?;
+        self.enter(alloc, text, declaration, Some(number))?;
+        self.count(alloc, text, declaration, held)?;
         self.last = Some(number);
         Ok(())
     }
@@ -161,13 +161,13 @@ impl<'a> Locals<'a> {
     fn enter(
         &mut self,
         alloc: Global,
-        tokens: &'a Tokens,
+        text: &'a [u8],
         declaration: Declaration,
         number: Option<VarId>,
     ) -> Result<(), AllocError>
-        ensures { (f : Frame) → IsFrame tokens.now.text.items f self.old
-            → OnOk result (IsFrame tokens.now.text.items (record {
-              locals = entered tokens.now.text.items declaration
+        ensures { (f : Frame) → IsFrame text.now f self.old
+            → OnOk result (IsFrame text.now (record {
+              locals = entered text.now declaration
                   (number_seen number) f.locals;
               last = f.last;
               variables = f.variables;
@@ -175,11 +175,11 @@ impl<'a> Locals<'a> {
     {
         let name = declaration.name;
         let kind = declaration.kind;
-        let word = tokens.slice(name);
+        let word = name.slice(text);
         if self.names.find(word).is_some() {
             return Ok(());
         }
-        self.names.add(alloc, word, self.list.len())?;
+        self.names.add(alloc, word)?;
         self.list.push(Local { name, kind, number })?;
         Ok(())
     }
@@ -188,18 +188,18 @@ impl<'a> Locals<'a> {
     fn count(
         &mut self,
         alloc: Global,
-        tokens: &Tokens,
+        text: &[u8],
         declaration: Declaration,
         kind: Kind,
     ) -> Result<(), AllocError>
-        ensures { (f : Frame) → IsFrame tokens.now.text.items f self.old
-            → OnOk result (IsFrame tokens.now.text.items (record {
+        ensures { (f : Frame) → IsFrame text.now f self.old
+            → OnOk result (IsFrame text.now (record {
               locals = f.locals;
               last = f.last;
-              variables = counted tokens.now.text.items declaration kind f.last f.variables;
+              variables = counted text.now declaration kind f.last f.variables;
             }) self.new) }
     {
-        let name = Vec::from_slice(alloc, tokens.slice(declaration.name))?;
+        let name = Vec::from_slice(alloc, declaration.name.slice(text))?;
         let outer = self.last;
         self.variables.push(Variable {
             name,
@@ -211,24 +211,24 @@ impl<'a> Locals<'a> {
     }
 
     /// Leaves a scope: the first so many stay, and the last of the exchange heap among them is this.
-    pub(crate) fn leave(&mut self, tokens: &Tokens, outer: usize, last: Option<VarId>)
-        ensures { (f : Frame) → IsFrame tokens.now.text.items f self.old → IsFrame tokens.now.text.items
+    pub(crate) fn leave(&mut self, text: &[u8], outer: usize, last: Option<VarId>)
+        ensures { (f : Frame) → IsFrame text.now f self.old → IsFrame text.now
             (record { locals = take outer f.locals; last = number_seen last; variables = f.variables }) self.new }
     {
         while self.list.len() > outer {
-            self.drop_last(tokens);
+            self.drop_last(text);
         }
         self.last = last;
     }
 
     /// Takes the last variable out of scope.
-    fn drop_last(&mut self, tokens: &Tokens)
-        ensures frame { (f : Frame) → IsFrame tokens.now.text.items f self.old → IsFrame tokens.now.text.items
+    fn drop_last(&mut self, text: &[u8])
+        ensures frame { (f : Frame) → IsFrame text.now f self.old → IsFrame text.now
             (record { locals = take (length f.locals - 1) f.locals; last = f.last; variables = f.variables }) self.new }
         ensures shorter { length self.new.list.items ≡ length self.old.list.items - 1 }
     {
         match self.list.pop() {
-            Some(local) => self.names.remove(tokens.slice(local.name)),
+            Some(local) => self.names.remove(local.name.slice(text)),
             None => {}
         }
     }

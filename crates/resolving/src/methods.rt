@@ -28,7 +28,7 @@ use crate::statements::tell_statements;
 use crate::staying::Staying;
 use names::Scope;
 use program::{Kind, Method, Resolved, Role};
-use source::{Memory, Tokens};
+use source::Memory;
 use std::alloc::{AllocError, Global};
 use tree::{Definition, Item, Parameter, Tree};
 
@@ -68,17 +68,17 @@ fn takes_some(params: &[Parameter]) -> bool
 /// Declares the parameters of a method.
 fn declare_parameters<'a>(
     alloc: Global,
-    tokens: &'a Tokens,
+    text: &'a [u8],
     around: &Around<'_, '_>,
     locals: &mut Locals<'a>,
     params: &[Parameter],
 ) -> Result<(), AllocError>
-    ensures { (items : List ItemTree) (own : ℕ) (f : Frame) → IsAround (program_in tokens.now.text.items items) own around.now
-        → IsFrame tokens.now.text.items f locals.old → OnOk result
-        (IsFrame tokens.now.text.items (parameters_frame (program_in tokens.now.text.items items) params.now f) locals.new) }
+    ensures { (items : List ItemTree) (own : ℕ) (f : Frame) → IsAround (program_in text.now items) own around.now
+        → IsFrame text.now f locals.old → OnOk result
+        (IsFrame text.now (parameters_frame (program_in text.now items) params.now f) locals.new) }
 {
     for parameter in params {
-        locals.declare(alloc, tokens, parameter_declaration(around, *parameter))?;
+        locals.declare(alloc, text, parameter_declaration(around, *parameter))?;
     }
     Ok(())
 }
@@ -86,18 +86,18 @@ fn declare_parameters<'a>(
 /// A method with a number for each variable of the exchange heap.
 fn resolve_method(
     alloc: Global,
-    tokens: &Tokens,
+    text: &[u8],
     around: &Around<'_, '_>,
     method: &tree::Method,
 ) -> Result<Method, AllocError>
-    ensures { (items : List ItemTree) (own : ℕ) → IsAround (program_in tokens.now.text.items items) own around.now
-        → IfOk result (λ m. method_seen m ≡ method_told (program_in tokens.now.text.items items) own (method_tree method.now)) }
+    ensures { (items : List ItemTree) (own : ℕ) → IsAround (program_in text.now items) own around.now
+        → IfOk result (λ m. method_seen m ≡ method_told (program_in text.now items) own (method_tree method.now)) }
 {
     let mut locals = Locals::new(alloc);
-    declare_parameters(alloc, tokens, around, &mut locals, &method.params)?;
+    declare_parameters(alloc, text, around, &mut locals, &method.params)?;
     let stays = Staying::here(locals.last());
     let body = &method.body.statements;
-    let statements = tell_statements(alloc, tokens, around, &mut locals, stays, body)?;
+    let statements = tell_statements(alloc, text, around, &mut locals, stays, body)?;
     let scope = locals.last();
     Ok(Method {
         name: method.name.place,
@@ -124,17 +124,17 @@ pub(crate) fn methods_of(definition: &Definition) -> &[tree::Method]
 /// Adds these methods, resolved.
 fn add_methods(
     alloc: Global,
-    tokens: &Tokens,
+    text: &[u8],
     around: &Around<'_, '_>,
     methods: &[tree::Method],
     resolved: &mut Vec<Method>,
 ) -> Result<(), AllocError>
-    ensures { (items : List ItemTree) (own : ℕ) → IsAround (program_in tokens.now.text.items items) own around.now
+    ensures { (items : List ItemTree) (own : ℕ) → IsAround (program_in text.now items) own around.now
         → OnOk result (map method_seen resolved.new.items ≡ map method_seen resolved.old.items
-        ++ map (method_told (program_in tokens.now.text.items items) own) (map method_tree methods.now)) }
+        ++ map (method_told (program_in text.now items) own) (map method_tree methods.now)) }
 {
     for method in methods {
-        resolved.push(resolve_method(alloc, tokens, around, method)?)?;
+        resolved.push(resolve_method(alloc, text, around, method)?)?;
     }
     Ok(())
 }
@@ -150,20 +150,20 @@ pub struct Program {
 /// The messages and the methods of these items, in order of the text.
 fn resolve_items<'a>(
     alloc: Global,
-    tokens: &Tokens,
+    text: &[u8],
     scope: &Scope<'a>,
     contracts: &Resolved,
     items: &'a [Item],
 ) -> Result<Program, AllocError>
     requires contracts { map contract_seen contracts.now.contracts.items
-        ≡ resolved_contracts tokens.now.text.items (contracts_of (map item_tree items.now)) }
+        ≡ resolved_contracts text.now (contracts_of (map item_tree items.now)) }
     requires room { length contracts.now.contracts.items < 2 ^ 32 }
-    requires scope { IsScope (program_in tokens.now.text.items (map item_tree items.now)) scope.now }
+    requires scope { IsScope (program_in text.now (map item_tree items.now)) scope.now }
     requires few { length (all_methods (map item_tree items.now)) ≤ MOST_METHODS }
     ensures messages { IfOk result (λ program. rows program.messages.items
-        ≡ messages_told (program_in tokens.now.text.items (map item_tree items.now))) }
+        ≡ messages_told (program_in text.now (map item_tree items.now))) }
     ensures methods { IfOk result (λ program. map method_seen program.methods.items
-        ≡ methods_told (program_in tokens.now.text.items (map item_tree items.now))) }
+        ≡ methods_told (program_in text.now (map item_tree items.now))) }
 {
     let before = count_items(alloc, items)?;
     let mut messages = Vec::new(alloc);
@@ -178,7 +178,7 @@ fn resolve_items<'a>(
         };
         let methods = methods_of(&item.definition);
         add_brought(alloc, &around, &item.definition, &mut messages)?;
-        add_methods(alloc, tokens, &around, methods, &mut resolved)?;
+        add_methods(alloc, text, &around, methods, &mut resolved)?;
     }
     Ok(Program {
         messages,
@@ -194,19 +194,19 @@ fn resolve_items<'a>(
 pub fn resolve_methods(
     alloc: Global,
     tree: &Tree,
-    tokens: &Tokens,
+    text: &[u8],
     contracts: &Resolved,
 ) -> Result<Program, Memory>
     requires contracts { map contract_seen contracts.now.contracts.items
-        ≡ resolved_contracts tokens.now.text.items (contracts_of (program_tree tree.now)) }
+        ≡ resolved_contracts text.now (contracts_of (program_tree tree.now)) }
     requires room { length contracts.now.contracts.items < 2 ^ 32 }
-    requires clean { program_findings (program_of tokens.now.text.items tree.now) ≡ [] }
-    ensures messages { IfOk result (λ program. rows program.messages.items ≡ messages_told (program_of tokens.now.text.items tree.now)) }
+    requires clean { program_findings (program_of text.now tree.now) ≡ [] }
+    ensures messages { IfOk result (λ program. rows program.messages.items ≡ messages_told (program_of text.now tree.now)) }
     ensures resolved { IfOk result (λ program. map method_seen program.methods.items
-        ≡ methods_told (program_of tokens.now.text.items tree.now)) }
+        ≡ methods_told (program_of text.now tree.now)) }
     ensures few { IfOk result (λ program. length program.methods.items ≤ MOST_METHODS) }
 {
-    let scope = Scope::of(alloc, tokens, &tree.items)?;
-    let program = resolve_items(alloc, tokens, &scope, contracts, &tree.items)?;
+    let scope = Scope::of(alloc, text, &tree.items)?;
+    let program = resolve_items(alloc, text, &scope, contracts, &tree.items)?;
     Ok(program)
 }

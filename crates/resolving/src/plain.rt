@@ -21,7 +21,7 @@ use crate::reads::add_reads;
 use crate::sends::{channel_action, tell_stated};
 use crate::values::{alone, tell_assigned, tell_part, tell_read, unread};
 use program::{Action, Mention, Role, Statement};
-use source::{Place, Tokens};
+use source::Place;
 use std::alloc::{AllocError, Global};
 use tree::{Declare, Expression, Target, Value};
 
@@ -38,45 +38,45 @@ fn deleting(mention: Option<Mention>) -> Action
 /// What an assignment comes to.
 fn tell_assign(
     alloc: Global,
-    tokens: &Tokens,
+    text: &[u8],
     around: &Around<'_, '_>,
     locals: &Locals<'_>,
     target: &Target,
     value: &Value,
 ) -> Result<Statement, AllocError>
-    ensures { (items : List ItemTree) (own : ℕ) → IsAround (program_in tokens.now.text.items items) own around.now
-        → IfOk result (Tells tokens.now.text.items locals.now
-        (λ f. written (program_in tokens.now.text.items items) own f (target_tree target.now) (value_tree value.now))) }
+    ensures { (items : List ItemTree) (own : ℕ) → IsAround (program_in text.now items) own around.now
+        → IfOk result (Tells text.now locals.now
+        (λ f. written (program_in text.now items) own f (target_tree target.now) (value_tree value.now))) }
 {
     match target {
         Target::Variable(name) => {
-            let target = locals.mention(tokens, *name);
-            tell_assigned(alloc, tokens, around, locals, target, value)
+            let target = locals.mention(text, *name);
+            tell_assigned(alloc, text, around, locals, target, value)
         }
         Target::Field { variable, .. } => {
-            let whole = locals.mention(tokens, *variable);
+            let whole = locals.mention(text, *variable);
             let index = Vec::new(alloc);
-            tell_part(alloc, tokens, around, locals, index, whole, value)
+            tell_part(alloc, text, around, locals, index, whole, value)
         }
         Target::Element { variable, index } => {
-            let whole = locals.mention(tokens, *variable);
+            let whole = locals.mention(text, *variable);
             let mut reads = Vec::new(alloc);
-            add_reads(tokens, locals, index, &mut reads)?;
-            tell_part(alloc, tokens, around, locals, reads, whole, value)
+            add_reads(text, locals, index, &mut reads)?;
+            tell_part(alloc, text, around, locals, reads, whole, value)
         }
     }
 }
 
 /// The variable that a declaration brings, where it is one of the exchange heap.
 fn declared_mention(
-    tokens: &Tokens,
+    text: &[u8],
     around: &Around<'_, '_>,
     locals: &Locals<'_>,
     declare: &Declare,
 ) -> Option<Mention>
-    ensures { (items : List ItemTree) (own : ℕ) (f : Frame) → IsAround (program_in tokens.now.text.items items) own around.now
-        → IsFrame tokens.now.text.items f locals.now → result ≡ option_map (mention_of declare.now.name)
-        (next_number (type_held (program_in tokens.now.text.items items) declare.now.kind) f) }
+    ensures { (items : List ItemTree) (own : ℕ) (f : Frame) → IsAround (program_in text.now items) own around.now
+        → IsFrame text.now f locals.now → result ≡ option_map (mention_of declare.now.name)
+        (next_number (type_held (program_in text.now items) declare.now.kind) f) }
 {
     let variable = locals.next_number(type_held(around, declare.kind))?;
     Some(Mention {
@@ -88,19 +88,19 @@ fn declared_mention(
 /// What a declaration comes to: where it has a value, the variable takes it.
 fn tell_declare(
     alloc: Global,
-    tokens: &Tokens,
+    text: &[u8],
     around: &Around<'_, '_>,
     locals: &Locals<'_>,
     declare: &Declare,
 ) -> Result<Statement, AllocError>
-    ensures { (items : List ItemTree) (own : ℕ) → IsAround (program_in tokens.now.text.items items) own around.now → IfOk result (Tells
-        tokens.now.text.items locals.now (λ f. first_value (program_in tokens.now.text.items items) own f declare.now.name (next_number
-        (type_held (program_in tokens.now.text.items items) declare.now.kind) f) (option_map value_tree declare.now.value))) }
+    ensures { (items : List ItemTree) (own : ℕ) → IsAround (program_in text.now items) own around.now → IfOk result (Tells
+        text.now locals.now (λ f. first_value (program_in text.now items) own f declare.now.name (next_number
+        (type_held (program_in text.now items) declare.now.kind) f) (option_map value_tree declare.now.value))) }
 {
     match &declare.value {
         Some(value) => {
-            let target = declared_mention(tokens, around, locals, declare);
-            tell_assigned(alloc, tokens, around, locals, target, value)
+            let target = declared_mention(text, around, locals, declare);
+            tell_assigned(alloc, text, around, locals, target, value)
         }
         None => Ok(unread(alloc, Action::Nothing)),
     }
@@ -109,24 +109,24 @@ fn tell_declare(
 /// What a `return` comes to.
 fn tell_return(
     alloc: Global,
-    tokens: &Tokens,
+    text: &[u8],
     locals: &Locals<'_>,
     place: Place,
     value: &Option<Box<Expression>>,
 ) -> Result<Statement, AllocError>
-    ensures { (items : List ItemTree) (own : ℕ) → IfOk result (Tells tokens.now.text.items locals.now
-        (λ f. returned (program_in tokens.now.text.items items) own f place (option_map (λ e. expression_tree e.value) value.now))) }
+    ensures { (items : List ItemTree) (own : ℕ) → IfOk result (Tells text.now locals.now
+        (λ f. returned (program_in text.now items) own f place (option_map (λ e. expression_tree e.value) value.now))) }
 {
     let scope = locals.last();
     match value {
         Some(expression) => {
-            let value = alone(tokens, locals, expression);
+            let value = alone(text, locals, expression);
             let action = Action::Return {
                 place,
                 value,
                 scope,
             };
-            tell_read(tokens, locals, Vec::new(alloc), expression, action)
+            tell_read(text, locals, Vec::new(alloc), expression, action)
         }
         None => {
             let value = None;
@@ -145,37 +145,35 @@ fn tell_return(
 /// What a statement that holds no others comes to.
 pub(crate) fn tell_plain(
     alloc: Global,
-    tokens: &Tokens,
+    text: &[u8],
     around: &Around<'_, '_>,
     locals: &Locals<'_>,
     statement: &tree::Statement,
 ) -> Result<Statement, AllocError>
-    ensures { (items : List ItemTree) (own : ℕ) → IsAround (program_in tokens.now.text.items items) own around.now
-        → IfOk result (Tells tokens.now.text.items locals.now
-        (λ f. plain_told (program_in tokens.now.text.items items) own f (statement_tree statement.now))) }
+    ensures { (items : List ItemTree) (own : ℕ) → IsAround (program_in text.now items) own around.now
+        → IfOk result (Tells text.now locals.now
+        (λ f. plain_told (program_in text.now items) own f (statement_tree statement.now))) }
 {
     match statement {
-        tree::Statement::Declare(declare) => {
-            tell_declare(alloc, tokens, around, locals, declare)
-        }
+        tree::Statement::Declare(declare) => { tell_declare(alloc, text, around, locals, declare) }
         tree::Statement::Assign(assign) => tell_assign(
             alloc,
-            tokens,
+            text,
             around,
             locals,
             &assign.target,
             &assign.value,
         ),
-        tree::Statement::Call(call) => tell_stated(alloc, tokens, around, locals, call),
-        tree::Statement::Start { call, .. } => tell_start(alloc, tokens, around, locals, call),
+        tree::Statement::Call(call) => tell_stated(alloc, text, around, locals, call),
+        tree::Statement::Start { call, .. } => tell_start(alloc, text, around, locals, call),
         tree::Statement::Delete(name) => {
-            Ok(unread(alloc, deleting(locals.mention(tokens, *name))))
+            Ok(unread(alloc, deleting(locals.mention(text, *name))))
         }
         tree::Statement::NewChannel(channel) => {
-            Ok(unread(alloc, channel_action(tokens, around, locals, **channel)))
+            Ok(unread(alloc, channel_action(text, around, locals, **channel)))
         }
         tree::Statement::Return { word, value } => {
-            tell_return(alloc, tokens, locals, word.place, value)
+            tell_return(alloc, text, locals, word.place, value)
         }
         _ => Ok(unread(alloc, Action::Nothing)),
     }
@@ -196,18 +194,18 @@ fn declaration_of(around: &Around<'_, '_>, declare: &Declare) -> Declaration
 /// Declares the variable that a statement declares, if it is a declaration.
 pub(crate) fn declare_in<'a>(
     alloc: Global,
-    tokens: &'a Tokens,
+    text: &'a [u8],
     around: &Around<'_, '_>,
     locals: &mut Locals<'a>,
     statement: &tree::Statement,
 ) -> Result<(), AllocError>
-    ensures { (items : List ItemTree) (own : ℕ) (f : Frame) → IsAround (program_in tokens.now.text.items items) own around.now
-        → IsFrame tokens.now.text.items f locals.old → OnOk result (IsFrame tokens.now.text.items
-        (frame_behind (program_in tokens.now.text.items items) own f (statement_tree statement.now)) locals.new) }
+    ensures { (items : List ItemTree) (own : ℕ) (f : Frame) → IsAround (program_in text.now items) own around.now
+        → IsFrame text.now f locals.old → OnOk result (IsFrame text.now
+        (frame_behind (program_in text.now items) own f (statement_tree statement.now)) locals.new) }
 {
     match statement {
         tree::Statement::Declare(declare) => {
-            locals.declare(alloc, tokens, declaration_of(around, declare))
+            locals.declare(alloc, text, declaration_of(around, declare))
         }
         _ => Ok(()),
     }

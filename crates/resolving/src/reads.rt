@@ -9,7 +9,7 @@ ghost use Rattle.resolving.specs.Steps.{AddsReads};
 
 use crate::locals::Locals;
 use program::Mention;
-use source::{Span, Tokens};
+use source::Span;
 use std::alloc::AllocError;
 use tree::{
     Atom, Conjunction, Disjunction, Equality, Expression, Relation, Sum, Target, Term, Unary,
@@ -18,34 +18,35 @@ use tree::{
 /// Adds what an expression reads.
 #[cycle(expressions)]
 pub(crate) fn add_reads(
-    tokens: &Tokens,
+    text: &[u8],
     locals: &Locals<'_>,
     expression: &Expression,
     found: &mut Vec<Mention>,
 ) -> Result<(), AllocError>
-    ensures { OnOk result (AddsReads tokens.now.text.items locals.now
-        (λ f. reads tokens.now.text.items f.locals (expression_tree expression.now)) found.old.items found.new.items) }
+    ensures { OnOk result (AddsReads text.now locals.now
+        (λ f. reads text.now f.locals (expression_tree expression.now)) found.old.items found.new.items) }
 {
     match expression {
-        Expression::Atom(atom) => add_atom(tokens, locals, atom, found),
-        Expression::Joined(joined) => add_disjunction(tokens, locals, joined, found),
+        Expression::Atom(atom) => add_atom(text, locals, atom, found),
+        Expression::Sum(sum) => add_sum(text, locals, sum, found),
+        Expression::Joined(joined) => add_disjunction(text, locals, joined, found),
     }
 }
 
 /// The same of a disjunction.
 #[cycle(expressions)]
 fn add_disjunction(
-    tokens: &Tokens,
+    text: &[u8],
     locals: &Locals<'_>,
     disjunction: &Disjunction,
     found: &mut Vec<Mention>,
 ) -> Result<(), AllocError>
-    ensures { OnOk result (AddsReads tokens.now.text.items locals.now
-        (λ f. reads tokens.now.text.items f.locals (disjunction_tree disjunction.now)) found.old.items found.new.items) }
+    ensures { OnOk result (AddsReads text.now locals.now
+        (λ f. reads text.now f.locals (disjunction_tree disjunction.now)) found.old.items found.new.items) }
 {
-    add_conjunction(tokens, locals, &disjunction.first, found)?;
+    add_conjunction(text, locals, &disjunction.first, found)?;
     'each: for conjunction in &disjunction.others {
-        add_conjunction(tokens, locals, conjunction, found)?;
+        add_conjunction(text, locals, conjunction, found)?;
     }
     Ok(())
 }
@@ -53,17 +54,17 @@ fn add_disjunction(
 /// The same of a conjunction.
 #[cycle(expressions)]
 fn add_conjunction(
-    tokens: &Tokens,
+    text: &[u8],
     locals: &Locals<'_>,
     conjunction: &Conjunction,
     found: &mut Vec<Mention>,
 ) -> Result<(), AllocError>
-    ensures { OnOk result (AddsReads tokens.now.text.items locals.now
-        (λ f. reads tokens.now.text.items f.locals (conjunction_tree conjunction.now)) found.old.items found.new.items) }
+    ensures { OnOk result (AddsReads text.now locals.now
+        (λ f. reads text.now f.locals (conjunction_tree conjunction.now)) found.old.items found.new.items) }
 {
-    add_equality(tokens, locals, &conjunction.first, found)?;
+    add_equality(text, locals, &conjunction.first, found)?;
     'each: for equality in &conjunction.others {
-        add_equality(tokens, locals, equality, found)?;
+        add_equality(text, locals, equality, found)?;
     }
     Ok(())
 }
@@ -71,17 +72,17 @@ fn add_conjunction(
 /// The same of an equality.
 #[cycle(expressions)]
 fn add_equality(
-    tokens: &Tokens,
+    text: &[u8],
     locals: &Locals<'_>,
     equality: &Equality,
     found: &mut Vec<Mention>,
 ) -> Result<(), AllocError>
-    ensures { OnOk result (AddsReads tokens.now.text.items locals.now
-        (λ f. reads tokens.now.text.items f.locals (equality_tree equality.now)) found.old.items found.new.items) }
+    ensures { OnOk result (AddsReads text.now locals.now
+        (λ f. reads text.now f.locals (equality_tree equality.now)) found.old.items found.new.items) }
 {
-    add_relation(tokens, locals, &equality.first, found)?;
+    add_relation(text, locals, &equality.first, found)?;
     'each: for step in &equality.others {
-        add_relation(tokens, locals, &step.relation, found)?;
+        add_relation(text, locals, &step.relation, found)?;
     }
     Ok(())
 }
@@ -89,17 +90,17 @@ fn add_equality(
 /// The same of a relation.
 #[cycle(expressions)]
 fn add_relation(
-    tokens: &Tokens,
+    text: &[u8],
     locals: &Locals<'_>,
     relation: &Relation,
     found: &mut Vec<Mention>,
 ) -> Result<(), AllocError>
-    ensures { OnOk result (AddsReads tokens.now.text.items locals.now
-        (λ f. reads tokens.now.text.items f.locals (relation_tree relation.now)) found.old.items found.new.items) }
+    ensures { OnOk result (AddsReads text.now locals.now
+        (λ f. reads text.now f.locals (relation_tree relation.now)) found.old.items found.new.items) }
 {
-    add_sum(tokens, locals, &relation.first, found)?;
+    add_sum(text, locals, &relation.first, found)?;
     'each: for step in &relation.others {
-        add_sum(tokens, locals, &step.sum, found)?;
+        add_sum(text, locals, &step.sum, found)?;
     }
     Ok(())
 }
@@ -107,17 +108,17 @@ fn add_relation(
 /// The same of a sum.
 #[cycle(expressions)]
 fn add_sum(
-    tokens: &Tokens,
+    text: &[u8],
     locals: &Locals<'_>,
     sum: &Sum,
     found: &mut Vec<Mention>,
 ) -> Result<(), AllocError>
-    ensures { OnOk result (AddsReads tokens.now.text.items locals.now
-        (λ f. reads tokens.now.text.items f.locals (sum_tree sum.now)) found.old.items found.new.items) }
+    ensures { OnOk result (AddsReads text.now locals.now
+        (λ f. reads text.now f.locals (sum_tree sum.now)) found.old.items found.new.items) }
 {
-    add_term(tokens, locals, &sum.first, found)?;
+    add_term(text, locals, &sum.first, found)?;
     'each: for step in &sum.others {
-        add_term(tokens, locals, &step.term, found)?;
+        add_term(text, locals, &step.term, found)?;
     }
     Ok(())
 }
@@ -125,17 +126,17 @@ fn add_sum(
 /// The same of a term.
 #[cycle(expressions)]
 fn add_term(
-    tokens: &Tokens,
+    text: &[u8],
     locals: &Locals<'_>,
     term: &Term,
     found: &mut Vec<Mention>,
 ) -> Result<(), AllocError>
-    ensures { OnOk result (AddsReads tokens.now.text.items locals.now
-        (λ f. reads tokens.now.text.items f.locals (term_tree term.now)) found.old.items found.new.items) }
+    ensures { OnOk result (AddsReads text.now locals.now
+        (λ f. reads text.now f.locals (term_tree term.now)) found.old.items found.new.items) }
 {
-    add_unary(tokens, locals, &term.first, found)?;
+    add_unary(text, locals, &term.first, found)?;
     'each: for unary in &term.others {
-        add_unary(tokens, locals, unary, found)?;
+        add_unary(text, locals, unary, found)?;
     }
     Ok(())
 }
@@ -143,69 +144,69 @@ fn add_term(
 /// The same of an atom with what stands before it.
 #[cycle(expressions)]
 fn add_unary(
-    tokens: &Tokens,
+    text: &[u8],
     locals: &Locals<'_>,
     unary: &Unary,
     found: &mut Vec<Mention>,
 ) -> Result<(), AllocError>
-    ensures { OnOk result (AddsReads tokens.now.text.items locals.now
-        (λ f. reads tokens.now.text.items f.locals (unary_tree unary.now)) found.old.items found.new.items) }
+    ensures { OnOk result (AddsReads text.now locals.now
+        (λ f. reads text.now f.locals (unary_tree unary.now)) found.old.items found.new.items) }
 {
-    add_atom(tokens, locals, &unary.atom, found)
+    add_atom(text, locals, &unary.atom, found)
 }
 
 /// The same of an atom.
 #[cycle(expressions)]
 fn add_atom(
-    tokens: &Tokens,
+    text: &[u8],
     locals: &Locals<'_>,
     atom: &Atom,
     found: &mut Vec<Mention>,
 ) -> Result<(), AllocError>
-    ensures { OnOk result (AddsReads tokens.now.text.items locals.now
-        (λ f. atom_reads tokens.now.text.items f.locals (atom_tree atom.now)) found.old.items found.new.items) }
+    ensures { OnOk result (AddsReads text.now locals.now
+        (λ f. atom_reads text.now f.locals (atom_tree atom.now)) found.old.items found.new.items) }
 {
     match atom {
         Atom::Number(_) => Ok(()),
         Atom::True(_) => Ok(()),
         Atom::False(_) => Ok(()),
-        Atom::Target(target) => add_target(tokens, locals, target, found),
-        Atom::Parens { inner, .. } => add_reads(tokens, locals, inner, found),
+        Atom::Target(target) => add_target(text, locals, target, found),
+        Atom::Parens { inner, .. } => add_reads(text, locals, inner, found),
     }
 }
 
 /// The same of a target within an expression.
 #[cycle(expressions)]
 fn add_target(
-    tokens: &Tokens,
+    text: &[u8],
     locals: &Locals<'_>,
     target: &Target,
     found: &mut Vec<Mention>,
 ) -> Result<(), AllocError>
-    ensures { OnOk result (AddsReads tokens.now.text.items locals.now
-        (λ f. target_reads tokens.now.text.items f.locals (target_tree target.now)) found.old.items found.new.items) }
+    ensures { OnOk result (AddsReads text.now locals.now
+        (λ f. target_reads text.now f.locals (target_tree target.now)) found.old.items found.new.items) }
 {
     match target {
         Target::Variable(_) => Ok(()),
-        Target::Field { variable, .. } => add_mention(tokens, locals, *variable, found),
+        Target::Field { variable, .. } => add_mention(text, locals, *variable, found),
         Target::Element { variable, index } => {
-            add_mention(tokens, locals, *variable, found)?;
-            add_reads(tokens, locals, index, found)
+            add_mention(text, locals, *variable, found)?;
+            add_reads(text, locals, index, found)
         }
     }
 }
 
 /// Adds what a name means, where it means a variable of the exchange heap.
 fn add_mention(
-    tokens: &Tokens,
+    text: &[u8],
     locals: &Locals<'_>,
     name: Span,
     found: &mut Vec<Mention>,
 ) -> Result<(), AllocError>
-    ensures { OnOk result (AddsReads tokens.now.text.items locals.now
-        (λ f. listed (mention tokens.now.text.items f.locals name)) found.old.items found.new.items) }
+    ensures { OnOk result (AddsReads text.now locals.now
+        (λ f. listed (mention text.now f.locals name)) found.old.items found.new.items) }
 {
-    if let Some(mention) = locals.mention(tokens, name) {
+    if let Some(mention) = locals.mention(text, name) {
         found.push(mention)?;
     }
     Ok(())

@@ -18,23 +18,23 @@ use crate::locals::Locals;
 use crate::messages::{Meant, message_sent};
 use crate::values::{add_listed, alone};
 use program::{Action, Channel, Mention, Send, Statement};
-use source::{Span, Tokens};
+use source::Span;
 use std::alloc::{AllocError, Global};
 use tree::{Call, Expression, NewChannel};
 
 /// What is given for the parameters of a message that are of the exchange heap, in order.
 fn payloads_of(
     alloc: Global,
-    tokens: &Tokens,
+    text: &[u8],
     locals: &Locals<'_>,
     arguments: &[Expression],
 ) -> Result<Vec<Mention>, AllocError>
-    ensures { (items : List ItemTree) (own : ℕ) (f : Frame) → IsFrame tokens.now.text.items f locals.now → IfOk result
-        (λ list. list.items ≡ told.payloads (program_in tokens.now.text.items items) own f (map expression_tree arguments.now)) }
+    ensures { (items : List ItemTree) (own : ℕ) (f : Frame) → IsFrame text.now f locals.now → IfOk result
+        (λ list. list.items ≡ told.payloads (program_in text.now items) own f (map expression_tree arguments.now)) }
 {
     let mut payloads = Vec::new(alloc);
     for argument in arguments {
-        let mention = alone(tokens, locals, argument);
+        let mention = alone(text, locals, argument);
         add_listed(mention, &mut payloads)?;
     }
     Ok(payloads)
@@ -43,99 +43,99 @@ fn payloads_of(
 /// What a send of this message on this endpoint comes to.
 fn send_of(
     alloc: Global,
-    tokens: &Tokens,
+    text: &[u8],
     locals: &Locals<'_>,
     word: Span,
     call: &Call,
     endpoint: Mention,
     meant: Meant<'_>,
 ) -> Result<Send, AllocError>
-    ensures { (items : List ItemTree) (own : ℕ) (f : Frame) → IsFrame tokens.now.text.items f locals.now → IfOk result (λ s. send_seen s
-        ≡ told.send_of (program_in tokens.now.text.items items) own f word (call_tree call.now) endpoint (meant_seen meant.entry)) }
+    ensures { (items : List ItemTree) (own : ℕ) (f : Frame) → IsFrame text.now f locals.now → IfOk result (λ s. send_seen s
+        ≡ told.send_of (program_in text.now items) own f word (call_tree call.now) endpoint (meant_seen meant.entry)) }
 {
     let mut reads = Vec::new(alloc);
-    add_argument_reads(tokens, locals, &call.arguments, &mut reads)?;
+    add_argument_reads(text, locals, &call.arguments, &mut reads)?;
     Ok(Send {
         reads,
         place: word.place,
         endpoint,
         message: meant.id,
-        payloads: payloads_of(alloc, tokens, locals, &call.arguments)?,
+        payloads: payloads_of(alloc, text, locals, &call.arguments)?,
     })
 }
 
 /// The message that a call by two names sends, if the first one means an endpoint.
 fn sent_by<'a>(
-    tokens: &Tokens,
+    text: &[u8],
     around: &Around<'_, 'a>,
     locals: &Locals<'_>,
     call: &Call,
     word: Span,
 ) -> Option<Meant<'a>>
     ensures { (items : List ItemTree) (own : ℕ) (f : Frame)
-        → IsAround (program_in tokens.now.text.items items) own around.now → IsFrame tokens.now.text.items f locals.now
-        → option_map meant_seen result ≡ told.meant_by (program_in tokens.now.text.items items) f (call_tree call.now) word }
+        → IsAround (program_in text.now items) own around.now → IsFrame text.now f locals.now
+        → option_map meant_seen result ≡ told.meant_by (program_in text.now items) f (call_tree call.now) word }
 {
-    let contract = locals.contract(tokens, call.name)?;
+    let contract = locals.contract(text, call.name)?;
     message_sent(around, contract, word)
 }
 
 /// What a call that stands alone comes to, if it is a send.
 fn tell_send(
     alloc: Global,
-    tokens: &Tokens,
+    text: &[u8],
     around: &Around<'_, '_>,
     locals: &Locals<'_>,
     call: &Call,
 ) -> Result<Option<Send>, AllocError>
-    ensures { (items : List ItemTree) (own : ℕ) → IsAround (program_in tokens.now.text.items items) own around.now
-        → IfOk result (TellsSend tokens.now.text.items locals.now
-        (λ f. told.send_told (program_in tokens.now.text.items items) own f (call_tree call.now))) }
+    ensures { (items : List ItemTree) (own : ℕ) → IsAround (program_in text.now items) own around.now
+        → IfOk result (TellsSend text.now locals.now
+        (λ f. told.send_told (program_in text.now items) own f (call_tree call.now))) }
 {
     let Some(word) = call.member else {
         return Ok(None);
     };
-    let Some(meant) = sent_by(tokens, around, locals, call, word) else {
+    let Some(meant) = sent_by(text, around, locals, call, word) else {
         return Ok(None);
     };
-    let Some(endpoint) = locals.mention(tokens, call.name) else {
+    let Some(endpoint) = locals.mention(text, call.name) else {
         return Ok(None);
     };
-    let send = send_of(alloc, tokens, locals, word, call, endpoint, meant)?;
+    let send = send_of(alloc, text, locals, word, call, endpoint, meant)?;
     Ok(Some(send))
 }
 
 /// What a call that stands alone comes to.
 pub(crate) fn tell_stated(
     alloc: Global,
-    tokens: &Tokens,
+    text: &[u8],
     around: &Around<'_, '_>,
     locals: &Locals<'_>,
     call: &Call,
 ) -> Result<Statement, AllocError>
-    ensures { (items : List ItemTree) (own : ℕ) → IsAround (program_in tokens.now.text.items items) own around.now → IfOk result (Tells
-        tokens.now.text.items locals.now (λ f. told.stated_call (program_in tokens.now.text.items items) own f (call_tree call.now))) }
+    ensures { (items : List ItemTree) (own : ℕ) → IsAround (program_in text.now items) own around.now → IfOk result (Tells
+        text.now locals.now (λ f. told.stated_call (program_in text.now items) own f (call_tree call.now))) }
 {
-    match tell_send(alloc, tokens, around, locals, call)? {
+    match tell_send(alloc, text, around, locals, call)? {
         Some(send) => Ok(Statement::Send(send)),
-        None => tell_call(alloc, tokens, around, locals, call, None, Vec::new(alloc)),
+        None => tell_call(alloc, text, around, locals, call, None, Vec::new(alloc)),
     }
 }
 
 /// What a new channel comes to, if its contract and its two targets are found.
 fn channel_of(
-    tokens: &Tokens,
+    text: &[u8],
     around: &Around<'_, '_>,
     locals: &Locals<'_>,
     channel: NewChannel,
 ) -> Option<Action>
     ensures { (items : List ItemTree) (own : ℕ) (f : Frame)
-        → IsAround (program_in tokens.now.text.items items) own around.now → IsFrame tokens.now.text.items f locals.now
-        → result ≡ told.channel_found (program_in tokens.now.text.items items) own f channel }
+        → IsAround (program_in text.now items) own around.now → IsFrame text.now f locals.now
+        → result ≡ told.channel_found (program_in text.now items) own f channel }
 {
     let contract = contract_named(around, channel.contract)?;
-    let first = locals.mention(tokens, channel.first)?;
-    let second = locals.mention(tokens, channel.second)?;
+    let first = locals.mention(text, channel.first)?;
+    let second = locals.mention(text, channel.second)?;
     Some(Action::NewChannel(Channel {
         place: channel.word.place,
         contract,
@@ -146,15 +146,15 @@ fn channel_of(
 
 /// What a new channel comes to.
 pub(crate) fn channel_action(
-    tokens: &Tokens,
+    text: &[u8],
     around: &Around<'_, '_>,
     locals: &Locals<'_>,
     channel: NewChannel,
 ) -> Action
-    ensures { (items : List ItemTree) (own : ℕ) (f : Frame) → IsAround (program_in tokens.now.text.items items) own around.now
-        → IsFrame tokens.now.text.items f locals.now → result ≡ told.channel (program_in tokens.now.text.items items) own f channel }
+    ensures { (items : List ItemTree) (own : ℕ) (f : Frame) → IsAround (program_in text.now items) own around.now
+        → IsFrame text.now f locals.now → result ≡ told.channel (program_in text.now items) own f channel }
 {
-    match channel_of(tokens, around, locals, channel) {
+    match channel_of(text, around, locals, channel) {
         Some(action) => action,
         None => Action::Nothing,
     }

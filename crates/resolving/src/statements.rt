@@ -21,28 +21,28 @@ use crate::plain::{declare_in, tell_plain};
 use crate::reads::add_reads;
 use crate::staying::{Staying, forgetting, tell_break, tell_continue};
 use program::{Block, Case, If, Statement, Test};
-use source::{Place, Tokens};
+use source::Place;
 use std::alloc::{AllocError, Global};
 use tree::Switch;
 
 /// What a statement that holds no others comes to, and what it declares.
 fn tell_alone<'a>(
     alloc: Global,
-    tokens: &'a Tokens,
+    text: &'a [u8],
     around: &Around<'_, '_>,
     locals: &mut Locals<'a>,
     statement: &tree::Statement,
 ) -> Result<Statement, AllocError>
-    ensures { (items : List ItemTree) (own : ℕ) (f : Frame) → IsAround (program_in tokens.now.text.items items) own around.now
-        → IsFrame tokens.now.text.items f locals.old → IfOk result (λ s. IsTold tokens.now.text.items
+    ensures { (items : List ItemTree) (own : ℕ) (f : Frame) → IsAround (program_in text.now items) own around.now
+        → IsFrame text.now f locals.old → IfOk result (λ s. IsTold text.now
         (record {
-          what = plain_told (program_in tokens.now.text.items items) own f (statement_tree statement.now);
+          what = plain_told (program_in text.now items) own f (statement_tree statement.now);
           frame = frame_behind
-              (program_in tokens.now.text.items items) own f (statement_tree statement.now);
+              (program_in text.now items) own f (statement_tree statement.now);
         }) (statement_seen s) locals.new) }
 {
-    let told = tell_plain(alloc, tokens, around, locals, statement)?;
-    declare_in(alloc, tokens, around, locals, statement)?;
+    let told = tell_plain(alloc, text, around, locals, statement)?;
+    declare_in(alloc, text, around, locals, statement)?;
     Ok(told)
 }
 
@@ -50,38 +50,38 @@ fn tell_alone<'a>(
 #[cycle(statements)]
 fn tell_statement<'a>(
     alloc: Global,
-    tokens: &'a Tokens,
+    text: &'a [u8],
     around: &Around<'_, '_>,
     locals: &mut Locals<'a>,
     stays: Staying,
     statement: &tree::Statement,
 ) -> Result<Statement, AllocError>
-    ensures { (items : List ItemTree) (own : ℕ) (f : Frame) → IsAround (program_in tokens.now.text.items items) own around.now
-        → IsFrame tokens.now.text.items f locals.old → IfOk result (λ s. IsTold tokens.now.text.items (statement_told (program_in
-        tokens.now.text.items items) own (staying_seen stays) (statement_tree statement.now) f) (statement_seen s) locals.new) }
+    ensures { (items : List ItemTree) (own : ℕ) (f : Frame) → IsAround (program_in text.now items) own around.now
+        → IsFrame text.now f locals.old → IfOk result (λ s. IsTold text.now (statement_told (program_in
+        text.now items) own (staying_seen stays) (statement_tree statement.now) f) (statement_seen s) locals.new) }
 {
     match statement {
         tree::Statement::Block(block) => {
-            Ok(Statement::Block(tell_block(alloc, tokens, around, locals, stays, block)?))
+            Ok(Statement::Block(tell_block(alloc, text, around, locals, stays, block)?))
         }
         tree::Statement::If(branches) => {
-            let told = tell_if(alloc, tokens, around, locals, stays, branches)?;
+            let told = tell_if(alloc, text, around, locals, stays, branches)?;
             if_of(alloc, told)
         }
         tree::Statement::While(test) => {
             let inside = Staying::here(locals.last());
-            let told = tell_test(alloc, tokens, around, locals, inside, test)?;
+            let told = tell_test(alloc, text, around, locals, inside, test)?;
             while_of(alloc, told)
         }
         tree::Statement::Break(word) => Ok(tell_break(alloc, locals, word.place, stays)),
         tree::Statement::Continue(word) => Ok(tell_continue(alloc, locals, word.place, stays)),
         tree::Statement::Switch(switch) => {
             let inside = stays.in_switch(locals.last());
-            let cases = tell_cases(alloc, tokens, around, locals, inside, switch)?;
+            let cases = tell_cases(alloc, text, around, locals, inside, switch)?;
             let place = switch.word.place;
             Ok(Statement::Switch { place, cases })
         }
-        _ => tell_alone(alloc, tokens, around, locals, statement),
+        _ => tell_alone(alloc, text, around, locals, statement),
     }
 }
 
@@ -103,20 +103,20 @@ fn while_of(alloc: Global, test: Test) -> Result<Statement, AllocError>
 #[cycle(statements)]
 pub(crate) fn tell_statements<'a>(
     alloc: Global,
-    tokens: &'a Tokens,
+    text: &'a [u8],
     around: &Around<'_, '_>,
     locals: &mut Locals<'a>,
     stays: Staying,
     statements: &[tree::Statement],
 ) -> Result<Vec<Statement>, AllocError>
-    ensures { (items : List ItemTree) (own : ℕ) (f : Frame) → IsAround (program_in tokens.now.text.items items) own around.now
-        → IsFrame tokens.now.text.items f locals.old → IfOk result
-        (λ list. IsTold tokens.now.text.items (statements_told (program_in tokens.now.text.items items) own (staying_seen stays)
+    ensures { (items : List ItemTree) (own : ℕ) (f : Frame) → IsAround (program_in text.now items) own around.now
+        → IsFrame text.now f locals.old → IfOk result
+        (λ list. IsTold text.now (statements_told (program_in text.now items) own (staying_seen stays)
         (statement_row (map statement_tree statements.now)) f) (seen.statement_row (map statement_seen list.items)) locals.new) }
 {
-    let mut told = Vec::new(alloc);
+    let mut told = Vec::with_capacity(alloc, statements.len())?;
     for statement in statements {
-        told.push(tell_statement(alloc, tokens, around, locals, stays, statement)?)?;
+        told.push(tell_statement(alloc, text, around, locals, stays, statement)?)?;
     }
     Ok(told)
 }
@@ -125,21 +125,21 @@ pub(crate) fn tell_statements<'a>(
 #[cycle(statements)]
 fn tell_block<'a>(
     alloc: Global,
-    tokens: &'a Tokens,
+    text: &'a [u8],
     around: &Around<'_, '_>,
     locals: &mut Locals<'a>,
     stays: Staying,
     block: &tree::Block,
 ) -> Result<Block, AllocError>
-    ensures { (items : List ItemTree) (own : ℕ) (f : Frame) → IsAround (program_in tokens.now.text.items items) own around.now
-        → IsFrame tokens.now.text.items f locals.old → IfOk result (λ b. IsTold tokens.now.text.items (block_told
-        (program_in tokens.now.text.items items) own (staying_seen stays) (block_tree block.now) f) (block_seen b) locals.new) }
+    ensures { (items : List ItemTree) (own : ℕ) (f : Frame) → IsAround (program_in text.now items) own around.now
+        → IsFrame text.now f locals.old → IfOk result (λ b. IsTold text.now (block_told
+        (program_in text.now items) own (staying_seen stays) (block_tree block.now) f) (block_seen b) locals.new) }
 {
     let outer = locals.len();
     let last = locals.last();
-    let statements = tell_statements(alloc, tokens, around, locals, stays, &block.statements)?;
+    let statements = tell_statements(alloc, text, around, locals, stays, &block.statements)?;
     let forget = forgetting(block.close.place, last, locals.last());
-    locals.leave(tokens, outer, last);
+    locals.leave(text, outer, last);
     Ok(Block { statements, forget })
 }
 
@@ -147,19 +147,19 @@ fn tell_block<'a>(
 #[cycle(statements)]
 fn tell_test<'a>(
     alloc: Global,
-    tokens: &'a Tokens,
+    text: &'a [u8],
     around: &Around<'_, '_>,
     locals: &mut Locals<'a>,
     stays: Staying,
     test: &tree::Test,
 ) -> Result<Test, AllocError>
-    ensures { (items : List ItemTree) (own : ℕ) (f : Frame) → IsAround (program_in tokens.now.text.items items) own around.now
-        → IsFrame tokens.now.text.items f locals.old → IfOk result (λ t. IsTold tokens.now.text.items
-        (test_told (program_in tokens.now.text.items items) own (staying_seen stays) (test_tree test.now) f) (test_seen t) locals.new) }
+    ensures { (items : List ItemTree) (own : ℕ) (f : Frame) → IsAround (program_in text.now items) own around.now
+        → IsFrame text.now f locals.old → IfOk result (λ t. IsTold text.now
+        (test_told (program_in text.now items) own (staying_seen stays) (test_tree test.now) f) (test_seen t) locals.new) }
 {
     let mut reads = Vec::new(alloc);
-    add_reads(tokens, locals, &test.test, &mut reads)?;
-    let body = tell_block(alloc, tokens, around, locals, stays, &test.body)?;
+    add_reads(text, locals, &test.test, &mut reads)?;
+    let body = tell_block(alloc, text, around, locals, stays, &test.body)?;
     Ok(Test {
         place: test.word.place,
         reads,
@@ -172,19 +172,19 @@ fn tell_test<'a>(
 #[cycle(statements)]
 fn tell_tests<'a>(
     alloc: Global,
-    tokens: &'a Tokens,
+    text: &'a [u8],
     around: &Around<'_, '_>,
     locals: &mut Locals<'a>,
     stays: Staying,
     tests: &[tree::Test],
 ) -> Result<Vec<Test>, AllocError>
-    ensures { (items : List ItemTree) (own : ℕ) (f : Frame) → IsAround (program_in tokens.now.text.items items) own around.now
-        → IsFrame tokens.now.text.items f locals.old → IfOk result (λ list. IsTold tokens.now.text.items (walked (test_told (program_in
-        tokens.now.text.items items) own (staying_seen stays)) (map test_tree tests.now) f) (map test_seen list.items) locals.new) }
+    ensures { (items : List ItemTree) (own : ℕ) (f : Frame) → IsAround (program_in text.now items) own around.now
+        → IsFrame text.now f locals.old → IfOk result (λ list. IsTold text.now (walked (test_told (program_in
+        text.now items) own (staying_seen stays)) (map test_tree tests.now) f) (map test_seen list.items) locals.new) }
 {
-    let mut told = Vec::new(alloc);
+    let mut told = Vec::with_capacity(alloc, tests.len())?;
     for test in tests {
-        told.push(tell_test(alloc, tokens, around, locals, stays, test)?)?;
+        told.push(tell_test(alloc, text, around, locals, stays, test)?)?;
     }
     Ok(told)
 }
@@ -193,20 +193,20 @@ fn tell_tests<'a>(
 #[cycle(statements)]
 fn tell_otherwise<'a>(
     alloc: Global,
-    tokens: &'a Tokens,
+    text: &'a [u8],
     around: &Around<'_, '_>,
     locals: &mut Locals<'a>,
     stays: Staying,
     otherwise: &Option<tree::Block>,
 ) -> Result<Option<Block>, AllocError>
     ensures { (items : List ItemTree) (own : ℕ) (f : Frame)
-        → IsAround (program_in tokens.now.text.items items) own around.now → IsFrame tokens.now.text.items f locals.old
-        → IfOk result (λ b. IsTold tokens.now.text.items (others_told (program_in tokens.now.text.items items) own (staying_seen stays)
+        → IsAround (program_in text.now items) own around.now → IsFrame text.now f locals.old
+        → IfOk result (λ b. IsTold text.now (others_told (program_in text.now items) own (staying_seen stays)
         (last_other (option_map block_tree otherwise.now)) f) (seen.last_other (option_map block_seen b)) locals.new) }
 {
     match otherwise {
         Some(block) => {
-            let block = tell_block(alloc, tokens, around, locals, stays, block)?;
+            let block = tell_block(alloc, text, around, locals, stays, block)?;
             Ok(Some(block))
         }
         None => Ok(None),
@@ -217,21 +217,21 @@ fn tell_otherwise<'a>(
 #[cycle(statements)]
 fn tell_if<'a>(
     alloc: Global,
-    tokens: &'a Tokens,
+    text: &'a [u8],
     around: &Around<'_, '_>,
     locals: &mut Locals<'a>,
     stays: Staying,
     branches: &tree::If,
 ) -> Result<If, AllocError>
-    ensures { (items : List ItemTree) (own : ℕ) (f : Frame) → IsAround (program_in tokens.now.text.items items) own around.now
-        → IsFrame tokens.now.text.items f locals.old → IfOk result (λ i. IsTold tokens.now.text.items
-        (follow seen.If (test_told (program_in tokens.now.text.items items) own (staying_seen stays) (if_tree branches.now).first f)
-        (others_told (program_in tokens.now.text.items items) own (staying_seen stays) (if_tree branches.now).others))
+    ensures { (items : List ItemTree) (own : ℕ) (f : Frame) → IsAround (program_in text.now items) own around.now
+        → IsFrame text.now f locals.old → IfOk result (λ i. IsTold text.now
+        (follow seen.If (test_told (program_in text.now items) own (staying_seen stays) (if_tree branches.now).first f)
+        (others_told (program_in text.now items) own (staying_seen stays) (if_tree branches.now).others))
         (seen.If (if_seen i).first (if_seen i).others) locals.new) }
 {
-    let first = tell_test(alloc, tokens, around, locals, stays, &branches.first)?;
-    let others = tell_tests(alloc, tokens, around, locals, stays, &branches.others)?;
-    let otherwise = tell_otherwise(alloc, tokens, around, locals, stays, &branches.otherwise)?;
+    let first = tell_test(alloc, text, around, locals, stays, &branches.first)?;
+    let others = tell_tests(alloc, text, around, locals, stays, &branches.others)?;
+    let otherwise = tell_otherwise(alloc, text, around, locals, stays, &branches.otherwise)?;
     Ok(If {
         first,
         others,
@@ -243,33 +243,25 @@ fn tell_if<'a>(
 #[cycle(statements)]
 fn tell_cases<'a>(
     alloc: Global,
-    tokens: &'a Tokens,
+    text: &'a [u8],
     around: &Around<'_, '_>,
     locals: &mut Locals<'a>,
     stays: Staying,
     switch: &Switch,
 ) -> Result<Vec<Case>, AllocError>
     ensures { (items : List ItemTree) (own : ℕ) (f : Frame)
-        → IsAround (program_in tokens.now.text.items items) own around.now → IsFrame tokens.now.text.items f locals.old
-        → IfOk result (λ list. IsTold tokens.now.text.items (cases_told (program_in tokens.now.text.items items) own
+        → IsAround (program_in text.now items) own around.now → IsFrame text.now f locals.old
+        → IfOk result (λ list. IsTold text.now (cases_told (program_in text.now items) own
         (staying_seen stays) (MoreCases (switch_tree switch.now).first (case_row (switch_tree switch.now).others))
         (switch_tree switch.now).close.place f) (seen.case_row (map case_seen list.items)) locals.new) }
 {
     let mut told = Vec::new(alloc);
     let mut case = &switch.first;
     for next in &switch.others {
-        told.push(tell_case(alloc, tokens, around, locals, stays, next.word.place, case)?)?;
+        told.push(tell_case(alloc, text, around, locals, stays, next.word.place, case)?)?;
         case = next;
     }
-    let last = tell_case(
-        alloc,
-        tokens,
-        around,
-        locals,
-        stays,
-        switch.close.place,
-        case,
-    )?;
+    let last = tell_case(alloc, text, around, locals, stays, switch.close.place, case)?;
     told.push(last)?;
     Ok(told)
 }
@@ -278,26 +270,26 @@ fn tell_cases<'a>(
 #[cycle(statements)]
 fn tell_case<'a>(
     alloc: Global,
-    tokens: &'a Tokens,
+    text: &'a [u8],
     around: &Around<'_, '_>,
     locals: &mut Locals<'a>,
     stays: Staying,
     behind: Place,
     case: &tree::Case,
 ) -> Result<Case, AllocError>
-    ensures { (items : List ItemTree) (own : ℕ) (f : Frame) → IsAround (program_in tokens.now.text.items items) own around.now
-        → IsFrame tokens.now.text.items f locals.old → IfOk result (λ c. IsTold tokens.now.text.items (case_told
-        (program_in tokens.now.text.items items) own (staying_seen stays) behind (case_tree case.now) f) (case_seen c) locals.new) }
+    ensures { (items : List ItemTree) (own : ℕ) (f : Frame) → IsAround (program_in text.now items) own around.now
+        → IsFrame text.now f locals.old → IfOk result (λ c. IsTold text.now (case_told
+        (program_in text.now items) own (staying_seen stays) behind (case_tree case.now) f) (case_seen c) locals.new) }
 {
     let kept = locals.len();
     let last = locals.last();
-    let endpoint = case_endpoint(tokens, locals, case.endpoint);
-    let meant = awaited_message(tokens, around, locals, case.endpoint, case.message);
+    let endpoint = case_endpoint(text, locals, case.endpoint);
+    let meant = awaited_message(text, around, locals, case.endpoint, case.message);
     let params = awaited_params(meant);
-    let bound = declare_binds(alloc, tokens, around, locals, params, &case.binds)?;
-    let statements = tell_statements(alloc, tokens, around, locals, stays, &case.statements)?;
+    let bound = declare_binds(alloc, text, around, locals, params, &case.binds)?;
+    let statements = tell_statements(alloc, text, around, locals, stays, &case.statements)?;
     let forget = forgetting(behind, last, locals.last());
-    locals.leave(tokens, kept, last);
+    locals.leave(text, kept, last);
     Ok(Case {
         endpoint,
         awaited: awaited_as(case.message, meant),

@@ -19,7 +19,6 @@ use crate::calls::tell_call;
 use crate::locals::Locals;
 use crate::reads::add_reads;
 use program::{Action, Mention, Simple, Statement};
-use source::Tokens;
 use std::alloc::{AllocError, Global};
 use tree::{Expression, Made, Value};
 
@@ -38,16 +37,12 @@ pub(crate) fn unread(alloc: Global, action: Action) -> Statement
 }
 
 /// The name that an expression is alone, where it means a variable of the exchange heap.
-pub(crate) fn alone(
-    tokens: &Tokens,
-    locals: &Locals<'_>,
-    expression: &Expression,
-) -> Option<Mention>
-    ensures { (items : List ItemTree) (own : ℕ) (f : Frame) → IsFrame tokens.now.text.items f locals.now
-        → result ≡ lone (program_in tokens.now.text.items items) own f (expression_tree expression.now) }
+pub(crate) fn alone(text: &[u8], locals: &Locals<'_>, expression: &Expression) -> Option<Mention>
+    ensures { (items : List ItemTree) (own : ℕ) (f : Frame) → IsFrame text.now f locals.now
+        → result ≡ lone (program_in text.now items) own f (expression_tree expression.now) }
 {
     let name = name_alone(expression)?;
-    locals.mention(tokens, name)
+    locals.mention(text, name)
 }
 
 /// The target takes what the source has, if there is a source.
@@ -72,74 +67,74 @@ fn using(whole: Option<Mention>) -> Action
 
 /// Adds what is read for what `new` makes: the length of an array.
 fn add_made_reads(
-    tokens: &Tokens,
+    text: &[u8],
     locals: &Locals<'_>,
     made: &Made,
     found: &mut Vec<Mention>,
 ) -> Result<(), AllocError>
-    ensures { (items : List ItemTree) (own : ℕ) → OnOk result (AddsReads tokens.now.text.items locals.now
-        (λ f. made_reads (program_in tokens.now.text.items items) own f (made_tree made.now)) found.old.items found.new.items) }
+    ensures { (items : List ItemTree) (own : ℕ) → OnOk result (AddsReads text.now locals.now
+        (λ f. made_reads (program_in text.now items) own f (made_tree made.now)) found.old.items found.new.items) }
 {
     match made {
         Made::Struct { .. } => Ok(()),
-        Made::Array { length, .. } => add_reads(tokens, locals, length, found),
+        Made::Array { length, .. } => add_reads(text, locals, length, found),
     }
 }
 
 /// Something is made, and this is done with it, behind what was read before.
 fn tell_made(
-    tokens: &Tokens,
+    text: &[u8],
     locals: &Locals<'_>,
     mut before: Vec<Mention>,
     made: &Made,
     action: Action,
 ) -> Result<Statement, AllocError>
-    ensures { (items : List ItemTree) (own : ℕ) → IfOk result (Tells tokens.now.text.items locals.now
-        (λ f. told (before.items ++ made_reads (program_in tokens.now.text.items items) own f (made_tree made.now)) action)) }
+    ensures { (items : List ItemTree) (own : ℕ) → IfOk result (Tells text.now locals.now
+        (λ f. told (before.items ++ made_reads (program_in text.now items) own f (made_tree made.now)) action)) }
 {
-    add_made_reads(tokens, locals, made, &mut before)?;
+    add_made_reads(text, locals, made, &mut before)?;
     Ok(reading(before, action))
 }
 
 /// An expression is read, and this is done then, behind what was read before.
 pub(crate) fn tell_read(
-    tokens: &Tokens,
+    text: &[u8],
     locals: &Locals<'_>,
     mut before: Vec<Mention>,
     expression: &Expression,
     action: Action,
 ) -> Result<Statement, AllocError>
-    ensures { IfOk result (Tells tokens.now.text.items locals.now
-        (λ f. told (before.items ++ reads tokens.now.text.items f.locals (expression_tree expression.now)) action)) }
+    ensures { IfOk result (Tells text.now locals.now
+        (λ f. told (before.items ++ reads text.now f.locals (expression_tree expression.now)) action)) }
 {
-    add_reads(tokens, locals, expression, &mut before)?;
+    add_reads(text, locals, expression, &mut before)?;
     Ok(reading(before, action))
 }
 
 /// A variable of the exchange heap takes a value.
 fn tell_taken(
     alloc: Global,
-    tokens: &Tokens,
+    text: &[u8],
     around: &Around<'_, '_>,
     locals: &Locals<'_>,
     target: Mention,
     value: &Value,
 ) -> Result<Statement, AllocError>
-    ensures { (items : List ItemTree) (own : ℕ) → IsAround (program_in tokens.now.text.items items) own around.now → IfOk result (Tells
-        tokens.now.text.items locals.now (λ f. taken (program_in tokens.now.text.items items) own f target (value_tree value.now))) }
+    ensures { (items : List ItemTree) (own : ℕ) → IsAround (program_in text.now items) own around.now → IfOk result (Tells
+        text.now locals.now (λ f. taken (program_in text.now items) own f target (value_tree value.now))) }
 {
     match value {
         Value::Expression(expression) => {
-            let source = alone(tokens, locals, expression);
+            let source = alone(text, locals, expression);
             Ok(unread(alloc, moving(target, source)))
         }
         Value::Call(call) => {
             let behind = Vec::new(alloc);
-            tell_call(alloc, tokens, around, locals, call, Some(target), behind)
+            tell_call(alloc, text, around, locals, call, Some(target), behind)
         }
         Value::New(new) => {
             let reads = Vec::new(alloc);
-            tell_made(tokens, locals, reads, &new.made, Action::New(target))
+            tell_made(text, locals, reads, &new.made, Action::New(target))
         }
     }
 }
@@ -147,39 +142,39 @@ fn tell_taken(
 /// A scalar takes a value.
 fn tell_scalar(
     alloc: Global,
-    tokens: &Tokens,
+    text: &[u8],
     around: &Around<'_, '_>,
     locals: &Locals<'_>,
     value: &Value,
 ) -> Result<Statement, AllocError>
-    ensures { (items : List ItemTree) (own : ℕ) → IsAround (program_in tokens.now.text.items items) own around.now → IfOk result (Tells
-        tokens.now.text.items locals.now (λ f. scalar_taken (program_in tokens.now.text.items items) own f (value_tree value.now))) }
+    ensures { (items : List ItemTree) (own : ℕ) → IsAround (program_in text.now items) own around.now → IfOk result (Tells
+        text.now locals.now (λ f. scalar_taken (program_in text.now items) own f (value_tree value.now))) }
 {
     let before = Vec::new(alloc);
     match value {
         Value::Expression(expression) => {
-            tell_read(tokens, locals, before, expression, Action::Nothing)
+            tell_read(text, locals, before, expression, Action::Nothing)
         }
-        Value::Call(call) => tell_call(alloc, tokens, around, locals, call, None, before),
-        Value::New(new) => tell_made(tokens, locals, before, &new.made, Action::Nothing),
+        Value::Call(call) => tell_call(alloc, text, around, locals, call, None, before),
+        Value::New(new) => tell_made(text, locals, before, &new.made, Action::Nothing),
     }
 }
 
 /// A variable takes a value: one of the exchange heap, or a scalar.
 pub(crate) fn tell_assigned(
     alloc: Global,
-    tokens: &Tokens,
+    text: &[u8],
     around: &Around<'_, '_>,
     locals: &Locals<'_>,
     target: Option<Mention>,
     value: &Value,
 ) -> Result<Statement, AllocError>
-    ensures { (items : List ItemTree) (own : ℕ) → IsAround (program_in tokens.now.text.items items) own around.now → IfOk result (Tells
-        tokens.now.text.items locals.now (λ f. assigned (program_in tokens.now.text.items items) own f target (value_tree value.now))) }
+    ensures { (items : List ItemTree) (own : ℕ) → IsAround (program_in text.now items) own around.now → IfOk result (Tells
+        text.now locals.now (λ f. assigned (program_in text.now items) own f target (value_tree value.now))) }
 {
     match target {
-        Some(target) => tell_taken(alloc, tokens, around, locals, target, value),
-        None => tell_scalar(alloc, tokens, around, locals, value),
+        Some(target) => tell_taken(alloc, text, around, locals, target, value),
+        None => tell_scalar(alloc, text, around, locals, value),
     }
 }
 
@@ -199,40 +194,40 @@ pub(crate) fn add_listed(
 /// A call gives a scalar that a part of what the variable has takes, behind what its index reads.
 fn tell_part_called(
     alloc: Global,
-    tokens: &Tokens,
+    text: &[u8],
     around: &Around<'_, '_>,
     locals: &Locals<'_>,
     mut index: Vec<Mention>,
     whole: Option<Mention>,
     call: &tree::Call,
 ) -> Result<Statement, AllocError>
-    ensures { (items : List ItemTree) (own : ℕ) → IsAround (program_in tokens.now.text.items items) own around.now
-        → IfOk result (Tells tokens.now.text.items locals.now
-        (λ f. part_taken (program_in tokens.now.text.items items) own f index.items whole (values.Call (call_tree call.now)))) }
+    ensures { (items : List ItemTree) (own : ℕ) → IsAround (program_in text.now items) own around.now
+        → IfOk result (Tells text.now locals.now
+        (λ f. part_taken (program_in text.now items) own f index.items whole (values.Call (call_tree call.now)))) }
 {
     add_listed(whole, &mut index)?;
-    tell_call(alloc, tokens, around, locals, call, None, index)
+    tell_call(alloc, text, around, locals, call, None, index)
 }
 
 /// A part of what the variable has takes a value, behind what its index reads.
 pub(crate) fn tell_part(
     alloc: Global,
-    tokens: &Tokens,
+    text: &[u8],
     around: &Around<'_, '_>,
     locals: &Locals<'_>,
     index: Vec<Mention>,
     whole: Option<Mention>,
     value: &Value,
 ) -> Result<Statement, AllocError>
-    ensures { (items : List ItemTree) (own : ℕ) → IsAround (program_in tokens.now.text.items items) own around.now
-        → IfOk result (Tells tokens.now.text.items locals.now
-        (λ f. part_taken (program_in tokens.now.text.items items) own f index.items whole (value_tree value.now))) }
+    ensures { (items : List ItemTree) (own : ℕ) → IsAround (program_in text.now items) own around.now
+        → IfOk result (Tells text.now locals.now
+        (λ f. part_taken (program_in text.now items) own f index.items whole (value_tree value.now))) }
 {
     match value {
         Value::Expression(expression) => {
-            tell_read(tokens, locals, index, expression, using(whole))
+            tell_read(text, locals, index, expression, using(whole))
         }
-        Value::Call(call) => { tell_part_called(alloc, tokens, around, locals, index, whole, call) }
-        Value::New(new) => tell_made(tokens, locals, index, &new.made, using(whole)),
+        Value::Call(call) => { tell_part_called(alloc, text, around, locals, index, whole, call) }
+        Value::New(new) => tell_made(text, locals, index, &new.made, using(whole)),
     }
 }

@@ -1,12 +1,9 @@
--- A program has no more contracts than tokens.
-use Rattle.std.proofs.Common.{◌≡◌, ℕ, suc, ◌≤◌, List, [], ◌∷◌, ◌++◌, length, map, refl, ap, arith}
+-- A program has no more contracts than symbols that spell it.
+use Rattle.std.proofs.Common.{◌≡◌, ℕ, ◌≤◌, List, [], ◌∷◌, ◌++◌, length, map, refl, ap, arith}
 use Rattle.std.proofs.lemmas.List.{length-append, length-map}
-use Rattle.source.specs.declared.token.Token.{Token}
 use Rattle.tree.specs.Grammar.{access_word}
-use Rattle.tree.specs.Spelled.{Spells}
 use Rattle.tree.specs.Programs.{definition, item, program}
 use Rattle.tree.specs.Spelling.{optional, word}
-use Rattle.tree.specs.Symbols.{End, symbols}
 use Rattle.tree.specs.Trees.{ContractTree, DefinitionTree, Contract, Struct, Class, ItemTree, contract_of, contracts_of}
 use Rattle.program.specs.Parts.{ContractSeen}
 use Rattle.names.specs.Resolution.{each_behind, resolved_contracts}
@@ -27,22 +24,15 @@ in_items (i ∷ items) =
     let spelled = length-append (item i) (program items) in
     omega (arith, here, rest, listed, front, spelled)
 
-as_many_symbols : (tokens : List Token) → length (symbols tokens) ≡ suc (length tokens)
-as_many_symbols [] = refl
-as_many_symbols (t ∷ tokens) = ap suc (as_many_symbols tokens)
-
 -- one is resolved for each
 length_behind : (f : List ContractTree → ContractTree → ContractSeen) (before contracts : List ContractTree) → length (each_behind (λ b c. f b c ∷ []) before contracts) ≡ length contracts
 length_behind f before [] = refl
 length_behind f before (c ∷ cs) = let rest = length_behind f (before ++ c ∷ []) cs in omega (arith, rest)
 
-pub few_contracts : {C : Type 0} (text : List ℕ) (items : List ItemTree) (tokens : List Token) (contracts : List C) (seen : C → ContractSeen) → Spells program items tokens → map seen contracts ≡ resolved_contracts text (contracts_of items) → length contracts ≤ length tokens
-few_contracts text items tokens contracts seen spelled resolved =
+pub few_contracts : {C : Type 0} (text : List ℕ) (items : List ItemTree) (contracts : List C) (seen : C → ContractSeen) → map seen contracts ≡ resolved_contracts text (contracts_of items) → length contracts ≤ length (program items)
+few_contracts text items contracts seen resolved =
     let symbol = in_items items in
-    let size = ap length spelled in
-    let end = length-append (program items) (End ∷ []) in
-    let read = as_many_symbols tokens in
     let same = ap length resolved in
     let each : length (resolved_contracts text (contracts_of items)) ≡ length (contracts_of items) = length_behind _ [] (contracts_of items) in
     let many = length-map contracts seen in
-    omega (arith, symbol, size, end, read, same, each, many)
+    omega (arith, symbol, same, each, many)

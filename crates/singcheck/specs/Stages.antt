@@ -8,10 +8,7 @@ use Rattle.contracts.specs.Conditions.{AreExactly, IsSound}
 use Rattle.contracts.specs.Parts.{Parts}
 use Rattle.contracts.specs.Sounds.{sound_parts}
 use Rattle.contracts.specs.declared.sound.Sound.{Sound}
-use Rattle.singcheck.specs.Answers.{AreFindings, IsBoundsLine, IsResolved, IsBroken}
-use Rattle.source.specs.Tokens.{AreTokens}
-use Rattle.source.specs.declared.token.Tokens.{Tokens}
-use Rattle.tree.specs.Spelled.{Spells}
+use Rattle.singcheck.specs.Answers.{AreFindings, IsBoundsLine, IsProgram, IsResolved, IsBroken}
 use Rattle.tree.specs.Programs.{program}
 use Rattle.tree.specs.Trees.{program_tree}
 use Rattle.tree.specs.declared.item.Tree.{Tree}
@@ -30,16 +27,15 @@ pub record IsClean (text : List ℕ) (clean : Clean) : Type 0 where
   pub sounds : map sound_parts clean.sounds.items ≡ map (λ c. c.parts) (map contract_seen clean.resolved.contracts.items)
   pub sound : All (λ c. IsSound c.parts) (map contract_seen clean.resolved.contracts.items)
 
--- the text is no program, or these are its tokens and its tree
-pub record IsProgramOf (text : List ℕ) (tokens : Tokens) (tree : Tree) : Type 0 where
-  pub read : tokens.text.items ≡ text
-  pub lexed : AreTokens tokens.text.items tokens.list.items
-  pub spelled : Spells program (program_tree tree) tokens.list.items
-  pub few : length tokens.list.items < 2 ^ 32
+-- the text is a program of this tree, which fewer than 2^32 symbols spell
+pub record IsProgramOf (text : List ℕ) (tree : Tree) : Type 0 where
+  pub parsed : IsProgram text (program_tree tree)
+  pub few : length (program (program_tree tree)) < 2 ^ 32
 
+-- the text is no program, or this is its tree
 abbrev pub IsParsed : List ℕ → Parsed → Type 0
 IsParsed text (parsed.Found findings) = AreFindings text (map finding_parts findings.items)
-IsParsed text (parsed.Program tokens tree) = IsProgramOf text tokens tree
+IsParsed text (parsed.Program tree) = IsProgramOf text tree
 
 -- the findings of the text, or its contracts where there are none
 abbrev pub IsStaged : List ℕ → Staged → Type 0

@@ -44,14 +44,14 @@ pub fn run_bounds<R: Source, W: Sink>(
     ensures fault { IfErr result IsBoundsFault }
 {
     let text = read_text(alloc, reader)?;
-    let answer = bounds_of(alloc, text)?;
+    let answer = bounds_of(alloc, &text)?;
     write_all(&answer.bytes, writer)?;
     Ok(answer.status)
 }
 
 /// The answer to a text.
-fn bounds_of(alloc: Global, text: Vec<u8>) -> Result<Report, Memory>
-    ensures { IfOk result (λ answer. Answers text.items answer.bytes.items answer.status) }
+fn bounds_of(alloc: Global, text: &[u8]) -> Result<Report, Memory>
+    ensures { IfOk result (λ answer. Answers text.now answer.bytes.items answer.status) }
 {
     match run_stages(alloc, text)? {
         Staged::Found(findings) => Ok(Report {
@@ -71,23 +71,18 @@ fn bounds_lines(alloc: Global, clean: &Clean) -> Result<Vec<u8>, Memory>
 {
     let mut answer = Vec::new(alloc);
     for (contract, sound) in clean.resolved.contracts.iter().zip(&clean.sounds) {
-        add_bounds_of(alloc, &mut answer, contract, sound)?;
+        add_bounds_of(&mut answer, contract, sound)?;
     }
-    add_contracts(alloc, &mut answer, clean.resolved.contracts.len())?;
+    add_contracts(&mut answer, clean.resolved.contracts.len())?;
     Ok(answer)
 }
 
 /// Adds the line of a contract.
-fn add_bounds_of(
-    alloc: Global,
-    answer: &mut Vec<u8>,
-    contract: &Contract,
-    sound: &Sound,
-) -> Result<(), Memory>
+fn add_bounds_of(answer: &mut Vec<u8>, contract: &Contract, sound: &Sound) -> Result<(), Memory>
     ensures { OnOk result (AddsLine (record { name = string_bytes contract.now.name; parts = sound_parts sound.now })
         answer.old.items answer.new.items) }
 {
     let to_exp = sound.bound(Side::Exp);
     let to_imp = sound.bound(Side::Imp);
-    add_bounds(alloc, answer, contract.name.as_str(), to_exp, to_imp)
+    add_bounds(answer, contract.name.as_str(), to_exp, to_imp)
 }

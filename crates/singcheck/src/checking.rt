@@ -2,16 +2,13 @@
 
 ghost use Rattle.std.specs.Prelude.{◌≡◌, ◌<◌, ◌^◌, true, ℕ, map, length, List, IfOk, IfErr, OnOk};
 ghost use Rattle.source.specs.Findings.{finding_parts};
-ghost use Rattle.source.specs.Tokens.{AreTokens};
-ghost use Rattle.tree.specs.Spelled.{Spells};
-ghost use Rattle.tree.specs.Programs.{program};
-ghost use Rattle.tree.specs.Trees.{program_tree};
 ghost use Rattle.rules.specs.Programs.{seen_of};
 ghost use Rattle.sound.specs.Premises.{NothingIsFound};
 ghost use Rattle.singcheck.specs.Checks.{Checks, HasProgram};
 ghost use Rattle.singcheck.specs.CheckFaults.{AreUnfit, Explains, workers_fit, slots_fit};
 ghost use Rattle.singcheck.specs.Reports.{IsReport};
 ghost use Rattle.singcheck.specs.Safety.{IsSafeText};
+ghost use Rattle.singcheck.specs.Stages.{IsProgramOf};
 
 use crate::fault::{CheckFault, Status};
 use crate::laws::one_program;
@@ -25,7 +22,7 @@ use crate::verdicts::analyse_methods;
 use pool::Gate;
 use rules::Program;
 use shelf::Shelf;
-use source::{Finding, Memory, Tokens};
+use source::{Finding, Memory};
 use std::alloc::Global;
 use std::sync::Wait;
 use std::thread::Threads;
@@ -115,23 +112,7 @@ pub(crate) fn check_text<R: Threads + Wait + Sync, G: Gate>(
 {
     match parse_text(tools.alloc, text)? {
         Parsed::Found(findings) => reported(tools.alloc, findings),
-        Parsed::Program(tokens, tree) => check_program(tools, tokens, tree),
-    }
-}
-
-/// The report of a text that nobody asks for again. It goes once its tokens are known, which spares its memory.
-pub(crate) fn check_alone<R: Threads + Wait + Sync, G: Gate>(
-    tools: &Tools<'_, R, G>,
-    text: Vec<u8>,
-) -> Result<Report, Memory>
-    ensures report { IfOk result (λ r. Checks text.items r.bytes.items r.status) }
-    ensures safe { IfOk result (λ r. r.status ≡ Status.Empty → IsSafeText text.items) }
-{
-    let parsed = parse_text(tools.alloc, &text)?;
-    drop(text);
-    match parsed {
-        Parsed::Found(findings) => reported(tools.alloc, findings),
-        Parsed::Program(tokens, tree) => check_program(tools, tokens, tree),
+        Parsed::Program(tree) => check_program(tools, text, tree),
     }
 }
 
@@ -149,19 +130,16 @@ fn reported(alloc: Global, findings: Vec<Finding>) -> Result<Report, Memory>
 /// The report of a program.
 fn check_program<R: Threads + Wait + Sync, G: Gate>(
     tools: &Tools<'_, R, G>,
-    tokens: Tokens,
+    text: &[u8],
     tree: Tree,
 ) -> Result<Report, Memory>
-    requires lexed { AreTokens tokens.text.items tokens.list.items }
-    requires spelled { Spells program (program_tree tree) tokens.list.items }
-    requires few { length tokens.list.items < 2 ^ 32 }
-    ensures report { IfOk result (λ r. Checks tokens.text.items r.bytes.items r.status) }
-    ensures safe { IfOk result (λ r. r.status ≡ Status.Empty → IsSafeText tokens.text.items) }
+    requires program { IsProgramOf text.now tree }
+    ensures report { IfOk result (λ r. Checks text.now r.bytes.items r.status) }
+    ensures safe { IfOk result (λ r. r.status ≡ Status.Empty → IsSafeText text.now) }
 {
     let alloc = tools.alloc;
-    let named = named_methods(alloc, &tree, &tokens)?;
-    drop(tree); // the contracts are judged without them, which spares their memory
-    drop(tokens);
+    let named = named_methods(alloc, &tree, text)?;
+    drop(tree); // the contracts are judged without it, which spares its memory
     let methods = match named {
         Named::Found(findings) => return reported(alloc, findings),
         Named::Methods(methods) => methods,
@@ -190,7 +168,7 @@ fn check_methods<R: Threads + Wait + Sync, G: Gate>(
     let mut bytes = Vec::new(alloc);
     let contracts = program.contracts().len();
     let methods = program.methods().len();
-    add_clear(alloc, &mut bytes, contracts, methods)?;
+    add_clear(&mut bytes, contracts, methods)?;
     Ok(Report {
         bytes,
         status: Status::Empty,

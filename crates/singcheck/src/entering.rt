@@ -1,15 +1,13 @@
 //! A text and an entry.
 
 ghost use Rattle.std.specs.Prelude.{◌≡◌, ◌<◌, ◌≤◌, ◌^◌, ℕ, All, IfNone, IfOk, IfSome, Some, length};
-ghost use Rattle.source.specs.Tokens.{AreTokens};
-ghost use Rattle.tree.specs.Spelled.{Spells};
-ghost use Rattle.tree.specs.Programs.{program};
 ghost use Rattle.tree.specs.Trees.{program_tree};
 ghost use Rattle.contracts.specs.Conditions.{IsSound};
 ghost use Rattle.program.specs.declared.limits.TheConstants.{MOST_METHODS};
 ghost use Rattle.rules.specs.Programs.{seen_of};
 ghost use Rattle.singcheck.specs.Entered.{AreReplaysSafe, Begins, IsEntered, IsKeptSafe};
 ghost use Rattle.singcheck.specs.Named.{HasNames};
+ghost use Rattle.singcheck.specs.Stages.{IsProgramOf};
 
 use crate::entries::{entry_place, struct_names};
 use crate::laws::one_program;
@@ -17,7 +15,7 @@ use crate::programs::{Built, Named, judged_program, named_methods};
 use crate::stages::{Parsed, parse_text};
 use program::MethodId;
 use rules::Program;
-use source::{Finding, Memory, Tokens};
+use source::{Finding, Memory};
 use std::alloc::Global;
 use tree::Tree;
 
@@ -47,53 +45,46 @@ pub(crate) fn enter(alloc: Global, text: &[u8], entry: &[u8]) -> Result<Entered,
 {
     match parse_text(alloc, text)? {
         Parsed::Found(findings) => Ok(Entered::Found(findings)),
-        Parsed::Program(tokens, tree) => enter_program(alloc, &tokens, &tree, entry),
+        Parsed::Program(tree) => enter_program(alloc, text, &tree, entry),
     }
 }
 
 /// The names and the contracts of a program, and then the entry.
-fn enter_program(
-    alloc: Global,
-    tokens: &Tokens,
-    tree: &Tree,
-    entry: &[u8],
-) -> Result<Entered, Memory>
-    requires lexed { AreTokens tokens.now.text.items tokens.now.list.items }
-    requires spelled { Spells program (program_tree tree.now) tokens.now.list.items }
-    requires few { length tokens.now.list.items < 2 ^ 32 }
-    ensures entered { IfOk result (IsEntered tokens.now.text.items entry.now) }
-    ensures safe { IfOk result (IsKeptSafe tokens.now.text.items) }
+fn enter_program(alloc: Global, text: &[u8], tree: &Tree, entry: &[u8]) -> Result<Entered, Memory>
+    requires program { IsProgramOf text.now tree.now }
+    ensures entered { IfOk result (IsEntered text.now entry.now) }
+    ensures safe { IfOk result (IsKeptSafe text.now) }
 {
-    let methods = match named_methods(alloc, tree, tokens)? {
+    let methods = match named_methods(alloc, tree, text)? {
         Named::Found(findings) => return Ok(Entered::Found(findings)),
         Named::Methods(methods) => methods,
     };
     match judged_program(alloc, methods)? {
         Built::Found(findings) => Ok(Entered::Found(findings)),
-        Built::Program(program) => enter_method(alloc, tokens, tree, program, entry),
+        Built::Program(program) => enter_method(alloc, text, tree, program, entry),
     }
 }
 
 /// The entry in a program with which nothing is wrong but in its methods.
 fn enter_method(
     alloc: Global,
-    tokens: &Tokens,
+    text: &[u8],
     tree: &Tree,
     program: Program,
     entry: &[u8],
 ) -> Result<Entered, Memory>
-    requires program { HasNames tokens.now.text.items (program_tree tree.now) (seen_of program) }
+    requires program { HasNames text.now (program_tree tree.now) (seen_of program) }
     requires sound { All (λ c. IsSound c.parts) (seen_of program).contracts }
     requires few { length (seen_of program).methods ≤ MOST_METHODS }
     requires safe { AreReplaysSafe (seen_of program) }
-    ensures entered { IfOk result (IsEntered tokens.now.text.items entry.now) }
-    ensures safe { IfOk result (IsKeptSafe tokens.now.text.items) }
+    ensures entered { IfOk result (IsEntered text.now entry.now) }
+    ensures safe { IfOk result (IsKeptSafe text.now) }
 {
     one_program();
-    let Some(method) = entry_of(&program, entry_place(tokens, tree, entry)) else {
+    let Some(method) = entry_of(&program, entry_place(text, tree, entry)) else {
         return Ok(Entered::Lacking);
     };
-    let structs = struct_names(alloc, tokens, tree)?;
+    let structs = struct_names(alloc, text, tree)?;
     Ok(Entered::Begun(Begun {
         program,
         method,

@@ -5,31 +5,31 @@ ghost use Rattle.program.specs.Lists.{Each};
 ghost use Rattle.tree.specs.Trees.{definition_tree, method_tree, program_tree};
 ghost use Rattle.singcheck.specs.Replays.{IsFirstAt, full_name, method_names, names_in, struct_in, struct_names};
 
-use source::{Memory, Span, Tokens};
+use source::{Memory, Span};
 use std::alloc::Global;
 use tree::{Definition, Method, Tree};
 
 /// Whether the entry is the name of a class, a dot and the name of a method of it.
-fn is_named(tokens: &Tokens, class: Span, method: &Method, entry: &[u8]) -> bool
-    ensures yes { result ≡ true → full_name tokens.now.text.items class (method_tree method.now) ≡ entry.now }
-    ensures no { result ≡ false → full_name tokens.now.text.items class (method_tree method.now) ≢ entry.now }
+fn is_named(text: &[u8], class: Span, method: &Method, entry: &[u8]) -> bool
+    ensures yes { result ≡ true → full_name text.now class (method_tree method.now) ≡ entry.now }
+    ensures no { result ≡ false → full_name text.now class (method_tree method.now) ≢ entry.now }
 {
-    let Some(rest) = entry.strip_prefix(tokens.slice(class)) else {
+    let Some(rest) = entry.strip_prefix(class.slice(text)) else {
         return false;
     };
     let Some(name) = rest.strip_prefix(b".") else {
         return false;
     };
-    name == tokens.slice(method.name)
+    name == method.name.slice(text)
 }
 
 /// How many methods of a class stand before the first that has this name.
-fn place_among(tokens: &Tokens, class: Span, methods: &[Method], entry: &[u8]) -> Option<usize>
-    ensures some { IfSome result (IsFirstAt (map (full_name tokens.now.text.items class) (map method_tree methods.now)) entry.now) }
-    ensures none { IfNone result (Each (λ x. x ≢ entry.now) (map (full_name tokens.now.text.items class) (map method_tree methods.now))) }
+fn place_among(text: &[u8], class: Span, methods: &[Method], entry: &[u8]) -> Option<usize>
+    ensures some { IfSome result (IsFirstAt (map (full_name text.now class) (map method_tree methods.now)) entry.now) }
+    ensures none { IfNone result (Each (λ x. x ≢ entry.now) (map (full_name text.now class) (map method_tree methods.now))) }
 {
     for (place, method) in methods.iter().enumerate() {
-        if is_named(tokens, class, method, entry) {
+        if is_named(text, class, method, entry) {
             return Some(place);
         }
     }
@@ -37,12 +37,12 @@ fn place_among(tokens: &Tokens, class: Span, methods: &[Method], entry: &[u8]) -
 }
 
 /// How many methods of an item stand before the first that has this name; none where it is no class.
-fn place_in(tokens: &Tokens, definition: &Definition, entry: &[u8]) -> Option<usize>
-    ensures some { IfSome result (IsFirstAt (names_in tokens.now.text.items (definition_tree definition.now)) entry.now) }
-    ensures none { IfNone result (Each (λ x. x ≢ entry.now) (names_in tokens.now.text.items (definition_tree definition.now))) }
+fn place_in(text: &[u8], definition: &Definition, entry: &[u8]) -> Option<usize>
+    ensures some { IfSome result (IsFirstAt (names_in text.now (definition_tree definition.now)) entry.now) }
+    ensures none { IfNone result (Each (λ x. x ≢ entry.now) (names_in text.now (definition_tree definition.now))) }
 {
     match definition {
-        Definition::Class(class) => place_among(tokens, class.name, &class.methods, entry),
+        Definition::Class(class) => place_among(text, class.name, &class.methods, entry),
         Definition::Contract(_) | Definition::Struct(_) => None,
     }
 }
@@ -58,14 +58,14 @@ fn methods_of(definition: &Definition) -> usize
 }
 
 /// How many methods stand before the first that has this name.
-pub(crate) fn entry_place(tokens: &Tokens, tree: &Tree, entry: &[u8]) -> Option<usize>
-    requires few { length (method_names tokens.now.text.items (program_tree tree.now)) < 2 ^ 32 }
-    ensures some { IfSome result (IsFirstAt (method_names tokens.now.text.items (program_tree tree.now)) entry.now) }
-    ensures none { IfNone result (Each (λ x. x ≢ entry.now) (method_names tokens.now.text.items (program_tree tree.now))) }
+pub(crate) fn entry_place(text: &[u8], tree: &Tree, entry: &[u8]) -> Option<usize>
+    requires few { length (method_names text.now (program_tree tree.now)) < 2 ^ 32 }
+    ensures some { IfSome result (IsFirstAt (method_names text.now (program_tree tree.now)) entry.now) }
+    ensures none { IfNone result (Each (λ x. x ≢ entry.now) (method_names text.now (program_tree tree.now))) }
 {
     let mut before = 0;
     for item in &tree.items {
-        if let Some(place) = place_in(tokens, &item.definition, entry) {
+        if let Some(place) = place_in(text, &item.definition, entry) {
             return Some(before + place);
         }
         before += methods_of(&item.definition);
@@ -76,30 +76,26 @@ pub(crate) fn entry_place(tokens: &Tokens, tree: &Tree, entry: &[u8]) -> Option<
 /// How an item is printed, if it is a struct.
 fn add_struct(
     alloc: Global,
-    tokens: &Tokens,
+    text: &[u8],
     definition: &Definition,
     names: &mut Vec<String>,
 ) -> Result<(), Memory>
     ensures { OnOk result (map string_bytes names.new.items
-        ≡ map string_bytes names.old.items ++ struct_in tokens.now.text.items (definition_tree definition.now)) }
+        ≡ map string_bytes names.old.items ++ struct_in text.now (definition_tree definition.now)) }
 {
     if let Definition::Struct(told) = definition {
-        names.push(String::from_utf8_lossy(alloc, tokens.slice(told.name))?)?;
+        names.push(String::from_utf8_lossy(alloc, told.name.slice(text))?)?;
     }
     Ok(())
 }
 
 /// How the structs of a text are printed, in order.
-pub(crate) fn struct_names(
-    alloc: Global,
-    tokens: &Tokens,
-    tree: &Tree,
-) -> Result<Vec<String>, Memory>
-    ensures { IfOk result (λ names. map string_bytes names.items ≡ struct_names tokens.now.text.items (program_tree tree.now)) }
+pub(crate) fn struct_names(alloc: Global, text: &[u8], tree: &Tree) -> Result<Vec<String>, Memory>
+    ensures { IfOk result (λ names. map string_bytes names.items ≡ struct_names text.now (program_tree tree.now)) }
 {
     let mut names = Vec::new(alloc);
     for item in &tree.items {
-        add_struct(alloc, tokens, &item.definition, &mut names)?;
+        add_struct(alloc, text, &item.definition, &mut names)?;
     }
     Ok(names)
 }

@@ -5,8 +5,8 @@ ghost use Rattle.std.specs.Fmt.{decimal};
 ghost use Rattle.source.specs.Findings.{finding_parts};
 ghost use Rattle.singcheck.specs.Lines.{finding_line, count_line, bounds_line, ok_line, clear_line};
 
+use itoa::Buffer;
 use source::{Finding, Memory};
-use std::alloc::Global;
 
 /// Adds a text.
 fn add(answer: &mut Vec<u8>, text: &str) -> Result<(), Memory>
@@ -17,24 +17,20 @@ fn add(answer: &mut Vec<u8>, text: &str) -> Result<(), Memory>
 }
 
 /// Adds a number in decimal.
-fn add_number(alloc: Global, answer: &mut Vec<u8>, number: usize) -> Result<(), Memory>
+fn add_number(answer: &mut Vec<u8>, number: usize) -> Result<(), Memory>
     ensures { OnOk result (answer.new.items ≡ answer.old.items ++ decimal number) }
 {
-    let digits = number.to_string(alloc)?;
-    add(answer, digits.as_str())
+    let mut digits = Buffer::new();
+    add(answer, digits.format(number))
 }
 
 /// Adds `LINE:COL CODE text`.
-pub(crate) fn add_finding(
-    alloc: Global,
-    answer: &mut Vec<u8>,
-    finding: &Finding,
-) -> Result<(), Memory>
+pub(crate) fn add_finding(answer: &mut Vec<u8>, finding: &Finding) -> Result<(), Memory>
     ensures { OnOk result (answer.new.items ≡ answer.old.items ++ finding_line (finding_parts finding.now)) }
 {
-    add_number(alloc, answer, finding.place.line as usize)?;
+    add_number(answer, finding.place.line as usize)?;
     add(answer, ":")?;
-    add_number(alloc, answer, finding.place.col as usize)?;
+    add_number(answer, finding.place.col as usize)?;
     add(answer, " ")?;
     add(answer, finding.code.name())?;
     add(answer, " ")?;
@@ -43,17 +39,16 @@ pub(crate) fn add_finding(
 }
 
 /// Adds `findings: N`.
-pub(crate) fn add_count(alloc: Global, answer: &mut Vec<u8>, count: usize) -> Result<(), Memory>
+pub(crate) fn add_count(answer: &mut Vec<u8>, count: usize) -> Result<(), Memory>
     ensures { OnOk result (answer.new.items ≡ answer.old.items ++ count_line count) }
 {
     add(answer, "findings: ")?;
-    add_number(alloc, answer, count)?;
+    add_number(answer, count)?;
     add(answer, "\n")
 }
 
 /// Adds `NAME: to Exp N, to Imp N`.
 pub(crate) fn add_bounds(
-    alloc: Global,
     answer: &mut Vec<u8>,
     name: &str,
     to_exp: u32,
@@ -63,24 +58,23 @@ pub(crate) fn add_bounds(
 {
     add(answer, name)?;
     add(answer, ": to Exp ")?;
-    add_number(alloc, answer, to_exp as usize)?;
+    add_number(answer, to_exp as usize)?;
     add(answer, ", to Imp ")?;
-    add_number(alloc, answer, to_imp as usize)?;
+    add_number(answer, to_imp as usize)?;
     add(answer, "\n")
 }
 
 /// Adds `ok: C contracts`.
-pub(crate) fn add_contracts(alloc: Global, answer: &mut Vec<u8>, count: usize) -> Result<(), Memory>
+pub(crate) fn add_contracts(answer: &mut Vec<u8>, count: usize) -> Result<(), Memory>
     ensures { OnOk result (answer.new.items ≡ answer.old.items ++ ok_line count) }
 {
     add(answer, "ok: ")?;
-    add_number(alloc, answer, count)?;
+    add_number(answer, count)?;
     add(answer, " contracts\n")
 }
 
 /// Adds `ok: C contracts, M methods`.
 pub(crate) fn add_clear(
-    alloc: Global,
     answer: &mut Vec<u8>,
     contracts: usize,
     methods: usize,
@@ -88,8 +82,8 @@ pub(crate) fn add_clear(
     ensures { OnOk result (answer.new.items ≡ answer.old.items ++ clear_line contracts methods) }
 {
     add(answer, "ok: ")?;
-    add_number(alloc, answer, contracts)?;
+    add_number(answer, contracts)?;
     add(answer, " contracts, ")?;
-    add_number(alloc, answer, methods)?;
+    add_number(answer, methods)?;
     add(answer, " methods\n")
 }

@@ -1,20 +1,18 @@
 //! The program of a text: the stage of its names, which gives its methods, and then that of its contracts.
 
 ghost use Rattle.std.specs.Prelude.{◌<◌, ◌^◌, All, IfOk, length};
-ghost use Rattle.source.specs.Tokens.{AreTokens};
-ghost use Rattle.tree.specs.Spelled.{Spells};
-ghost use Rattle.tree.specs.Programs.{program};
 ghost use Rattle.tree.specs.Trees.{program_tree};
 ghost use Rattle.program.specs.Parts.{IsWhole};
 ghost use Rattle.program.specs.Programs.{contracts_seen, program_seen};
 ghost use Rattle.singcheck.specs.Named.{IsBuilt, IsNamed};
+ghost use Rattle.singcheck.specs.Stages.{IsProgramOf};
 
 use crate::soundness::{Judgement, judged};
 use names::{NameFaults, resolve};
 use program::Methods;
 use rules::Program;
 use sound::laws::clean_methods_are_safe;
-use source::{Finding, Memory, Tokens};
+use source::{Finding, Memory};
 use std::alloc::Global;
 use tree::Tree;
 use wellformed::well_formed_methods;
@@ -37,15 +35,13 @@ pub(crate) enum Built {
     Program(Program),
 }
 
-/// The stage of the names. What it answers needs the tree and its tokens no more.
-pub(crate) fn named_methods(alloc: Global, tree: &Tree, tokens: &Tokens) -> Result<Named, Memory>
-    requires lexed { AreTokens tokens.now.text.items tokens.now.list.items }
-    requires spelled { Spells program (program_tree tree.now) tokens.now.list.items }
-    requires few { length tokens.now.list.items < 2 ^ 32 }
-    ensures { IfOk result (IsNamed tokens.now.text.items (program_tree tree.now)) }
+/// The stage of the names. What it answers needs the tree no more.
+pub(crate) fn named_methods(alloc: Global, tree: &Tree, text: &[u8]) -> Result<Named, Memory>
+    requires { IsProgramOf text.now tree.now }
+    ensures { IfOk result (IsNamed text.now (program_tree tree.now)) }
 {
-    match resolve(alloc, tree, tokens) {
-        Ok(resolved) => Ok(Named::Methods(well_formed_methods(alloc, tree, tokens, resolved)?)),
+    match resolve(alloc, tree, text) {
+        Ok(resolved) => Ok(Named::Methods(well_formed_methods(alloc, tree, text, resolved)?)),
         Err(NameFaults::Found(findings)) => Ok(Named::Found(findings)),
         Err(NameFaults::Memory) => Err(Memory),
     }

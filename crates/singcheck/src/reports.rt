@@ -32,8 +32,8 @@ fn written(alloc: Global, findings: &[Finding]) -> Result<Vec<u8>, Memory>
 {
     let mut answer = Vec::new(alloc);
     for finding in findings {
-        add_finding(alloc, &mut answer, finding)?;
+        add_finding(&mut answer, finding)?;
     }
-    add_count(alloc, &mut answer, findings.len())?;
+    add_count(&mut answer, findings.len())?;
     Ok(answer)
 }

@@ -7,7 +7,7 @@ ghost use Rattle.singcheck.specs.CheckFaults.{RunExplains, workers_fit, slots_fi
 ghost use Rattle.singcheck.specs.Safety.{IsSafeText};
 ghost use Rattle.singcheck.specs.Runs.{Writes, BeginsAnswer, LeavesRest, TakesAtMost};
 
-use crate::checking::{check_alone, judge_numbers};
+use crate::checking::{check_text, judge_numbers};
 use crate::device::{Sink, Source};
 use crate::fault::{Input, RunFault, Status};
 use crate::reading::{MAX_READ, read_text};
@@ -59,7 +59,7 @@ pub fn run_check<R: Threads + Wait + AllocGlobal + Sync, I: Source, O: Sink, G: 
         gate,
         shelf: &shelf,
     };
-    let report = check_alone(&tools, text)?;
+    let report = check_text(&tools, &text)?;
     write_all(&report.bytes, writer)?;
     Ok(report.status)
 }

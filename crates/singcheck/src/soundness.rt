@@ -1,6 +1,6 @@
 //! The stage of the contracts: each is sound, or something is wrong with it.
 
-ghost use Rattle.std.specs.Prelude.{◌≡◌, ◌<◌, ◌^◌, All, IfOk, OnOk, Some, length, map, slice_get};
+ghost use Rattle.std.specs.Prelude.{◌≡◌, ◌++◌, ◌<◌, ◌^◌, All, IfOk, OnOk, Some, length, map, slice_get};
 ghost use Rattle.program.specs.Parts.{ContractSeen, IsWhole, contract_seen};
 ghost use Rattle.singcheck.specs.Stages.{IsJudgement, Judges};
 
@@ -46,6 +46,18 @@ struct Judging {
     findings: Vec<Finding>,
 }
 
+/// Adds findings behind the others. The first ones stay where they are, which spares a copy of them.
+fn add_found(findings: &mut Vec<Finding>, mut found: Vec<Finding>) -> Result<(), Memory>
+    ensures { OnOk result (findings.new.items ≡ findings.old.items ++ found.items) }
+{
+    if findings.is_empty() {
+        *findings = found;
+        return Ok(());
+    }
+    findings.append(&mut found)?;
+    Ok(())
+}
+
 /// Adds a contract where it is sound, and else what is wrong with it.
 fn judge(
     alloc: Global,
@@ -61,7 +73,7 @@ fn judge(
 {
     match Sound::judge(alloc, edges(resolved, id))? {
         Judged::Sound(sound) => judging.sounds.push(sound)?,
-        Judged::Broken(mut found) => judging.findings.append(&mut found)?,
+        Judged::Broken(found) => add_found(&mut judging.findings, found)?,
     }
     Ok(())
 }

@@ -5,12 +5,9 @@ ghost use Rattle.source.specs.Findings.{finding_parts};
 ghost use Rattle.source.specs.Marks.{body_of};
 ghost use Rattle.source.specs.Places.{place_of};
 ghost use Rattle.source.specs.Tokens.{AreTokens};
-ghost use Rattle.tree.specs.Spelled.{Spells};
-ghost use Rattle.tree.specs.Programs.{program};
-ghost use Rattle.tree.specs.Trees.{program_tree};
 ghost use Rattle.program.specs.Parts.{IsWhole, contract_seen};
 ghost use Rattle.singcheck.specs.Answers.{IsResolved, fault_findings, wrong_token};
-ghost use Rattle.singcheck.specs.Stages.{IsParsed, IsStaged};
+ghost use Rattle.singcheck.specs.Stages.{IsParsed, IsProgramOf, IsStaged};
 
 use crate::soundness::{Judgement, judged};
 use contracts::Sound;
@@ -38,28 +35,26 @@ pub(crate) struct Clean {
     pub(crate) sounds: Vec<Sound>,
 }
 
-/// What the text and its tokens are.
+/// What a text is.
 #[derive(Drop)]
 pub(crate) enum Parsed {
     /// No program: what is wrong with it.
     Found(Vec<Finding>),
-    /// A program: its tokens, and the tree that they spell.
-    Program(Tokens, Tree),
+    /// A program: the tree that its tokens spell.
+    Program(Tree),
 }
 
-/// The stages of a text that nobody asks for again. It goes once its tokens are known, which spares its memory.
-pub(crate) fn run_stages(alloc: Global, text: Vec<u8>) -> Result<Staged, Memory>
-    ensures { IfOk result (IsStaged text.items) }
+/// The stages of a text, its names and its contracts.
+pub(crate) fn run_stages(alloc: Global, text: &[u8]) -> Result<Staged, Memory>
+    ensures { IfOk result (IsStaged text.now) }
 {
-    let parsed = parse_text(alloc, &text)?;
-    drop(text);
-    match parsed {
+    match parse_text(alloc, text)? {
         Parsed::Found(findings) => Ok(Staged::Found(findings)),
-        Parsed::Program(tokens, tree) => staged_names(alloc, tree, tokens),
+        Parsed::Program(tree) => staged_names(alloc, text, tree),
     }
 }
 
-/// The first stage: the text and its tokens.
+/// The first stage: the text and its tokens, which go with the end of it.
 pub(crate) fn parse_text(alloc: Global, text: &[u8]) -> Result<Parsed, Memory>
     ensures { IfOk result (IsParsed text.now) }
 {
@@ -80,14 +75,14 @@ fn fault_at(alloc: Global, fault: TextFault) -> Result<Vec<Finding>, Memory>
     }
 }
 
+/// What the text of these tokens is.
 fn parse_tokens(alloc: Global, tokens: Tokens) -> Result<Parsed, Memory>
-    requires lexed { AreTokens tokens.text.items tokens.list.items }
-    requires end { tokens.end ≡ place_of (body_of tokens.text.items) }
     requires few { length tokens.list.items < 2 ^ 32 }
-    ensures { IfOk result (IsParsed tokens.text.items) }
+    ensures { (text : List ℕ) → AreTokens text tokens.list.items → tokens.end ≡ place_of (body_of text)
+        → IfOk result (IsParsed text) }
 {
     match parse(alloc, &tokens) {
-        Ok(tree) => Ok(Parsed::Program(tokens, tree)),
+        Ok(tree) => Ok(Parsed::Program(tree)),
         Err(SyntaxFault::At(number)) => Ok(Parsed::Found(wrong_at(alloc, &tokens, number)?)),
         Err(SyntaxFault::Memory) => Err(Memory),
     }
@@ -95,9 +90,8 @@ fn parse_tokens(alloc: Global, tokens: Tokens) -> Result<Parsed, Memory>
 
 /// The finding of the token of that number, or of the end where there is none.
 fn wrong_at(alloc: Global, tokens: &Tokens, number: usize) -> Result<Vec<Finding>, Memory>
-    requires end { tokens.now.end ≡ place_of (body_of tokens.now.text.items) }
-    ensures { IfOk result (λ found. map finding_parts found.items
-        ≡ wrong_token tokens.now.text.items (slice_get tokens.now.list.items number) ∷ []) }
+    ensures { (text : List ℕ) → tokens.now.end ≡ place_of (body_of text) → IfOk result (λ found. map finding_parts found.items
+        ≡ wrong_token text (slice_get tokens.now.list.items number) ∷ []) }
 {
     match tokens.list.get(number) {
         Some(token) => one(alloc, texts::unexpected_token(alloc, token.span.place)?),
@@ -105,17 +99,14 @@ fn wrong_at(alloc: Global, tokens: &Tokens, number: usize) -> Result<Vec<Finding
     }
 }
 
-/// The stages of names and contracts. The tree and its tokens go before the contracts are judged, which spares their memory.
-fn staged_names(alloc: Global, tree: Tree, tokens: Tokens) -> Result<Staged, Memory>
-    requires lexed { AreTokens tokens.text.items tokens.list.items }
-    requires spelled { Spells program (program_tree tree) tokens.list.items }
-    requires few { length tokens.list.items < 2 ^ 32 }
-    ensures { IfOk result (IsStaged tokens.text.items) }
+/// The stages of names and contracts. The tree goes before the contracts are judged, which spares its memory.
+fn staged_names(alloc: Global, text: &[u8], tree: Tree) -> Result<Staged, Memory>
+    requires { IsProgramOf text.now tree }
+    ensures { IfOk result (IsStaged text.now) }
 {
-    match resolve(alloc, &tree, &tokens) {
+    match resolve(alloc, &tree, text) {
         Ok(resolved) => {
             drop(tree);
-            drop(tokens);
             staged_contracts(alloc, resolved)
         }
         Err(NameFaults::Found(found)) => Ok(Staged::Found(found)),

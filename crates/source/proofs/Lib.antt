@@ -5,6 +5,7 @@ pub mod FirstLemmas
 pub mod SymbolLemmas
 pub mod CommentLemmas
 pub mod BlockLemmas
+pub mod LineLemmas
 pub mod NeedleLemmas
 pub mod WordLemmas
 pub mod PieceLemmas

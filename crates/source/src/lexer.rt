@@ -1,7 +1,8 @@
 //! Tokens of a text, each the longest at its place.
 
-ghost use Rattle.std.specs.Prelude.{◌≡◌, ◌≢◌, ◌+◌, ◌≤◌, ◌⊎◌, length, All, IfOk, IfErr};
+ghost use Rattle.std.specs.Prelude.{◌≡◌, ◌≢◌, ◌++◌, ◌+◌, ◌^◌, ◌<◌, ◌≤◌, ◌⊎◌, List, ℕ, length, take, All, IfOk, IfErr};
 ghost use Rattle.source.specs.Faults.{HasFirst, IsFault};
+ghost use Rattle.source.specs.Firsts.{IsFirst};
 ghost use Rattle.source.specs.Marks.{mark_len, body_of};
 ghost use Rattle.source.specs.Places.{place_of};
 ghost use Rattle.source.specs.declared.fault.TextFault.{TextFault};
@@ -9,7 +10,7 @@ ghost use Rattle.source.specs.Tokens.{IsLexed, AreTokens, IsSpelled, AreInOrder}
 
 use crate::brackets::{self, MAX_DEPTH};
 use crate::fault::TextFault;
-use crate::pieces::first_piece;
+use crate::pieces::{Piece, first_piece};
 use crate::place::{self, Place};
 use crate::token::{Span, Token, Tokens};
 use bstr::Finder;
@@ -35,6 +36,22 @@ fn mark_len(text: &[u8]) -> usize
 struct Lexed {
     list: Vec<Token>,
     end: Place,
+}
+
+/// The place behind a piece, from the place that it begins at. No byte of a token ends a line.
+fn behind(start: Place, piece: Piece, rest: &[u8]) -> Place
+    requires first { IsFirst rest.now piece }
+    requires line { start.line + piece.len < 2 ^ 32 }
+    requires col { start.col + piece.len < 2 ^ 32 }
+    ensures { (before : List ℕ) → start ≡ place_of before → result ≡ place_of (before ++ take piece.len rest.now) }
+{
+    match piece.kind {
+        Some(_) => Place {
+            line: start.line,
+            col: start.col + piece.len as u32,
+        },
+        None => place::after(start, &rest[..piece.len]),
+    }
 }
 
 /// The tokens of what stands behind a byte order mark of so many bytes, or the first fault there.
@@ -66,7 +83,7 @@ fn cut(alloc: Global, body: &[u8], mark: usize) -> Result<Lexed, TextFault>
                 },
             })?;
         }
-        place = place::after(place, &rest[..piece.len]);
+        place = behind(place, piece, rest);
         at += piece.len;
     }
     Ok(Lexed { list, end: place })
@@ -85,7 +102,6 @@ fn cut(alloc: Global, body: &[u8], mark: usize) -> Result<Lexed, TextFault>
 /// `TooLarge` at a number above 2147483647. `Memory` comes where a growth of memory was refused. After an error nothing
 /// of the answer stays.
 pub fn lex(alloc: Global, text: &[u8]) -> Result<Tokens, TextFault>
-    ensures text { IfOk result (λ found. found.text.items ≡ text.now) }
     ensures tokens { IfOk result (λ found. AreTokens text.now found.list.items) }
     ensures spelled { IfOk result (λ found. All (IsSpelled text.now) found.list.items) }
     ensures ordered { IfOk result (λ found. AreInOrder 0 (length text.now) found.list.items) }
@@ -100,9 +116,5 @@ pub fn lex(alloc: Global, text: &[u8]) -> Result<Tokens, TextFault>
     }
     let mark = mark_len(text);
     let Lexed { list, end } = cut(alloc, &text[mark..], mark)?;
-    Ok(Tokens {
-        text: Vec::from_slice(alloc, text)?,
-        list,
-        end,
-    })
+    Ok(Tokens { list, end })
 }

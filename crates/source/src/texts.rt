@@ -3,7 +3,7 @@
 //! Each takes the place of the finding, and the name that its text says where it says one. A name that is no UTF-8
 //! is printed with U+FFFD for what is none. The only fault is that a growth of memory was refused.
 
-ghost use Rattle.std.specs.Prelude.{◌≡◌, ◌++◌, IfOk, codes};
+ghost use Rattle.std.specs.Prelude.{◌≡◌, ◌++◌, IfOk, OnOk, codes, string_bytes};
 ghost use Rattle.std.specs.Str.Lossy.{utf8_lossy};
 ghost use Rattle.source.specs.Findings.{IsFinding, Reports};
 ghost use Rattle.source.specs.Places.{first_place};
@@ -19,6 +19,7 @@ pub use ownership::{
     not_owned, not_sent_here, nothing_to_receive, overwritten, still_owned, too_many_pairs,
 };
 use std::alloc::Global;
+use std::str;
 
 /// A finding with this text.
 fn plain(alloc: Global, place: Place, code: Code, text: &str) -> Result<Finding, Memory>
@@ -26,6 +27,18 @@ fn plain(alloc: Global, place: Place, code: Code, text: &str) -> Result<Finding,
 {
     let text = String::from_str(alloc, text)?;
     Ok(Finding { place, code, text })
+}
+
+/// Adds a name as it is printed. A name that is UTF-8 needs no text of its own for that. `Memory` comes where a growth of memory was
+/// refused; the text may have got longer then.
+pub fn push_name(alloc: Global, text: &mut String, name: &[u8]) -> Result<(), Memory>
+    ensures { OnOk result (string_bytes text.new ≡ string_bytes text.old ++ utf8_lossy name.now) }
+{
+    match str::from_utf8(name) {
+        Ok(name) => text.push_str(name)?,
+        Err(_) => text.push_str(String::from_utf8_lossy(alloc, name)?.as_str())?,
+    }
+    Ok(())
 }
 
 /// A finding whose text begins with a name.
@@ -38,7 +51,8 @@ fn named(
 ) -> Result<Finding, Memory>
     ensures { IfOk result (IsFinding place code (utf8_lossy name.now ++ rest.now)) }
 {
-    let mut text = String::from_utf8_lossy(alloc, name)?;
+    let mut text = String::with_capacity(alloc, name.len() + rest.len())?;
+    push_name(alloc, &mut text, name)?;
     text.push_str(rest)?;
     Ok(Finding { place, code, text })
 }
@@ -53,9 +67,9 @@ fn naming(
 ) -> Result<Finding, Memory>
     ensures { IfOk result (IsFinding place code (front.now ++ utf8_lossy name.now)) }
 {
-    let mut text = String::from_str(alloc, front)?;
-    let name = String::from_utf8_lossy(alloc, name)?;
-    text.push_str(name.as_str())?;
+    let mut text = String::with_capacity(alloc, front.len() + name.len())?;
+    text.push_str(front)?;
+    push_name(alloc, &mut text, name)?;
     Ok(Finding { place, code, text })
 }
 

@@ -14,6 +14,16 @@ pub struct Span {
     pub place: Place,
 }
 
+impl Span {
+    /// The bytes of a text that lie there, and none where the span does not lie within it.
+    pub fn slice<'a>(self, text: &'a [u8]) -> &'a [u8]
+        ensures { result.now ≡ slice_of text.now self.start self.end }
+    {
+        text.get(self.start as usize..self.end as usize)
+            .unwrap_or(&[])
+    }
+}
+
 /// A lexeme of the text.
 #[derive(Clone, Copy, Debug, PartialEq, Eq)]
 pub struct Token {
@@ -21,21 +31,9 @@ pub struct Token {
     pub span: Span,
 }
 
-/// A text, its tokens in order, and the place one past its last byte.
+/// The tokens of a text in order, and the place one past its last byte.
 #[derive(Drop)]
 pub struct Tokens {
-    pub text: Vec<u8>,
     pub list: Vec<Token>,
     pub end: Place,
-}
-
-impl Tokens {
-    /// The bytes of a span, and none where it does not lie within the text.
-    pub fn slice(&self, span: Span) -> &[u8]
-        ensures { result.now ≡ slice_of self.now.text.items span.start span.end }
-    {
-        self.text
-            .get(span.start as usize..span.end as usize)
-            .unwrap_or(&[])
-    }
 }

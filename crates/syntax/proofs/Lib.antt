@@ -6,6 +6,7 @@ pub mod Choices
 pub mod CursorLemmas
 pub mod KindLemmas
 pub mod Words
+pub mod FewLemmas
 pub mod Listed
 pub mod ListedOpen
 pub mod Exits

@@ -9,3 +9,4 @@ pub mod Firsts
 pub mod Types
 pub mod States
 pub mod Parsing
+pub mod Kept

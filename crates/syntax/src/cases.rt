@@ -8,7 +8,7 @@ ghost use Rattle.syntax.specs.StatementParts.{case_front, case_front_tree, typed
 ghost use Rattle.syntax.specs.StatementParts.{opens_tail, bind_on, bind_at, binds_on, binds_at};
 
 use crate::cursor::{Cursor, Stuck};
-use crate::fitted::fitted;
+use crate::fitted::{fitted, push};
 use crate::fronts::{NamedTail, NamedType};
 use crate::types::{is_type, named_tail, scalar_type};
 use source::{Kind, Span};
@@ -73,9 +73,9 @@ fn bind_list(alloc: Global, cursor: &mut Cursor<'_>) -> Result<Vec<Bind>, Stuck>
     if !is_type(cursor.peek()) {
         return Ok(all);
     }
-    all.push(bind(cursor)?)?;
+    push(&mut all, bind(cursor)?)?;
     'more: while cursor.is_next(Kind::Comma) {
-        all.push(comma_bind(cursor)?)?;
+        push(&mut all, comma_bind(cursor)?)?;
     }
     Ok(fitted(all))
 }

@@ -13,7 +13,7 @@ ghost use Rattle.syntax.specs.ClassParts.{result_at};
 
 use crate::access::access;
 use crate::cursor::{Cursor, Stuck};
-use crate::fitted::fitted;
+use crate::fitted::{fitted, push};
 use crate::statements::block;
 use crate::types::value_type;
 use source::{Kind, Span};
@@ -61,7 +61,7 @@ fn method_row(alloc: Global, cursor: &mut Cursor<'_>) -> Result<Vec<Method>, Stu
 {
     let mut all = Vec::new(alloc);
     'each: while is_method(cursor.peek()) {
-        all.push(method(alloc, cursor)?)?;
+        push(&mut all, method(alloc, cursor)?)?;
     }
     Ok(all)
 }
@@ -127,9 +127,9 @@ fn parameter_list(alloc: Global, cursor: &mut Cursor<'_>) -> Result<Vec<Paramete
     if !is_parameter(cursor.peek()) {
         return Ok(all);
     }
-    all.push(parameter(cursor)?)?;
+    push(&mut all, parameter(cursor)?)?;
     'more: while cursor.is_next(Kind::Comma) {
-        all.push(comma_parameter(cursor)?)?;
+        push(&mut all, comma_parameter(cursor)?)?;
     }
     Ok(fitted(all))
 }

@@ -10,6 +10,7 @@ ghost use Rattle.syntax.specs.States.{state_on, member_at, members_on};
 ghost use Rattle.tree.specs.Trees.{message_tree, member_tree, contract_tree};
 
 use crate::cursor::{Cursor, Stuck};
+use crate::fitted::push;
 use crate::messages::{is_message, message};
 use crate::states::state;
 use source::Kind;
@@ -42,7 +43,7 @@ fn messages(alloc: Global, cursor: &mut Cursor<'_>) -> Result<Vec<Message>, Stuc
 {
     let mut all = Vec::new(alloc);
     'each: while is_message(cursor.peek()) {
-        all.push(message(alloc, cursor)?)?;
+        push(&mut all, message(alloc, cursor)?)?;
     }
     Ok(all)
 }
@@ -61,7 +62,7 @@ fn members(alloc: Global, cursor: &mut Cursor<'_>) -> Result<Vec<Member>, Stuck>
 {
     let mut all = Vec::new(alloc);
     'each: while is_member(cursor.peek()) {
-        all.push(member(alloc, cursor)?)?;
+        push(&mut all, member(alloc, cursor)?)?;
     }
     Ok(all)
 }

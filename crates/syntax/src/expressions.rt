@@ -15,7 +15,8 @@ ghost use Rattle.tree.specs.ExpressionTrees.{relation_tree, relation_step_tree, 
 ghost use Rattle.tree.specs.ExpressionTrees.{term_tree, unary_tree, atom_tree, target_tree, unmarked};
 
 use crate::cursor::{Cursor, Stuck};
-use crate::fitted::fitted;
+use crate::fitted::{fitted, push};
+use crate::kept::kept;
 use crate::operators::{
     equality_operator, goes_on, is_equality, is_prefix, is_relation, is_sum, prefix,
     relation_operator, sum_operator,
@@ -69,7 +70,7 @@ pub fn expression_from(
         return Ok(Expression::Atom(unary.atom));
     }
     let disjunction = disjunction_from(alloc, cursor, unary)?;
-    Ok(Expression::Joined(Box::new(alloc, disjunction)?))
+    Ok(kept(alloc, disjunction)?)
 }
 
 /// The same with all levels between, as it is kept where operators stand in it.
@@ -96,7 +97,7 @@ fn conjunctions(alloc: Global, cursor: &mut Cursor<'_>) -> Result<Vec<Conjunctio
 {
     let mut all = Vec::new(alloc);
     'each: while cursor.is_next(Kind::OrOr) {
-        all.push(or_conjunction(alloc, cursor)?)?;
+        push(&mut all, or_conjunction(alloc, cursor)?)?;
     }
     Ok(fitted(all))
 }
@@ -136,7 +137,7 @@ fn equalities(alloc: Global, cursor: &mut Cursor<'_>) -> Result<Vec<Equality>, S
 {
     let mut all = Vec::new(alloc);
     'each: while cursor.is_next(Kind::AndAnd) {
-        all.push(and_equality(alloc, cursor)?)?;
+        push(&mut all, and_equality(alloc, cursor)?)?;
     }
     Ok(fitted(all))
 }
@@ -171,7 +172,7 @@ fn equality_steps(alloc: Global, cursor: &mut Cursor<'_>) -> Result<Vec<Equality
 {
     let mut all = Vec::new(alloc);
     'each: while is_equality(cursor.peek()) {
-        all.push(equality_step(alloc, cursor)?)?;
+        push(&mut all, equality_step(alloc, cursor)?)?;
     }
     Ok(fitted(all))
 }
@@ -208,7 +209,7 @@ fn relation_steps(alloc: Global, cursor: &mut Cursor<'_>) -> Result<Vec<Relation
 {
     let mut all = Vec::new(alloc);
     'each: while is_relation(cursor.peek()) {
-        all.push(relation_step(alloc, cursor)?)?;
+        push(&mut all, relation_step(alloc, cursor)?)?;
     }
     Ok(fitted(all))
 }
@@ -244,7 +245,7 @@ fn sum_steps(alloc: Global, cursor: &mut Cursor<'_>) -> Result<Vec<SumStep>, Stu
 {
     let mut all = Vec::new(alloc);
     'each: while is_sum(cursor.peek()) {
-        all.push(sum_step(alloc, cursor)?)?;
+        push(&mut all, sum_step(alloc, cursor)?)?;
     }
     Ok(fitted(all))
 }
@@ -282,7 +283,7 @@ fn factors(alloc: Global, cursor: &mut Cursor<'_>) -> Result<Vec<Unary>, Stuck>
 {
     let mut all = Vec::new(alloc);
     'each: while cursor.is_next(Kind::Star) {
-        all.push(times_unary(alloc, cursor)?)?;
+        push(&mut all, times_unary(alloc, cursor)?)?;
     }
     Ok(fitted(all))
 }
@@ -302,7 +303,7 @@ fn prefixes(alloc: Global, cursor: &mut Cursor<'_>) -> Result<Vec<Prefix>, Stuck
 {
     let mut all = Vec::new(alloc);
     'each: while is_prefix(cursor.peek()) {
-        all.push(prefix(cursor)?)?;
+        push(&mut all, prefix(cursor)?)?;
     }
     Ok(fitted(all))
 }

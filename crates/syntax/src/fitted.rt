@@ -1,8 +1,21 @@
 //! Lists that take no more memory than their items.
 
-ghost use Rattle.std.specs.Prelude.{◌≡◌};
+ghost use Rattle.std.specs.Prelude.{◌≡◌, ◌++◌, ◌∷◌, [], OnOk};
 
-/// The list without room for more items. A list makes room for four with its first item, and most lists of a tree have one or two.
+use std::alloc::AllocError;
+
+/// Adds an item. The first one gets room for itself alone, since most lists of a tree have no second.
+pub(crate) fn push<T: Drop>(all: &mut Vec<T>, item: T) -> Result<(), AllocError>
+    ensures { OnOk result (all.new.items ≡ all.old.items ++ item ∷ []) }
+{
+    if all.is_empty() {
+        all.reserve_exact(1)?;
+    }
+    all.push(item)?;
+    Ok(())
+}
+
+/// The list without room for more items. A list makes room for four with its second item, and most have one or two.
 pub(crate) fn fitted<T>(mut all: Vec<T>) -> Vec<T>
     ensures { result.items ≡ all.items }
 {

@@ -11,6 +11,7 @@ mod fault;
 mod fitted;
 mod fronts;
 mod items;
+mod kept;
 mod laws;
 mod leads;
 mod messages;

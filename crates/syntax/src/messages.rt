@@ -9,6 +9,7 @@ ghost use Rattle.syntax.specs.Firsts.{direction_of, opens_message, opens_type};
 ghost use Rattle.tree.specs.Trees.{message_tree};
 
 use crate::cursor::{Cursor, Stuck};
+use crate::fitted::push;
 use crate::types::{is_type, value_type};
 use program::Direction;
 use source::{Kind, Span};
@@ -80,9 +81,9 @@ fn param_list(alloc: Global, cursor: &mut Cursor<'_>) -> Result<Vec<Param>, Stuc
     if !is_type(cursor.peek()) {
         return Ok(all);
     }
-    all.push(param(cursor)?)?;
+    push(&mut all, param(cursor)?)?;
     'more: while cursor.is_next(Kind::Comma) {
-        all.push(comma_param(cursor)?)?;
+        push(&mut all, comma_param(cursor)?)?;
     }
     Ok(all)
 }

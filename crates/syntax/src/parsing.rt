@@ -1,6 +1,6 @@
 //! The tree of a whole text.
 
-ghost use Rattle.std.specs.Prelude.{ℕ, IfOk, IsErrOf};
+ghost use Rattle.std.specs.Prelude.{◌≤◌, ℕ, length, IfOk, IsErrOf};
 ghost use Rattle.tree.specs.Trees.{program_tree};
 ghost use Rattle.tree.specs.Programs.{program};
 ghost use Rattle.tree.specs.Spelled.{Spells};
@@ -23,6 +23,7 @@ use tree::Tree;
 /// Message-based Communication in Singularity OS", EuroSys 2006), a rule a line in `specs/Grammar.antt`.
 pub fn parse(alloc: Global, tokens: &Tokens) -> Result<Tree, SyntaxFault>
     ensures tree { IfOk result (λ t. Spells program (program_tree t) tokens.now.list.items) }
+    ensures few { IfOk result (λ t. length (program (program_tree t)) ≤ length tokens.now.list.items) }
     ensures wrong { (k : ℕ) → IsErrOf result (SyntaxFault.At k) → IsFirstWrong program tokens.now.list.items k }
     ensures found { FindsTree program program_tree tokens.now.list.items result }
 {

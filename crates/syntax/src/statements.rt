@@ -13,7 +13,7 @@ ghost use Rattle.syntax.specs.StatementParts.{if_parts, if_at, switch_parts};
 use crate::cases::case_front;
 use crate::cursor::{Cursor, Stuck};
 use crate::expressions::read_parens;
-use crate::fitted::fitted;
+use crate::fitted::{fitted, push};
 use crate::leads::{Lead, lead_of};
 use crate::simple::simple_statement;
 use source::Kind;
@@ -28,7 +28,7 @@ fn statements(alloc: Global, cursor: &mut Cursor<'_>) -> Result<Vec<Statement>, 
 {
     let mut all = Vec::new(alloc);
     'each: while let Some(lead) = lead_of(cursor.peek()) {
-        all.push(statement(alloc, cursor, lead)?)?;
+        push(&mut all, statement(alloc, cursor, lead)?)?;
     }
     Ok(fitted(all))
 }
@@ -95,7 +95,7 @@ fn if_statement(alloc: Global, cursor: &mut Cursor<'_>) -> Result<If, Stuck>
                 otherwise,
             });
         }
-        others.push(test(alloc, cursor, Kind::If)?)?;
+        push(&mut others, test(alloc, cursor, Kind::If)?)?;
     }
     Ok(If {
         first,
@@ -130,7 +130,7 @@ fn cases(alloc: Global, cursor: &mut Cursor<'_>) -> Result<Vec<Case>, Stuck>
 {
     let mut all = Vec::new(alloc);
     'each: while cursor.is_next(Kind::Case) {
-        all.push(case(alloc, cursor)?)?;
+        push(&mut all, case(alloc, cursor)?)?;
     }
     Ok(fitted(all))
 }

@@ -11,6 +11,7 @@ ghost use Rattle.tree.specs.Programs.{field, struct};
 
 use crate::access::access;
 use crate::cursor::{Cursor, Stuck};
+use crate::fitted::push;
 use crate::types::scalar;
 use source::{Kind, Span};
 use std::alloc::Global;
@@ -58,7 +59,7 @@ fn field_row(alloc: Global, cursor: &mut Cursor<'_>) -> Result<Vec<Field>, Stuck
 {
     let mut all = Vec::new(alloc);
     'each: while is_field(cursor.peek()) {
-        all.push(field(cursor)?)?;
+        push(&mut all, field(cursor)?)?;
     }
     Ok(all)
 }

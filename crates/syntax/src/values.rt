@@ -16,7 +16,7 @@ use crate::cursor::{Cursor, Stuck};
 use crate::expressions::{
     dot_name, expression_from, is_expression, read_expression, read_index, target_from,
 };
-use crate::fitted::fitted;
+use crate::fitted::{fitted, push};
 use crate::types::scalar;
 use program::Scalar;
 use source::{Kind, Span};
@@ -183,9 +183,9 @@ fn expression_list(alloc: Global, cursor: &mut Cursor<'_>) -> Result<Vec<Express
     if !is_expression(cursor.peek()) {
         return Ok(all);
     }
-    all.push(read_expression(alloc, cursor)?)?;
+    push(&mut all, read_expression(alloc, cursor)?)?;
     'more: while cursor.is_next(Kind::Comma) {
-        all.push(comma_expression(alloc, cursor)?)?;
+        push(&mut all, comma_expression(alloc, cursor)?)?;
     }
     Ok(fitted(all))
 }

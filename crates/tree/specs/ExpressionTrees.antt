@@ -31,6 +31,10 @@ step_row l (p ∷ ps) = More l p.0 p.1 (step_row l ps)
 abbrev pub lone : (l : Operators) → LevelTree (below l) → LevelTree (Joined l)
 lone l part = Chain l part (Done l)
 
+-- a sum about which no operator stands, as an expression
+abbrev pub summed : LevelTree (Joined Add) → LevelTree (Joined Or)
+summed s = lone Or (lone And (lone Equal (lone Compare s)))
+
 -- an atom about which no operator stands, as an expression
 abbrev pub alone : AtomTree → LevelTree (Joined Or)
 alone a = lone Or (lone And (lone Equal (lone Compare (lone Add (lone Multiply (Unary [] a))))))
@@ -53,6 +57,7 @@ abbrev pub expression_of : expressions.Expression-F
     (LevelTree Single)
     → LevelTree (Joined Or)
 expression_of (atom.Atom a) = alone a
+expression_of (atom.Sum s) = summed s.value
 expression_of (atom.Joined d) = d.value
 
 abbrev pub target_of : targets.Target-F

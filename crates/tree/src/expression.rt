@@ -4,11 +4,13 @@ use source::Span;
 
 /// expression = conjunction { "||" conjunction } .
 ///
-/// Most expressions are an atom with no operator. Such a one is kept without the levels between, which takes a quarter of the memory.
+/// Most expressions are an atom with no operator, and most others a sum. Such a one is kept without the levels between, which takes a
+/// quarter or half of the memory.
 #[derive(Drop)]
 #[cycle(expression)]
 pub enum Expression {
     Atom(Atom),
+    Sum(Box<Sum>),
     Joined(Box<Disjunction>),
 }
 

@@ -13,7 +13,7 @@ use Rattle.names.specs.Kinds.{agree, alike, is_block, type_kind, type_unknown, u
 use Rattle.names.specs.Program.{Program}
 use Rattle.names.specs.Resolution.{resolved_contracts}
 use Rattle.names.specs.Variables as names
-use Rattle.names.specs.Words.{word_at}
+use Rattle.tables.specs.Words.{word_at}
 use Rattle.names.specs.declared.kinds.Kind.{Kind}
 use Rattle.program.specs.Methods.{VariableSeen}
 use Rattle.program.specs.declared.kind as held

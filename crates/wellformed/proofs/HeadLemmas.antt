@@ -17,7 +17,7 @@ use Rattle.names.specs.Program.{Program, as_contract, item_at}
 use Rattle.program.specs.Parts.{ContractSeen}
 use Rattle.names.specs.Values.{message_written, number_of_arguments, receives}
 use Rattle.names.specs.Variables as names
-use Rattle.names.specs.Words.{word_at}
+use Rattle.tables.specs.Words.{word_at}
 use Rattle.names.specs.declared.kinds as declared
 use Rattle.names.specs.declared.kinds.Kind.TheVariants as kind
 use Rattle.program.specs.Methods.{VariableSeen}

@@ -16,7 +16,7 @@ use Rattle.names.specs.Program.{Program}
 use Rattle.names.specs.Shapes.{shape}
 use Rattle.names.specs.Values.{length_findings, target_findings, target_kind, value_findings}
 use Rattle.names.specs.Variables as names
-use Rattle.names.specs.Words.{word_at}
+use Rattle.tables.specs.Words.{word_at}
 use Rattle.names.specs.declared.kinds as declared
 use Rattle.names.specs.declared.kinds.Kind.TheVariants as kind
 use Rattle.program.specs.Methods.{VariableSeen}

@@ -7,14 +7,14 @@ use Rattle.tree.specs.declared.class.Parameter.{Parameter}
 use Rattle.names.specs.ContractFindings.{contract_findings, message_findings, state_findings}
 use Rattle.names.specs.Declarations.{messages_of, names_of_messages, names_of_states, states_of}
 use Rattle.names.specs.Findings.{counted_findings, definition_findings, program_findings}
-use Rattle.names.specs.Firsts.{first_of}
+use Rattle.tables.specs.Firsts.{first_of}
 use Rattle.names.specs.Kinds.{is_heap, type_kind, type_unknown}
 use Rattle.names.specs.Listed.{twice_among}
 use Rattle.names.specs.Methods.{items_findings, method_turn, parameter_turn, parameters_turn, result_unknown}
 use Rattle.names.specs.Program.{Program, as_class, as_contract, item_at}
 use Rattle.names.specs.Values.{message_written}
 use Rattle.names.specs.Variables.{Frame, declared_variable}
-use Rattle.names.specs.Words.{words_at}
+use Rattle.tables.specs.Words.{words_at}
 use Rattle.program.specs.Lists.{Each}
 use Rattle.wellformed.proofs.ListLemmas.{both_none}
 use Rattle.wellformed.proofs.MethodNumberLemmas.{Declares, class_item, contract_item}

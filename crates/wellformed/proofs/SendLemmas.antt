@@ -19,7 +19,7 @@ use Rattle.names.specs.Resolution.{resolved_contracts}
 use Rattle.names.specs.Shapes.{shape}
 use Rattle.names.specs.Values.{argument_findings, is_alone, message_findings, number_of_arguments, message_kinds, send_findings, message_written, sent_message, sends}
 use Rattle.names.specs.Variables as names
-use Rattle.names.specs.Words.{same_word, word_at}
+use Rattle.tables.specs.Words.{same_word, word_at}
 use Rattle.names.specs.declared.kinds as declared
 use Rattle.names.specs.declared.kinds.Kind.TheVariants as kind
 use Rattle.program.specs.Methods.{VariableSeen}

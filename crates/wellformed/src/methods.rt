@@ -15,7 +15,7 @@ ghost use Rattle.wellformed.specs.Bare.{IsBare};
 
 use program::{Methods, Resolved};
 use resolving::{Program, resolve_methods};
-use source::{Memory, Tokens};
+use source::Memory;
 use std::alloc::Global;
 use tree::Tree;
 
@@ -26,19 +26,19 @@ use tree::Tree;
 pub fn well_formed_methods(
     alloc: Global,
     tree: &Tree,
-    tokens: &Tokens,
+    text: &[u8],
     contracts: Resolved,
 ) -> Result<Methods, Memory>
     requires contracts { map contract_seen contracts.contracts.items
-        ≡ resolved_contracts tokens.now.text.items (contracts_of (program_tree tree.now)) }
+        ≡ resolved_contracts text.now (contracts_of (program_tree tree.now)) }
     requires room { length contracts.contracts.items < 2 ^ 32 }
-    requires clean { program_findings (program_of tokens.now.text.items tree.now) ≡ [] }
+    requires clean { program_findings (program_of text.now tree.now) ≡ [] }
     ensures contracts { IfOk result (λ m. contracts_seen m ≡ map contract_seen contracts.contracts.items) }
-    ensures messages { IfOk result (λ m. messages_seen m ≡ messages_told (program_of tokens.now.text.items tree.now)) }
-    ensures methods { IfOk result (λ m. methods_seen m ≡ methods_told (program_of tokens.now.text.items tree.now)) }
+    ensures messages { IfOk result (λ m. messages_seen m ≡ messages_told (program_of text.now tree.now)) }
+    ensures methods { IfOk result (λ m. methods_seen m ≡ methods_told (program_of text.now tree.now)) }
     ensures bare { IfOk result (λ m. Each IsBare (methods_seen m)) }
     ensures few { IfOk result (λ m. length (methods_seen m) ≤ MOST_METHODS) }
 {
-    let Program { messages, methods } = resolve_methods(alloc, tree, tokens, &contracts)?;
+    let Program { messages, methods } = resolve_methods(alloc, tree, text, &contracts)?;
     Ok(Methods::new(contracts, messages, methods))
 }

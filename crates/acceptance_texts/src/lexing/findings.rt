@@ -55,6 +55,15 @@ fn all_texts(rt: HostRuntime) -> Result<(), Fail> {
 }
 
 #[test]
+fn names_as_printed(rt: HostRuntime) -> Result<(), Fail> {
+    let mut text = String::from_str(rt.alloc(), "(")?;
+    texts::push_name(rt.alloc(), &mut text, b"Ping")?;
+    texts::push_name(rt.alloc(), &mut text, b"x\xff")?;
+    assert_eq!(rt; text.as_str(), "(Pingx\u{fffd}");
+    Ok(())
+}
+
+#[test]
 fn findings_of_faults(rt: HostRuntime) -> Result<(), Fail> {
     let faults = [
         (TextFault::Stray(PLACE), "S01"),

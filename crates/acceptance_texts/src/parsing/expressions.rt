@@ -65,11 +65,7 @@ fn tokens_of(alloc: Global, text: &str) -> Result<Tokens, AllocError> {
         };
         list.push(Token { kind, span })?;
     }
-    Ok(Tokens {
-        text: Vec::new(alloc),
-        list,
-        end: place,
-    })
+    Ok(Tokens { list, end: place })
 }
 
 /// Whether this value stands well in a method, or the token of this number in it is the first wrong one.
@@ -211,6 +207,27 @@ fn atom_with_no_operator(rt: HostRuntime) -> Result<(), Fail> {
         let tokens = tokens_of(rt.alloc(), text.as_str())?;
         let tree = parse(rt.alloc(), &tokens)?;
         let kept_alone = matches!(assigned(&tree)?, Expression::Atom(_));
+        assert_eq!(rt; kept_alone, alone);
+    }
+    Ok(())
+}
+
+#[test]
+fn sum_with_no_operator_about_it(rt: HostRuntime) -> Result<(), Fail> {
+    for (value, alone) in [
+        ("a + b * c - d", true),
+        ("a * b", true),
+        ("! a", true),
+        ("a", false),
+        ("a + b < c", false),
+        ("a == b + c", false),
+        ("a && b", false),
+        ("a + b || c", false),
+    ] {
+        let text = format!(in rt.alloc(); "{FRONT}{value} ; }} }}")?;
+        let tokens = tokens_of(rt.alloc(), text.as_str())?;
+        let tree = parse(rt.alloc(), &tokens)?;
+        let kept_alone = matches!(assigned(&tree)?, Expression::Sum(_));
         assert_eq!(rt; kept_alone, alone);
     }
     Ok(())

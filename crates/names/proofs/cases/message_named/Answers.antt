@@ -3,7 +3,7 @@ use Rattle.std.specs.Prelude.{option_and_then}
 use Rattle.tree.specs.Trees.{ContractTree}
 use Rattle.names.specs.Program.{Numbered, as_contract, item_at}
 use Rattle.names.specs.Values.{message_written}
-use Rattle.names.specs.Words.{word_at}
+use Rattle.tables.specs.Words.{word_at}
 use Rattle.names.proofs.PassLemmas.{contracted}
 use Rattle.names.proofs.cases.message_named.Goals as goal
 

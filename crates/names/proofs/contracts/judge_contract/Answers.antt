@@ -8,15 +8,15 @@ use Rattle.names.specs.ContractFindings.{message_findings, state_findings}
 use Rattle.names.specs.Found.{Adds}
 use Rattle.names.specs.Listed.{twice_among}
 use Rattle.names.specs.Outlines.{outlined_states}
-use Rattle.names.specs.Tables.{IsTable}
-use Rattle.names.specs.Words.{words_at}
+use Rattle.tables.specs.Tables.{IsTable}
+use Rattle.tables.specs.Words.{words_at}
 use Rattle.names.proofs.AddLemmas.{adds_then}
 use Rattle.names.proofs.contracts.judge_contract.Goals as goal
 
 pub returns : goal.returns
 returns c = λ p contract h k.
     let declared = c.args.declared.now in
-    let here = c.args.scope.now.tokens.now.text.items in
+    let here = c.args.scope.now.text.now in
     let messages = names_of_messages (messages_of contract) in
     let states = names_of_states (states_of contract) in
     let message_table = subst (λ t. IsTable (words_at t messages) declared.messages) (sym h.text_is) k.messages in

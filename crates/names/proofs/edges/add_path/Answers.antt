@@ -2,7 +2,7 @@ use Rattle.std.proofs.Common.{◌++◌, ap, sym, ◌∙◌, arith}
 use Rattle.std.specs.List.{flat_map}
 use Rattle.lemmas.proofs.Lists.{nil_left, nil_right}
 use Rattle.names.specs.Listed.{asked_name}
-use Rattle.names.specs.Meant.{meanings, message_names, text_of}
+use Rattle.names.specs.Meant.{meanings, message_names, path_left, text_of}
 use Rattle.names.proofs.BehindLemmas.{nothing_in}
 use Rattle.names.proofs.MeantLemmas.{path_is, path_step}
 use Rattle.names.proofs.edges.add_path.Goals as goal
@@ -14,7 +14,8 @@ loop-next-init c =
     record {
       to = omega arith;
       declared = nil_left (asked_name (text_of meaning) (message_names meaning) path.first.message) _ c.requires.clean;
-      edges = ap (λ l. c.args.edges.now.items ++ l) (sym (path_is (meanings meaning) c.args.state c.args.unnamed path.first path.others.items path.target));
+      edges = ap (λ l. l ++ path_left (meanings meaning) c.args.state c.args.unnamed path.first path.others.items path.target) c.reserve.ensures.items
+          ∙ ap (λ l. c.args.edges.now.items ++ l) (sym (path_is (meanings meaning) c.args.state c.args.unnamed path.first path.others.items path.target));
     }
 
 pub loop-next-preserved : goal.loop-next-preserved

@@ -8,15 +8,15 @@ use Rattle.names.specs.Found.{Adds}
 use Rattle.names.specs.Listed.{twice_among, past_limit}
 use Rattle.names.specs.Methods.{methods_in}
 use Rattle.names.specs.Program.{defined_name, item_names}
-use Rattle.names.specs.Tables.{IsTable}
-use Rattle.names.specs.Words.{words_at}
+use Rattle.tables.specs.Tables.{IsTable}
+use Rattle.tables.specs.Words.{words_at}
 use Rattle.program.specs.declared.limits.TheConstants.{MOST_METHODS}
 use Rattle.names.proofs.AddLemmas.{adds_then}
 use Rattle.names.proofs.items.judge_items.Goals as goal
 
 pub returns : goal.returns
 returns c = λ p h.
-    let here = c.args.scope.now.tokens.now.text.items in
+    let here = c.args.scope.now.text.now in
     let table = c.args.scope.now.names in
     let listed = c.deref.ensures.value ∙ c.in_ok-names.ensures ∙ sym (map-map (λ i. defined_name i.definition) item_tree c.args.scope.now.items.now)
     ∙ ap (map (λ (i : ItemTree). defined_name i.definition)) h.items_are in

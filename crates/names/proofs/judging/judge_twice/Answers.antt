@@ -2,24 +2,28 @@ use Rattle.std.proofs.Common.{◌++◌, ◌∷◌, [], codes, ap, ◌∙◌, sym
 use Rattle.std.specs.Str.Lossy.{utf8_lossy}
 use Rattle.source.specs.declared.finding.Code.TheVariants.{N01}
 use Rattle.source.specs.declared.token.Span.{Span}
-use Rattle.names.specs.Firsts.{first_of}
+use Rattle.tables.specs.Firsts.{first_of}
 use Rattle.names.specs.Found.{Adds}
-use Rattle.names.specs.Words.{words_at}
+use Rattle.tables.specs.Words.{words_at}
 use Rattle.names.proofs.AddLemmas.{adds_one}
-use Rattle.names.proofs.TwiceLemmas.{twice_start, twice_end, twice_step, twice_here, first_adds, later_adds}
+use Rattle.names.proofs.TwiceLemmas.{apart_adds, twice_start, twice_end, twice_step, twice_here, first_adds, later_adds}
 use Rattle.names.proofs.judging.judge_twice.Goals as goal
 use Rattle.names.proofs.judging.judge_twice.Goals.{then-not-is_first+in_ok-declared_twice+in_ok-push, else-not-is_first}
 
 nowhere : Span
 nowhere = record { start = 0; end = 0; place = record { line = 0; col = 0 } }
 
+pub returns-then-is_apart : goal.returns-then-is_apart
+unfolding nowhere
+returns-then-is_apart c = λ h. apart_adds c.args.text.now c.args.names.now nowhere c.args.found.now.items ((c.is_apart.ensures _ h).0 c.if-is_apart.true)
+
 pub loop-place-init : goal.loop-place-init
-loop-place-init c = λ h. twice_start c.args.tokens.now.text.items c.args.names.now c.args.found.now.items
+loop-place-init c = λ h. twice_start c.args.text.now c.args.names.now c.args.found.now.items
 
 pub loop-place-preserved : goal.loop-place-preserved
 unfolding nowhere
 loop-place-preserved c = λ h.
-    let text = c.args.tokens.now.text.items in
+    let text = c.args.text.now in
     let names = c.args.names.now in
     let i = c.loop-place.place in
     let name = get_or names i nowhere in

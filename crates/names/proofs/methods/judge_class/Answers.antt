@@ -4,14 +4,14 @@ use Rattle.std.proofs.lemmas.Simd.{map-map}
 use Rattle.tree.specs.Trees.{MethodTree, method_tree}
 use Rattle.names.specs.Found.{Adds}
 use Rattle.names.specs.Listed.{twice_among}
-use Rattle.names.specs.Tables.{IsTable}
-use Rattle.names.specs.Words.{words_at}
+use Rattle.tables.specs.Tables.{IsTable}
+use Rattle.tables.specs.Words.{words_at}
 use Rattle.names.proofs.AddLemmas.{adds_then}
 use Rattle.names.proofs.methods.judge_class.Goals as goal
 
 pub returns : goal.returns
 returns c = λ p k h j.
-    let here = c.args.scope.now.tokens.now.text.items in
+    let here = c.args.scope.now.text.now in
     let table = c.args.methods.now.table in
     let names = map (λ (m : MethodTree). m.name) k.methods in
     let listed = c.deref.ensures.value ∙ c.in_ok-names.ensures ∙ sym (map-map (λ (m : MethodTree). m.name) method_tree c.args.methods.now.list.now) ∙ ap (map (λ (m : MethodTree). m.name)) j.list in

@@ -13,7 +13,7 @@ returns c = λ p f h k.
     let mid = c.judge_type.new.found.items in
     let new = c.declare.new.found.items in
     let variables = c.declare.new.self in
-    let here = c.args.scope.now.tokens.now.text.items in
+    let here = c.args.scope.now.text.now in
     let framed = subst (λ t. IsFrame t f c.args.variables.now) (sym h.text_is) k in
     let declared = subst (λ t. OnOk c.declare.result (Turned t mid new variables (declared_variable t x.name (type_kind p x.kind) (is_heap x.kind) f))) h.text_is
     (subst (λ kind. OnOk c.declare.result (Turned here mid new variables (declared_variable here x.name kind (is_heap x.kind) f))) (c.kind_of_type-kind.ensures p h)

@@ -10,5 +10,5 @@ pub loop-i-preserved : goal.loop-i-preserved
 loop-i-preserved c =
     let message = c.index-messages-i.result.now in
     let part : List ℕ → MessageParts = λ name. record { id = record { 0 = c.args.before + c.loop-i.i }; name = name; direction = message.direction } in
-    number_more (numbered_message c.args.tokens.now.text.items) message_parts (λ m. message_tree m.now) c.args.before c.args.messages.now c.loop-i.i c.index-messages-i.result c.loop-i.numbered.items _ _
+    number_more (numbered_message c.args.text.now) message_parts (λ m. message_tree m.now) c.args.before c.args.messages.now c.loop-i.i c.index-messages-i.result c.loop-i.numbered.items _ _
     c.loop-i-test.true c.index-messages-i.is c.loop-i.invariant c.in_ok-push.ensures.items (ap part (c.in_ok-name.ensures.lossy ∙ ap utf8_lossy c.slice.ensures))

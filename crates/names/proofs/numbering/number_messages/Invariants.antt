@@ -5,4 +5,4 @@ use Rattle.names.specs.Resolution.{messages_from}
 use Rattle.names.proofs.numbering.number_messages.Given as goal
 
 abbrev pub invariant-loop-i : goal.invariant-loop-i
-invariant-loop-i l = map message_parts l.numbered.items ≡ messages_from l.tokens.text.items l.before (map (λ m. message_tree m.now) (take l.i l.messages))
+invariant-loop-i l = map message_parts l.numbered.items ≡ messages_from l.text l.before (map (λ m. message_tree m.now) (take l.i l.messages))

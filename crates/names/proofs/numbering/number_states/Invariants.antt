@@ -5,4 +5,4 @@ use Rattle.names.specs.Resolution.{numbered_states}
 use Rattle.names.proofs.numbering.number_states.Given as goal
 
 abbrev pub invariant-loop-i : goal.invariant-loop-i
-invariant-loop-i l = map state_parts l.numbered.items ≡ numbered_states l.before (map (counted_as l.tokens.text.items) (take l.i l.names))
+invariant-loop-i l = map state_parts l.numbered.items ≡ numbered_states l.before (map (counted_as l.text) (take l.i l.names))

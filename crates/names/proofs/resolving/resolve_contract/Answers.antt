@@ -19,7 +19,7 @@ number_states-requires c =
 
 pub returns : goal.returns
 returns c =
-    let text = c.args.tokens.now.text.items in
+    let text = c.args.text.now in
     let outline = c.args.declared.now.outline in
     let states = outlined_states outline in
     let before = c.args.states_before in

@@ -5,7 +5,7 @@ use Rattle.names.proofs.MemberLemmas.{all_at, counts, resolved_more}
 use Rattle.names.proofs.resolving.resolve_contracts.Goals as goal
 
 pub add_item-requires-clause-ready : goal.add_item-requires-clause-ready
-add_item-requires-clause-ready c = all_at (IsReady c.args.tokens.now.text.items) c.args.items.now c.loop-item.item-index c.item-item.result c.loop-item-test.true c.item-item.is c.requires.ready
+add_item-requires-clause-ready c = all_at (IsReady c.args.text.now) c.args.items.now c.loop-item.item-index c.item-item.result c.loop-item-test.true c.item-item.is c.requires.ready
 
 pub add_item-requires-clause-messages : goal.add_item-requires-clause-messages
 add_item-requires-clause-messages c =
@@ -19,7 +19,7 @@ add_item-requires-clause-states c =
 
 pub loop-item-preserved : goal.loop-item-preserved
 loop-item-preserved c =
-    let text = c.args.tokens.now.text.items in
+    let text = c.args.text.now in
     let items = c.args.items.now in
     let i = c.loop-item.item-index in
     let item = c.item-item.result in

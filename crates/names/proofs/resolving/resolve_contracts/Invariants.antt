@@ -7,5 +7,5 @@ abbrev pub invariant-loop-item : goal.invariant-loop-item
 invariant-loop-item l = record {
   messages : l.before.messages ≡ declared_messages (declared_in (take l.item-index l.items));
   states : l.before.states ≡ declared_states (declared_in (take l.item-index l.items));
-  contracts : map contract_seen l.contracts.items ≡ all_resolved l.tokens.text.items (declared_in (take l.item-index l.items));
+  contracts : map contract_seen l.contracts.items ≡ all_resolved l.text (declared_in (take l.item-index l.items));
 }

@@ -4,9 +4,9 @@ use Rattle.std.specs.List.{flat_map}
 use Rattle.source.specs.declared.token.Span.{Span}
 use Rattle.names.specs.Listed.{asked_name}
 use Rattle.names.specs.Found.{Adds}
-use Rattle.names.specs.Tables.{IsTable}
-use Rattle.names.specs.Words.{words_at}
+use Rattle.tables.specs.Tables.{IsTable}
+use Rattle.tables.specs.Words.{words_at}
 use Rattle.names.proofs.state_paths.judge_edges.Given as goal
 
 abbrev pub invariant-loop-edge : goal.invariant-loop-edge
-invariant-loop-edge l = (names : List Span) → IsTable (words_at l.tokens.text.items names) l.table → Adds l.fn.found.items l.found.items (flat_map (λ e. asked_name l.tokens.text.items names e.message) (take l.edge-index l.edges))
+invariant-loop-edge l = (names : List Span) → IsTable (words_at l.text names) l.table → Adds l.fn.found.items l.found.items (flat_map (λ e. asked_name l.text names e.message) (take l.edge-index l.edges))

@@ -8,7 +8,7 @@ use Rattle.names.proofs.state_paths.judge_path.Goals as goal
 
 pub returns : goal.returns
 returns c = λ messages states h k.
-    let text = c.args.tokens.now.text.items in
+    let text = c.args.text.now in
     let others = subst (λ edges. Adds c.judge_name.new.found.items c.judge_edges.new.found.items (flat_map (λ e. asked_name text messages e.message) edges))
     c.deref.ensures.value (c.in_ok-judge_edges.ensures messages h) in
     on_ok_weaker c.judge_name-2.result

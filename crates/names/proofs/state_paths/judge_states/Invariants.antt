@@ -5,10 +5,10 @@ use Rattle.source.specs.declared.token.Span.{Span}
 use Rattle.tree.specs.Trees.{state_tree}
 use Rattle.names.specs.ContractFindings.{state_findings}
 use Rattle.names.specs.Found.{Adds}
-use Rattle.names.specs.Tables.{IsTable}
-use Rattle.names.specs.Words.{words_at}
+use Rattle.tables.specs.Tables.{IsTable}
+use Rattle.tables.specs.Words.{words_at}
 use Rattle.names.proofs.state_paths.judge_states.Given as goal
 
 abbrev pub invariant-loop-state : goal.invariant-loop-state
-invariant-loop-state l = (messages states : List Span) → IsTable (words_at l.tokens.text.items messages) l.declared.messages → IsTable (words_at l.tokens.text.items states) l.declared.states
-    → Adds l.fn.found.items l.found.items (flat_map (λ s. state_findings l.tokens.text.items messages states (state_tree s.now)) (take l.state-index l.state-items))
+invariant-loop-state l = (messages states : List Span) → IsTable (words_at l.text messages) l.declared.messages → IsTable (words_at l.text states) l.declared.states
+    → Adds l.fn.found.items l.found.items (flat_map (λ s. state_findings l.text messages states (state_tree s.now)) (take l.state-index l.state-items))

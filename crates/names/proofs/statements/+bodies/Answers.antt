@@ -3,7 +3,7 @@ use Rattle.std.specs.Prelude.{OnOk}
 use Rattle.std.specs.Option.{option_map}
 use Rattle.std.proofs.lemmas.List.{length-map}
 use Rattle.tree.specs.ExpressionTrees.{expression_tree}
-use Rattle.tree.specs.StatementTrees.{statement_tree, statement_row, block_tree, if_tree, case_tree, declare_tree, assign_tree, case_row, switch_tree, CaseTree, SwitchTree}
+use Rattle.tree.specs.StatementTrees.{statement_tree, statement_row, block_tree, if_tree, test_tree, other_row, case_tree, declare_tree, assign_tree, case_row, switch_tree, CaseTree, IfTree, SwitchTree}
 use Rattle.tree.specs.Values.{call_tree}
 use Rattle.tree.specs.declared.statement as made
 use Rattle.names.specs.Bodies.{inside_of, scope_in, declaration_turn, statement_turn, statements_turn, block_turn, test_turn, others_turn, case_turn, cases_turn, head_of, outside, delete_findings, channel_findings, return_findings}
@@ -15,9 +15,9 @@ use Rattle.names.specs.Heads.{IsHeads, switch_heads}
 use Rattle.names.specs.Shapes.{shape}
 use Rattle.names.specs.Values.{Alone, Started, call_findings, target_findings, target_kind, value_findings}
 use Rattle.names.specs.Variables.{Frame, Turn, closed, follow}
-use Rattle.names.proofs.BranchLemmas.{last_branch, no_branch, next_case, case_there, last_case}
+use Rattle.names.proofs.BranchLemmas.{last_branch, no_branch, next_test, next_case, case_there, last_case}
 use Rattle.names.proofs.KeepLemmas.{kept, statements_extend, case_extends}
-use Rattle.names.proofs.StatementTwins.{block_is, case_is, test_is, switch_is, of_declare, of_assign, of_call, of_start, of_delete, of_channel, of_break, of_continue, of_return}
+use Rattle.names.proofs.StatementTwins.{block_is, case_is, if_is, test_is, switch_is, of_declare, of_assign, of_call, of_start, of_delete, of_channel, of_break, of_continue, of_return}
 use Rattle.names.proofs.TurnLemmas.{Ongoing, goes_first, turned_then, adds_before, leaves, on_stays, on_before, on_ends, goes_on, ends}
 use Rattle.names.proofs.statements.+bodies.Goals as goal
 
@@ -69,6 +69,34 @@ judge_test-returns t c = λ m f around frame.
     (on_before c.judge_block.result text old mid new w (truth_findings (scope_in m f) (shape (expression_tree test.test))) (block_turn m (block_tree test.body) f)
     (c.in_ok-judge_truth.ensures m.program f around.scope frame)
     (c.judge_block.ensures m f around frame))
+
+pub judge_if-loop-test-init : goal.judge_if-loop-test-init
+judge_if-loop-test-init t c = λ m f around frame.
+    let text = m.program.text in
+    let branches = c.args.branches.now in
+    let tree = if_tree branches in
+    let old = c.args.found.now.items in
+    let new = c.judge_test.new.found.items in
+    let v = c.judge_test.new.variables in
+    let first = ap (λ (i : IfTree). i.first) (if_is branches) in
+    let others = ap (λ (i : IfTree). i.others) (if_is branches)
+    ∙ ap (λ (ts : List made.Test.Test). other_row (map test_tree ts) (option_map block_tree (made.If.out-If branches).otherwise)) (sym c.deref-test-items.ensures.value) in
+    let turned = subst (λ k. Turned text old new v (test_turn m k f)) (sym first) (c.in_ok-judge_test.ensures m f around frame) in
+    subst (λ rest. Ongoing text old new v (follow (test_turn m tree.first f) (others_turn m tree.others)) (others_turn m rest)) others
+    (goes_first f (test_turn m tree.first) (others_turn m tree.others) turned)
+
+pub judge_if-loop-test-preserved : goal.judge_if-loop-test-preserved
+judge_if-loop-test-preserved t c = λ m f around frame.
+    let branches = c.args.branches.now in
+    let items = c.deref-test-items.result.now in
+    let i = c.loop-test.test-index in
+    let test = c.test-item.result in
+    let last = option_map block_tree (made.If.out-If branches).otherwise in
+    let whole = follow (test_turn m (if_tree branches).first f) (others_turn m (if_tree branches).others) in
+    let o = subst (Ongoing m.program.text c.args.found.now.items c.loop-test.found.items c.loop-test.variables whole)
+    (next_test m items i test last c.loop-test-test.true c.test-item.is) (c.loop-test.invariant m f around frame) in
+    goes_on (test_turn m (test_tree test)) (others_turn m (other_row (map test_tree (drop (i + 1) items)) last)) o
+    (c.in_ok-judge_test-2.ensures m o.frame around o.stands)
 
 pub judge_if-returns-in-Some : goal.judge_if-returns-in-Some
 judge_if-returns-in-Some t c = λ m f around frame.

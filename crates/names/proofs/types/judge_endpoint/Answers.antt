@@ -4,8 +4,8 @@ use Rattle.names.specs.Declarations.{names_of_states, states_of}
 use Rattle.names.specs.Found.{Adds}
 use Rattle.names.specs.Kinds.{endpoint_unknown}
 use Rattle.names.specs.Listed.{asked_name}
-use Rattle.names.specs.Tables.{IsTable}
-use Rattle.names.specs.Words.{words_at}
+use Rattle.tables.specs.Tables.{IsTable}
+use Rattle.tables.specs.Words.{words_at}
 use Rattle.names.proofs.ScopeLemmas.{looked_contract}
 use Rattle.names.proofs.types.judge_endpoint.Goals as goal
 

@@ -8,7 +8,7 @@ use Rattle.resolving.proofs.calls.arguments_of.Goals as goal
 
 pub loop-parameter-init : goal.loop-parameter-init
 loop-parameter-init c = λ items own f h.
-    let p = program_in c.args.tokens.now.text.items items in
+    let p = program_in c.args.text.now items in
     let zip = c.zip-parameter-items in
     let is = c.into_iter-parameter-iterator.ensures.into_iter_gives in
     given_first p own f c.new-given.result.items c.into_iter-parameter-iterator.result c.args.parameters.now c.args.arguments.now c.new-given.ensures.items
@@ -17,7 +17,7 @@ loop-parameter-init c = λ items own f h.
 
 pub loop-parameter-preserved : goal.loop-parameter-preserved
 loop-parameter-preserved c = λ items own f h.
-    let p = program_in c.args.tokens.now.text.items items in
+    let p = program_in c.args.text.now items in
     let before = c.loop-parameter.given.items in
     let after = c.next.new.self in
     let more = given_more p own f before c.loop-parameter.parameter-iterator after c.next.result (c.in-Some.parameter, c.in-Some.argument) c.in-Some.is c.next.ensures.steps in
@@ -26,6 +26,6 @@ loop-parameter-preserved c = λ items own f h.
 
 pub returns : goal.returns
 returns c = λ items own f h.
-    let p = program_in c.args.tokens.now.text.items items in
+    let p = program_in c.args.text.now items in
     sym (given_all p own f c.loop-parameter.given.items c.loop-parameter.parameter-iterator c.next.new.self c.next.result c.in-None.is c.next.ensures.steps)
     ∙ c.loop-parameter.invariant items own f h

@@ -9,5 +9,5 @@ use Rattle.resolving.proofs.CalleeLemmas.{given_to_end}
 use Rattle.resolving.proofs.calls.arguments_of.Given as goal
 
 abbrev pub invariant-loop-parameter : goal.invariant-loop-parameter
-invariant-loop-parameter l = (items : List ItemTree) (own : ℕ) (f : Frame) → IsFrame l.tokens.text.items f l.locals
-    → given_to_end (program_in l.tokens.text.items items) own f l.given.items l.parameter-iterator ≡ arguments (program_in l.tokens.text.items items) own f l.parameters (map expression_tree l.arguments)
+invariant-loop-parameter l = (items : List ItemTree) (own : ℕ) (f : Frame) → IsFrame l.text f l.locals
+    → given_to_end (program_in l.text items) own f l.given.items l.parameter-iterator ≡ arguments (program_in l.text items) own f l.parameters (map expression_tree l.arguments)

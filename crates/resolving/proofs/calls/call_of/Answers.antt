@@ -11,7 +11,7 @@ use Rattle.resolving.proofs.calls.call_of.Goals as goal
 
 pub returns : goal.returns
 returns c = λ items own f h.
-    let p = program_in c.args.tokens.now.text.items items in
+    let p = program_in c.args.text.now items in
     let call = c.args.call.now in
     let params = c.args.callee.method.now.params.items in
     let reads =

@@ -40,7 +40,7 @@ overflow_cast-result c =
 pub returns : goal.returns
 returns c = λ items own h.
     let around = c.args.around.now in
-    let p = program_in c.args.tokens.now.text.items items in
+    let p = program_in c.args.text.now items in
     let item = c.in_ok-item.ensures.lookup in
     let method = c.in_ok-method.ensures.lookup in
     let before = c.in_ok-before.ensures.lookup in

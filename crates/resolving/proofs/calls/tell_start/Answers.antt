@@ -15,16 +15,16 @@ use Rattle.resolving.proofs.calls.tell_start.Goals as goal
 
 pub returns-in_ok-new-in-Some : goal.returns-in_ok-new-in-Some
 returns-in_ok-new-in-Some c = λ items own around.
-    let p = program_in c.args.tokens.now.text.items items in
+    let p = program_in c.args.text.now items in
     let call = call_tree c.args.call.now in
-    call_said c.args.tokens.now.text.items c.args.locals.now seen.Start (λ f. call_told p own f call None []) c.in_ok-call.field-0 (made.Start c.in_ok-new-in-Some.field-0)
+    call_said c.args.text.now c.args.locals.now seen.Start (λ f. call_told p own f call None []) c.in_ok-call.field-0 (made.Start c.in_ok-new-in-Some.field-0)
     (started_is c.in_ok-new-in-Some.field-0 ∙ ap (λ x. seen.Start (call_seen x)) c.in_ok-new-in-Some.ensures.ok ∙ ap (λ (o : Option Call). option_map_or seen.Start (option_map call_seen o) (told [] Nothing)) (sym c.in-Some.is))
-    (subst (λ b. TellsCall c.args.tokens.now.text.items c.args.locals.now (λ f. call_told p own f call None b) c.in_ok-call.field-0) c.new-behind.ensures.items (c.in_ok-call.ensures items own around))
+    (subst (λ b. TellsCall c.args.text.now c.args.locals.now (λ f. call_told p own f call None b) c.in_ok-call.field-0) c.new-behind.ensures.items (c.in_ok-call.ensures items own around))
 
 pub returns-in-None : goal.returns-in-None
 returns-in-None c = λ items own around.
-    let p = program_in c.args.tokens.now.text.items items in
+    let p = program_in c.args.text.now items in
     let call = call_tree c.args.call.now in
-    call_said c.args.tokens.now.text.items c.args.locals.now seen.Start (λ f. call_told p own f call None []) c.in_ok-call.field-0 c.unread.result
+    call_said c.args.text.now c.args.locals.now seen.Start (λ f. call_told p own f call None []) c.in_ok-call.field-0 c.unread.result
     (c.unread.ensures ∙ ap (λ (o : Option Call). option_map_or seen.Start (option_map call_seen o) (told [] Nothing)) (sym c.in-None.is))
-    (subst (λ b. TellsCall c.args.tokens.now.text.items c.args.locals.now (λ f. call_told p own f call None b) c.in_ok-call.field-0) c.new-behind.ensures.items (c.in_ok-call.ensures items own around))
+    (subst (λ b. TellsCall c.args.text.now c.args.locals.now (λ f. call_told p own f call None b) c.in_ok-call.field-0) c.new-behind.ensures.items (c.in_ok-call.ensures items own around))

@@ -7,14 +7,14 @@ use Rattle.resolving.proofs.cases.awaited_message.Goals as goal
 
 pub returns-in_err-contract : goal.returns-in_err-contract
 returns-in_err-contract c = λ items own f around frame.
-    let p = program_in c.args.tokens.now.text.items items in
+    let p = program_in c.args.text.now items in
     ap (option_map meant_seen) c.from_residual.ensures
     ∙ ap (option_and_then (λ n. message_named p n c.in-Message.word)) (c.in_err-contract.ensures items f frame)
     ∙ ap (awaited_message p f c.args.name) (sym c.in-Message.is)
 
 pub returns : goal.returns
 returns c = λ items own f around frame.
-    let p = program_in c.args.tokens.now.text.items items in
+    let p = program_in c.args.text.now items in
     c.message_named.ensures p own around
     ∙ ap (option_and_then (λ n. message_named p n c.in-Message.word)) (c.in_ok-contract.ensures items f frame)
     ∙ ap (awaited_message p f c.args.name) (sym c.in-Message.is)

@@ -12,11 +12,11 @@ no_bind = record { kind = None; name = record { start = 0; end = 0; place = reco
 
 pub loop-place-init : goal.loop-place-init
 loop-place-init c = λ items own f around frame.
-    none_bound (binds_told (program_in c.args.tokens.now.text.items items) c.args.params.now c.args.binds.now) f c.new-bound.ensures.items frame
+    none_bound (binds_told (program_in c.args.text.now items) c.args.params.now c.args.binds.now) f c.new-bound.ensures.items frame
 
 pub loop-place-preserved : goal.loop-place-preserved
 loop-place-preserved c = λ items own f around frame.
-    let p = program_in c.args.tokens.now.text.items items in
+    let p = program_in c.args.text.now items in
     let binds = c.args.binds.now in
     let i = c.loop-place.place in
     let param = option_map (λ (x : Bor Param). x.now) c.param_at-param.result in
@@ -25,4 +25,4 @@ loop-place-preserved c = λ items own f around frame.
 
 pub returns : goal.returns
 returns c = λ items own f around frame.
-    all_bound (program_in c.args.tokens.now.text.items items) c.args.params.now c.args.binds.now c.loop-place.place c.loop-place-test.false (c.loop-place.invariant items own f around frame)
+    all_bound (program_in c.args.text.now items) c.args.params.now c.args.binds.now c.loop-place.place c.loop-place-test.false (c.loop-place.invariant items own f around frame)

@@ -8,5 +8,5 @@ use Rattle.resolving.proofs.BindLemmas.{Binding}
 use Rattle.resolving.proofs.cases.declare_binds.Given as goal
 
 abbrev pub invariant-loop-place : goal.invariant-loop-place
-invariant-loop-place l = (items : List ItemTree) (own : ℕ) (f : Frame) → IsAround (program_in l.tokens.text.items items) own l.around → IsFrame l.tokens.text.items f l.fn.locals
-    → Binding l.tokens.text.items l.bound.items l.locals (binds_told (program_in l.tokens.text.items items) l.params l.binds f) (binds_told (program_in l.tokens.text.items items) (drop l.place l.params) (drop l.place l.binds))
+invariant-loop-place l = (items : List ItemTree) (own : ℕ) (f : Frame) → IsAround (program_in l.text items) own l.around → IsFrame l.text f l.fn.locals
+    → Binding l.text l.bound.items l.locals (binds_told (program_in l.text items) l.params l.binds f) (binds_told (program_in l.text items) (drop l.place l.params) (drop l.place l.binds))

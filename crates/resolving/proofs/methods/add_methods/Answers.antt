@@ -11,13 +11,13 @@ use Rattle.resolving.proofs.methods.add_methods.Goals as goal
 
 pub returns : goal.returns
 returns c = λ items own round.
-    let p = program_in c.args.tokens.now.text.items items in
+    let p = program_in c.args.text.now items in
     let methods = c.args.methods.now in
     c.loop-method.invariant items own round ∙ ap (λ l. map method_seen c.args.resolved.now.items ++ l)
     (ap (map (λ (m : made.Method.Method). method_told p own (method_tree m))) (take_all c.loop-method.method-index methods c.loop-method-test.false) ∙ sym (map-map (method_told p own) method_tree methods))
 
 pub loop-method-preserved : goal.loop-method-preserved
 loop-method-preserved c = λ items own round.
-    let p = program_in c.args.tokens.now.text.items items in
+    let p = program_in c.args.text.now items in
     seen_more method_seen (λ m. method_told p own (method_tree m)) c.args.methods.now c.loop-method.method-index c.method-item.result c.args.resolved.now.items c.loop-method.resolved.items _ _
     c.loop-method-test.true c.method-item.is (c.loop-method.invariant items own round) c.in_ok-push.ensures.items (c.in_ok-resolve_method.ensures items own round)

@@ -6,5 +6,5 @@ use Rattle.resolving.specs.Methods.{method_told}
 use Rattle.resolving.proofs.methods.add_methods.Given as goal
 
 abbrev pub invariant-loop-method : goal.invariant-loop-method
-invariant-loop-method l = (items : List ItemTree) (own : ℕ) → IsAround (program_in l.tokens.text.items items) own l.around
-    → map method_seen l.resolved.items ≡ map method_seen l.fn.resolved.items ++ map (λ m. method_told (program_in l.tokens.text.items items) own (method_tree m)) (take l.method-index l.methods)
+invariant-loop-method l = (items : List ItemTree) (own : ℕ) → IsAround (program_in l.text items) own l.around
+    → map method_seen l.resolved.items ≡ map method_seen l.fn.resolved.items ++ map (λ m. method_told (program_in l.text items) own (method_tree m)) (take l.method-index l.methods)

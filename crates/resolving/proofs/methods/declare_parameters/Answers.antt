@@ -1,4 +1,5 @@
 use Rattle.std.proofs.Common.{false, subst, sym, take}
+use Rattle.std.proofs.lemmas.List.{take_all}
 use Rattle.tree.specs.declared.class as made
 use Rattle.program.specs.declared.kind.Scalar.TheVariants.{Int}
 use Rattle.tree.specs.declared.types.Type.TheVariants.{Scalar}
@@ -15,7 +16,7 @@ past = record { claims = false; kind = Scalar Int; name = record { start = 0; en
 
 pub loop-parameter-preserved : goal.loop-parameter-preserved
 loop-parameter-preserved c = λ items own f round h.
-    let text = c.args.tokens.now.text.items in
+    let text = c.args.text.now in
     let p = program_in text items in
     let params = c.args.params.now in
     let i = c.loop-parameter.parameter-index in
@@ -24,3 +25,9 @@ loop-parameter-preserved c = λ items own f round h.
     subst (λ g. IsFrame text g after) (sym (parameters_more p params i past f c.loop-parameter-test.true))
     (subst (λ d. IsFrame text (declared text d so) after) (c.parameter_declaration.ensures p own round)
     (c.in_ok-declare.ensures so (c.loop-parameter.invariant items own f round h)))
+
+pub returns : goal.returns
+returns c = λ items own f round h.
+    let text = c.args.text.now in
+    subst (λ params. IsFrame text (parameters_frame (program_in text items) params f) c.loop-parameter.locals)
+    (take_all c.loop-parameter.parameter-index c.args.params.now c.loop-parameter-test.false) (c.loop-parameter.invariant items own f round h)

@@ -7,5 +7,5 @@ use Rattle.resolving.specs.Methods.{parameters_frame}
 use Rattle.resolving.proofs.methods.declare_parameters.Given as goal
 
 abbrev pub invariant-loop-parameter : goal.invariant-loop-parameter
-invariant-loop-parameter l = (items : List ItemTree) (own : ℕ) (f : Frame) → IsAround (program_in l.tokens.text.items items) own l.around → IsFrame l.tokens.text.items f l.fn.locals
-    → IsFrame l.tokens.text.items (parameters_frame (program_in l.tokens.text.items items) (take l.parameter-index l.params) f) l.locals
+invariant-loop-parameter l = (items : List ItemTree) (own : ℕ) (f : Frame) → IsAround (program_in l.text items) own l.around → IsFrame l.text f l.fn.locals
+    → IsFrame l.text (parameters_frame (program_in l.text items) (take l.parameter-index l.params) f) l.locals

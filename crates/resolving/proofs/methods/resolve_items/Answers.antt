@@ -13,7 +13,7 @@ pub loop-class-preserved : goal.loop-class-preserved
 loop-class-preserved c =
     let items = c.args.items.now in
     let trees = map item_tree items in
-    let p = program_in c.args.tokens.now.text.items trees in
+    let p = program_in c.args.text.now trees in
     let i = c.loop-class.class in
     let methods = c.methods_of-methods.result.now in
     record {
@@ -31,7 +31,7 @@ loop-class-preserved c =
 pub returns : goal.returns
 returns c =
     let items = c.args.items.now in
-    let p = program_in c.args.tokens.now.text.items (map item_tree items) in
+    let p = program_in c.args.text.now (map item_tree items) in
     record {
       messages = c.loop-class.invariant.messages ∙ brought_all p items c.loop-class.class c.loop-class-test.false;
       methods = c.loop-class.invariant.methods ∙ items_all p items c.loop-class.class c.loop-class-test.false;

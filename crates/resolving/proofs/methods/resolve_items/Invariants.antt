@@ -9,6 +9,6 @@ use Rattle.resolving.proofs.methods.resolve_items.Given as goal
 
 abbrev pub invariant-loop-class : goal.invariant-loop-class
 invariant-loop-class l = record {
-  messages : rows l.messages.items ≡ first_brought (program_in l.tokens.text.items (map item_tree l.items)) l.items l.class;
-  methods : map method_seen l.resolved.items ≡ first_told (program_in l.tokens.text.items (map item_tree l.items)) l.items l.class;
+  messages : rows l.messages.items ≡ first_brought (program_in l.text (map item_tree l.items)) l.items l.class;
+  methods : map method_seen l.resolved.items ≡ first_told (program_in l.text (map item_tree l.items)) l.items l.class;
 }

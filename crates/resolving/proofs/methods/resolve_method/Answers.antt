@@ -13,7 +13,7 @@ use Rattle.resolving.proofs.methods.resolve_method.Goals as goal
 
 pub returns : goal.returns
 returns c = λ items own round.
-    let text = c.args.tokens.now.text.items in
+    let text = c.args.text.now in
     let p = program_in text items in
     let method = c.args.method.now in
     let before = c.declare_parameters.new.locals in

@@ -13,14 +13,14 @@ use Rattle.resolving.proofs.methods.resolve_methods.Goals as goal
 
 pub resolve_items-requires-clause-few : goal.resolve_items-requires-clause-few
 resolve_items-requires-clause-few c =
-    let p = program_of c.args.tokens.now.text.items c.args.tree.now in
+    let p = program_of c.args.text.now c.args.tree.now in
     subst (λ (l : List Item). length (all_methods (map item_tree l)) ≤ MOST_METHODS) (sym c.deref-2.ensures.value) (few_methods p c.requires.clean)
 
 pub returns-clause-few : goal.returns-clause-few
 returns-clause-few c =
-    let p = program_of c.args.tokens.now.text.items c.args.tree.now in
+    let p = program_of c.args.text.now c.args.tree.now in
     let few = few_methods p c.requires.clean in
     let size = length-map c.in_ok-program.program.methods.items method_seen in
-    let all = ap length (c.in_ok-program.ensures.methods ∙ ap (λ (l : List Item). methods_told (program_in c.args.tokens.now.text.items (map item_tree l))) c.deref-2.ensures.value) in
+    let all = ap length (c.in_ok-program.ensures.methods ∙ ap (λ (l : List Item). methods_told (program_in c.args.text.now (map item_tree l))) c.deref-2.ensures.value) in
     let many = told_many p 0 p.items in
     omega (arith, few, size, all, many)

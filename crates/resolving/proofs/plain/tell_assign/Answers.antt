@@ -10,8 +10,8 @@ use Rattle.resolving.proofs.plain.tell_assign.Goals as goal
 
 pub returns-in-Variable : goal.returns-in-Variable
 returns-in-Variable c = λ items own around.
-    let p = program_in c.args.tokens.now.text.items items in
-    let text = c.args.tokens.now.text.items in
+    let p = program_in c.args.text.now items in
+    let text = c.args.text.now in
     let locals = c.args.locals.now in
     let value = value_tree c.args.value.now in
     told_as text locals c.tell_assigned.result (λ f. assigned p own f c.mention-target.result value) (λ f. written p own f (target_tree c.args.target.now) value)
@@ -20,8 +20,8 @@ returns-in-Variable c = λ items own around.
 
 pub returns-in-Field : goal.returns-in-Field
 returns-in-Field c = λ items own around.
-    let p = program_in c.args.tokens.now.text.items items in
-    let text = c.args.tokens.now.text.items in
+    let p = program_in c.args.text.now items in
+    let text = c.args.text.now in
     let locals = c.args.locals.now in
     let value = value_tree c.args.value.now in
     told_as text locals c.tell_part.result (λ f. part_taken p own f c.new-index.result.items c.mention-whole.result value) (λ f. written p own f (target_tree c.args.target.now) value)
@@ -31,8 +31,8 @@ returns-in-Field c = λ items own around.
 
 pub returns-in_ok-add_reads-in-Element : goal.returns-in_ok-add_reads-in-Element
 returns-in_ok-add_reads-in-Element c = λ items own around.
-    let p = program_in c.args.tokens.now.text.items items in
-    let text = c.args.tokens.now.text.items in
+    let p = program_in c.args.text.now items in
+    let text = c.args.text.now in
     let locals = c.args.locals.now in
     let value = value_tree c.args.value.now in
     let whole = c.mention-whole-in-Element in

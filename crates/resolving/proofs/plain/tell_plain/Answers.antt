@@ -13,8 +13,8 @@ use Rattle.resolving.proofs.plain.tell_plain.Goals as goal
 
 pub returns-in-Declare : goal.returns-in-Declare
 returns-in-Declare c = λ items own around.
-    let p = program_in c.args.tokens.now.text.items items in
-    let text = c.args.tokens.now.text.items in
+    let p = program_in c.args.text.now items in
+    let text = c.args.text.now in
     let locals = c.args.locals.now in
     told_as text locals c.tell_declare.result (λ f. first_value p own f c.deref.result.now.name (next_number (type_held p c.deref.result.now.kind) f) (option_map value_tree c.deref.result.now.value)) (λ f. plain_told p own f (statement_tree c.args.statement.now))
     (λ f frame. ap (λ (d : made.Declare.Declare). first_value p own f d.name (next_number (type_held p d.kind) f) (option_map value_tree d.value)) c.deref.ensures ∙ ap (plain_told p own f) (sym (ap statement_tree c.in-Declare.is ∙ of_declare c.in-Declare.declare)))
@@ -22,8 +22,8 @@ returns-in-Declare c = λ items own around.
 
 pub returns-in-Assign : goal.returns-in-Assign
 returns-in-Assign c = λ items own around.
-    let p = program_in c.args.tokens.now.text.items items in
-    let text = c.args.tokens.now.text.items in
+    let p = program_in c.args.text.now items in
+    let text = c.args.text.now in
     let locals = c.args.locals.now in
     told_as text locals c.tell_assign.result (λ f. written p own f (target_tree c.deref-in-Assign.result.now.target) (value_tree c.deref-in-Assign-2.result.now.value)) (λ f. plain_told p own f (statement_tree c.args.statement.now))
     (λ f frame. ap (λ (a : made.Assign.Assign). written p own f (target_tree a.target) (value_tree c.deref-in-Assign-2.result.now.value)) c.deref-in-Assign.ensures
@@ -33,8 +33,8 @@ returns-in-Assign c = λ items own around.
 
 pub returns-in-Call : goal.returns-in-Call
 returns-in-Call c = λ items own around.
-    let p = program_in c.args.tokens.now.text.items items in
-    let text = c.args.tokens.now.text.items in
+    let p = program_in c.args.text.now items in
+    let text = c.args.text.now in
     let locals = c.args.locals.now in
     told_as text locals c.tell_stated.result (λ f. stated_call p own f (call_tree c.deref-in-Call.result.now)) (λ f. plain_told p own f (statement_tree c.args.statement.now))
     (λ f frame. ap (λ x. stated_call p own f (call_tree x)) c.deref-in-Call.ensures ∙ ap (plain_told p own f) (sym (ap statement_tree c.in-Call.is ∙ of_call c.in-Call.call)))
@@ -42,8 +42,8 @@ returns-in-Call c = λ items own around.
 
 pub returns-in-Start : goal.returns-in-Start
 returns-in-Start c = λ items own around.
-    let p = program_in c.args.tokens.now.text.items items in
-    let text = c.args.tokens.now.text.items in
+    let p = program_in c.args.text.now items in
+    let text = c.args.text.now in
     let locals = c.args.locals.now in
     told_as text locals c.tell_start.result (λ f. started p own f (call_tree c.deref-in-Start.result.now)) (λ f. plain_told p own f (statement_tree c.args.statement.now))
     (λ f frame. ap (λ x. started p own f (call_tree x)) c.deref-in-Start.ensures ∙ ap (plain_told p own f) (sym (ap statement_tree c.in-Start.is ∙ of_start c.in-Start.word c.in-Start.call)))
@@ -52,14 +52,14 @@ returns-in-Start c = λ items own around.
 pub returns-in-NewChannel : goal.returns-in-NewChannel
 returns-in-NewChannel c = λ items own around. record {
   all = λ f frame.
-      let p = program_in c.args.tokens.now.text.items items in
+      let p = program_in c.args.text.now items in
       c.unread-in-NewChannel.ensures ∙ ap (told []) (c.channel_action.ensures items own f around frame) ∙ ap (λ n. told [] (channel p own f n)) c.deref-in-NewChannel.ensures ∙ ap (plain_told p own f) (sym (ap statement_tree c.in-NewChannel.is ∙ of_channel c.in-NewChannel.channel));
 }
 
 pub returns-in-Return : goal.returns-in-Return
 returns-in-Return c = λ items own around.
-    let p = program_in c.args.tokens.now.text.items items in
-    let text = c.args.tokens.now.text.items in
+    let p = program_in c.args.text.now items in
+    let text = c.args.text.now in
     let locals = c.args.locals.now in
     told_as text locals c.tell_return.result (λ f. returned p own f c.in-Return.word.place (option_map (λ e. expression_tree e.value) c.in-Return.value)) (λ f. plain_told p own f (statement_tree c.args.statement.now))
     (λ f frame. ap (plain_told p own f) (sym (ap statement_tree c.in-Return.is ∙ of_return c.in-Return.word c.in-Return.value)))

@@ -11,7 +11,7 @@ use Rattle.resolving.proofs.plain.tell_return.Goals as goal
 
 pub returns-in-Some : goal.returns-in-Some
 returns-in-Some c = λ items own.
-    let p = program_in c.args.tokens.now.text.items items in
+    let p = program_in c.args.text.now items in
     let locals = c.args.locals.now in
     subst (λ o. IfOk c.tell_read.result (Tells p.text locals (λ f. returned p own f c.args.place (option_map (λ e. expression_tree e.value) o)))) (sym c.in-Some.is)
     (subst (λ e. IfOk c.tell_read.result (Tells p.text locals (λ f. returned p own f c.args.place (Some (expression_tree e))))) c.deref.ensures (returned_told p own locals c.args.place (expression_tree c.deref.result.now) c.alone-value.result c.last-scope.result c.new.result.items c.tell_read.result c.new.ensures.items (c.alone-value.ensures items own) (c.last-scope.ensures p.text) (subst (λ e. IfOk c.tell_read.result (Tells p.text locals (λ f. told (c.new.result.items ++ reads p.text f.locals (expression_tree e)) (Return c.args.place c.alone-value.result c.last-scope.result)))) (c.deref-in-Some.ensures ∙ sym c.deref.ensures) c.tell_read.ensures)))

@@ -16,73 +16,73 @@ use Rattle.resolving.proofs.ReadLemmas.{reads_first, reads_more, reads_all}
 use Rattle.resolving.proofs.reads.+expressions.Goals as goal
 
 pub add_disjunction-each-init : goal.add_disjunction-each-init
-add_disjunction-each-init t c = reads_first c.args.tokens.now.text.items Or (unmarked conjunction_tree) (conjunction_tree (disjunctions.out-Disjunction c.args.disjunction.now).first) c.deref-conjunction-items.result.now c.in_ok-add_conjunction.ensures
+add_disjunction-each-init t c = reads_first c.args.text.now Or (unmarked conjunction_tree) (conjunction_tree (disjunctions.out-Disjunction c.args.disjunction.now).first) c.deref-conjunction-items.result.now c.in_ok-add_conjunction.ensures
 
 pub add_disjunction-each-preserved : goal.add_disjunction-each-preserved
 add_disjunction-each-preserved t c =
-    reads_more c.args.tokens.now.text.items Or (unmarked conjunction_tree) (conjunction_tree (disjunctions.out-Disjunction c.args.disjunction.now).first) c.deref-conjunction-items.result.now c.each.conjunction-index c.conjunction-item.result (conjunction_tree c.conjunction-item.result) c.each-test.true c.conjunction-item.is refl c.each.invariant c.in_ok-add_conjunction-2.ensures
+    reads_more c.args.text.now Or (unmarked conjunction_tree) (conjunction_tree (disjunctions.out-Disjunction c.args.disjunction.now).first) c.deref-conjunction-items.result.now c.each.conjunction-index c.conjunction-item.result (conjunction_tree c.conjunction-item.result) c.each-test.true c.conjunction-item.is refl c.each.invariant c.in_ok-add_conjunction-2.ensures
 
 pub add_disjunction-returns : goal.add_disjunction-returns
 add_disjunction-returns t c =
     let e = c.args.disjunction.now in
-    reads_all c.args.tokens.now.text.items Or (unmarked conjunction_tree) (conjunction_tree (disjunctions.out-Disjunction e).first) c.deref-conjunction-items.result.now (disjunctions.out-Disjunction e).others.items c.each.conjunction-index (disjunction_tree e) c.each-test.false c.deref-conjunction-items.ensures.value (disjunction_seen e) c.each.invariant
+    reads_all c.args.text.now Or (unmarked conjunction_tree) (conjunction_tree (disjunctions.out-Disjunction e).first) c.deref-conjunction-items.result.now (disjunctions.out-Disjunction e).others.items c.each.conjunction-index (disjunction_tree e) c.each-test.false c.deref-conjunction-items.ensures.value (disjunction_seen e) c.each.invariant
 
 pub add_conjunction-each-init : goal.add_conjunction-each-init
-add_conjunction-each-init t c = reads_first c.args.tokens.now.text.items And (unmarked equality_tree) (equality_tree (conjunctions.out-Conjunction c.args.conjunction.now).first) c.deref-equality-items.result.now c.in_ok-add_equality.ensures
+add_conjunction-each-init t c = reads_first c.args.text.now And (unmarked equality_tree) (equality_tree (conjunctions.out-Conjunction c.args.conjunction.now).first) c.deref-equality-items.result.now c.in_ok-add_equality.ensures
 
 pub add_conjunction-each-preserved : goal.add_conjunction-each-preserved
 add_conjunction-each-preserved t c =
-    reads_more c.args.tokens.now.text.items And (unmarked equality_tree) (equality_tree (conjunctions.out-Conjunction c.args.conjunction.now).first) c.deref-equality-items.result.now c.each.equality-index c.equality-item.result (equality_tree c.equality-item.result) c.each-test.true c.equality-item.is refl c.each.invariant c.in_ok-add_equality-2.ensures
+    reads_more c.args.text.now And (unmarked equality_tree) (equality_tree (conjunctions.out-Conjunction c.args.conjunction.now).first) c.deref-equality-items.result.now c.each.equality-index c.equality-item.result (equality_tree c.equality-item.result) c.each-test.true c.equality-item.is refl c.each.invariant c.in_ok-add_equality-2.ensures
 
 pub add_conjunction-returns : goal.add_conjunction-returns
 add_conjunction-returns t c =
     let e = c.args.conjunction.now in
-    reads_all c.args.tokens.now.text.items And (unmarked equality_tree) (equality_tree (conjunctions.out-Conjunction e).first) c.deref-equality-items.result.now (conjunctions.out-Conjunction e).others.items c.each.equality-index (conjunction_tree e) c.each-test.false c.deref-equality-items.ensures.value (conjunction_seen e) c.each.invariant
+    reads_all c.args.text.now And (unmarked equality_tree) (equality_tree (conjunctions.out-Conjunction e).first) c.deref-equality-items.result.now (conjunctions.out-Conjunction e).others.items c.each.equality-index (conjunction_tree e) c.each-test.false c.deref-equality-items.ensures.value (conjunction_seen e) c.each.invariant
 
 pub add_equality-each-init : goal.add_equality-each-init
-add_equality-each-init t c = reads_first c.args.tokens.now.text.items Equal equality_step_tree (relation_tree (equalitys.out-Equality c.args.equality.now).first) c.deref-step-items.result.now c.in_ok-add_relation.ensures
+add_equality-each-init t c = reads_first c.args.text.now Equal equality_step_tree (relation_tree (equalitys.out-Equality c.args.equality.now).first) c.deref-step-items.result.now c.in_ok-add_relation.ensures
 
 pub add_equality-each-preserved : goal.add_equality-each-preserved
 add_equality-each-preserved t c =
-    reads_more c.args.tokens.now.text.items Equal equality_step_tree (relation_tree (equalitys.out-Equality c.args.equality.now).first) c.deref-step-items.result.now c.each.step-index c.step-item.result (relation_tree (equality_steps.out-EqualityStep c.step-item.result).relation) c.each-test.true c.step-item.is (ap (λ (p : StepOf Equal). p.1) (equality_step_seen c.step-item.result)) c.each.invariant c.in_ok-add_relation-2.ensures
+    reads_more c.args.text.now Equal equality_step_tree (relation_tree (equalitys.out-Equality c.args.equality.now).first) c.deref-step-items.result.now c.each.step-index c.step-item.result (relation_tree (equality_steps.out-EqualityStep c.step-item.result).relation) c.each-test.true c.step-item.is (ap (λ (p : StepOf Equal). p.1) (equality_step_seen c.step-item.result)) c.each.invariant c.in_ok-add_relation-2.ensures
 
 pub add_equality-returns : goal.add_equality-returns
 add_equality-returns t c =
     let e = c.args.equality.now in
-    reads_all c.args.tokens.now.text.items Equal equality_step_tree (relation_tree (equalitys.out-Equality e).first) c.deref-step-items.result.now (equalitys.out-Equality e).others.items c.each.step-index (equality_tree e) c.each-test.false c.deref-step-items.ensures.value (equality_seen e) c.each.invariant
+    reads_all c.args.text.now Equal equality_step_tree (relation_tree (equalitys.out-Equality e).first) c.deref-step-items.result.now (equalitys.out-Equality e).others.items c.each.step-index (equality_tree e) c.each-test.false c.deref-step-items.ensures.value (equality_seen e) c.each.invariant
 
 pub add_relation-each-init : goal.add_relation-each-init
-add_relation-each-init t c = reads_first c.args.tokens.now.text.items Compare relation_step_tree (sum_tree (relations.out-Relation c.args.relation.now).first) c.deref-step-items.result.now c.in_ok-add_sum.ensures
+add_relation-each-init t c = reads_first c.args.text.now Compare relation_step_tree (sum_tree (relations.out-Relation c.args.relation.now).first) c.deref-step-items.result.now c.in_ok-add_sum.ensures
 
 pub add_relation-each-preserved : goal.add_relation-each-preserved
 add_relation-each-preserved t c =
-    reads_more c.args.tokens.now.text.items Compare relation_step_tree (sum_tree (relations.out-Relation c.args.relation.now).first) c.deref-step-items.result.now c.each.step-index c.step-item.result (sum_tree (relation_steps.out-RelationStep c.step-item.result).sum) c.each-test.true c.step-item.is (ap (λ (p : StepOf Compare). p.1) (relation_step_seen c.step-item.result)) c.each.invariant c.in_ok-add_sum-2.ensures
+    reads_more c.args.text.now Compare relation_step_tree (sum_tree (relations.out-Relation c.args.relation.now).first) c.deref-step-items.result.now c.each.step-index c.step-item.result (sum_tree (relation_steps.out-RelationStep c.step-item.result).sum) c.each-test.true c.step-item.is (ap (λ (p : StepOf Compare). p.1) (relation_step_seen c.step-item.result)) c.each.invariant c.in_ok-add_sum-2.ensures
 
 pub add_relation-returns : goal.add_relation-returns
 add_relation-returns t c =
     let e = c.args.relation.now in
-    reads_all c.args.tokens.now.text.items Compare relation_step_tree (sum_tree (relations.out-Relation e).first) c.deref-step-items.result.now (relations.out-Relation e).others.items c.each.step-index (relation_tree e) c.each-test.false c.deref-step-items.ensures.value (relation_seen e) c.each.invariant
+    reads_all c.args.text.now Compare relation_step_tree (sum_tree (relations.out-Relation e).first) c.deref-step-items.result.now (relations.out-Relation e).others.items c.each.step-index (relation_tree e) c.each-test.false c.deref-step-items.ensures.value (relation_seen e) c.each.invariant
 
 pub add_sum-each-init : goal.add_sum-each-init
-add_sum-each-init t c = reads_first c.args.tokens.now.text.items Add sum_step_tree (term_tree (sums.out-Sum c.args.sum.now).first) c.deref-step-items.result.now c.in_ok-add_term.ensures
+add_sum-each-init t c = reads_first c.args.text.now Add sum_step_tree (term_tree (sums.out-Sum c.args.sum.now).first) c.deref-step-items.result.now c.in_ok-add_term.ensures
 
 pub add_sum-each-preserved : goal.add_sum-each-preserved
 add_sum-each-preserved t c =
-    reads_more c.args.tokens.now.text.items Add sum_step_tree (term_tree (sums.out-Sum c.args.sum.now).first) c.deref-step-items.result.now c.each.step-index c.step-item.result (term_tree (sum_steps.out-SumStep c.step-item.result).term) c.each-test.true c.step-item.is (ap (λ (p : StepOf Add). p.1) (sum_step_seen c.step-item.result)) c.each.invariant c.in_ok-add_term-2.ensures
+    reads_more c.args.text.now Add sum_step_tree (term_tree (sums.out-Sum c.args.sum.now).first) c.deref-step-items.result.now c.each.step-index c.step-item.result (term_tree (sum_steps.out-SumStep c.step-item.result).term) c.each-test.true c.step-item.is (ap (λ (p : StepOf Add). p.1) (sum_step_seen c.step-item.result)) c.each.invariant c.in_ok-add_term-2.ensures
 
 pub add_sum-returns : goal.add_sum-returns
 add_sum-returns t c =
     let e = c.args.sum.now in
-    reads_all c.args.tokens.now.text.items Add sum_step_tree (term_tree (sums.out-Sum e).first) c.deref-step-items.result.now (sums.out-Sum e).others.items c.each.step-index (sum_tree e) c.each-test.false c.deref-step-items.ensures.value (sum_seen e) c.each.invariant
+    reads_all c.args.text.now Add sum_step_tree (term_tree (sums.out-Sum e).first) c.deref-step-items.result.now (sums.out-Sum e).others.items c.each.step-index (sum_tree e) c.each-test.false c.deref-step-items.ensures.value (sum_seen e) c.each.invariant
 
 pub add_term-each-init : goal.add_term-each-init
-add_term-each-init t c = reads_first c.args.tokens.now.text.items Multiply (unmarked unary_tree) (unary_tree (terms.out-Term c.args.term.now).first) c.deref-unary-items.result.now c.in_ok-add_unary.ensures
+add_term-each-init t c = reads_first c.args.text.now Multiply (unmarked unary_tree) (unary_tree (terms.out-Term c.args.term.now).first) c.deref-unary-items.result.now c.in_ok-add_unary.ensures
 
 pub add_term-each-preserved : goal.add_term-each-preserved
 add_term-each-preserved t c =
-    reads_more c.args.tokens.now.text.items Multiply (unmarked unary_tree) (unary_tree (terms.out-Term c.args.term.now).first) c.deref-unary-items.result.now c.each.unary-index c.unary-item.result (unary_tree c.unary-item.result) c.each-test.true c.unary-item.is refl c.each.invariant c.in_ok-add_unary-2.ensures
+    reads_more c.args.text.now Multiply (unmarked unary_tree) (unary_tree (terms.out-Term c.args.term.now).first) c.deref-unary-items.result.now c.each.unary-index c.unary-item.result (unary_tree c.unary-item.result) c.each-test.true c.unary-item.is refl c.each.invariant c.in_ok-add_unary-2.ensures
 
 pub add_term-returns : goal.add_term-returns
 add_term-returns t c =
     let e = c.args.term.now in
-    reads_all c.args.tokens.now.text.items Multiply (unmarked unary_tree) (unary_tree (terms.out-Term e).first) c.deref-unary-items.result.now (terms.out-Term e).others.items c.each.unary-index (term_tree e) c.each-test.false c.deref-unary-items.ensures.value (term_seen e) c.each.invariant
+    reads_all c.args.text.now Multiply (unmarked unary_tree) (unary_tree (terms.out-Term e).first) c.deref-unary-items.result.now (terms.out-Term e).others.items c.each.unary-index (term_tree e) c.each-test.false c.deref-unary-items.ensures.value (term_seen e) c.each.invariant

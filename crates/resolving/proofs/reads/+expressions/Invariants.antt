@@ -12,24 +12,24 @@ use Rattle.resolving.proofs.reads.+expressions.Given as goal
 
 abbrev pub invariant-add_disjunction-each : goal.invariant-add_disjunction-each
 invariant-add_disjunction-each l =
-    AddsReads l.tokens.text.items l.locals (chain_reads l.tokens.text.items Or (unmarked conjunction_tree) (conjunction_tree (disjunctions.out-Disjunction l.disjunction).first) l.conjunction-items l.conjunction-index) l.fn.found.items l.found.items
+    AddsReads l.text l.locals (chain_reads l.text Or (unmarked conjunction_tree) (conjunction_tree (disjunctions.out-Disjunction l.disjunction).first) l.conjunction-items l.conjunction-index) l.fn.found.items l.found.items
 
 abbrev pub invariant-add_conjunction-each : goal.invariant-add_conjunction-each
 invariant-add_conjunction-each l =
-    AddsReads l.tokens.text.items l.locals (chain_reads l.tokens.text.items And (unmarked equality_tree) (equality_tree (conjunctions.out-Conjunction l.conjunction).first) l.equality-items l.equality-index) l.fn.found.items l.found.items
+    AddsReads l.text l.locals (chain_reads l.text And (unmarked equality_tree) (equality_tree (conjunctions.out-Conjunction l.conjunction).first) l.equality-items l.equality-index) l.fn.found.items l.found.items
 
 abbrev pub invariant-add_equality-each : goal.invariant-add_equality-each
 invariant-add_equality-each l =
-    AddsReads l.tokens.text.items l.locals (chain_reads l.tokens.text.items Equal equality_step_tree (relation_tree (equalitys.out-Equality l.equality).first) l.step-items l.step-index) l.fn.found.items l.found.items
+    AddsReads l.text l.locals (chain_reads l.text Equal equality_step_tree (relation_tree (equalitys.out-Equality l.equality).first) l.step-items l.step-index) l.fn.found.items l.found.items
 
 abbrev pub invariant-add_relation-each : goal.invariant-add_relation-each
 invariant-add_relation-each l =
-    AddsReads l.tokens.text.items l.locals (chain_reads l.tokens.text.items Compare relation_step_tree (sum_tree (relations.out-Relation l.relation).first) l.step-items l.step-index) l.fn.found.items l.found.items
+    AddsReads l.text l.locals (chain_reads l.text Compare relation_step_tree (sum_tree (relations.out-Relation l.relation).first) l.step-items l.step-index) l.fn.found.items l.found.items
 
 abbrev pub invariant-add_sum-each : goal.invariant-add_sum-each
 invariant-add_sum-each l =
-    AddsReads l.tokens.text.items l.locals (chain_reads l.tokens.text.items Add sum_step_tree (term_tree (sums.out-Sum l.sum).first) l.step-items l.step-index) l.fn.found.items l.found.items
+    AddsReads l.text l.locals (chain_reads l.text Add sum_step_tree (term_tree (sums.out-Sum l.sum).first) l.step-items l.step-index) l.fn.found.items l.found.items
 
 abbrev pub invariant-add_term-each : goal.invariant-add_term-each
 invariant-add_term-each l =
-    AddsReads l.tokens.text.items l.locals (chain_reads l.tokens.text.items Multiply (unmarked unary_tree) (unary_tree (terms.out-Term l.term).first) l.unary-items l.unary-index) l.fn.found.items l.found.items
+    AddsReads l.text l.locals (chain_reads l.text Multiply (unmarked unary_tree) (unary_tree (terms.out-Term l.term).first) l.unary-items l.unary-index) l.fn.found.items l.found.items

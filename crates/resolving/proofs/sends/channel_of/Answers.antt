@@ -7,12 +7,12 @@ use Rattle.resolving.proofs.sends.channel_of.Goals as goal
 
 pub returns-in_err-contract : goal.returns-in_err-contract
 returns-in_err-contract c = λ items own f around frame.
-    let p = program_in c.args.tokens.now.text.items items in
+    let p = program_in c.args.text.now items in
     c.from_residual.ensures ∙ ap (option_and_then (channel_of p own f c.args.channel)) (c.in_err-contract.ensures p own around)
 
 pub returns : goal.returns
 returns c = λ items own f around frame.
-    let p = program_in c.args.tokens.now.text.items items in
+    let p = program_in c.args.text.now items in
     let n = c.args.channel in
     let made = ends_of p own f n.word.place c.in_ok-contract.contract in
     ap (option_map (made c.in_ok-first.first)) (c.in_ok-second.ensures f frame)

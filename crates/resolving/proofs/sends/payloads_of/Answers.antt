@@ -13,7 +13,7 @@ loop-argument-init c = λ items own f frame. c.new-payloads.ensures.items
 
 pub loop-argument-preserved : goal.loop-argument-preserved
 loop-argument-preserved c = λ items own f frame.
-    let p = program_in c.args.tokens.now.text.items items in
+    let p = program_in c.args.text.now items in
     let e = c.argument-item.result in
     c.in_ok-add_listed.ensures
     ∙ ap (λ l. l ++ listed c.alone-mention.result) (c.loop-argument.invariant items own f frame)
@@ -22,6 +22,6 @@ loop-argument-preserved c = λ items own f frame.
 
 pub returns : goal.returns
 returns c = λ items own f frame.
-    let p = program_in c.args.tokens.now.text.items items in
+    let p = program_in c.args.text.now items in
     c.loop-argument.invariant items own f frame
     ∙ ap (λ (es : List Expression). payloads p own f (map expression_tree es)) (take_all c.loop-argument.argument-index c.args.arguments.now c.loop-argument-test.false)

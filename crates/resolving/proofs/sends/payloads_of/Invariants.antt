@@ -8,5 +8,5 @@ use Rattle.resolving.specs.Plain.{payloads}
 use Rattle.resolving.proofs.sends.payloads_of.Given as goal
 
 abbrev pub invariant-loop-argument : goal.invariant-loop-argument
-invariant-loop-argument l = (items : List ItemTree) (own : ℕ) (f : Frame) → IsFrame l.tokens.text.items f l.locals
-    → l.payloads.items ≡ payloads (program_in l.tokens.text.items items) own f (map expression_tree (take l.argument-index l.arguments))
+invariant-loop-argument l = (items : List ItemTree) (own : ℕ) (f : Frame) → IsFrame l.text f l.locals
+    → l.payloads.items ≡ payloads (program_in l.text items) own f (map expression_tree (take l.argument-index l.arguments))

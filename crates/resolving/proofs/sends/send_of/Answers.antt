@@ -8,7 +8,7 @@ use Rattle.resolving.proofs.sends.send_of.Goals as goal
 
 pub returns : goal.returns
 returns c = λ items own f frame.
-    let p = program_in c.args.tokens.now.text.items items in
+    let p = program_in c.args.text.now items in
     let arguments = map expression_tree c.args.call.now.arguments.items in
     let reads =
     (c.in_ok-add_argument_reads.ensures items own).all f frame

@@ -6,12 +6,12 @@ use Rattle.resolving.proofs.sends.sent_by.Goals as goal
 
 pub returns-in_err-contract : goal.returns-in_err-contract
 returns-in_err-contract c = λ items own f around frame.
-    let p = program_in c.args.tokens.now.text.items items in
+    let p = program_in c.args.text.now items in
     ap (option_map meant_seen) c.from_residual.ensures
     ∙ ap (option_and_then (λ n. message_sent p n c.args.word)) (c.in_err-contract.ensures items f frame)
 
 pub returns : goal.returns
 returns c = λ items own f around frame.
-    let p = program_in c.args.tokens.now.text.items items in
+    let p = program_in c.args.text.now items in
     c.message_sent.ensures p own around
     ∙ ap (option_and_then (λ n. message_sent p n c.args.word)) (c.in_ok-contract.ensures items f frame)

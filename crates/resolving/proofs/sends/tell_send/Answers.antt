@@ -8,7 +8,7 @@ use Rattle.resolving.proofs.sends.tell_send.Goals as goal
 pub returns : goal.returns
 returns c = λ items own around. record {
   all = λ f frame.
-      let p = program_in c.args.tokens.now.text.items items in
+      let p = program_in c.args.text.now items in
       let call = call_tree c.args.call.now in
       let word = c.in-Some.word in
       ap Some (c.in_ok-send.ensures items own f frame)

@@ -14,7 +14,7 @@ use Rattle.resolving.proofs.sends.tell_stated.Goals as goal
 pub returns-in-Some : goal.returns-in-Some
 returns-in-Some c = λ items own around. record {
   all = λ f frame.
-      let p = program_in c.args.tokens.now.text.items items in
+      let p = program_in c.args.text.now items in
       let call = called p own f (call_tree c.args.call.now) None [] in
       sent_is c.in-Some.send
       ∙ ap (λ (o : Option Send). option_map_or seen.Send (option_map send_seen o) call) (sym c.in-Some.is)
@@ -23,7 +23,7 @@ returns-in-Some c = λ items own around. record {
 
 pub returns-in-None : goal.returns-in-None
 returns-in-None c = λ items own around.
-    let p = program_in c.args.tokens.now.text.items items in
+    let p = program_in c.args.text.now items in
     let call = call_tree c.args.call.now in
     told_as p.text c.args.locals.now c.tell_call.result (λ f. called p own f call None c.new.result.items) (λ f. stated_call p own f call)
     (λ f frame. ap (called p own f call None) c.new.ensures.items

@@ -4,7 +4,7 @@ use Rattle.std.specs.Prelude.{IfOk}
 use Rattle.std.specs.Option.{option_map}
 use Rattle.tree.specs.ExpressionTrees.{expression_tree}
 use Rattle.tree.specs.StatementTrees as trees
-use Rattle.tree.specs.StatementTrees.{BlockTree, CaseTrees, IfTree, SwitchTree, statement_tree, statement_row, block_tree, case_tree, case_row, if_tree, switch_tree, test_tree}
+use Rattle.tree.specs.StatementTrees.{CaseTrees, IfTree, SwitchTree, statement_tree, statement_row, block_tree, case_tree, case_row, if_tree, switch_tree, test_tree}
 use Rattle.tree.specs.declared.statement as stated
 use Rattle.program.specs.Statements as seen
 use Rattle.program.specs.Statements.{StatementSeen, BlockSeen, CasesSeen, IfSeen, statement_seen, block_seen, case_seen, if_seen, test_seen}
@@ -29,7 +29,7 @@ use Rattle.resolving.proofs.statements.+statements.Goals as goal
 
 pub tell_statements-loop-statement-preserved : goal.tell_statements-loop-statement-preserved
 tell_statements-loop-statement-preserved t c = λ items own f round h.
-    let text = c.args.tokens.now.text.items in
+    let text = c.args.text.now in
     let p = program_in text items in
     let stays = staying_seen c.args.stays in
     let xs = c.args.statements.now in
@@ -41,7 +41,7 @@ tell_statements-loop-statement-preserved t c = λ items own f round h.
 
 pub tell_statements-returns : goal.tell_statements-returns
 tell_statements-returns t c = λ items own f round h.
-    let text = c.args.tokens.now.text.items in
+    let text = c.args.text.now in
     let p = program_in text items in
     let stays = staying_seen c.args.stays in
     let xs = c.args.statements.now in
@@ -50,7 +50,7 @@ tell_statements-returns t c = λ items own f round h.
 
 pub tell_tests-loop-test-preserved : goal.tell_tests-loop-test-preserved
 tell_tests-loop-test-preserved t c = λ items own f round h.
-    let text = c.args.tokens.now.text.items in
+    let text = c.args.text.now in
     let p = program_in text items in
     let stays = staying_seen c.args.stays in
     let xs = c.args.tests.now in
@@ -62,14 +62,14 @@ tell_tests-loop-test-preserved t c = λ items own f round h.
 
 pub tell_tests-returns : goal.tell_tests-returns
 tell_tests-returns t c = λ items own f round h.
-    let text = c.args.tokens.now.text.items in
+    let text = c.args.text.now in
     let p = program_in text items in
     let stays = staying_seen c.args.stays in
     walks_all text (test_told p own stays) test_tree c.args.tests.now c.loop-test.test-index f _ c.loop-test.locals c.loop-test-test.false (c.loop-test.invariant items own f round h)
 
 pub tell_block-returns : goal.tell_block-returns
 tell_block-returns t c = λ items own f round h.
-    let text = c.args.tokens.now.text.items in
+    let text = c.args.text.now in
     let p = program_in text items in
     let stays = staying_seen c.args.stays in
     let block = c.args.block.now in
@@ -87,7 +87,7 @@ tell_block-returns t c = λ items own f round h.
 
 pub tell_if-returns : goal.tell_if-returns
 tell_if-returns t c = λ items own f round h.
-    let text = c.args.tokens.now.text.items in
+    let text = c.args.text.now in
     let p = program_in text items in
     let stays = staying_seen c.args.stays in
     let parts = stated.If.out-If c.args.branches.now in
@@ -103,7 +103,7 @@ tell_if-returns t c = λ items own f round h.
 
 pub tell_otherwise-returns-in_ok-block-in-Some : goal.tell_otherwise-returns-in_ok-block-in-Some
 tell_otherwise-returns-in_ok-block-in-Some t c = λ items own f round h.
-    let text = c.args.tokens.now.text.items in
+    let text = c.args.text.now in
     let p = program_in text items in
     let stays = staying_seen c.args.stays in
     subst (λ o. IsTold text (others_told p own stays (trees.last_other (option_map block_tree o)) f) (seen.Else (block_seen c.in_ok-block-in-Some.block)) c.tell_block.new.locals) (sym c.in-Some.is)
@@ -111,19 +111,19 @@ tell_otherwise-returns-in_ok-block-in-Some t c = λ items own f round h.
 
 pub tell_statement-returns-in_ok-tell_block-in-Block : goal.tell_statement-returns-in_ok-tell_block-in-Block
 tell_statement-returns-in_ok-tell_block-in-Block t c = λ items own f round h.
-    let p = program_in c.args.tokens.now.text.items items in
+    let p = program_in c.args.text.now items in
     told_as p own (staying_seen c.args.stays) f (ap statement_tree c.in-Block.is ∙ of_block c.in-Block.block) (seen_as.of_block c.in_ok-tell_block-in-Block.field-0)
     (made_told p.text seen.Block _ _ c.tell_block.new.locals (c.in_ok-tell_block-in-Block.ensures items own f round h))
 
 pub tell_statement-returns-in_ok-told-in-If : goal.tell_statement-returns-in_ok-told-in-If
 tell_statement-returns-in_ok-told-in-If t c = λ items own f round h.
-    let p = program_in c.args.tokens.now.text.items items in
+    let p = program_in c.args.text.now items in
     let tree = ap statement_tree c.in-If.is ∙ of_if c.in-If.branches ∙ ap (λ i. trees.If (if_tree i).first (if_tree i).others) (sym c.deref.ensures) in
     IfOk-weaker c.if_of.result _ _ (λ s is. told_as p own (staying_seen c.args.stays) f tree is (c.in_ok-told-in-If.ensures items own f round h)) c.if_of.ensures
 
 pub tell_statement-returns-in_ok-told-in-While : goal.tell_statement-returns-in_ok-told-in-While
 tell_statement-returns-in_ok-told-in-While t c = λ items own f round h.
-    let text = c.args.tokens.now.text.items in
+    let text = c.args.text.now in
     let p = program_in text items in
     let test = c.in_ok-told-in-While.told in
     let after = c.tell_test.new.locals in
@@ -134,7 +134,7 @@ tell_statement-returns-in_ok-told-in-While t c = λ items own f round h.
 
 pub tell_statement-returns-in_default : goal.tell_statement-returns-in_default
 tell_statement-returns-in_default t c = λ items own f round h.
-    let text = c.args.tokens.now.text.items in
+    let text = c.args.text.now in
     let p = program_in text items in
     let stays = staying_seen c.args.stays in
     let alone = flat_alone p own stays f c.args.statement.now (record {
@@ -149,13 +149,13 @@ tell_statement-returns-in_default t c = λ items own f round h.
 
 pub tell_test-returns : goal.tell_test-returns
 tell_test-returns t c = λ items own f round h.
-    let p = program_in c.args.tokens.now.text.items items in
+    let p = program_in c.args.text.now items in
     test_ends p own (staying_seen c.args.stays) f c.args.test.now c.add_reads.new.found c.ways_of.result c.in_ok-body.body c.tell_block.new.locals
     (c.in_ok-add_reads.ensures.all f h ∙ ap (λ l. l ++ reads p.text f.locals (expression_tree c.args.test.now.test)) c.new-reads.ensures.items) c.ways_of.ensures (c.in_ok-body.ensures items own f round h)
 
 pub tell_statement-returns-in_ok-cases-in-Switch : goal.tell_statement-returns-in_ok-cases-in-Switch
 tell_statement-returns-in_ok-cases-in-Switch t c = λ items own f round h.
-    let text = c.args.tokens.now.text.items in
+    let text = c.args.text.now in
     let p = program_in text items in
     let switch = c.deref-in-Switch-2.result.now in
     let tree = switch_tree switch in
@@ -172,7 +172,7 @@ tell_statement-returns-in_ok-cases-in-Switch t c = λ items own f round h.
 
 pub tell_case-returns : goal.tell_case-returns
 tell_case-returns t c = λ items own f round h.
-    let text = c.args.tokens.now.text.items in
+    let text = c.args.text.now in
     let p = program_in text items in
     let stays = staying_seen c.args.stays in
     let case = c.args.case.now in
@@ -209,7 +209,7 @@ tell_cases-loop-next-init t c =
     record {
       inside = first_inside c.args.switch.now;
       cases = λ items own f round h.
-          let p = program_in c.args.tokens.now.text.items items in
+          let p = program_in c.args.text.now items in
           let rest = case_row (map case_tree switch.others.items) in
           subst (λ (l : List made.Case.Case). CasesGo p own (staying_seen c.args.stays) switch.close.place f (trees.MoreCases (case_tree switch.first) rest) (map case_seen l) (case_tree switch.first) rest c.args.locals.now) (sym {A = List made.Case.Case} c.new-told.ensures.items)
           (cases_start p own (staying_seen c.args.stays) switch.close.place f (case_tree switch.first) rest c.args.locals.now h);
@@ -227,7 +227,7 @@ tell_cases-loop-next-preserved t c =
     record {
       inside = other_inside c.args.switch.now i next lt at;
       cases = λ items own f round h.
-          let p = program_in c.args.tokens.now.text.items items in
+          let p = program_in c.args.text.now items in
           let all = trees.MoreCases (case_tree switch.first) (case_row (map case_tree others)) in
           let after = c.tell_case.new.locals in
           subst (λ l. CasesGo p own (staying_seen c.args.stays) switch.close.place f all (map case_seen l) (case_tree next) (case_row (map case_tree (drop (i + 1) others))) after) (sym {A = List made.Case.Case} c.in_ok-push.ensures.items)
@@ -237,7 +237,7 @@ tell_cases-loop-next-preserved t c =
 
 pub tell_cases-returns : goal.tell_cases-returns
 tell_cases-returns t c = λ items own f round h.
-    let text = c.args.tokens.now.text.items in
+    let text = c.args.text.now in
     let p = program_in text items in
     let stays = staying_seen c.args.stays in
     let switch = stated.Switch.out-Switch c.args.switch.now in

@@ -12,17 +12,17 @@ use Rattle.resolving.proofs.CaseLemmas.{CasesGo}
 use Rattle.resolving.proofs.statements.+statements.Given as goal
 
 abbrev pub invariant-tell_statements-loop-statement : goal.invariant-tell_statements-loop-statement
-invariant-tell_statements-loop-statement l = (items : List ItemTree) (own : ℕ) (f : Frame) → IsAround (program_in l.tokens.text.items items) own l.around → IsFrame l.tokens.text.items f l.fn.locals
-    → IsTold l.tokens.text.items (walked (λ s. statement_told (program_in l.tokens.text.items items) own (staying_seen l.stays) (statement_tree s)) (take l.statement-index l.statements) f) (map statement_seen l.told.items) l.locals
+invariant-tell_statements-loop-statement l = (items : List ItemTree) (own : ℕ) (f : Frame) → IsAround (program_in l.text items) own l.around → IsFrame l.text f l.fn.locals
+    → IsTold l.text (walked (λ s. statement_told (program_in l.text items) own (staying_seen l.stays) (statement_tree s)) (take l.statement-index l.statements) f) (map statement_seen l.told.items) l.locals
 
 abbrev pub invariant-tell_tests-loop-test : goal.invariant-tell_tests-loop-test
-invariant-tell_tests-loop-test l = (items : List ItemTree) (own : ℕ) (f : Frame) → IsAround (program_in l.tokens.text.items items) own l.around → IsFrame l.tokens.text.items f l.fn.locals
-    → IsTold l.tokens.text.items (walked (λ t. test_told (program_in l.tokens.text.items items) own (staying_seen l.stays) (test_tree t)) (take l.test-index l.tests) f) (map test_seen l.told.items) l.locals
+invariant-tell_tests-loop-test l = (items : List ItemTree) (own : ℕ) (f : Frame) → IsAround (program_in l.text items) own l.around → IsFrame l.text f l.fn.locals
+    → IsTold l.text (walked (λ t. test_told (program_in l.text items) own (staying_seen l.stays) (test_tree t)) (take l.test-index l.tests) f) (map test_seen l.told.items) l.locals
 
 abbrev pub invariant-tell_cases-loop-next : goal.invariant-tell_cases-loop-next
 invariant-tell_cases-loop-next l = record {
   inside : stated.Case.size-Case l.case < stated.Switch.size-Switch l.switch;
-  cases : (items : List ItemTree) (own : ℕ) (f : Frame) → IsAround (program_in l.tokens.text.items items) own l.around → IsFrame l.tokens.text.items f l.fn.locals
-      → CasesGo (program_in l.tokens.text.items items) own (staying_seen l.stays) (stated.Switch.out-Switch l.switch).close.place f (MoreCases (case_tree (stated.Switch.out-Switch l.switch).first) (case_row (map case_tree (stated.Switch.out-Switch l.switch).others.items)))
+  cases : (items : List ItemTree) (own : ℕ) (f : Frame) → IsAround (program_in l.text items) own l.around → IsFrame l.text f l.fn.locals
+      → CasesGo (program_in l.text items) own (staying_seen l.stays) (stated.Switch.out-Switch l.switch).close.place f (MoreCases (case_tree (stated.Switch.out-Switch l.switch).first) (case_row (map case_tree (stated.Switch.out-Switch l.switch).others.items)))
       (map case_seen l.told.items) (case_tree l.case) (case_row (map case_tree (drop l.next-index (stated.Switch.out-Switch l.switch).others.items))) l.locals;
 }

@@ -8,8 +8,8 @@ use Rattle.resolving.proofs.values.tell_assigned.Goals as goal
 
 pub returns-in-Some : goal.returns-in-Some
 returns-in-Some c = λ items own around.
-    let p = program_in c.args.tokens.now.text.items items in
-    let text = c.args.tokens.now.text.items in
+    let p = program_in c.args.text.now items in
+    let text = c.args.text.now in
     let locals = c.args.locals.now in
     let value = c.args.value.now in
     told_as text locals c.tell_taken.result (λ f. taken p own f c.in-Some.target (value_tree value)) (λ f. assigned p own f c.args.target (value_tree value))
@@ -17,8 +17,8 @@ returns-in-Some c = λ items own around.
 
 pub returns-in-None : goal.returns-in-None
 returns-in-None c = λ items own around.
-    let p = program_in c.args.tokens.now.text.items items in
-    let text = c.args.tokens.now.text.items in
+    let p = program_in c.args.text.now items in
+    let text = c.args.text.now in
     let locals = c.args.locals.now in
     let value = c.args.value.now in
     told_as text locals c.tell_scalar.result (λ f. scalar_taken p own f (value_tree value)) (λ f. assigned p own f c.args.target (value_tree value))

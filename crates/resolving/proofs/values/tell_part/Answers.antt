@@ -9,8 +9,8 @@ use Rattle.resolving.proofs.values.tell_part.Goals as goal
 
 pub returns-in-Call : goal.returns-in-Call
 returns-in-Call c = λ items own around.
-    let p = program_in c.args.tokens.now.text.items items in
-    let text = c.args.tokens.now.text.items in
+    let p = program_in c.args.text.now items in
+    let text = c.args.text.now in
     let locals = c.args.locals.now in
     let value = c.args.value.now in
     told_as text locals c.tell_part_called.result (λ f. part_taken p own f c.args.index.items c.args.whole (values.Call (call_tree c.deref.result.now))) (λ f. part_taken p own f c.args.index.items c.args.whole (value_tree value))
@@ -19,8 +19,8 @@ returns-in-Call c = λ items own around.
 
 pub returns-in-New : goal.returns-in-New
 returns-in-New c = λ items own around.
-    let p = program_in c.args.tokens.now.text.items items in
-    let text = c.args.tokens.now.text.items in
+    let p = program_in c.args.text.now items in
+    let text = c.args.text.now in
     let locals = c.args.locals.now in
     let value = c.args.value.now in
     let made = made_tree c.in-New.new.made in

@@ -8,7 +8,7 @@ use Rattle.resolving.proofs.values.tell_part_called.Goals as goal
 
 pub returns : goal.returns
 returns c = λ items own around.
-    let p = program_in c.args.tokens.now.text.items items in
+    let p = program_in c.args.text.now items in
     let call = call_tree c.args.call.now in
-    told_as c.args.tokens.now.text.items c.args.locals.now c.tell_call.result (λ f. called p own f call None c.add_listed.new.found.items) (λ f. part_taken p own f c.args.index.items c.args.whole (values.Call call))
+    told_as c.args.text.now c.args.locals.now c.tell_call.result (λ f. called p own f call None c.add_listed.new.found.items) (λ f. part_taken p own f c.args.index.items c.args.whole (values.Call call))
     (λ f frame. ap (called p own f call None) c.in_ok-add_listed.ensures) (c.tell_call.ensures items own around)

@@ -10,15 +10,15 @@ use Rattle.resolving.proofs.values.tell_taken.Goals as goal
 pub returns-in-Expression : goal.returns-in-Expression
 returns-in-Expression c = λ items own around. record {
   all = λ f frame.
-      let p = program_in c.args.tokens.now.text.items items in
+      let p = program_in c.args.text.now items in
       c.unread.ensures ∙ ap (told []) (c.moving.ensures ∙ ap (moved c.args.target) (c.alone-source.ensures items own f frame))
       ∙ ap (λ (v : Value). taken p own f c.args.target (value_tree v)) (sym c.in-Expression.is);
 }
 
 pub returns-in-Call : goal.returns-in-Call
 returns-in-Call c = λ items own around.
-    let p = program_in c.args.tokens.now.text.items items in
-    let text = c.args.tokens.now.text.items in
+    let p = program_in c.args.text.now items in
+    let text = c.args.text.now in
     let locals = c.args.locals.now in
     let value = c.args.value.now in
     told_as text locals c.tell_call.result (λ f. called p own f (call_tree c.deref.result.now) (Some c.args.target) c.new-behind.result.items) (λ f. taken p own f c.args.target (value_tree value))
@@ -27,8 +27,8 @@ returns-in-Call c = λ items own around.
 
 pub returns-in-New : goal.returns-in-New
 returns-in-New c = λ items own around.
-    let p = program_in c.args.tokens.now.text.items items in
-    let text = c.args.tokens.now.text.items in
+    let p = program_in c.args.text.now items in
+    let text = c.args.text.now in
     let locals = c.args.locals.now in
     let value = c.args.value.now in
     let made = made_tree c.in-New.new.made in

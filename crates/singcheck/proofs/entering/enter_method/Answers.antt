@@ -11,17 +11,17 @@ use Rattle.singcheck.proofs.entering.enter_method.Goals.{After-entry_place}
 
 pub entry_place-requires : goal.entry_place-requires
 entry_place-requires c = record {
-  few = let p = program_of c.args.tokens.now.text.items c.args.tree.now in
+  few = let p = program_of c.args.text.now c.args.tree.now in
       omega (arith, all_named p 0 p.items, ap (λ l. length l) c.requires.program.methods, c.requires.few);
 }
 
 -- where the entry is looked for
-looked : (c : After-entry_place) → IsLooked (method_names c.args.tokens.now.text.items (program_tree c.args.tree.now)) c.args.entry.now c.entry_place.result
+looked : (c : After-entry_place) → IsLooked (method_names c.args.text.now (program_tree c.args.tree.now)) c.args.entry.now c.entry_place.result
 looked c = record { some = c.entry_place.ensures.some; none = c.entry_place.ensures.none }
 
 pub returns-in_default-clause-entered : goal.returns-in_default-clause-entered
 returns-in_default-clause-entered c =
-    let text = c.args.tokens.now.text.items in
+    let text = c.args.text.now in
     let items = program_tree c.args.tree.now in
     let names = method_names text items in
     let look = looked (goal.at.returns-in_default-clause-entered c).After-entry_place in
@@ -33,7 +33,7 @@ returns-in_default-clause-entered c =
 
 pub returns-clause-entered : goal.returns-clause-entered
 returns-clause-entered c =
-    let text = c.args.tokens.now.text.items in
+    let text = c.args.text.now in
     let items = program_tree c.args.tree.now in
     let names = method_names text items in
     let look = looked (goal.at.returns-clause-entered c).After-entry_place in
@@ -47,7 +47,7 @@ returns-clause-entered c =
 
 pub returns-clause-safe : goal.returns-clause-safe
 returns-clause-safe c = λ q has.
-    let text = c.args.tokens.now.text.items in
+    let text = c.args.text.now in
     let p = seen_of c.args.program in
     let mine = has_program text (program_tree c.args.tree.now) p c.requires.program c.requires.sound in
     subst AreReplaysSafe (c.one_program.ensures text p q mine has) c.requires.safe

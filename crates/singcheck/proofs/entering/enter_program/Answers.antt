@@ -10,12 +10,12 @@ use Rattle.singcheck.proofs.entering.enter_program.Goals as goal
 
 pub judged_program-requires : goal.judged_program-requires
 judged_program-requires c =
-    let named = subst (IsNamed c.args.tokens.now.text.items (program_tree c.args.tree.now)) c.in-Methods.is c.in_ok-findings.ensures in
+    let named = subst (IsNamed c.args.text.now (program_tree c.args.tree.now)) c.in-Methods.is c.in_ok-findings.ensures in
     record { whole = named.whole; few = named.room }
 
 pub enter_method-requires : goal.enter_method-requires
 enter_method-requires c =
-    let text = c.args.tokens.now.text.items in
+    let text = c.args.text.now in
     let items = program_tree c.args.tree.now in
     let p = seen_of c.in-Program.program in
     let built = subst (IsBuilt (program_seen c.in-Methods.methods)) c.in-Program.is c.in_ok-findings-2.ensures in
@@ -28,11 +28,11 @@ enter_method-requires c =
     }
 
 pub returns-in-Found-clause-entered : goal.returns-in-Found-clause-entered
-returns-in-Found-clause-entered c = subst (IsNamed c.args.tokens.now.text.items (program_tree c.args.tree.now)) c.in-Found.is c.in_ok-findings.ensures
+returns-in-Found-clause-entered c = subst (IsNamed c.args.text.now (program_tree c.args.tree.now)) c.in-Found.is c.in_ok-findings.ensures
 
 pub returns-in-Found-2-clause-entered : goal.returns-in-Found-2-clause-entered
 returns-in-Found-2-clause-entered c =
-    let text = c.args.tokens.now.text.items in
+    let text = c.args.text.now in
     let items = program_tree c.args.tree.now in
     let p = program_seen c.in-Methods.methods in
     let found = map finding_parts c.in-Found-2.findings.items in

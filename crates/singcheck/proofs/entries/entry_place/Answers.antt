@@ -13,10 +13,10 @@ names_of : List ℕ → Item → List (List ℕ)
 names_of text i = names_in text (definition_tree i.definition)
 
 -- the names of the items, as the code has them
-whole_is : (c : After-deref-item-items) → method_names c.args.tokens.now.text.items (program_tree c.args.tree.now) ≡ flat_map (names_of c.args.tokens.now.text.items) c.deref-item-items.result.now
+whole_is : (c : After-deref-item-items) → method_names c.args.text.now (program_tree c.args.tree.now) ≡ flat_map (names_of c.args.text.now) c.deref-item-items.result.now
 unfolding names_of
 whole_is c =
-    let text = c.args.tokens.now.text.items in
+    let text = c.args.text.now in
     flat_map-map (λ (i : ItemTree). names_in text i.definition) item_tree c.args.tree.now.items.items ∙ ap (flat_map (names_of text)) (sym c.deref-item-items.ensures.value)
 
 pub overflow_add-result : goal.overflow_add-result
@@ -27,14 +27,14 @@ overflow_add-result c =
       arith,
       c.requires.few,
       whole,
-      fits_first (names_of c.args.tokens.now.text.items) c.deref-item-items.result.now c.loop-item.item-index c.item-item.result c.args.entry.now c.in-Some.place c.loop-item.before
+      fits_first (names_of c.args.text.now) c.deref-item-items.result.now c.loop-item.item-index c.item-item.result c.args.entry.now c.in-Some.place c.loop-item.before
           c.loop-item-test.true c.item-item.is c.loop-item.invariant.counted c.in-Some.ensures.some,
     )
 
 pub returns-in-Some-clause-some : goal.returns-in-Some-clause-some
 unfolding names_of
 returns-in-Some-clause-some c =
-    let row = names_of c.args.tokens.now.text.items in
+    let row = names_of c.args.text.now in
     let xs = c.deref-item-items.result.now in
     let i = c.loop-item.item-index in
     let x = c.item-item.result in
@@ -49,27 +49,27 @@ overflow_add-before c =
       arith,
       c.requires.few,
       whole,
-      c.methods_of-before.ensures c.args.tokens.now.text.items,
-      fits_row (names_of c.args.tokens.now.text.items) c.deref-item-items.result.now c.loop-item.item-index c.item-item.result c.loop-item.before
+      c.methods_of-before.ensures c.args.text.now,
+      fits_row (names_of c.args.text.now) c.deref-item-items.result.now c.loop-item.item-index c.item-item.result c.loop-item.before
           c.loop-item-test.true c.item-item.is c.loop-item.invariant.counted,
     )
 
 pub loop-item-preserved : goal.loop-item-preserved
 unfolding names_of
 loop-item-preserved c =
-    let row = names_of c.args.tokens.now.text.items in
+    let row = names_of c.args.text.now in
     let xs = c.deref-item-items.result.now in
     let i = c.loop-item.item-index in
     let x = c.item-item.result in
     let more = rows_more row xs i x c.loop-item-test.true c.item-item.is in
     record {
-      counted = ap₂ (λ a b. a + b) c.loop-item.invariant.counted (c.methods_of-before.ensures c.args.tokens.now.text.items) ∙ sym (ap (λ l. length l) more ∙ length-append (flat_map row (take i xs)) (row x));
+      counted = ap₂ (λ a b. a + b) c.loop-item.invariant.counted (c.methods_of-before.ensures c.args.text.now) ∙ sym (ap (λ l. length l) more ∙ length-append (flat_map row (take i xs)) (row x));
       others = subst (Each (λ (n : List ℕ). n ≢ c.args.entry.now)) (sym more) (each_append (λ (n : List ℕ). n ≢ c.args.entry.now) (flat_map row (take i xs)) (row x) c.loop-item.invariant.others c.in_default.ensures.none);
     }
 
 pub returns-clause-none : goal.returns-clause-none
 unfolding names_of
 returns-clause-none c =
-    let row = names_of c.args.tokens.now.text.items in
+    let row = names_of c.args.text.now in
     let xs = c.deref-item-items.result.now in
     subst (Each (λ (n : List ℕ). n ≢ c.args.entry.now)) (ap (flat_map row) (take_all c.loop-item.item-index xs c.loop-item-test.false) ∙ sym (whole_is (goal.at.returns-clause-none c).After-deref-item-items)) c.loop-item.invariant.others

@@ -8,6 +8,6 @@ use Rattle.singcheck.proofs.entries.entry_place.Given as goal
 -- no method so far has the name, and so many there are
 abbrev pub invariant-loop-item : goal.invariant-loop-item
 invariant-loop-item l = record {
-  counted : l.before ≡ length (flat_map (λ i. names_in l.tokens.text.items (definition_tree i.definition)) (take l.item-index l.item-items));
-  others : Each (λ x. x ≢ l.entry) (flat_map (λ i. names_in l.tokens.text.items (definition_tree i.definition)) (take l.item-index l.item-items));
+  counted : l.before ≡ length (flat_map (λ i. names_in l.text (definition_tree i.definition)) (take l.item-index l.item-items));
+  others : Each (λ x. x ≢ l.entry) (flat_map (λ i. names_in l.text (definition_tree i.definition)) (take l.item-index l.item-items));
 }

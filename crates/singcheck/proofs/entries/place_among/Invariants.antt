@@ -6,4 +6,4 @@ use Rattle.singcheck.proofs.entries.place_among.Given as goal
 
 -- no method so far has the name
 abbrev pub invariant-loop-place : goal.invariant-loop-place
-invariant-loop-place l = Each (λ x. x ≢ l.entry) (map (λ m. full_name l.tokens.text.items l.class (method_tree m)) (take l.place l.methods))
+invariant-loop-place l = Each (λ x. x ≢ l.entry) (map (λ m. full_name l.text l.class (method_tree m)) (take l.place l.methods))

@@ -9,12 +9,12 @@ use Rattle.singcheck.proofs.entries.struct_names.Goals as goal
 
 pub loop-item-preserved : goal.loop-item-preserved
 loop-item-preserved c =
-    let row = λ (i : Item). struct_in c.args.tokens.now.text.items (definition_tree i.definition) in
+    let row = λ (i : Item). struct_in c.args.text.now (definition_tree i.definition) in
     c.in_ok-add_struct.ensures ∙ ap (λ l. l ++ row c.item-item.result) c.loop-item.invariant ∙ sym (rows_more row c.deref-item-items.result.now c.loop-item.item-index c.item-item.result c.loop-item-test.true c.item-item.is)
 
 pub returns : goal.returns
 returns c =
-    let text = c.args.tokens.now.text.items in
+    let text = c.args.text.now in
     let row = λ (i : Item). struct_in text (definition_tree i.definition) in
     c.loop-item.invariant ∙ ap (flat_map row) (take_all c.loop-item.item-index c.deref-item-items.result.now c.loop-item-test.false ∙ c.deref-item-items.ensures.value)
     ∙ sym (flat_map-map (λ (i : ItemTree). struct_in text i.definition) item_tree c.args.tree.now.items.items)

@@ -7,4 +7,4 @@ use Rattle.singcheck.proofs.entries.struct_names.Given as goal
 
 -- the structs so far
 abbrev pub invariant-loop-item : goal.invariant-loop-item
-invariant-loop-item l = map string_bytes l.names.items ≡ flat_map (λ i. struct_in l.tokens.text.items (definition_tree i.definition)) (take l.item-index l.item-items)
+invariant-loop-item l = map string_bytes l.names.items ≡ flat_map (λ i. struct_in l.text (definition_tree i.definition)) (take l.item-index l.item-items)

@@ -14,7 +14,7 @@ use Rattle.singcheck.proofs.programs.named_methods.Goals as goal
 
 pub well_formed_methods-requires : goal.well_formed_methods-requires
 well_formed_methods-requires c =
-    let few = few_contracts c.args.tokens.now.text.items (program_tree c.args.tree.now) c.args.tokens.now.list.items c.in-Ok.resolved.contracts.items contract_seen c.requires.spelled c.in-Ok.ensures.resolved in
+    let few = few_contracts c.args.text.now (program_tree c.args.tree.now) c.in-Ok.resolved.contracts.items contract_seen c.in-Ok.ensures.resolved in
     record {
       contracts = c.in-Ok.ensures.resolved;
       room = omega (arith, few, c.requires.few);
@@ -23,16 +23,16 @@ well_formed_methods-requires c =
 
 pub returns-in_ok-well_formed_methods-in-Ok : goal.returns-in_ok-well_formed_methods-in-Ok
 returns-in_ok-well_formed_methods-in-Ok c =
-    let text = c.args.tokens.now.text.items in
+    let text = c.args.text.now in
     let items = program_tree c.args.tree.now in
     let resolved = c.in-Ok.resolved.contracts.items in
     let told = c.in_ok-well_formed_methods-in-Ok.ensures in
-    let few = few_contracts text items c.args.tokens.now.list.items resolved contract_seen c.requires.spelled c.in-Ok.ensures.resolved in
+    let few = few_contracts text items resolved contract_seen c.in-Ok.ensures.resolved in
     let size = length-map resolved contract_seen in
     let same = ap length told.contracts in
     record {
       names = record {
-        parsed = record { tokens = c.args.tokens.now.list.items; lexed = c.requires.lexed; spelled = c.requires.spelled };
+        parsed = c.requires.parsed;
         clean = c.in-Ok.ensures.clean;
         contracts = told.contracts ∙ c.in-Ok.ensures.resolved;
         messages = told.messages;
@@ -46,8 +46,8 @@ returns-in_ok-well_formed_methods-in-Ok c =
 
 pub returns-in-Err-Found : goal.returns-in-Err-Found
 returns-in-Err-Found c =
-    let text = c.args.tokens.now.text.items in
+    let text = c.args.text.now in
     let items = program_tree c.args.tree.now in
-    let parsed : IsProgram text items = record { tokens = c.args.tokens.now.list.items; lexed = c.requires.lexed; spelled = c.requires.spelled } in
+    let parsed : IsProgram text items = c.requires.parsed in
     let told = explained (program_of text c.args.tree.now) c.in-Err-Found.field-0 c.in-Err-Found.findings c.in-Err-Found.field-0-is c.in-Err-Found.ensures.found in
     subst (λ (v : Vec Finding Global). AreFindings text (map finding_parts v.items)) (sym c.in-Err-Found.findings-is) (misnamed text items c.in-Err-Found.findings.items parsed told)

@@ -15,12 +15,12 @@ returns-in_ok-push-in-Sound c = λ seen at.
     let judged = subst (IsJudged (contract_parts c.edges.result.now)) c.in-Sound.is c.in_ok-sound.ensures in
     keeps_is seen _ _ _ c.in-Sound.sound (parts_at c.args.resolved.now.contracts.items c.args.id.0 _ seen c.edges.ensures at) judged.1 judged.0 c.in_ok-push-in-Sound.ensures.items refl
 
-pub returns-in_ok-append-in-Broken : goal.returns-in_ok-append-in-Broken
-returns-in_ok-append-in-Broken c = λ seen at.
+pub returns-in_ok-add_found-in-Broken : goal.returns-in_ok-add_found-in-Broken
+returns-in_ok-add_found-in-Broken c = λ seen at.
     let judged = subst (IsJudged (contract_parts c.edges.result.now)) c.in-Broken.is c.in_ok-sound.ensures in
     let same = parts_at c.args.resolved.now.contracts.items c.args.id.0 _ seen c.edges.ensures at in
     adds_is seen _ _ _ _ same same judged.0 (record {
       more = map finding_parts c.in-Broken.found.items;
       exactly = judged.1;
-      added = ap (map finding_parts) c.in_ok-append-in-Broken.ensures.items ∙ map-append finding_parts c.args.judging.now.findings.items c.in-Broken.found.items;
+      added = ap (map finding_parts) c.in_ok-add_found-in-Broken.ensures ∙ map-append finding_parts c.args.judging.now.findings.items c.in-Broken.found.items;
     })

@@ -14,7 +14,7 @@ use Rattle.singcheck.proofs.stages.staged_names.Goals as goal
 
 pub staged_contracts-requires : goal.staged_contracts-requires
 staged_contracts-requires c =
-    let few = few_contracts c.args.tokens.text.items (program_tree c.args.tree) c.args.tokens.list.items c.in-Ok.resolved.contracts.items contract_seen c.requires.spelled c.in-Ok.ensures.resolved in
+    let few = few_contracts c.args.text.now (program_tree c.args.tree) c.in-Ok.resolved.contracts.items contract_seen c.in-Ok.ensures.resolved in
     record {
       whole = All-map (λ s. IsWhole s.parts) contract_seen c.in-Ok.resolved.contracts.items c.in-Ok.ensures.whole;
       few = omega (arith, few, c.requires.few);
@@ -22,10 +22,10 @@ staged_contracts-requires c =
 
 pub returns-in-Ok : goal.returns-in-Ok
 returns-in-Ok c =
-    let text = c.args.tokens.text.items in
+    let text = c.args.text.now in
     let resolved : IsResolved text (map contract_seen c.in-Ok.resolved.contracts.items) = record {
       items = program_tree c.args.tree;
-      parsed = record { tokens = c.args.tokens.list.items; lexed = c.requires.lexed; spelled = c.requires.spelled };
+      parsed = c.requires.parsed;
       clean = c.in-Ok.ensures.clean;
       are = c.in-Ok.ensures.resolved;
     } in
@@ -33,8 +33,8 @@ returns-in-Ok c =
 
 pub returns-in-Err-Found : goal.returns-in-Err-Found
 returns-in-Err-Found c =
-    let text = c.args.tokens.text.items in
+    let text = c.args.text.now in
     let items = program_tree c.args.tree in
-    let parsed : IsProgram text items = record { tokens = c.args.tokens.list.items; lexed = c.requires.lexed; spelled = c.requires.spelled } in
+    let parsed : IsProgram text items = c.requires.parsed in
     let told = explained (program_of text c.args.tree) c.in-Err-Found.field-0 c.in-Err-Found.found c.in-Err-Found.field-0-is c.in-Err-Found.ensures.found in
     subst (λ (v : Vec Finding Global). AreFindings text (map finding_parts v.items)) (sym c.in-Err-Found.found-is) (misnamed text items c.in-Err-Found.found.items parsed told)

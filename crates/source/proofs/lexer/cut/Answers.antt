@@ -33,8 +33,11 @@ returns-then-depth-gt-MAX_DEPTH-clause-fault c = λ _.
     fault_here c.args.mark body c.pieces.at c.pieces.list.items c.pieces.place c.pieces.depth (TooDeep c.pieces.place) c.pieces.invariant
     (deep_here c.pieces.place c.pieces.depth c.after-depth.result (drop c.pieces.at body) c.in_ok-piece.piece c.in-Some.kind (piece_is (goal.at.returns-then-depth-gt-MAX_DEPTH-clause-fault c).In_ok-piece) c.in-Some.is c.after-depth.ensures c.if-depth-gt-MAX_DEPTH.true)
 
-pub after-place-requires-clause-col : goal.after-place-requires-clause-col
-after-place-requires-clause-col c =
+pub behind-place-requires-clause-first : goal.behind-place-requires-clause-first
+behind-place-requires-clause-first c = c.in_ok-piece.ensures.found
+
+pub behind-place-requires-clause-col : goal.behind-place-requires-clause-col
+behind-place-requires-clause-col c =
     let body = c.args.body.now in
     let small = place_small (take c.pieces.at body) c.pieces.at (omega (arith, length-take c.pieces.at body)) in
     let at = ap (λ p. p.col) c.pieces.invariant.place_is in
@@ -46,8 +49,8 @@ pieces-preserved c =
     let at = c.pieces.at in
     let piece = c.in_ok-piece.piece in
     let first : IsFirst (drop at body) piece = piece_is (goal.at.pieces-preserved c).In_ok-piece in
-    reached_more c.args.mark body at c.pieces.list.items c.match-piece.list.items c.pieces.place c.after-place.result c.pieces.depth c.match-piece.depth piece c.pieces.invariant first
+    reached_more c.args.mark body at c.pieces.list.items c.match-piece.list.items c.pieces.place c.behind-place.result c.pieces.depth c.match-piece.depth piece c.pieces.invariant first
     (elim c.match-piece.branch [ in-Some+else-depth-gt-MAX_DEPTH+in_ok-push w ↦ ap (λ v. v.items) w.list-is ∙ w.in_ok-push.ensures.items ∙ pushed c.args.mark body at c.pieces.list.items c.pieces.place c.pieces.depth piece w.in-Some.kind c.pieces.invariant first w.in-Some.is | in_default w ↦ ap (λ v. v.items) w.list-is ∙ sym (append-nil c.pieces.list.items) ∙ ap (λ k. c.pieces.list.items ++ token_of k c.args.mark (take at body) (take piece.len (drop at body))) (sym w.in_default.is) ])
-    (c.after-place.ensures (take at body) c.pieces.invariant.place_is ∙ ap (λ r. place_of (take at body ++ take piece.len r)) (take_rest body at))
+    (c.behind-place.ensures (take at body) c.pieces.invariant.place_is ∙ ap (λ r. place_of (take at body ++ take piece.len r)) (take_rest body at))
     (elim c.match-piece.branch [ in-Some+else-depth-gt-MAX_DEPTH+in_ok-push w ↦ w.depth-is ∙ w.after-depth.ensures ∙ ap (λ k. option_map_or (depth_after c.pieces.depth) k c.pieces.depth) (sym w.in-Some.is) | in_default w ↦ w.depth-is ∙ ap (λ k. option_map_or (depth_after c.pieces.depth) k c.pieces.depth) (sym w.in_default.is) ])
     (elim c.match-piece.branch [ in-Some+else-depth-gt-MAX_DEPTH+in_ok-push w ↦ omega (arith, c.pieces.invariant.low) | in_default w ↦ omega (arith, c.pieces.invariant.low) ])

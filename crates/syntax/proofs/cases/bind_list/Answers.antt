@@ -15,10 +15,10 @@ returns-in_err-bind c = exits (λ v. v.items) (listed bind) binds_on binds_at _ 
     (λ h. open_first_fails bind_item (test_leads opens_type _ refl (ap opens_type (sym c.peek.ensures.kind) ∙ sym c.is_type.ensures ∙ c.if-not-is_type.false)) h)
 
 pub more-init : goal.more-init
-more-init c = list_begun c.in_ok-bind.field-0 c.push.new.self.items _ _ (c.in_ok-push.ensures.items ∙ ap (λ t. t ++ c.in_ok-bind.field-0 ∷ []) c.new-all.ensures.items) c.in_ok-bind.ensures
+more-init c = list_begun c.in_ok-bind.field-0 c.push.new.all.items _ _ (c.in_ok-push.ensures ∙ ap (λ t. t ++ c.in_ok-bind.field-0 ∷ []) c.new-all.ensures.items) c.in_ok-bind.ensures
 
 pub more-preserved : goal.more-preserved
-more-preserved c = list_more c.in_ok-comma_bind.field-0 c.more.all.items c.push-in-more.new.self.items _ _ _ c.in_ok-push-2.ensures.items c.more.invariant c.in_ok-comma_bind.ensures
+more-preserved c = list_more c.in_ok-comma_bind.field-0 c.more.all.items c.push-in-more.new.all.items _ _ _ c.in_ok-push-2.ensures c.more.invariant c.in_ok-comma_bind.ensures
 
 pub returns-in_err-comma_bind : goal.returns-in_err-comma_bind
 returns-in_err-comma_bind c =

@@ -21,5 +21,5 @@ returns-in_err-member c = exits (λ v. map member_tree v.items) (flat_map member
 pub each-preserved : goal.each-preserved
 each-preserved c = record {
   read = grind (arith, common_steps);
-  ended = members_end_at c.in_ok-member.field-0 c.each.all.items c.push.new.self.items _ c.in_ok-push.ensures.items c.in_ok-member.ensures.1;
+  ended = members_end_at c.in_ok-member.field-0 c.each.all.items c.push.new.all.items _ c.in_ok-push.ensures c.in_ok-member.ensures.1;
 }

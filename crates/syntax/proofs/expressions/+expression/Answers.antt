@@ -47,7 +47,7 @@ conjunctions-returns-in_err-or_conjunction t c = exits (λ v. map (unmarked conj
 pub conjunctions-each-preserved : goal.conjunctions-each-preserved
 conjunctions-each-preserved t c = record {
   read = grind (arith, common_steps);
-  ended = last_step Or (unmarked conjunction_tree) c.in_ok-or_conjunction.field-0 c.each.all.items c.push.new.self.items _ c.in_ok-push.ensures.items c.in_ok-or_conjunction.ensures.1;
+  ended = last_step Or (unmarked conjunction_tree) c.in_ok-or_conjunction.field-0 c.each.all.items c.push.new.all.items _ c.in_ok-push.ensures c.in_ok-or_conjunction.ensures.1;
   shorter = grind (arith, common_steps);
 }
 
@@ -80,7 +80,7 @@ equalities-returns-in_err-and_equality t c = exits (λ v. map (unmarked equality
 pub equalities-each-preserved : goal.equalities-each-preserved
 equalities-each-preserved t c = record {
   read = grind (arith, common_steps);
-  ended = last_step And (unmarked equality_tree) c.in_ok-and_equality.field-0 c.each.all.items c.push.new.self.items _ c.in_ok-push.ensures.items c.in_ok-and_equality.ensures.1;
+  ended = last_step And (unmarked equality_tree) c.in_ok-and_equality.field-0 c.each.all.items c.push.new.all.items _ c.in_ok-push.ensures c.in_ok-and_equality.ensures.1;
   shorter = grind (arith, common_steps);
 }
 
@@ -113,7 +113,7 @@ equality_steps-returns-in_err-equality_step t c = exits (λ v. map equality_step
 pub equality_steps-each-preserved : goal.equality_steps-each-preserved
 equality_steps-each-preserved t c = record {
   read = grind (arith, common_steps);
-  ended = last_step Equal equality_step_tree c.in_ok-equality_step.field-0 c.each.all.items c.push.new.self.items _ c.in_ok-push.ensures.items c.in_ok-equality_step.ensures.1;
+  ended = last_step Equal equality_step_tree c.in_ok-equality_step.field-0 c.each.all.items c.push.new.all.items _ c.in_ok-push.ensures c.in_ok-equality_step.ensures.1;
   shorter = grind (arith, common_steps);
 }
 
@@ -147,7 +147,7 @@ relation_steps-returns-in_err-relation_step t c = exits (λ v. map relation_step
 pub relation_steps-each-preserved : goal.relation_steps-each-preserved
 relation_steps-each-preserved t c = record {
   read = grind (arith, common_steps);
-  ended = last_step Compare relation_step_tree c.in_ok-relation_step.field-0 c.each.all.items c.push.new.self.items _ c.in_ok-push.ensures.items c.in_ok-relation_step.ensures.1;
+  ended = last_step Compare relation_step_tree c.in_ok-relation_step.field-0 c.each.all.items c.push.new.all.items _ c.in_ok-push.ensures c.in_ok-relation_step.ensures.1;
   shorter = grind (arith, common_steps);
 }
 
@@ -181,7 +181,7 @@ sum_steps-returns-in_err-sum_step t c = exits (λ v. map sum_step_tree v.items) 
 pub sum_steps-each-preserved : goal.sum_steps-each-preserved
 sum_steps-each-preserved t c = record {
   read = grind (arith, common_steps);
-  ended = last_step Add sum_step_tree c.in_ok-sum_step.field-0 c.each.all.items c.push.new.self.items _ c.in_ok-push.ensures.items c.in_ok-sum_step.ensures.1;
+  ended = last_step Add sum_step_tree c.in_ok-sum_step.field-0 c.each.all.items c.push.new.all.items _ c.in_ok-push.ensures c.in_ok-sum_step.ensures.1;
   shorter = grind (arith, common_steps);
 }
 
@@ -211,7 +211,7 @@ factors-returns-in_err-times_unary t c = exits (λ v. map (unmarked unary_tree) 
 pub factors-each-preserved : goal.factors-each-preserved
 factors-each-preserved t c = record {
   read = grind (arith, common_steps);
-  ended = last_step Multiply (unmarked unary_tree) c.in_ok-times_unary.field-0 c.each.all.items c.push.new.self.items _ c.in_ok-push.ensures.items c.in_ok-times_unary.ensures.1;
+  ended = last_step Multiply (unmarked unary_tree) c.in_ok-times_unary.field-0 c.each.all.items c.push.new.all.items _ c.in_ok-push.ensures c.in_ok-times_unary.ensures.1;
   shorter = grind (arith, common_steps);
 }
 

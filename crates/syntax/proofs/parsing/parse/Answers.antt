@@ -9,6 +9,7 @@ use Rattle.syntax.specs.declared.cursor.Stuck.{Stuck}
 use Rattle.syntax.specs.declared.cursor.Stuck.TheVariants.{Unexpected}
 use Rattle.syntax.specs.declared.fault.SyntaxFault.TheVariants.{At}
 use Rattle.syntax.proofs.ItemRules.{program_piece}
+use Rattle.syntax.proofs.FewLemmas.{few_symbols}
 use Rattle.syntax.proofs.Tops.{left_ok, left_err, parsed, wrong_rest, wrong_piece, one_tree, not_wrong}
 use Rattle.syntax.proofs.parsing.parse.Goals as goal
 
@@ -28,6 +29,12 @@ pub returns-then-left-eq0-clause-tree : goal.returns-then-left-eq0-clause-tree
 returns-then-left-eq0-clause-tree c =
     subst (Spells program (map item_tree c.in-Ok.items.items)) c.as_slice-list.ensures.value
     (parsed c.as_slice-list.result.now (program (map item_tree c.in-Ok.items.items)) _ _ _ c.new-cursor.ensures c.in-Ok.ensures.0 c.left-left.ensures c.if-left-eq0.true)
+
+pub returns-then-left-eq0-clause-few : goal.returns-then-left-eq0-clause-few
+returns-then-left-eq0-clause-few c =
+    few_symbols (program (map item_tree c.in-Ok.items.items)) c.args.tokens.now.list.items
+    (subst (Spells program (map item_tree c.in-Ok.items.items)) c.as_slice-list.ensures.value
+    (parsed c.as_slice-list.result.now (program (map item_tree c.in-Ok.items.items)) _ _ _ c.new-cursor.ensures c.in-Ok.ensures.0 c.left-left.ensures c.if-left-eq0.true))
 
 pub returns-then-left-eq0-clause-found : goal.returns-then-left-eq0-clause-found
 returns-then-left-eq0-clause-found c t spelled =

@@ -67,8 +67,8 @@ cases-returns-in_err-case t c = exits (λ v. map case_tree v.items) (flat_map ca
 
 pub cases-each-preserved : goal.cases-each-preserved
 cases-each-preserved t c = record {
-  read = row_read case_tree case c.in_ok-case.field-0 c.each.all.items c.push.new.self.items _ _ _ c.in_ok-push.ensures.items c.each.invariant.read c.in_ok-case.ensures.0;
-  ended = row_ended case_tree case_at c.in_ok-case.field-0 c.each.all.items c.push.new.self.items _ c.in_ok-push.ensures.items c.in_ok-case.ensures.1;
+  read = row_read case_tree case c.in_ok-case.field-0 c.each.all.items c.push.new.all.items _ _ _ c.in_ok-push.ensures c.each.invariant.read c.in_ok-case.ensures.0;
+  ended = row_ended case_tree case_at c.in_ok-case.field-0 c.each.all.items c.push.new.all.items _ c.in_ok-push.ensures c.in_ok-case.ensures.1;
   shorter = shorter_more _ _ _ (begun_shorter (case_tree c.in_ok-case.field-0) _ _ case_starts c.in_ok-case.ensures.0) c.each.invariant.shorter;
 }
 
@@ -126,8 +126,8 @@ statements-each-smaller t c = begun_shorter (statement_tree c.in_ok-statement.fi
 
 pub statements-each-preserved : goal.statements-each-preserved
 statements-each-preserved t c = record {
-  read = row_read statement_tree statement c.in_ok-statement.field-0 c.each.all.items c.push.new.self.items _ _ _ c.in_ok-push.ensures.items c.each.invariant.read c.in_ok-statement.ensures.0;
-  ended = row_ended statement_tree statement_at c.in_ok-statement.field-0 c.each.all.items c.push.new.self.items _ c.in_ok-push.ensures.items c.in_ok-statement.ensures.1;
+  read = row_read statement_tree statement c.in_ok-statement.field-0 c.each.all.items c.push.new.all.items _ _ _ c.in_ok-push.ensures c.each.invariant.read c.in_ok-statement.ensures.0;
+  ended = row_ended statement_tree statement_at c.in_ok-statement.field-0 c.each.all.items c.push.new.all.items _ c.in_ok-push.ensures c.in_ok-statement.ensures.1;
   shorter = shorter_more _ _ _ (begun_shorter (statement_tree c.in_ok-statement.field-0) _ _ statement_starts c.in_ok-statement.ensures.0) c.each.invariant.shorter;
 }
 

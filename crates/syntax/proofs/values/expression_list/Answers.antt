@@ -17,12 +17,12 @@ returns-in_err-read_expression c = exits (λ v. map expression_tree v.items) (li
     (λ h. open_first_fails expression_item (test_leads opens_expression _ refl (ap opens_expression (sym c.peek.ensures.kind) ∙ sym c.is_expression.ensures ∙ c.if-not-is_expression.false)) h)
 
 pub more-init : goal.more-init
-more-init c = list_begun (expression_tree c.in_ok-read_expression.field-0) (map expression_tree c.push.new.self.items) _ _ (ap (map expression_tree) (c.in_ok-push.ensures.items ∙ ap (λ t. t ++ c.in_ok-read_expression.field-0 ∷ []) c.new-all.ensures.items)) c.in_ok-read_expression.ensures
+more-init c = list_begun (expression_tree c.in_ok-read_expression.field-0) (map expression_tree c.push.new.all.items) _ _ (ap (map expression_tree) (c.in_ok-push.ensures ∙ ap (λ t. t ++ c.in_ok-read_expression.field-0 ∷ []) c.new-all.ensures.items)) c.in_ok-read_expression.ensures
 
 pub more-preserved : goal.more-preserved
 more-preserved c =
     let last = c.in_ok-comma_expression.field-0 in
-    list_more (expression_tree last) (map expression_tree c.more.all.items) (map expression_tree c.push-in-more.new.self.items) _ _ _ (ap (map expression_tree) c.in_ok-push-2.ensures.items ∙ map-append expression_tree c.more.all.items (last ∷ [])) c.more.invariant c.in_ok-comma_expression.ensures
+    list_more (expression_tree last) (map expression_tree c.more.all.items) (map expression_tree c.push-in-more.new.all.items) _ _ _ (ap (map expression_tree) c.in_ok-push-2.ensures ∙ map-append expression_tree c.more.all.items (last ∷ [])) c.more.invariant c.in_ok-comma_expression.ensures
 
 pub returns-in_err-comma_expression : goal.returns-in_err-comma_expression
 returns-in_err-comma_expression c =

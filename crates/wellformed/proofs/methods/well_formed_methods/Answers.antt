@@ -13,7 +13,7 @@ use Rattle.wellformed.proofs.methods.well_formed_methods.Goals as goal
 
 pub new-requires : goal.new-requires
 new-requires c =
-    let p = program_of c.args.tokens.now.text.items c.args.tree.now in
+    let p = program_of c.args.text.now c.args.tree.now in
     let told = resolved_contracts p.text (contracts_of p.items) in
     let fits = subst (λ ms. AreWellFormed told (messages_told p) ms) (sym c.in_ok-messages.ensures.resolved) (well_formed p c.requires.clean) in
     let brings = subst (λ ms. AreWellFormed told ms (map method_seen c.in_ok-messages.field-0.methods.items)) (sym c.in_ok-messages.ensures.messages) fits in
@@ -22,4 +22,4 @@ new-requires c =
     }
 
 pub returns-clause-bare : goal.returns-clause-bare
-returns-clause-bare c = subst (Each IsBare) (sym (c.new.ensures.methods ∙ c.in_ok-messages.ensures.resolved)) (all_bare (program_of c.args.tokens.now.text.items c.args.tree.now))
+returns-clause-bare c = subst (Each IsBare) (sym (c.new.ensures.methods ∙ c.in_ok-messages.ensures.resolved)) (all_bare (program_of c.args.text.now c.args.tree.now))

@@ -2,14 +2,14 @@ use Rattle.std.proofs.Common.{◌≡◌, take, ap, sym, ◌∙◌}
 use Rattle.std.specs.Prelude.{◌||◌, not, is_some, position, None, map}
 use Rattle.names.specs.Cases.{names_endpoint, awaits_closed}
 use Rattle.names.specs.Heads.{is_before, key_at}
-use Rattle.names.specs.Words.{words_at, same_word}
+use Rattle.tables.specs.Words.{words_at, same_word}
 use Rattle.names.proofs.HeadWords.{found_named, found_closed}
 use Rattle.names.proofs.heads.Heads.is_lacking.Goals as goal
 use Rattle.names.proofs.heads.Heads.is_lacking.Goals.{then-named, else-named}
 
 pub returns : goal.returns
 returns c = λ all h is endpoint.
-    let text = c.args.tokens.now.text.items in
+    let text = c.args.text.now in
     let place = c.args.place in
     let name = c.args.endpoint in
     let named : c.stands_before-named.result ≡ names_endpoint text name (take place all) =

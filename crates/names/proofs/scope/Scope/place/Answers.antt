@@ -1,8 +1,8 @@
 use Rattle.std.proofs.Common.{ap, ◌∙◌}
 use Rattle.source.specs.Slices.{slice_of}
-use Rattle.names.specs.Firsts.{first_of}
+use Rattle.tables.specs.Firsts.{first_of}
 use Rattle.names.specs.Program.{item_names}
-use Rattle.names.specs.Words.{words_at}
+use Rattle.tables.specs.Words.{words_at}
 use Rattle.names.proofs.scope.Scope.place.Goals as goal
 
 pub returns : goal.returns

@@ -2,10 +2,10 @@ use Rattle.std.proofs.Common.{length, take, ap, ◌∙◌, sym}
 use Rattle.std.specs.Prelude.{option_and_then, option_map}
 use Rattle.tree.specs.Trees.{ContractTree}
 use Rattle.names.specs.Declarations.{counted_states, names_of_states, states_of}
-use Rattle.names.specs.Firsts.{first_of}
+use Rattle.tables.specs.Firsts.{first_of}
 use Rattle.names.specs.Places.{place_among}
 use Rattle.names.specs.Program.{Numbered, item_at, as_contract}
-use Rattle.names.specs.Words.{word_at, words_at}
+use Rattle.tables.specs.Words.{word_at, words_at}
 use Rattle.names.proofs.PlaceLemmas.{named_there}
 use Rattle.names.proofs.ScopeLemmas.{looked_contract}
 use Rattle.names.proofs.scope.Scope.state_place.Goals as goal

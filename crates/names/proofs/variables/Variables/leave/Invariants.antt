@@ -4,7 +4,7 @@ use Rattle.names.specs.Variables.{Frame}
 use Rattle.names.proofs.variables.Variables.leave.Given as goal
 
 abbrev pub invariant-loop-self : goal.invariant-loop-self
-invariant-loop-self l = (f : Frame) → IsFrame l.tokens.text.items f l.fn.self → IsFrame l.tokens.text.items (record { variables = take (length l.self.list.items) f.variables; heap = f.heap }) l.self × (take l.outer (take (length l.self.list.items) f.variables) ≡ take l.outer f.variables)
+invariant-loop-self l = (f : Frame) → IsFrame l.text f l.fn.self → IsFrame l.text (record { variables = take (length l.self.list.items) f.variables; heap = f.heap }) l.self × (take l.outer (take (length l.self.list.items) f.variables) ≡ take l.outer f.variables)
 
 abbrev pub decreases-loop-self : goal.decreases-loop-self
 decreases-loop-self l = length l.self.list.items

@@ -1,14 +1,14 @@
-use Rattle.std.proofs.Common.{arith, refl, sym, ◌∙◌}
+use Rattle.std.proofs.Common.{refl, sym, ◌∙◌}
 use Rattle.resolving.specs.Frames.{number_seen}
 use Rattle.resolving.proofs.LocalLemmas.{entered_taken, entered_new}
 use Rattle.resolving.proofs.locals.Locals.enter.Goals as goal
 
 pub returns-then-is_some : goal.returns-then-is_some
 returns-then-is_some c = λ f h.
-    entered_taken c.args.tokens.now.text.items f c.args.self.now c.args.declaration (number_seen c.args.number) c.slice-word.result.now c.find.result h c.slice-word.ensures c.find.ensures
+    entered_taken c.args.text.now f c.args.self.now c.args.declaration (number_seen c.args.number) c.slice-word.result.now c.find.result h c.slice-word.ensures c.find.ensures
     (sym c.is_some.ensures ∙ c.if-is_some.true)
 
 pub returns : goal.returns
 returns c = λ f h.
-    entered_new c.args.tokens.now.text.items f c.args.self.now _ c.args.declaration c.args.number c.slice-word.result.now c.find.result h c.slice-word.ensures c.find.ensures
-    (sym c.is_some.ensures ∙ c.if-is_some.false) (λ words table none at. c.in_ok-add.ensures.added words table none (let len = c.len.ensures in let size = c.args.self.now.list.ok.0 in omega (arith, at))) c.in_ok-push.ensures.items refl refl
+    entered_new c.args.text.now f c.args.self.now _ c.args.declaration c.args.number c.slice-word.result.now c.find.result h c.slice-word.ensures c.find.ensures
+    (sym c.is_some.ensures ∙ c.if-is_some.false) c.in_ok-add.ensures.added c.in_ok-push.ensures.items refl refl

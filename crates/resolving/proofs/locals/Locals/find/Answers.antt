@@ -1,14 +1,14 @@
 use Rattle.std.proofs.Common.{List, ℕ, Some, refl, sym, ap, ◌∙◌}
 use Rattle.std.specs.Prelude.{option_map, slice_get}
 use Rattle.std.proofs.lemmas.Option.{slice_get_past, slice_get_read}
-use Rattle.names.specs.Firsts.{first_of}
+use Rattle.tables.specs.Firsts.{first_of}
 use Rattle.resolving.specs.Frames.{local_seen, words_in}
 use Rattle.resolving.proofs.LocalLemmas.{local_found}
 use Rattle.resolving.proofs.locals.Locals.find.Goals as goal
 
 pub returns-in_err-local : goal.returns-in_err-local
 returns-in_err-local c = λ f h.
-    let text = c.args.tokens.now.text.items in
+    let text = c.args.text.now in
     let a = c.in_err-local.ensures.lookup in
     let words = words_in text f.locals in
     ap (option_map local_seen) c.from_residual-in_err-local.ensures
@@ -17,7 +17,7 @@ returns-in_err-local c = λ f h.
 
 pub returns : goal.returns
 returns c = λ f h.
-    let text = c.args.tokens.now.text.items in
+    let text = c.args.text.now in
     let a = c.in_ok-local.ensures.lookup in
     let words = words_in text f.locals in
     ap (option_map local_seen) (sym (slice_get_read c.deref.result.now _ c.in_ok-place.place c.in_ok-local.local.now refl a.3.0 a.1) ∙ ap (λ l. slice_get l c.in_ok-place.place) c.deref.ensures.value)

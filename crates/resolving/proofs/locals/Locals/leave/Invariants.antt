@@ -5,7 +5,7 @@ use Rattle.resolving.proofs.ScopeLemmas.{Leaving}
 use Rattle.resolving.proofs.locals.Locals.leave.Given as goal
 
 abbrev pub invariant-loop-self : goal.invariant-loop-self
-invariant-loop-self l = (f : Frame) → IsFrame l.tokens.text.items f l.fn.self → Leaving l.tokens.text.items l.outer f l.self
+invariant-loop-self l = (f : Frame) → IsFrame l.text f l.fn.self → Leaving l.text l.outer f l.self
 
 abbrev pub decreases-loop-self : goal.decreases-loop-self
 decreases-loop-self l = length l.self.list.items

@@ -1,6 +1,0 @@
-use Rattle.std.proofs.Common.{take}
-use Rattle.names.specs.Tables.{IsBuilt, words_of}
-use Rattle.names.proofs.tables.Table.grow.Given as goal
-
-abbrev pub invariant-loop-name : goal.invariant-loop-name
-invariant-loop-name l = IsBuilt (words_of (take l.name-index l.name-items)) l.grown

@@ -1,0 +1,90 @@
+-- No byte of a token ends a line.
+use Rattle.std.proofs.Common.{◌≡◌, ℕ, ◌+◌, Bool, true, false, List, [], ◌∷◌, ◌++◌, length, Some, None, sym, refl, ap, ◌∙◌, append_assoc, append-nil, arith, ⊎_elim}
+use Rattle.std.specs.Prelude.{All, is_some, ◌&&◌, ◌==◌, if◌then◌else◌}
+use Rattle.std.specs.List.{list_all}
+use Rattle.std.specs.Char.{is_ascii_digit}
+use Rattle.std.proofs.lemmas.Bool.{both_ways, cases_Bool, eqb-true}
+use Rattle.std.proofs.lemmas.List.Elements.{All-nil, All-cons, All-head, All-tail}
+use Rattle.source.specs.Classes.{starts_word, in_word}
+use Rattle.source.specs.Pieces.{is_word, is_number, kind_of}
+use Rattle.source.specs.Places.{place_of, ends_line}
+use Rattle.source.specs.Symbols.{single, double, symbol}
+use Rattle.source.specs.Words.{word_kind}
+use Rattle.source.specs.declared.kind.Kind.{Kind}
+use Rattle.source.specs.declared.kind.Kind.TheVariants.{Number, EqualEqual, NotEqual, LessEqual, GreaterEqual, AndAnd, OrOr, Arrow}
+use Rattle.source.proofs.PlaceLemmas.{place_next_col}
+
+-- no end of a line among these
+abbrev pub InLine : List ℕ → Type 0
+InLine bytes = All (λ b. ends_line b ≡ false) bytes
+
+both : (s t : Bool) → (s && t) ≡ true → (s ≡ true) × (t ≡ true)
+both true t h = (refl, h)
+both false t h = cc
+
+-- what a test passes that does not pass the end of a line
+no_end : (q : ℕ → Bool) (b : ℕ) → q 10 ≡ false → q b ≡ true → ends_line b ≡ false
+no_end q b stop is = ⊎_elim (λ ends. absurd (both_ways (q b) (ap q (eqb-true b 10 ends) ∙ stop) is)) (λ other. other) (cases_Bool (ends_line b))
+
+all_in_line : (q : ℕ → Bool) → q 10 ≡ false → (bytes : List ℕ) → list_all q bytes ≡ true → InLine bytes
+all_in_line q stop [] all = All-nil (λ b. ends_line b ≡ false)
+all_in_line q stop (b ∷ bs) all =
+    let each = both (q b) (list_all q bs) all in
+    All-cons (λ b. ends_line b ≡ false) b bs (no_end q b stop each.0) (all_in_line q stop bs each.1)
+
+word_in_line : (bytes : List ℕ) → is_word bytes ≡ true → InLine bytes
+word_in_line [] is = All-nil (λ b. ends_line b ≡ false)
+word_in_line (b ∷ bs) is =
+    let each = both (starts_word b) (list_all in_word bs) is in
+    All-cons (λ b. ends_line b ≡ false) b bs (no_end starts_word b refl each.0) (all_in_line in_word refl bs each.1)
+
+number_in_line : (bytes : List ℕ) → is_number bytes ≡ true → InLine bytes
+number_in_line [] is = All-nil (λ b. ends_line b ≡ false)
+number_in_line (b ∷ bs) is =
+    let each = both (is_ascii_digit b) (list_all is_ascii_digit bs) is in
+    All-cons (λ b. ends_line b ≡ false) b bs (no_end is_ascii_digit b refl each.0) (all_in_line is_ascii_digit refl bs each.1)
+
+neither : (s : Bool) → (s && false) ≡ false
+neither true = refl
+neither false = refl
+
+-- the second byte of a symbol
+no_double : (a : ℕ) → double a 10 ≡ None
+no_double a = λ i.
+    if neither (a == 61) i then Some EqualEqual
+    else (if neither (a == 33) i then Some NotEqual
+    else (if neither (a == 60) i then Some LessEqual
+    else (if neither (a == 62) i then Some GreaterEqual
+    else (if neither (a == 38) i then Some AndAnd
+    else (if neither (a == 124) i then Some OrOr
+    else (if neither (a == 45) i then Some Arrow
+    else None))))))
+
+symbol_in_line : (bytes : List ℕ) (kind : Kind) → symbol bytes ≡ Some kind → InLine bytes
+symbol_in_line [] kind is = cc
+symbol_in_line (a ∷ []) kind is = All-cons (λ b. ends_line b ≡ false) a [] (no_end (λ x. is_some (single x)) a refl (ap is_some is)) (All-nil (λ b. ends_line b ≡ false))
+symbol_in_line (a ∷ b ∷ []) kind is =
+    All-cons (λ b. ends_line b ≡ false) a (b ∷ []) (no_end (λ x. is_some (double x b)) a refl (ap is_some is))
+    (All-cons (λ b. ends_line b ≡ false) b [] (no_end (λ x. is_some (double a x)) b (ap is_some (no_double a)) (ap is_some is)) (All-nil (λ b. ends_line b ≡ false)))
+symbol_in_line (a ∷ b ∷ c ∷ bs) kind is = cc
+
+pub token_in_line : (bytes : List ℕ) (kind : Kind) → kind_of bytes ≡ Some kind → InLine bytes
+token_in_line bytes kind is =
+    ⊎_elim (λ word. word_in_line bytes word)
+    (λ no_word. ⊎_elim (λ number. number_in_line bytes number)
+    (λ no_number. symbol_in_line bytes kind (sym (λ i. if no_word i then Some (word_kind bytes) else (if no_number i then Some Number else symbol bytes)) ∙ is))
+    (cases_Bool (is_number bytes)))
+    (cases_Bool (is_word bytes))
+
+-- behind bytes of which none ends a line
+pub place_in_line : (before bytes : List ℕ) → InLine bytes → place_of (before ++ bytes) ≡ record { line = (place_of before).line; col = (place_of before).col + length bytes }
+place_in_line before [] all =
+    let same : (place_of before).col ≡ (place_of before).col + 0 = omega arith in
+    ap place_of (append-nil before) ∙ (λ i. record { line = (place_of before).line; col = same i })
+place_in_line before (b ∷ bs) all =
+    let one = place_next_col before b (All-head (λ b. ends_line b ≡ false) b bs all) in
+    let rest = place_in_line (before ++ b ∷ []) bs (All-tail (λ b. ends_line b ≡ false) b bs all) in
+    let size : (place_of before).col + 1 + length bs ≡ (place_of before).col + length (b ∷ bs) = omega arith in
+    ap place_of (sym (append_assoc before (b ∷ []) bs)) ∙ rest
+    ∙ (λ i. record { line = (one i).line; col = (one i).col + length bs })
+    ∙ (λ i. record { line = (place_of before).line; col = size i })

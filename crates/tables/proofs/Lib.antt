@@ -1,0 +1,5 @@
+pub mod FirstLemmas
+pub mod NameLemmas
+pub mod SeatLemmas
+pub mod TableLemmas
+pub mod TakeLemmas

@@ -1,0 +1,4 @@
+pub mod Words
+pub mod Firsts
+pub mod Seats
+pub mod Tables

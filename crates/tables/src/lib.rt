@@ -1,0 +1,7 @@
+//! Tables of names: where each name of a list is declared first.
+#![tactic(auto)]
+
+mod seats;
+mod tables;
+
+pub use tables::Table;

@@ -1,0 +1,251 @@
+//! Tables of first declarations.
+
+ghost use Rattle.std.specs.Prelude.{◌≡◌, ◌↔◌, ◌++◌, ◌+◌, ◌≤◌, List, [], ◌∷◌, ℕ, length, cond, true, false};
+ghost use Rattle.std.specs.Prelude.{IfOk, OnErr, OnOk, IsTrue, Some, None};
+ghost use Rattle.std.specs.Borrow.{Bor};
+ghost use Rattle.std.specs.Option.{option_or};
+ghost use Rattle.tables.specs.Firsts.{IsApart, first_of};
+ghost use Rattle.tables.specs.Seats.{mark_of, number_of};
+ghost use Rattle.tables.specs.Tables.{Behind, IsBuilt, IsTable, NoneOr};
+ghost use Rattle.tables.specs.Tables.{crowded_in, other_of, place_in, place_of, seated_by, seated_in};
+ghost use Rattle.tables.specs.Words.{words_at};
+
+use crate::seats::{Bucket, home, mark_of, number_of};
+use source::Span;
+use std::alloc::{AllocError, Global};
+use std::collections::BTreeMap;
+
+/// Where each name of a list is declared first. A name has three seats, which few other names have, so it is found at once. Those that
+/// find all taken stand in a sorted map, so no choice of names makes a look-up cost more than one in that map.
+#[derive(Drop)]
+pub struct Table<'a> {
+    /// All names, in order of declaration.
+    names: Vec<&'a [u8]>,
+    buckets: Vec<Bucket>,
+    /// The names that found no seat, and where each stands.
+    others: BTreeMap<&'a [u8], usize>,
+    /// Whether no name stands twice.
+    apart: bool,
+}
+
+/// A table that makes room for names by itself has so many buckets at least.
+const LEAST_BUCKETS: usize = 8;
+
+impl<'a> Table<'a> {
+    /// The table of these names, in order of declaration.
+    pub fn of(alloc: Global, text: &'a [u8], names: &[Span]) -> Result<Table<'a>, AllocError>
+        ensures { IfOk result (IsTable (words_at text.now names.now)) }
+    {
+        let mut table = Table::with_room(alloc, names.len())?;
+        for name in names {
+            table.enter(name.slice(text))?;
+        }
+        Ok(table)
+    }
+
+    /// The table of no names.
+    pub fn new(alloc: Global) -> Table<'a>
+        ensures { IsTable [] result }
+    {
+        Table {
+            names: Vec::new(alloc),
+            buckets: Vec::new(alloc),
+            others: BTreeMap::new(alloc),
+            apart: true, // as there is none
+        }
+    }
+
+    /// The table of no names, with a bucket for each of so many.
+    fn with_room(alloc: Global, names: usize) -> Result<Table<'a>, AllocError>
+        ensures { IfOk result (IsBuilt []) }
+    {
+        let mut buckets = Vec::new(alloc);
+        buckets.resize(names, Bucket::new())?;
+        Ok(Table {
+            names: Vec::with_capacity(alloc, names)?,
+            buckets,
+            others: BTreeMap::new(alloc),
+            apart: true,
+        })
+    }
+
+    /// Enters a name behind the others. One that it has keeps its place.
+    fn enter(&mut self, name: &'a [u8]) -> Result<(), AllocError>
+        ensures { (words : List (List ℕ)) → IsBuilt words self.old → OnOk result (IsBuilt (words ++ name.now ∷ []) self.new) }
+    {
+        let number = number_of(name);
+        if self.find_numbered(name, number).is_some() {
+            self.names.push(name)?;
+            self.apart = false;
+            return Ok(());
+        }
+        self.put(name, number)
+    }
+
+    /// Adds a name that it lacks, behind the others. Where memory is refused, the table is as before.
+    pub fn add(&mut self, alloc: Global, name: &'a [u8]) -> Result<(), AllocError>
+        ensures added { (words : List (List ℕ)) → IsTable words self.old → first_of words name.now ≡ None
+            → OnOk result (IsTable (words ++ name.now ∷ []) self.new) }
+        ensures kept { (words : List (List ℕ)) → IsTable words self.old → OnErr result (IsTable words self.new) }
+    {
+        if self.names.len() >= self.buckets.len() {
+            self.grow(alloc)?;
+        }
+        self.put(name, number_of(name))
+    }
+
+    /// Makes room for as many names again.
+    fn grow(&mut self, alloc: Global) -> Result<(), AllocError>
+        ensures { (words : List (List ℕ)) → IsTable words self.old → IsTable words self.new }
+    {
+        let room = self.names.len().saturating_mul(2).max(LEAST_BUCKETS);
+        let mut grown = Table::with_room(alloc, room)?;
+        for name in &self.names {
+            grown.enter(name)?;
+        }
+        *self = grown;
+        Ok(())
+    }
+
+    /// Adds a name that it lacks, of this number, with the room that there is. Where memory is refused, the table is as before.
+    fn put(&mut self, name: &'a [u8], number: u32) -> Result<(), AllocError>
+        ensures added { (words : List (List ℕ)) → number ≡ number_of name.now → IsTable words self.old → first_of words name.now ≡ None
+            → OnOk result (IsTable (words ++ name.now ∷ []) self.new) }
+        ensures behind { Behind self.old → OnOk result (Behind self.new) }
+        ensures kept { (words : List (List ℕ)) → IsTable words self.old → OnErr result (IsTable words self.new) }
+    {
+        let place = self.names.len();
+        self.names.push(name)?;
+        if self.seat(place, number) {
+            return Ok(());
+        }
+        match self.others.insert(name, place) {
+            Ok(_) => Ok(()),
+            Err(error) => {
+                self.names.pop();
+                Err(error.into())
+            }
+        }
+    }
+
+    /// Gives a free seat to the last name, which has this place and this number, and says whether there was one; if not, its bucket is
+    /// crowded from now on.
+    fn seat(&mut self, place: usize, number: u32) -> bool
+        ensures names { self.new.names ≡ self.old.names }
+        ensures others { self.new.others ≡ self.old.others }
+        ensures apart { self.new.apart ≡ self.old.apart }
+        ensures seated { (names : List (Bor (List ℕ))) (q : List ℕ) → IsTrue result → number ≡ number_of q
+            → place_of names q place ≡ Some place → NoneOr place (seated_in names self.old.buckets.items q)
+            → seated_in names self.new.buckets.items q ≡ Some place }
+        ensures kept { (names : List (Bor (List ℕ))) (q : List ℕ) → length names ≤ place + 1 → place_of names q place ≡ None
+            → seated_in names self.new.buckets.items q ≡ seated_in names self.old.buckets.items q }
+        ensures full { (names : List (Bor (List ℕ))) (q : List ℕ) → result ≡ false
+            → seated_in names self.new.buckets.items q ≡ seated_in names self.old.buckets.items q }
+        ensures behind { place + 1 ≤ length self.old.names.items → Behind self.old → Behind self.new }
+        ensures crowded { (q : List ℕ) → number ≡ number_of q → result ≡ false → crowded_in self.new.buckets.items q ≡ true }
+        ensures uncrowded { (q : List ℕ) → crowded_in self.new.buckets.items q ≡ false → crowded_in self.old.buckets.items q ≡ false }
+    {
+        let home = home(self.buckets.len(), number);
+        let Some(mut bucket) = self.buckets.get(home).copied() else {
+            return false;
+        };
+        let seated = bucket.take(place, mark_of(number));
+        bucket.crowded |= !seated;
+        self.buckets[home] = bucket;
+        seated
+    }
+
+    /// Takes the last name away, which no other is. Its seat is free then, since the list has its place no more.
+    pub fn remove(&mut self, name: &[u8])
+        ensures { (words : List (List ℕ)) → IsTable (words ++ name.now ∷ []) self.old → first_of words name.now ≡ None
+            → IsTable words self.new }
+    {
+        self.names.pop();
+        if self.is_crowded(name) {
+            self.others.remove(name);
+        }
+    }
+
+    /// Whether a name of this one's bucket may have found no seat.
+    fn is_crowded(&self, name: &[u8]) -> bool
+        ensures { result ≡ crowded_in self.now.buckets.items name.now }
+    {
+        match self.buckets.get(home(self.buckets.len(), number_of(name))) {
+            Some(bucket) => bucket.crowded,
+            None => true,
+        }
+    }
+
+    /// Where the name is declared first, if it is.
+    pub fn find(&self, name: &[u8]) -> Option<usize>
+        ensures { (words : List (List ℕ)) → IsTable words self.now → result ≡ first_of words name.now }
+    {
+        self.find_numbered(name, number_of(name))
+    }
+
+    /// The same, where this is its number.
+    fn find_numbered(&self, name: &[u8], number: u32) -> Option<usize>
+        ensures { (words : List (List ℕ)) → number ≡ number_of name.now → IsTable words self.now → result ≡ first_of words name.now }
+    {
+        match self.buckets.get(home(self.buckets.len(), number)) {
+            Some(bucket) => self.find_from(bucket, name, mark_of(number)),
+            None => self.others.get(name).copied(),
+        }
+    }
+
+    /// The same, where this is its bucket and its mark.
+    fn find_from(&self, bucket: &Bucket, name: &[u8], mark: u8) -> Option<usize>
+        ensures { mark ≡ mark_of name.now → result ≡ option_or (seated_by self.now.names.items name.now bucket.now)
+            (cond bucket.now.crowded (other_of self.now name.now) None) }
+    {
+        match self.seated_by(bucket, name, mark) {
+            Some(place) => Some(place),
+            None if bucket.crowded => self.others.get(name).copied(),
+            None => None,
+        }
+    }
+
+    /// Where the name stands, if it sits in this bucket.
+    fn seated_by(&self, bucket: &Bucket, name: &[u8], mark: u8) -> Option<usize>
+        ensures { mark ≡ mark_of name.now → result ≡ seated_by self.now.names.items name.now bucket.now }
+    {
+        let first = bucket.taken > 0 && bucket.first_mark == mark;
+        if let Some(place) = self.place_in(first, bucket.first, name) {
+            return Some(place);
+        }
+        let second = bucket.taken > 1 && bucket.second_mark == mark;
+        if let Some(place) = self.place_in(second, bucket.second, name) {
+            return Some(place);
+        }
+        self.place_in(bucket.taken > 2, bucket.third, name)
+    }
+
+    /// The place in a seat, if that may be the name's and this is the name there.
+    fn place_in(&self, may: bool, seat: u32, name: &[u8]) -> Option<usize>
+        ensures { result ≡ place_in self.now.names.items name.now may seat }
+    {
+        if !may {
+            return None;
+        }
+        let place = seat as usize;
+        let there = self.names.get(place)?;
+        if name == *there { Some(place) } else { None }
+    }
+
+    /// Whether this is the place where the name is declared first.
+    pub fn is_first(&self, name: &[u8], place: usize) -> bool
+        ensures { (words : List (List ℕ)) → IsTable words self.now → IsTrue result ↔ (first_of words name.now ≡ Some place) }
+    {
+        match self.find(name) {
+            Some(first) => first == place,
+            None => false,
+        }
+    }
+
+    /// Whether no name stands twice. Then each stands first where it stands, and need not be looked for.
+    pub fn is_apart(&self) -> bool
+        ensures { (words : List (List ℕ)) → IsTable words self.now → IsTrue result ↔ IsApart words }
+    {
+        self.apart
+    }
+}
