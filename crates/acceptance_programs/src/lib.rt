@@ -4,10 +4,10 @@
 #[cfg(test)]
 mod conditions;
 #[cfg(test)]
+mod lookups;
+#[cfg(test)]
 mod numbers;
 #[cfg(test)]
 mod resolution;
 #[cfg(test)]
 mod sounds;
-#[cfg(test)]
-mod tables;

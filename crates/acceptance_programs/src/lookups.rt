@@ -1,4 +1,4 @@
-//! Tables of names.
+//! Names looked up in tables.
 
 use source::{Place, Span};
 use std::test::Fail;
