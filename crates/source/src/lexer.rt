@@ -19,6 +19,10 @@ use std::alloc::Global;
 /// How many bytes a text may have.
 pub const MAX_TEXT: usize = 4_194_304;
 
+/// For how many tokens there is room from the start, at most. They take 33.54 MB, and from 33.55 MB on the allocator gives memory back to
+/// the system, as the script `singcheck` sets it: the stages behind would have to have other pages cleared.
+const AT_ONCE: usize = 1_677_000;
+
 /// How many bytes at the front are a UTF-8 byte order mark: 3 or none.
 fn mark_len(text: &[u8]) -> usize
     ensures value { result ≡ mark_len text.now }
@@ -61,7 +65,7 @@ fn cut(alloc: Global, body: &[u8], mark: usize) -> Result<Lexed, TextFault>
     ensures fault { IfErr result (λ fault. fault ≢ TextFault.Memory → HasFirst body.now fault) }
 {
     let closing = Finder::new(b"*/");
-    let mut list = Vec::with_capacity(alloc, body.len())?; // each token has a byte at least, so the list never grows
+    let mut list = Vec::with_capacity(alloc, body.len().min(AT_ONCE))?;
     let mut place = place::START;
     let mut depth = 0;
     let mut at = 0;
