@@ -5,7 +5,8 @@ ghost use Rattle.contracts.specs.Parts.{IsWhole, contract_parts};
 
 use contracts::{Sound, SoundFault, edges, faults, is_whole, two_ends};
 use program::{
-    Contract, ContractId, Direction, Edge, Message, MessageId, Resolved, Side, Sign, State, StateId,
+    Contract, ContractId, Direction, Edge, Message, MessageId, Part, Resolved, Side, Sign, State,
+    StateId,
 };
 use source::{Code, Finding, Memory, Place};
 use std::alloc::{AllocError, Global};
@@ -20,22 +21,22 @@ fn empty(alloc: Global, first: u32) -> Contract {
     Contract {
         name: String::new(alloc),
         first: StateId(first),
+        state_names: String::new(alloc),
         states: Vec::new(alloc),
         messages: Vec::new(alloc),
         edges: Vec::new(alloc),
     }
 }
 
-fn add_state(
-    alloc: Global,
-    contract: &mut Contract,
-    id: u32,
-    name: &str,
-    col: u32,
-) -> Result<(), AllocError> {
+fn add_state(contract: &mut Contract, id: u32, name: &str, col: u32) -> Result<(), AllocError> {
+    let start = contract.state_names.len();
+    contract.state_names.push_str(name)?;
     contract.states.push(State {
         id: StateId(id),
-        name: String::from_str(alloc, name)?,
+        name: Part {
+            start,
+            end: contract.state_names.len(),
+        },
         place: at(col),
     })?;
     Ok(())
@@ -88,8 +89,8 @@ pub(crate) fn ping(alloc: Global) -> Result<Contract, AllocError> {
     let mut ping = empty(alloc, 7);
     add_message(alloc, &mut ping, 3, "Req", Direction::In)?;
     add_message(alloc, &mut ping, 4, "Rep", Direction::Out)?;
-    add_state(alloc, &mut ping, 7, "Start", 1)?;
-    add_state(alloc, &mut ping, 8, "Pend", 2)?;
+    add_state(&mut ping, 7, "Start", 1)?;
+    add_state(&mut ping, 8, "Pend", 2)?;
     add_edge(&mut ping, 7, 3, Sign::Receive, 8, 3)?;
     add_edge(&mut ping, 8, 4, Sign::Send, 7, 4)?;
     Ok(ping)
@@ -159,9 +160,9 @@ fn burst_holds_two(rt: HostRuntime) -> Result<(), Fail> {
     add_message(alloc, &mut burst, 0, "A", Direction::Out)?;
     add_message(alloc, &mut burst, 1, "B", Direction::Out)?;
     add_message(alloc, &mut burst, 2, "Ok", Direction::In)?;
-    add_state(alloc, &mut burst, 0, "S", 1)?;
-    add_state(alloc, &mut burst, 1, "(B)", 2)?;
-    add_state(alloc, &mut burst, 2, "W", 3)?;
+    add_state(&mut burst, 0, "S", 1)?;
+    add_state(&mut burst, 1, "(B)", 2)?;
+    add_state(&mut burst, 2, "W", 3)?;
     add_edge(&mut burst, 0, 0, Sign::Send, 1, 4)?;
     add_edge(&mut burst, 1, 1, Sign::Send, 2, 2)?;
     add_edge(&mut burst, 2, 2, Sign::Receive, 0, 5)?;
@@ -178,10 +179,10 @@ fn unreached_walks_do_not_count(rt: HostRuntime) -> Result<(), Fail> {
     let mut apart = empty(alloc, 0);
     add_message(alloc, &mut apart, 0, "X", Direction::In)?;
     add_message(alloc, &mut apart, 1, "Y", Direction::Out)?;
-    add_state(alloc, &mut apart, 0, "S", 1)?;
-    add_state(alloc, &mut apart, 1, "U", 2)?;
-    add_state(alloc, &mut apart, 2, "(Y)", 3)?;
-    add_state(alloc, &mut apart, 3, "E", 4)?;
+    add_state(&mut apart, 0, "S", 1)?;
+    add_state(&mut apart, 1, "U", 2)?;
+    add_state(&mut apart, 2, "(Y)", 3)?;
+    add_state(&mut apart, 3, "E", 4)?;
     add_edge(&mut apart, 0, 0, Sign::Receive, 3, 5)?;
     add_edge(&mut apart, 1, 1, Sign::Send, 2, 6)?;
     add_edge(&mut apart, 2, 1, Sign::Send, 3, 3)?;
@@ -197,9 +198,9 @@ fn rings_are_found_at_each_state(rt: HostRuntime) -> Result<(), Fail> {
     let alloc = rt.alloc();
     let mut ring = empty(alloc, 0);
     add_message(alloc, &mut ring, 0, "A", Direction::Out)?;
-    add_state(alloc, &mut ring, 0, "S", 1)?;
-    add_state(alloc, &mut ring, 1, "U", 2)?;
-    add_state(alloc, &mut ring, 2, "(A)", 3)?;
+    add_state(&mut ring, 0, "S", 1)?;
+    add_state(&mut ring, 1, "U", 2)?;
+    add_state(&mut ring, 2, "(A)", 3)?;
     add_edge(&mut ring, 1, 0, Sign::Send, 2, 4)?;
     add_edge(&mut ring, 2, 0, Sign::Send, 1, 3)?;
     let ring = whole(&rt, alloc, ring)?;
@@ -220,8 +221,8 @@ fn mixed_and_repeated(rt: HostRuntime) -> Result<(), Fail> {
     let mut mixed = empty(alloc, 0);
     add_message(alloc, &mut mixed, 0, "A", Direction::Out)?;
     add_message(alloc, &mut mixed, 1, "B", Direction::In)?;
-    add_state(alloc, &mut mixed, 0, "S", 1)?;
-    add_state(alloc, &mut mixed, 1, "T", 2)?;
+    add_state(&mut mixed, 0, "S", 1)?;
+    add_state(&mut mixed, 1, "T", 2)?;
     add_edge(&mut mixed, 0, 0, Sign::Send, 1, 3)?;
     add_edge(&mut mixed, 0, 1, Sign::Receive, 1, 4)?;
     add_edge(&mut mixed, 0, 0, Sign::Send, 1, 5)?;
@@ -241,7 +242,7 @@ fn signs_count_as_written(rt: HostRuntime) -> Result<(), Fail> {
     let mut against = empty(alloc, 0);
     add_message(alloc, &mut against, 0, "X", Direction::In)?;
     add_message(alloc, &mut against, 1, "Y", Direction::Out)?;
-    add_state(alloc, &mut against, 0, "S", 53)?;
+    add_state(&mut against, 0, "S", 53)?;
     add_edge(&mut against, 0, 0, Sign::Send, 0, 62)?;
     add_edge(&mut against, 0, 1, Sign::Send, 0, 71)?;
     let found = faults(alloc, &whole(&rt, alloc, against)?)?;
@@ -258,9 +259,9 @@ fn long_path(alloc: Global, count: u32) -> Result<Contract, AllocError> {
     let mut path = empty(alloc, 0);
     add_message(alloc, &mut path, 0, "M", Direction::Out)?;
     for i in 0..count {
-        add_state(alloc, &mut path, i, "S", 1)?;
+        add_state(&mut path, i, "S", 1)?;
     }
-    add_state(alloc, &mut path, count, "E", 1)?;
+    add_state(&mut path, count, "E", 1)?;
     for i in 0..count {
         add_edge(&mut path, count - i - 1, 0, Sign::Send, count - i, 2)?;
     }
@@ -292,7 +293,7 @@ fn a_complete_order(rt: HostRuntime) -> Result<(), Fail> {
     let alloc = rt.alloc();
     let mut order = empty(alloc, 0);
     for i in 0..60 {
-        add_state(alloc, &mut order, i, "S", 1)?;
+        add_state(&mut order, i, "S", 1)?;
         add_message(alloc, &mut order, i, "M", Direction::In)?;
     }
     for from in 0..60 {

@@ -46,7 +46,8 @@ fn shown(alloc: Global, contract: &Contract) -> Result<String, Fail> {
     let mut lines = format!(in alloc; "{} begins in {}\n", contract.name, contract.first.0)?;
     for state in &contract.states {
         let Place { line, col } = state.place;
-        lines.push_str(&format!(in alloc; "{line}:{col} state {} {}\n", state.id.0, state.name)?)?;
+        let name = String::from_utf8_lossy(alloc, contract.state_name(*state))?;
+        lines.push_str(&format!(in alloc; "{line}:{col} state {} {name}\n", state.id.0)?)?;
     }
     for message in &contract.messages {
         let id = message.id.0;

@@ -32,10 +32,10 @@ abbrev id_of : ℕ → StateId
 id_of n = record { 0 = n }
 
 -- the number at a state's place
-pub state_number : (states : List State) (i : ℕ) (s : StateParts) → slice_get (map state_parts states) i ≡ Some s → get_or (map (λ (x : State). x.id.0) states) i 0 ≡ s.id.0
-state_number states i s at = walk states i (let lt = slice_get_within (map state_parts states) i s at in let size = length-map states state_parts in omega (arith, lt, size)) (get_or_from_slice_get (map state_parts states) i s s at)
+pub state_number : (names : List ℕ) (states : List State) (i : ℕ) (s : StateParts) → slice_get (map (state_parts names) states) i ≡ Some s → get_or (map (λ (x : State). x.id.0) states) i 0 ≡ s.id.0
+state_number names states i s at = walk states i (let lt = slice_get_within (map (state_parts names) states) i s at in let size = length-map states (state_parts names) in omega (arith, lt, size)) (get_or_from_slice_get (map (state_parts names) states) i s s at)
   where
-    walk : (states : List State) (i : ℕ) → i < length states → get_or (map state_parts states) i s ≡ s → get_or (map (λ (x : State). x.id.0) states) i 0 ≡ s.id.0
+    walk : (states : List State) (i : ℕ) → i < length states → get_or (map (state_parts names) states) i s ≡ s → get_or (map (λ (x : State). x.id.0) states) i 0 ≡ s.id.0
     walk [] i lt e = absurd (omega (arith, lt))
     walk (x ∷ xs) zero lt e = ap (λ (y : StateParts). y.id.0) e
     walk (x ∷ xs) (suc i) lt e = walk xs i (omega (arith, lt)) e

@@ -1,6 +1,6 @@
 -- Numbers of states and messages in the lists of a contract.
 use Rattle.std.proofs.Common.{◌≡◌, ◌≢◌, ℕ, zero, suc, ◌<◌, ◌≤◌, List, [], ◌∷◌, length, map, get_or, sym, refl, ap, ◌∙◌, subst, arith, ⊎_elim}
-use Rattle.std.specs.Prelude.{Contains, All, AllPairs}
+use Rattle.std.specs.Prelude.{Contains, All, AllPairs, string_bytes}
 use Rattle.std.proofs.lemmas.List.{length-map, get_or-map}
 use Rattle.std.proofs.lemmas.List.Elements.{All-get_or, All-map}
 use Rattle.std.proofs.lemmas.Bool.{cases_order}
@@ -32,17 +32,17 @@ contains_map f xs x c =
     let below = c.1 in
     (c.0, omega (arith, size, below), get_or-map f xs c.0 x (f x) c.1 ∙ ap f c.2)
 
-pub state_numbers_are : (states : List State) → map (λ (i : StateId). i.0) (map (λ (s : StateParts). s.id) (map state_parts states)) ≡ map (λ (s : State). s.id.0) states
-state_numbers_are [] = refl
-state_numbers_are (s ∷ rest) = ap (λ l. s.id.0 ∷ l) (state_numbers_are rest)
+pub state_numbers_are : (names : List ℕ) (states : List State) → map (λ (i : StateId). i.0) (map (λ (s : StateParts). s.id) (map (state_parts names) states)) ≡ map (λ (s : State). s.id.0) states
+state_numbers_are names [] = refl
+state_numbers_are names (s ∷ rest) = ap (λ l. s.id.0 ∷ l) (state_numbers_are names rest)
 
 pub message_numbers_are : (messages : List Message) → map (λ (i : MessageId). i.0) (map (λ (m : MessageParts). m.id) (map message_parts messages)) ≡ map (λ (m : Message). m.id.0) messages
 message_numbers_are [] = refl
 message_numbers_are (m ∷ rest) = ap (λ l. m.id.0 ∷ l) (message_numbers_are rest)
 
 -- a state's number stands among the numbers
-pub state_number_in : (states : List State) (id : StateId) → Contains (map (λ (s : StateParts). s.id) (map state_parts states)) id → Contains (map (λ (s : State). s.id.0) states) id.0
-state_number_in states id c = subst (λ l. Contains l id.0) (state_numbers_are states) (contains_map (λ (i : StateId). i.0) (map (λ (s : StateParts). s.id) (map state_parts states)) id c)
+pub state_number_in : (names : List ℕ) (states : List State) (id : StateId) → Contains (map (λ (s : StateParts). s.id) (map (state_parts names) states)) id → Contains (map (λ (s : State). s.id.0) states) id.0
+state_number_in names states id c = subst (λ l. Contains l id.0) (state_numbers_are names states) (contains_map (λ (i : StateId). i.0) (map (λ (s : StateParts). s.id) (map (state_parts names) states)) id c)
 
 -- a message's number stands among the numbers
 pub message_number_in : (messages : List Message) (id : MessageId) → Contains (map (λ (m : MessageParts). m.id) (map message_parts messages)) id → Contains (map (λ (m : Message). m.id.0) messages) id.0
@@ -55,9 +55,9 @@ pub record IsOnce (numbers : List ℕ) : Type 0 where
 id_of : ℕ → StateId
 id_of n = record { 0 = n }
 
-pub numbers_once : (states : List State) → AllPairs (λ x y. x ≢ y) (map (λ (s : StateParts). s.id) (map state_parts states)) → IsOnce (map (λ (s : State). s.id.0) states)
+pub numbers_once : (names : List ℕ) (states : List State) → AllPairs (λ x y. x ≢ y) (map (λ (s : StateParts). s.id) (map (state_parts names) states)) → IsOnce (map (λ (s : State). s.id.0) states)
 unfolding id_of
-numbers_once states apart = record {
+numbers_once names states apart = record {
   same = λ v w lt_v lt_w equal. ⊎_elim
       (λ done. done)
       (λ either. ⊎_elim
@@ -68,7 +68,7 @@ numbers_once states apart = record {
 }
   where
     ids : List StateId
-    ids = map (λ (s : StateParts). s.id) (map state_parts states)
+    ids = map (λ (s : StateParts). s.id) (map (state_parts names) states)
 
     numbers : List ℕ
     numbers = map (λ (s : State). s.id.0) states
@@ -76,17 +76,17 @@ numbers_once states apart = record {
     below : (k : ℕ) → k < length numbers → k < length ids
     below k lt =
         let a = length-map ids (λ (i : StateId). i.0) in
-        let b = ap length (state_numbers_are states) in
+        let b = ap length (state_numbers_are names states) in
         omega (arith, a, b, lt)
 
     at : (k : ℕ) → k < length numbers → (get_or ids k (id_of 0)).0 ≡ get_or numbers k 0
-    at k lt = sym (get_or-map (λ (i : StateId). i.0) ids k (id_of 0) 0 (below k lt)) ∙ ap (λ l. get_or l k 0) (state_numbers_are states)
+    at k lt = sym (get_or-map (λ (i : StateId). i.0) ids k (id_of 0) 0 (below k lt)) ∙ ap (λ l. get_or l k 0) (state_numbers_are names states)
 
 -- the states of the edges of a contract stand among the numbers
 pub ends_listed : (e : Contract) (numbers : List ℕ) → IsWhole (contract_parts e) → numbers ≡ map (λ (s : State). s.id.0) e.states.items → EndsListed numbers e.edges.items
 ends_listed e numbers whole is x c = (
-  subst (λ l. Contains l x.from.0) (sym is) (state_number_in e.states.items x.from (whole.from x c)),
-  subst (λ l. Contains l x.to.0) (sym is) (state_number_in e.states.items x.to (whole.to x c)),
+  subst (λ l. Contains l x.from.0) (sym is) (state_number_in (string_bytes e.state_names) e.states.items x.from (whole.from x c)),
+  subst (λ l. Contains l x.to.0) (sym is) (state_number_in (string_bytes e.state_names) e.states.items x.to (whole.to x c)),
 )
 
 -- there are no more states than numbers that a state may have
@@ -97,7 +97,7 @@ few_numbers e whole = walk e.states.items refl
     numbers = map (λ (i : StateId). i.0) (state_ids (contract_parts e))
 
     size : length numbers ≡ length e.states.items
-    size = ap length (state_numbers_are e.states.items) ∙ length-map e.states.items (λ (s : State). s.id.0)
+    size = ap length (state_numbers_are (string_bytes e.state_names) e.states.items) ∙ length-map e.states.items (λ (s : State). s.id.0)
 
     walk : (states : List State) → e.states.items ≡ states → length e.states.items ≤ MOST_STATES
     walk [] is = let none = ap length is in omega (arith, none)

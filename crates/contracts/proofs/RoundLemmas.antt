@@ -1,6 +1,6 @@
 -- States from which edges of one sign lead back, and all that is found.
 use Rattle.std.proofs.Common.{◌≡◌, ℕ, ◌+◌, List, [], ◌∷◌, ◌++◌, length, map, Some, sym, refl, ap, ◌∙◌, ⊎_elim, inl, inr, arith}
-use Rattle.std.specs.Prelude.{slice_get, codes}
+use Rattle.std.specs.Prelude.{slice_get, codes, string_bytes}
 use Rattle.std.specs.Str.Lossy.{utf8_lossy}
 use Rattle.std.proofs.lemmas.Option.{slice_get_within, slice_get_cases}
 use Rattle.std.proofs.lemmas.List.Elements.{Contains-append_cases, Contains-append_left, Contains-append_right}
@@ -70,15 +70,16 @@ all_found parts a b c d in_a in_b in_c in_d = record {
 -- in a sound contract no vertex of a sign's graph lies on a ring
 pub no_rings : (e : Contract) (sign : Sign) (graph : List (List ℕ)) → IsSound (contract_parts e) → IsDrawn (map (λ (s : State). s.id.0) e.states.items) e.edges.items (λ x. x.sign ≡ sign) graph → (v : ℕ) → OnRing graph v → ⊥
 no_rings e sign graph sound drawn v ring =
-    let states = map state_parts e.states.items in
+    let names = string_bytes e.state_names in
+    let states = map (state_parts names) e.states.items in
     let numbers = map (λ (s : State). s.id.0) e.states.items in
     let lt = in_row graph v ring.1.0 ring.1.1 in
     let long = drawn.long in
     let size = length-map e.states.items (λ (s : State). s.id.0) in
-    let size_states = length-map e.states.items state_parts in
+    let size_states = length-map e.states.items (state_parts names) in
     ⊎_elim
     (λ there. let s = there.0 in
-    let by = ring_round numbers e.edges.items sign graph drawn v s.id (state_number e.states.items v s there.2) ring in
+    let by = ring_round numbers e.edges.items sign graph drawn v s.id (state_number names e.states.items v s there.2) ring in
     sound (round s) (v, inr (inr (inr (record { state = s; at = there.2; sign = sign; round = by; is = refl })))))
     (λ past. let le = past.0 in absurd (omega (arith, le, lt, long, size, size_states)))
     (slice_get_cases states v).1

@@ -1,6 +1,6 @@
 //! The four conditions of a contract.
 
-ghost use Rattle.std.specs.Prelude.{◌≡◌, ◌<◌, ◌++◌, IfOk, OnOk, length, map, Contains};
+ghost use Rattle.std.specs.Prelude.{◌≡◌, ◌<◌, ◌++◌, IfOk, OnOk, length, map, Contains, string_bytes};
 ghost use Rattle.contracts.specs.Conditions.{AreExactly, IsAgainst, IsTwice, IsBoth, IsRound};
 ghost use Rattle.contracts.specs.Conditions.{IsFault, finding_parts, sign_of as sign_of_direction};
 ghost use Rattle.contracts.specs.Drawings.{IsDrawing};
@@ -154,14 +154,14 @@ fn both_directions(
     requires whole { IsWhole (contract_parts contract.now) }
     requires drawing { IsDrawing contract.now drawing.now }
     ensures found { IfOk result (λ found. FoundBelow (IsBoth
-        (map state_parts contract.now.states.items) contract.now.edges.items)
+        (map (state_parts (string_bytes contract.now.state_names)) contract.now.states.items) contract.now.edges.items)
         (length contract.now.states.items) (map finding_parts found.items)) }
 {
     let mut found = Vec::new(alloc);
     for i in 0..contract.states.len() {
         if drawing.sends.leaves[i] & drawing.receives.leaves[i] {
-            let state = &contract.states[i];
-            let finding = both_directions_in(alloc, state.place, state.name.as_bytes())?;
+            let state = contract.states[i];
+            let finding = both_directions_in(alloc, state.place, contract.state_name(state))?;
             found.push(finding)?;
         }
     }
@@ -177,14 +177,14 @@ fn one_direction(
     requires whole { IsWhole (contract_parts contract.now) }
     requires drawing { IsDrawing contract.now drawing.now }
     ensures found { IfOk result (λ found. FoundBelow (IsRound
-        (map state_parts contract.now.states.items) contract.now.edges.items)
+        (map (state_parts (string_bytes contract.now.state_names)) contract.now.states.items) contract.now.edges.items)
         (length contract.now.states.items) (map finding_parts found.items)) }
 {
     let mut found = Vec::new(alloc);
     for i in 0..contract.states.len() {
         if drawing.sends.rings[i] | drawing.receives.rings[i] {
-            let state = &contract.states[i];
-            let finding = one_direction_round(alloc, state.place, state.name.as_bytes())?;
+            let state = contract.states[i];
+            let finding = one_direction_round(alloc, state.place, contract.state_name(state))?;
             found.push(finding)?;
         }
     }

@@ -31,3 +31,4 @@ pub mod FewLemmas
 pub mod ApartLemmas
 pub mod TypeLemmas
 pub mod PlaceLemmas
+pub mod LabelLemmas

@@ -17,13 +17,14 @@ use Rattle.program.specs.declared.number.StateId.{StateId}
 use Rattle.names.proofs.MeantLemmas.{as_counted}
 
 pub seen_is : (text : List ℕ) (message state : ℕ) (name : Span) (messages : List MessageTree) (states : List StateTree) (c : Contract) → string_bytes c.name ≡ printed text name → c.first ≡ record { 0 = state }
-    → map state_parts c.states.items ≡ states_from text state states → map message_parts c.messages.items ≡ messages_from text message messages
+    → map (state_parts (string_bytes c.state_names)) c.states.items ≡ states_from text state states → map message_parts c.messages.items ≡ messages_from text message messages
     → c.edges.items ≡ edges_from (record { message = message_meant text message messages; state = state_meant text state states }) state states
     → contract_seen c ≡ resolved_contract text message state name messages states
 seen_is text message state name messages states c name-is first-is states-are messages-are edges-are =
     let seen : List ℕ → StateId → List StateParts → List MessageParts → List Edge → ContractSeen = λ n f ss ms es. record { name = n; parts = record { first = f; states = ss; messages = ms; edges = es } } in
-    ap (λ n. seen n c.first (map state_parts c.states.items) (map message_parts c.messages.items) c.edges.items) name-is
-    ∙ ap (λ f. seen (printed text name) f (map state_parts c.states.items) (map message_parts c.messages.items) c.edges.items) first-is
+    let all = map (state_parts (string_bytes c.state_names)) c.states.items in
+    ap (λ n. seen n c.first all (map message_parts c.messages.items) c.edges.items) name-is
+    ∙ ap (λ f. seen (printed text name) f all (map message_parts c.messages.items) c.edges.items) first-is
     ∙ ap (λ ss. seen (printed text name) (record { 0 = state }) ss (map message_parts c.messages.items) c.edges.items) states-are
     ∙ ap (λ ms. seen (printed text name) (record { 0 = state }) (states_from text state states) ms c.edges.items) messages-are
     ∙ ap (seen (printed text name) (record { 0 = state }) (states_from text state states) (messages_from text message messages)) edges-are
@@ -37,7 +38,7 @@ seen_messages text message state name messages states c is =
 seen_states : (text : List ℕ) (message state : ℕ) (name : Span) (messages : List MessageTree) (states : List StateTree) (c : Contract) → contract_seen c ≡ resolved_contract text message state name messages states → length c.states.items ≡ length (counted_states states)
 seen_states text message state name messages states c is =
     let counted = flat_map (counted_in text) states in
-    sym (length-map c.states.items state_parts) ∙ ap (λ s. length s.parts.states) is
+    sym (length-map c.states.items (state_parts (string_bytes c.state_names))) ∙ ap (λ s. length s.parts.states) is
     ∙ length-map (enumerate_from state counted) (λ p. numbered_state p.0 p.1) ∙ length-enumerate_from state counted
     ∙ as_counted text states
 

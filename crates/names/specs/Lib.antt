@@ -23,4 +23,5 @@ pub mod Methods
 pub mod Heads
 pub mod Resolution
 pub mod Meant
+pub mod Labels
 pub mod Ready

@@ -15,6 +15,7 @@ mod heads;
 mod items;
 mod judging;
 mod kinds;
+mod labels;
 pub mod laws;
 mod meaning;
 mod members;

@@ -16,6 +16,7 @@ ghost use Rattle.names.specs.Scopes.{declared_among};
 use crate::edges::edges_of;
 use crate::fault::NameFaults;
 use crate::items::judge_program;
+use crate::labels::Labels;
 use crate::meaning::Meaning;
 use crate::members::{Declared, Members};
 use crate::numbering::{number_messages, number_states};
@@ -145,7 +146,9 @@ fn resolve_contract(
     let outline = &declared.outline;
     let names = state_names(alloc, &outline.states)?;
     let messages = number_messages(alloc, text, &outline.messages, messages_before)?;
-    let states = number_states(alloc, text, &names.all, states_before)?;
+    let mut printed = String::new(alloc);
+    let labels = Labels::of(alloc, text, declared, &mut printed)?;
+    let states = number_states(alloc, &labels, &mut printed, &names.all, states_before)?;
     let meaning = Meaning {
         text,
         declared,
@@ -157,6 +160,7 @@ fn resolve_contract(
     Ok(Contract {
         name: String::from_utf8_lossy(alloc, outline.name.slice(text))?,
         first: StateId(states_before),
+        state_names: printed,
         states,
         messages,
         edges,

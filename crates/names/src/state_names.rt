@@ -1,13 +1,13 @@
 //! The names at which the states of a contract are counted.
 
-ghost use Rattle.std.specs.Prelude.{◌≡◌, ◌++◌, map, IfOk, OnOk};
+ghost use Rattle.std.specs.Prelude.{◌≡◌, ℕ, List, ◌++◌, map, IfOk, OnOk};
 ghost use Rattle.std.specs.List.{flat_map};
 ghost use Rattle.tree.specs.Trees.{path_tree, state_tree};
 ghost use Rattle.names.specs.Declarations.{unnamed_of};
 ghost use Rattle.names.specs.Numbered.{unnamed_names, places_named, names_in};
 
 use crate::outline::paths;
-use source::Span;
+use source::{Place, Span};
 use std::alloc::{AllocError, Global};
 use tree::{Edge, Path, State};
 
@@ -16,6 +16,19 @@ use tree::{Edge, Path, State};
 pub(crate) enum StateName {
     Named(Span),
     Unnamed(Span),
+}
+
+impl StateName {
+    ghost use Rattle.names.specs.Numbered.{counted_as};
+
+    /// Where it lies in the text.
+    pub(crate) fn place(self) -> Place
+        ensures { (text : List ℕ) → result ≡ (counted_as text self).place }
+    {
+        match self {
+            StateName::Named(span) | StateName::Unnamed(span) => span.place,
+        }
+    }
 }
 
 /// All states of a contract in order, and where its named ones stand among them.

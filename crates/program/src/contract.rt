@@ -1,5 +1,7 @@
 //! Contracts in which every name is a number.
 
+ghost use Rattle.std.specs.Prelude.{◌≡◌, string_bytes};
+
 use crate::number::{MessageId, StateId};
 use source::Place;
 
@@ -23,22 +25,44 @@ pub struct Resolved {
     pub contracts: Vec<Contract>,
 }
 
-/// A contract: its messages and states in order of the text, the first state, and its edges in order of the text.
+/// A contract: its messages and states in order of the text, the first state, and its edges in order of the text. The names of its
+/// states stand in one text, so that none of them takes memory of its own.
 #[derive(Drop)]
 pub struct Contract {
     pub name: String,
     pub first: StateId,
+    pub state_names: String,
     pub states: Vec<State>,
     pub messages: Vec<Message>,
     pub edges: Vec<Edge>,
 }
 
-/// A state, and how it is printed: a named one by its name, an unnamed one by the message of its edge, in parentheses.
-#[derive(Drop)]
+/// A state, and where among the names of states it stands how it is printed: a named one by its name, an unnamed one by the message of
+/// its edge, in parentheses.
+#[derive(Clone, Copy)]
 pub struct State {
     pub id: StateId,
-    pub name: String,
+    pub name: Part,
     pub place: Place,
+}
+
+/// Bytes of a text, from one to before another, both counted from 0.
+#[derive(Clone, Copy)]
+pub struct Part {
+    pub start: usize,
+    pub end: usize,
+}
+
+impl Contract {
+    ghost use Rattle.program.specs.Parts.{state_parts};
+
+    /// How a state of the contract is printed; nothing where its name does not lie within the names of states.
+    pub fn state_name(&self, state: State) -> &[u8]
+        ensures { result.now ≡ (state_parts (string_bytes self.now.state_names) state).name }
+    {
+        let names = self.state_names.as_bytes();
+        names.get(state.name.start..state.name.end).unwrap_or(&[])
+    }
 }
 
 /// A message, and which way it goes.

@@ -12,7 +12,7 @@ mod number;
 mod statement;
 
 pub use call::{Argument, Call, Send};
-pub use contract::{Contract, Direction, Edge, Message, Resolved, Sign, State};
+pub use contract::{Contract, Direction, Edge, Message, Part, Resolved, Sign, State};
 pub use kind::{Kind, Scalar, Side};
 pub use limits::{MOST_CONTRACTS, MOST_METHODS, MOST_PARAMETERS, MOST_STATES, MOST_VARIABLES};
 pub use method::{Method, Role, Variable};

@@ -1,13 +1,14 @@
 -- Where states stand in their contracts, and their names.
 use Rattle.std.proofs.Common.{◌≡◌, ◌<◌, ◌+◌, ◌==◌, ℕ, zero, suc, Bool, true, false, not, cond, ltb, eqb, List, [], ◌∷◌, ◌++◌, length, map, take, get_or, Bor, Option, Some, None, refl, ap, ap₂, sym, ◌∙◌, subst₂, arith, ltb-false}
-use Rattle.std.specs.Prelude.{find, option_and_then, option_map, slice_get}
+use Rattle.std.specs.Prelude.{find, option_and_then, option_map, slice_get, string_bytes}
 use Rattle.std.specs.BTreeMap.{BTreeMap, get}
 use Rattle.std.specs.Cmp.{unsigned_tied}
+use Rattle.std.specs.Option.{option_map_or, unwrap_or}
 use Rattle.std.specs.Slice.{IsItemAt}
 use Rattle.std.specs.List.{position_or_len}
 use Rattle.std.specs.Ordering.{is_eq, nat_cmp}
 use Rattle.std.proofs.lemmas.List.{length-append, length-map, length-take-le, map-append, take_more}
-use Rattle.std.proofs.lemmas.Option.{slice_get-map, slice_get_past, slice_get_read}
+use Rattle.std.proofs.lemmas.Option.{none-some, same_Some, slice_get-map, slice_get_past, slice_get_read}
 use Rattle.std.proofs.lemmas.List.Folds.{find_at}
 use Rattle.lemmas.specs.Places.{first_position}
 use Rattle.program.specs.Parts.{ContractSeen, StateParts, contract_seen, state_parts}
@@ -71,6 +72,13 @@ by_contract (Some c) q = sym (found_at c.parts.states q)
 pub state_placed : (contracts : List ContractSeen) (tables : List (BTreeMap ℕ ℕ)) → ArePlaced contracts tables → (contract state : ℕ) → state_of contracts contract state ≡ by_place contracts contract (place_in tables contract state)
 state_placed contracts tables p contract state = by_contract (slice_get contracts contract) state ∙ ap (by_place contracts contract) (sym (p contract state))
 
+-- the name of a state, or nothing where there is none
+pub name_or_nothing : (s : Option StateParts) (name : Option (Bor (List ℕ))) → option_map (λ (bytes : Bor (List ℕ)). bytes.now) name ≡ option_map (λ (x : StateParts). x.name) s → (nothing : Bor (List ℕ)) → nothing.now ≡ [] → (unwrap_or name nothing).now ≡ option_map_or (λ (x : StateParts). x.name) s []
+name_or_nothing None None e nothing is = is
+name_or_nothing None (Some name) e nothing is = absurd (none-some name.now (sym e))
+name_or_nothing (Some s) None e nothing is = absurd (none-some s.name e)
+name_or_nothing (Some s) (Some name) e nothing is = same_Some name.now s.name e
+
 -- one contract more, as the code has it
 pub places_more : (contracts : List Contract) (tables new : List (BTreeMap ℕ ℕ)) (i : ℕ) (x : Contract) (m : BTreeMap ℕ ℕ) → i < length contracts → x ≡ get_or contracts i x → length tables ≡ i
     → ArePlaced (map contract_seen (take i contracts)) tables → ((k : ℕ) → get nat_cmp m k ≡ first_position nat_cmp (map (λ s. s.id.0) x.states.items) k) → new ≡ tables ++ m ∷ []
@@ -79,7 +87,7 @@ places_more contracts tables new i x m lt is many placed has e =
     let seen : map contract_seen (take (i + 1) contracts) ≡ map contract_seen (take i contracts) ++ contract_seen x ∷ [] =
     ap (map contract_seen) (take_more contracts i x lt) ∙ map-append contract_seen (take i contracts) (get_or contracts i x ∷ []) ∙ ap (λ y. map contract_seen (take i contracts) ++ contract_seen y ∷ []) (sym is) in
     let same : length tables ≡ length (map contract_seen (take i contracts)) = omega (arith, many, length-map (take i contracts) contract_seen, length-take-le i contracts (omega arith)) in
-    let here = λ (k : ℕ). has k ∙ ap (λ l. first_position nat_cmp l k) (sym (map_twice (λ (s : StateParts). s.id.0) state_parts x.states.items)) in (
+    let here = λ (k : ℕ). has k ∙ ap (λ l. first_position nat_cmp l k) (sym (map_twice (λ (s : StateParts). s.id.0) (state_parts (string_bytes x.state_names)) x.states.items)) in (
       ap (λ l. length l) e ∙ length-append tables (m ∷ []) ∙ ap (λ n. n + 1) many,
       subst₂ (λ c t. ArePlaced c t) (sym seen) (sym e) (placed_more (map contract_seen (take i contracts)) tables (contract_seen x) m same placed here),
     )

@@ -1,7 +1,6 @@
 //! How what a world has is named.
 
 ghost use Rattle.std.specs.Prelude.{◌≡◌, ◌++◌, IfOk, OnOk, map, option_map, string_bytes};
-ghost use Rattle.program.specs.Parts.{state_parts};
 ghost use Rattle.rules.specs.Programs.{seen_of};
 ghost use Rattle.replays.specs.Naming.{words_of};
 ghost use Rattle.replays.specs.Names as told;
@@ -10,7 +9,7 @@ ghost use Rattle.replays.specs.Placed.{place_in};
 
 use crate::naming::{Naming, places_in};
 use crate::texts::add;
-use program::{ContractId, Kind, MessageId, Scalar, Side, State, StateId, StructId};
+use program::{ContractId, Kind, MessageId, Scalar, Side, StateId, StructId};
 use rules::Program;
 use source::Memory;
 use std::alloc::{AllocError, Global};
@@ -67,26 +66,22 @@ impl<'a> Naming<'a> {
         self.states.get(contract.0 as usize)?.get(&state.0).copied()
     }
 
-    /// The state of this number in a contract, if there is one.
-    fn state(&self, contract: ContractId, state: StateId) -> Option<&State>
-        ensures { option_map (λ s. state_parts s.now) result ≡ state_of (words_of self.now).program.contracts contract.0 state.0 }
+    /// How the state of this number in a contract is printed, if there is one.
+    fn printed(&self, contract: ContractId, state: StateId) -> Option<&[u8]>
+        ensures { option_map (λ bytes. bytes.now) result
+            ≡ option_map (λ s. s.name) (state_of (words_of self.now).program.contracts contract.0 state.0) }
     {
         let place = self.place(contract, state)?;
-        self.program
-            .contracts()
-            .get(contract.0 as usize)?
-            .states
-            .get(place)
+        let within = self.program.contracts().get(contract.0 as usize)?;
+        let there = *within.states.get(place)?;
+        Some(within.state_name(there))
     }
 
     /// How a state of a contract is printed.
     pub(crate) fn state_name(&self, contract: ContractId, state: StateId) -> &[u8]
         ensures { result.now ≡ told.state_name (words_of self.now) contract.0 state.0 }
     {
-        match self.state(contract, state) {
-            Some(state) => state.name.as_bytes(),
-            None => &[],
-        }
+        self.printed(contract, state).unwrap_or(&[])
     }
 
     /// The name of a message of a contract.

@@ -1,7 +1,7 @@
 -- Contracts and structs by the places of their items.
 use Rattle.std.proofs.Common.{◌≡◌, ℕ, zero, suc, ◌<◌, ◌≤◌, List, [], ◌∷◌, ◌++◌, length, map, get_or, sym, refl, ap, ◌∙◌, arith, Bor}
 use Rattle.std.specs.List.{HoldsAt}
-use Rattle.std.specs.Prelude.{MatchOption, Option, None, Some, option_map, slice_get}
+use Rattle.std.specs.Prelude.{MatchOption, Option, None, Some, option_map, slice_get, string_bytes}
 use Rattle.std.proofs.lemmas.List.{length-map, take_all}
 use Rattle.std.proofs.lemmas.Option.{slice_get-map, slice_get_past, slice_get_read}
 use Rattle.tree.specs.Trees.{contracts_of}
@@ -34,8 +34,12 @@ seen_at seen xs k (Some x) found = sym (slice_get-map seen xs k ∙ ap (option_m
 -- the numbers of a state and of a message that are looked up in a contract
 pub state_found : (contract : Contract) (states : List State) (at : ℕ) (r : Option (Bor State)) → states ≡ contract.states.items → LooksUp states at r
     → option_map (λ s. s.now.id) r ≡ option_map (λ s. s.id) (slice_get (contract_seen contract).parts.states at)
-state_found contract states at None same found = ap (option_map (λ s. s.id)) (seen_at state_parts states at None found ∙ ap (λ l. slice_get (map state_parts l) at) same)
-state_found contract states at (Some s) same found = ap (option_map (λ s. s.id)) (seen_at state_parts states at (Some s) found ∙ ap (λ l. slice_get (map state_parts l) at) same)
+state_found contract states at None same found =
+    let parts = state_parts (string_bytes contract.state_names) in
+    ap (option_map (λ s. s.id)) (seen_at parts states at None found ∙ ap (λ l. slice_get (map parts l) at) same)
+state_found contract states at (Some s) same found =
+    let parts = state_parts (string_bytes contract.state_names) in
+    ap (option_map (λ s. s.id)) (seen_at parts states at (Some s) found ∙ ap (λ l. slice_get (map parts l) at) same)
 
 pub message_found : (contract : Contract) (messages : List Message) (at : ℕ) (r : Option (Bor Message)) → messages ≡ contract.messages.items → LooksUp messages at r
     → option_map (λ m. m.now.id) r ≡ option_map (λ m. m.id) (slice_get (contract_seen contract).parts.messages at)

@@ -1,5 +1,5 @@
 use Rattle.std.proofs.Common.{◌≡◌, ◌<◌, ◌∙◌, ℕ, get_or, length, map, sym, subst, refl, arith}
-use Rattle.std.specs.Prelude.{Contains}
+use Rattle.std.specs.Prelude.{Contains, string_bytes}
 use Rattle.std.proofs.lemmas.List.{length-map}
 use Rattle.contracts.specs.Marking.{IsMarked}
 use Rattle.contracts.specs.Reached.{IsLongest}
@@ -11,7 +11,7 @@ use Rattle.contracts.proofs.PartLemmas.{numbers_once, state_number_in}
 use Rattle.contracts.proofs.bounds.bounds_of.Goals as goal
 
 pub position-first-requires : goal.position-first-requires
-position-first-requires c = subst (λ l. Contains l c.args.contract.now.first.0) (sym c.states_of.ensures) (state_number_in c.args.contract.now.states.items c.args.contract.now.first c.requires.whole.first)
+position-first-requires c = subst (λ l. Contains l c.args.contract.now.first.0) (sym c.states_of.ensures) (state_number_in (string_bytes c.args.contract.now.state_names) c.args.contract.now.states.items c.args.contract.now.first c.requires.whole.first)
 
 pub reached_from-requires : goal.reached_from-requires
 reached_from-requires c =
@@ -36,7 +36,7 @@ pub returns : goal.returns
 returns c =
     let all = c.args.contract.now.states.items in
     let n = map (λ s. s.id.0) all in
-    let once = numbers_once all c.requires.whole.states_once in
+    let once = numbers_once (string_bytes c.args.contract.now.state_names) all c.requires.whole.states_once in
     let edges = c.args.contract.now.edges.items in
     let first = c.args.contract.now.first in
     let v = c.position-first.result in

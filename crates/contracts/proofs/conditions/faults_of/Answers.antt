@@ -1,4 +1,5 @@
 use Rattle.std.proofs.Common.{◌∙◌, ◌++◌, map, ap, sym, subst}
+use Rattle.std.specs.Prelude.{string_bytes}
 use Rattle.std.proofs.lemmas.List.{length-map, map-append}
 use Rattle.contracts.specs.Conditions.{AreExactly, IsFault, IsBoth, IsRound, finding_parts}
 use Rattle.contracts.specs.Found.{FoundBelow}
@@ -14,9 +15,10 @@ twice_in_states-requires c = record { whole = c.requires.whole; numbers = c.mess
 
 pub returns : goal.returns
 returns c =
+    let view = state_parts (string_bytes c.args.contract.now.state_names) in
     let states = c.args.contract.now.states.items in
     let edges = c.args.contract.now.edges.items in
-    let size = sym (length-map states state_parts) in
+    let size = sym (length-map states view) in
     let a = c.in_ok-found.found.items in
     let b = c.in_ok-twice.twice.items in
     let both = c.in_ok-both.both.items in
@@ -27,6 +29,6 @@ returns c =
       exactly = subst (AreExactly (IsFault (contract_parts c.args.contract.now))) (sym cut)
           (all_found (contract_parts c.args.contract.now) (map finding_parts a) (map finding_parts b) (map finding_parts both) (map finding_parts round)
           c.in_ok-found.ensures.found c.in_ok-twice.ensures.found
-          (subst (λ n. FoundBelow (IsBoth (map state_parts states) edges) n (map finding_parts both)) size c.in_ok-both.ensures.found)
-          (subst (λ n. FoundBelow (IsRound (map state_parts states) edges) n (map finding_parts round)) size c.in_ok-round.ensures.found));
+          (subst (λ n. FoundBelow (IsBoth (map view states) edges) n (map finding_parts both)) size c.in_ok-both.ensures.found)
+          (subst (λ n. FoundBelow (IsRound (map view states) edges) n (map finding_parts round)) size c.in_ok-round.ensures.found));
     }

@@ -1,5 +1,5 @@
 use Rattle.std.proofs.Common.{◌≡◌, ◌∙◌, ℕ, ◌<◌, List, length, map, get_or, ap, sym, subst}
-use Rattle.std.specs.Prelude.{All, Contains}
+use Rattle.std.specs.Prelude.{All, Contains, string_bytes}
 use Rattle.std.specs.List.{range_with_len}
 use Rattle.std.proofs.lemmas.Bool.{and_parts, and_from}
 use Rattle.std.proofs.lemmas.List.Elements.{All-contains, All-map}
@@ -35,7 +35,7 @@ messages_of c = message_ids (contract_parts c.args.contract.now)
 
 -- the numbers that were read are those of the parts
 states_are : (c : After-new-message_list) → c.in_ok-states.states.items ≡ map state_number (states_of c)
-states_are c = c.in_ok-states.ensures ∙ ap (map (λ s. s.id.0)) c.deref.ensures.value ∙ sym (state_numbers_are c.args.contract.now.states.items)
+states_are c = c.in_ok-states.ensures ∙ ap (map (λ s. s.id.0)) c.deref.ensures.value ∙ sym (state_numbers_are (string_bytes c.args.contract.now.state_names) c.args.contract.now.states.items)
 
 messages_are : (c : After-new-message_list) → c.in_ok-messages.messages.items ≡ map message_number (messages_of c)
 messages_are c = c.in_ok-messages.ensures ∙ ap (map (λ m. m.id.0)) c.deref-2.ensures.value ∙ sym (message_numbers_are c.args.contract.now.messages.items)
