@@ -1,12 +1,12 @@
 -- What expressions that are put together in memory are as trees.
 use Rattle.std.proofs.Common.{◌≡◌, sym, ap, ◌∙◌, map}
-use Rattle.std.specs.Prelude.{Vec}
+use Rattle.std.specs.Prelude.{Box, Vec}
 use Rattle.std.specs.Global.{Global}
 use Rattle.std.proofs.lemmas.Simd.{map-map}
 use Rattle.source.specs.declared.token.Span.{Span}
 use Rattle.tree.specs.Operators.{Or, And, Equal, Compare, Add, Multiply, Single, Joined}
 use Rattle.tree.specs.Expressions.{LevelTree, AtomTree, TargetTree, Unary, Chain, Number, True, False, Target, Field, StepOf}
-use Rattle.tree.specs.ExpressionTrees.{alone, step_row, unmarked, atom_of, target_of, conjunction_of, disjunction_of, equality_of, equality_step_of, expression_of, relation_of, relation_step_of, sum_of, sum_step_of, term_of, unary_of, atom_tree, target_tree, conjunction_tree, disjunction_tree, equality_tree, equality_step_tree, expression_tree, relation_tree, relation_step_tree, sum_tree, sum_step_tree, term_tree, unary_tree}
+use Rattle.tree.specs.ExpressionTrees.{alone, summed, step_row, unmarked, atom_of, target_of, conjunction_of, disjunction_of, equality_of, equality_step_of, expression_of, relation_of, relation_step_of, sum_of, sum_step_of, term_of, unary_of, atom_tree, target_tree, conjunction_tree, disjunction_tree, equality_tree, equality_step_tree, expression_tree, relation_tree, relation_step_tree, sum_tree, sum_step_tree, term_tree, unary_tree}
 use Rattle.tree.specs.declared.expression.Prefix.{Prefix}
 use Rattle.tree.specs.declared.expression.Atom.TheVariants as atom
 use Rattle.tree.specs.declared.expression.Atom.TheOpen as layer
@@ -29,6 +29,10 @@ use Rattle.tree.specs.declared.expression.Unary as unaries
 pub alone_made : (a : atoms.Atom) → expression_tree (expression.Atom a) ≡ alone (atom_tree a)
 alone_made a = ap expression_tree (sym (expression.rolls-Atom a)) ∙ expressions.fold-roll-Expression AtomTree (LevelTree (Joined Or)) TargetTree (LevelTree (Joined And)) (LevelTree (Joined Or)) (LevelTree (Joined Equal)) (StepOf Equal) (LevelTree (Joined Compare)) (StepOf Compare) (LevelTree (Joined Add)) (StepOf Add) (LevelTree (Joined Multiply)) (LevelTree Single)
     atom_of expression_of target_of conjunction_of disjunction_of equality_of equality_step_of relation_of relation_step_of sum_of sum_step_of term_of unary_of (layer.Atom a)
+
+pub summed_made : (s : Box sums.Sum Global) → expression_tree (expression.Sum s) ≡ summed (sum_tree s.value)
+summed_made s = ap expression_tree (sym (expression.rolls-Sum s)) ∙ expressions.fold-roll-Expression AtomTree (LevelTree (Joined Or)) TargetTree (LevelTree (Joined And)) (LevelTree (Joined Or)) (LevelTree (Joined Equal)) (StepOf Equal) (LevelTree (Joined Compare)) (StepOf Compare) (LevelTree (Joined Add)) (StepOf Add) (LevelTree (Joined Multiply)) (LevelTree Single)
+    atom_of expression_of target_of conjunction_of disjunction_of equality_of equality_step_of relation_of relation_step_of sum_of sum_step_of term_of unary_of (layer.Sum s)
 
 pub disjunction_made : (first : conjunctions.Conjunction) (others : Vec conjunctions.Conjunction Global) → disjunction_tree (disjunctions.roll-Disjunction (record { first = first; others = others })) ≡ Chain Or (conjunction_tree first) (step_row Or (map (unmarked conjunction_tree) others.items))
 disjunction_made first others = disjunctions.fold-roll-Disjunction AtomTree (LevelTree (Joined Or)) TargetTree (LevelTree (Joined And)) (LevelTree (Joined Or)) (LevelTree (Joined Equal)) (StepOf Equal) (LevelTree (Joined Compare)) (StepOf Compare) (LevelTree (Joined Add)) (StepOf Add) (LevelTree (Joined Multiply)) (LevelTree Single)

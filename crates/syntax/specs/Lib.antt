@@ -9,4 +9,3 @@ pub mod Firsts
 pub mod Types
 pub mod States
 pub mod Parsing
-pub mod Kept

@@ -46,6 +46,10 @@ joins Compare = λ k. is_some (relation_of k)
 joins Add = opens_sum
 joins Multiply = kind_is kind.Star
 
+-- whether it is an operator that binds less than a sum
+abbrev pub behind_sum : Option Kind → Bool
+behind_sum k = ((joins Compare k || joins Equal k) || joins And k) || joins Or k
+
 -- by what a target goes on that is a name so far
 abbrev pub opens_rest : Option Kind → Bool
 opens_rest k = kind_is kind.Dot k || kind_is kind.OpenBracket k

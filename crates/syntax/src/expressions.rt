@@ -16,10 +16,9 @@ ghost use Rattle.tree.specs.ExpressionTrees.{term_tree, unary_tree, atom_tree, t
 
 use crate::cursor::{Cursor, Stuck};
 use crate::fitted::{fitted, push};
-use crate::kept::kept;
 use crate::operators::{
-    equality_operator, goes_on, is_equality, is_prefix, is_relation, is_sum, prefix,
-    relation_operator, sum_operator,
+    equality_operator, goes_on, goes_on_behind_sum, is_equality, is_prefix, is_relation, is_sum,
+    prefix, relation_operator, sum_operator,
 };
 use source::{Kind, Span};
 use std::alloc::Global;
@@ -69,22 +68,22 @@ pub fn expression_from(
     if unary.prefixes.is_empty() && !goes_on(cursor.peek()) {
         return Ok(Expression::Atom(unary.atom));
     }
-    let disjunction = disjunction_from(alloc, cursor, unary)?;
-    Ok(kept(alloc, disjunction)?)
+    let sum = sum_from(alloc, cursor, unary)?;
+    if !goes_on_behind_sum(cursor.peek()) {
+        return Ok(Expression::Sum(Box::new(alloc, sum)?));
+    }
+    let disjunction = disjunction_from(alloc, cursor, sum)?;
+    Ok(Expression::Joined(Box::new(alloc, disjunction)?))
 }
 
-/// The same with all levels between, as it is kept where operators stand in it.
+/// The same with all levels between, from the sum that stands first, as it is kept where operators stand about that.
 #[cycle(expression)]
-fn disjunction_from(
-    alloc: Global,
-    cursor: &mut Cursor<'_>,
-    unary: Unary,
-) -> Result<Disjunction, Stuck>
-    requires { Stops (level_at (unary_tree unary)) cursor.old }
-    ensures read { Reads disjunction_tree level (level_on (Joined Or)) level_at (level (unary_tree unary) ++ cursor.old) cursor.new result }
+fn disjunction_from(alloc: Global, cursor: &mut Cursor<'_>, sum: Sum) -> Result<Disjunction, Stuck>
+    requires { Stops (level_at (sum_tree sum)) cursor.old }
+    ensures read { Reads disjunction_tree level (level_on (Joined Or)) level_at (level (sum_tree sum) ++ cursor.old) cursor.new result }
     ensures left { OnOk result (length cursor.new ≤ length cursor.old) }
 {
-    let first = conjunction_from(alloc, cursor, unary)?;
+    let first = conjunction_from(alloc, cursor, sum)?;
     let others = conjunctions(alloc, cursor)?;
     Ok(Disjunction { first, others })
 }
@@ -108,23 +107,19 @@ fn or_conjunction(alloc: Global, cursor: &mut Cursor<'_>) -> Result<Conjunction,
     ensures { Reads (unmarked conjunction_tree) (step Or) (level_on (Joined And)) (step_at Or) cursor.old cursor.new result }
 {
     cursor.expect(Kind::OrOr)?;
-    let unary = read_unary(alloc, cursor)?;
-    conjunction_from(alloc, cursor, unary)
+    let sum = read_sum(alloc, cursor)?;
+    conjunction_from(alloc, cursor, sum)
 }
 
-/// conjunction = equality { "&&" equality }, from the unary that stands first.
+/// conjunction = equality { "&&" equality }, from the sum that stands first.
 #[cycle(expression)]
-fn conjunction_from(
-    alloc: Global,
-    cursor: &mut Cursor<'_>,
-    unary: Unary,
-) -> Result<Conjunction, Stuck>
-    requires { Stops (level_at (unary_tree unary)) cursor.old }
+fn conjunction_from(alloc: Global, cursor: &mut Cursor<'_>, sum: Sum) -> Result<Conjunction, Stuck>
+    requires { Stops (level_at (sum_tree sum)) cursor.old }
     ensures read { Reads conjunction_tree level (level_on (Joined And)) level_at
-        (level (unary_tree unary) ++ cursor.old) cursor.new result }
+        (level (sum_tree sum) ++ cursor.old) cursor.new result }
     ensures left { OnOk result (length cursor.new ≤ length cursor.old) }
 {
-    let first = equality_from(alloc, cursor, unary)?;
+    let first = equality_from(alloc, cursor, sum)?;
     let others = equalities(alloc, cursor)?;
     Ok(Conjunction { first, others })
 }
@@ -148,18 +143,18 @@ fn and_equality(alloc: Global, cursor: &mut Cursor<'_>) -> Result<Equality, Stuc
     ensures { Reads (unmarked equality_tree) (step And) (level_on (Joined Equal)) (step_at And) cursor.old cursor.new result }
 {
     cursor.expect(Kind::AndAnd)?;
-    let unary = read_unary(alloc, cursor)?;
-    equality_from(alloc, cursor, unary)
+    let sum = read_sum(alloc, cursor)?;
+    equality_from(alloc, cursor, sum)
 }
 
-/// equality = relation { ( "==" | "!=" ) relation }, from the unary that stands first.
+/// equality = relation { ( "==" | "!=" ) relation }, from the sum that stands first.
 #[cycle(expression)]
-fn equality_from(alloc: Global, cursor: &mut Cursor<'_>, unary: Unary) -> Result<Equality, Stuck>
-    requires { Stops (level_at (unary_tree unary)) cursor.old }
-    ensures read { Reads equality_tree level (level_on (Joined Equal)) level_at (level (unary_tree unary) ++ cursor.old) cursor.new result }
+fn equality_from(alloc: Global, cursor: &mut Cursor<'_>, sum: Sum) -> Result<Equality, Stuck>
+    requires { Stops (level_at (sum_tree sum)) cursor.old }
+    ensures read { Reads equality_tree level (level_on (Joined Equal)) level_at (level (sum_tree sum) ++ cursor.old) cursor.new result }
     ensures left { OnOk result (length cursor.new ≤ length cursor.old) }
 {
-    let first = relation_from(alloc, cursor, unary)?;
+    let first = relation_from(alloc, cursor, sum)?;
     let others = equality_steps(alloc, cursor)?;
     Ok(Equality { first, others })
 }
@@ -183,22 +178,21 @@ fn equality_step(alloc: Global, cursor: &mut Cursor<'_>) -> Result<EqualityStep,
     ensures { Reads equality_step_tree (step Equal) (level_on (Joined Compare)) (step_at Equal) cursor.old cursor.new result }
 {
     let operator = equality_operator(cursor)?;
-    let unary = read_unary(alloc, cursor)?;
-    let relation = relation_from(alloc, cursor, unary)?;
+    let sum = read_sum(alloc, cursor)?;
+    let relation = relation_from(alloc, cursor, sum)?;
     Ok(EqualityStep { operator, relation })
 }
 
-/// relation = sum { ( "<" | "<=" | ">" | ">=" ) sum }, from the unary that stands first.
+/// relation = sum { ( "<" | "<=" | ">" | ">=" ) sum }, from the sum that stands first.
 #[cycle(expression)]
-fn relation_from(alloc: Global, cursor: &mut Cursor<'_>, unary: Unary) -> Result<Relation, Stuck>
-    requires { Stops (level_at (unary_tree unary)) cursor.old }
+fn relation_from(alloc: Global, cursor: &mut Cursor<'_>, sum: Sum) -> Result<Relation, Stuck>
+    requires { Stops (level_at (sum_tree sum)) cursor.old }
     ensures read { Reads relation_tree level (level_on (Joined Compare)) level_at
-        (level (unary_tree unary) ++ cursor.old) cursor.new result }
+        (level (sum_tree sum) ++ cursor.old) cursor.new result }
     ensures left { OnOk result (length cursor.new ≤ length cursor.old) }
 {
-    let first = sum_from(alloc, cursor, unary)?;
     let others = relation_steps(alloc, cursor)?;
-    Ok(Relation { first, others })
+    Ok(Relation { first: sum, others })
 }
 
 /// { ( "<" | "<=" | ">" | ">=" ) sum }
@@ -220,12 +214,20 @@ fn relation_step(alloc: Global, cursor: &mut Cursor<'_>) -> Result<RelationStep,
     ensures { Reads relation_step_tree (step Compare) (level_on (Joined Add)) (step_at Compare) cursor.old cursor.new result }
 {
     let operator = relation_operator(cursor)?;
-    let unary = read_unary(alloc, cursor)?;
-    let sum = sum_from(alloc, cursor, unary)?;
+    let sum = read_sum(alloc, cursor)?;
     Ok(RelationStep { operator, sum })
 }
 
-/// sum = term { ( "+" | "-" ) term }, from the unary that stands first.
+/// sum = term { ( "+" | "-" ) term } .
+#[cycle(expression)]
+fn read_sum(alloc: Global, cursor: &mut Cursor<'_>) -> Result<Sum, Stuck>
+    ensures { Reads sum_tree level (level_on (Joined Add)) level_at cursor.old cursor.new result }
+{
+    let unary = read_unary(alloc, cursor)?;
+    sum_from(alloc, cursor, unary)
+}
+
+/// The same, from the unary that stands first.
 #[cycle(expression)]
 fn sum_from(alloc: Global, cursor: &mut Cursor<'_>, unary: Unary) -> Result<Sum, Stuck>
     requires { Stops (level_at (unary_tree unary)) cursor.old }

@@ -11,7 +11,6 @@ mod fault;
 mod fitted;
 mod fronts;
 mod items;
-mod kept;
 mod laws;
 mod leads;
 mod messages;

@@ -3,7 +3,7 @@
 ghost use Rattle.std.specs.Prelude.{◌≡◌};
 ghost use Rattle.syntax.specs.Reading.{ReadsWord, ReadsRow, ReadsEnded};
 ghost use Rattle.tree.specs.Operators.{Or, And, Equal, Compare, Add, Multiply, prefix, equality_word, relation_word, sum_operator};
-ghost use Rattle.syntax.specs.OperatorReads.{after_expression, joins, equality_of, relation_of, prefix_of, opens_prefix};
+ghost use Rattle.syntax.specs.OperatorReads.{after_expression, behind_sum, joins, equality_of, relation_of, prefix_of, opens_prefix};
 
 use crate::cursor::{Cursor, Stuck};
 use source::{Kind, Span};
@@ -37,6 +37,13 @@ pub fn goes_on(kind: Option<Kind>) -> bool
     ) || is_sum(kind)
         || is_relation(kind)
         || is_equality(kind)
+}
+
+/// Whether an expression goes on with this token, behind its first sum.
+pub fn goes_on_behind_sum(kind: Option<Kind>) -> bool
+    ensures { result ≡ behind_sum kind }
+{
+    matches!(kind, Some(Kind::AndAnd | Kind::OrOr)) || is_relation(kind) || is_equality(kind)
 }
 
 /// "==" | "!="

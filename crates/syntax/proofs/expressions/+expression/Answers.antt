@@ -6,17 +6,17 @@ use Rattle.source.specs.declared.kind.Kind.TheVariants as kind
 use Rattle.tree.specs.Spelling.{parens}
 use Rattle.syntax.specs.Reading.{never, Reads, Fails}
 use Rattle.tree.specs.Operators.{Or, And, Equal, Compare, Add, Multiply, Single, Joined}
-use Rattle.syntax.specs.OperatorReads.{joins, after_expression}
+use Rattle.syntax.specs.OperatorReads.{joins, behind_sum, after_expression}
 use Rattle.tree.specs.Expressions.{Number, True, False, level, expression, step, atom, target}
 use Rattle.syntax.specs.ExpressionReads.{level_on, level_at, step_at, steps_end, atom_at, target_at, target_on}
-use Rattle.tree.specs.ExpressionTrees.{expression_tree, disjunction_tree, conjunction_tree, equality_tree, equality_step_tree, relation_tree, relation_step_tree, sum_tree, sum_step_tree, term_tree, unary_tree, atom_tree, target_tree, unmarked}
+use Rattle.tree.specs.ExpressionTrees.{summed, expression_tree, disjunction_tree, conjunction_tree, equality_tree, equality_step_tree, relation_tree, relation_step_tree, sum_tree, sum_step_tree, term_tree, unary_tree, atom_tree, target_tree, unmarked}
 use Rattle.syntax.proofs.Exits.{exits}
 use Rattle.syntax.proofs.KindLemmas.{kind_leads, test_leads}
 use Rattle.syntax.proofs.Enclosed.{parens_open_fails, parens_fails, parens_close_fails, brackets_open_fails, brackets_fails, brackets_close_fails}
 use Rattle.syntax.proofs.AtomRules.{in_parens, in_brackets, index, target_form, parens_form, number_form, number_leads}
-use Rattle.syntax.proofs.AloneRules.{alone_is_read}
+use Rattle.syntax.proofs.AloneRules.{alone_is_read, summed_is_read}
 use Rattle.syntax.proofs.ExpressionFails.{first_fails, others_fail, unary_fails, mark_fails, behind_fails, step_fails, chain_is_read, expression_piece, prefixes_fail, atom_fails, variable_fails, dotted_fails, indexed_fails, unary_is_read, step_tail, last_step, atom_is_read}
-use Rattle.syntax.proofs.TreeLemmas.{alone_made, unary_parts, disjunction_made, conjunction_made, equality_made, relation_made, sum_made, term_made, unary_made, number_made, true_made, false_made}
+use Rattle.syntax.proofs.TreeLemmas.{alone_made, summed_made, unary_parts, disjunction_made, conjunction_made, equality_made, relation_made, sum_made, term_made, unary_made, number_made, true_made, false_made}
 use Rattle.syntax.proofs.Pieces.{wide_fails, stops_never}
 use Rattle.syntax.proofs.Choices.{form_fails}
 use Rattle.syntax.proofs.expressions.+expression.Goals as goal
@@ -28,6 +28,16 @@ expression_from-returns-then-not-goes_on-clause-read t c =
     let none : unary.prefixes.items ≡ [] = grind (arith, common_steps) in
     let ends = ap after_expression (sym c.peek.ensures.kind) ∙ sym c.goes_on.ensures ∙ c.if-not-goes_on.true in
     alone_is_read _ _ unary.prefixes.items (atom_tree unary.atom) _ none (alone_made unary.atom) read ends
+
+pub expression_from-returns-in_err-sum-clause-read : goal.expression_from-returns-in_err-sum-clause-read
+expression_from-returns-in_err-sum-clause-read t c = exits expression_tree level (level_on (Joined Or)) level_at _ _ _ _ _ c.from_residual.ensures.1 c.in_err-sum.ensures.read
+    (λ h. first_fails Or (first_fails And (first_fails Equal (first_fails Compare h))))
+
+pub expression_from-returns-then-not-goes_on_behind_sum-clause-read : goal.expression_from-returns-then-not-goes_on_behind_sum-clause-read
+expression_from-returns-then-not-goes_on_behind_sum-clause-read t c =
+    let ends = ap behind_sum (sym c.peek-2.ensures.kind) ∙ sym c.goes_on_behind_sum.ensures ∙ c.if-not-goes_on_behind_sum.true in
+    let made = summed_made c.in_ok-new.field-0 ∙ ap (λ sum. summed (sum_tree sum)) c.in_ok-new.ensures.ok in
+    summed_is_read _ _ (sum_tree c.in_ok-sum.sum) _ made c.in_ok-sum.ensures.read ends
 
 pub disjunction_from-returns-in_err-first-clause-read : goal.disjunction_from-returns-in_err-first-clause-read
 disjunction_from-returns-in_err-first-clause-read t c = exits disjunction_tree level (level_on (Joined Or)) level_at _ _ _ _ _ c.from_residual.ensures.1 c.in_err-first.ensures.read
@@ -55,12 +65,12 @@ pub or_conjunction-returns-in_err-expect : goal.or_conjunction-returns-in_err-ex
 or_conjunction-returns-in_err-expect t c = exits (unmarked conjunction_tree) (step Or) (level_on (Joined And)) (step_at Or) _ _ _ _ _ c.from_residual.ensures.1 c.in_err-expect.ensures
     (λ h. mark_fails Or h)
 
-pub or_conjunction-returns-in_err-unary : goal.or_conjunction-returns-in_err-unary
-or_conjunction-returns-in_err-unary t c = exits (unmarked conjunction_tree) (step Or) (level_on (Joined And)) (step_at Or) _ _ _ _ _ c.from_residual-in_err-unary.ensures.1 c.in_err-unary.ensures
-    (λ h. behind_fails Or tt c.in_ok-expect.ensures (unary_fails (Joined And) h))
+pub or_conjunction-returns-in_err-sum : goal.or_conjunction-returns-in_err-sum
+or_conjunction-returns-in_err-sum t c = exits (unmarked conjunction_tree) (step Or) (level_on (Joined And)) (step_at Or) _ _ _ _ _ c.from_residual-in_err-sum.ensures.1 c.in_err-sum.ensures
+    (λ h. behind_fails Or tt c.in_ok-expect.ensures (first_fails And (first_fails Equal (first_fails Compare h))))
 
 pub or_conjunction-returns : goal.or_conjunction-returns
-or_conjunction-returns t c = step_tail Or conjunction_tree tt _ _ _ _ c.in_ok-expect.ensures (subst (λ mid. Reads conjunction_tree level (level_on (Joined And)) level_at mid c.conjunction_from.new.cursor c.conjunction_from.result) (sym c.in_ok-unary.ensures.0) c.conjunction_from.ensures.read)
+or_conjunction-returns t c = step_tail Or conjunction_tree tt _ _ _ _ c.in_ok-expect.ensures (subst (λ mid. Reads conjunction_tree level (level_on (Joined And)) level_at mid c.conjunction_from.new.cursor c.conjunction_from.result) (sym c.in_ok-sum.ensures.0) c.conjunction_from.ensures.read)
 
 pub conjunction_from-returns-in_err-first-clause-read : goal.conjunction_from-returns-in_err-first-clause-read
 conjunction_from-returns-in_err-first-clause-read t c = exits conjunction_tree level (level_on (Joined And)) level_at _ _ _ _ _ c.from_residual.ensures.1 c.in_err-first.ensures.read
@@ -88,12 +98,12 @@ pub and_equality-returns-in_err-expect : goal.and_equality-returns-in_err-expect
 and_equality-returns-in_err-expect t c = exits (unmarked equality_tree) (step And) (level_on (Joined Equal)) (step_at And) _ _ _ _ _ c.from_residual.ensures.1 c.in_err-expect.ensures
     (λ h. mark_fails And h)
 
-pub and_equality-returns-in_err-unary : goal.and_equality-returns-in_err-unary
-and_equality-returns-in_err-unary t c = exits (unmarked equality_tree) (step And) (level_on (Joined Equal)) (step_at And) _ _ _ _ _ c.from_residual-in_err-unary.ensures.1 c.in_err-unary.ensures
-    (λ h. behind_fails And tt c.in_ok-expect.ensures (unary_fails (Joined Equal) h))
+pub and_equality-returns-in_err-sum : goal.and_equality-returns-in_err-sum
+and_equality-returns-in_err-sum t c = exits (unmarked equality_tree) (step And) (level_on (Joined Equal)) (step_at And) _ _ _ _ _ c.from_residual-in_err-sum.ensures.1 c.in_err-sum.ensures
+    (λ h. behind_fails And tt c.in_ok-expect.ensures (first_fails Equal (first_fails Compare h)))
 
 pub and_equality-returns : goal.and_equality-returns
-and_equality-returns t c = step_tail And equality_tree tt _ _ _ _ c.in_ok-expect.ensures (subst (λ mid. Reads equality_tree level (level_on (Joined Equal)) level_at mid c.equality_from.new.cursor c.equality_from.result) (sym c.in_ok-unary.ensures.0) c.equality_from.ensures.read)
+and_equality-returns t c = step_tail And equality_tree tt _ _ _ _ c.in_ok-expect.ensures (subst (λ mid. Reads equality_tree level (level_on (Joined Equal)) level_at mid c.equality_from.new.cursor c.equality_from.result) (sym c.in_ok-sum.ensures.0) c.equality_from.ensures.read)
 
 pub equality_from-returns-in_err-first-clause-read : goal.equality_from-returns-in_err-first-clause-read
 equality_from-returns-in_err-first-clause-read t c = exits equality_tree level (level_on (Joined Equal)) level_at _ _ _ _ _ c.from_residual.ensures.1 c.in_err-first.ensures.read
@@ -121,24 +131,20 @@ pub equality_step-returns-in_err-operator : goal.equality_step-returns-in_err-op
 equality_step-returns-in_err-operator t c = exits equality_step_tree (step Equal) (level_on (Joined Compare)) (step_at Equal) _ _ _ _ _ c.from_residual.ensures.1 c.in_err-operator.ensures
     (λ h. mark_fails Equal h)
 
-pub equality_step-returns-in_err-unary : goal.equality_step-returns-in_err-unary
-equality_step-returns-in_err-unary t c = exits equality_step_tree (step Equal) (level_on (Joined Compare)) (step_at Equal) _ _ _ _ _ c.from_residual-in_err-unary.ensures.1 c.in_err-unary.ensures
-    (λ h. behind_fails Equal c.in_ok-operator.operator c.in_ok-operator.ensures (unary_fails (Joined Compare) h))
+pub equality_step-returns-in_err-sum : goal.equality_step-returns-in_err-sum
+equality_step-returns-in_err-sum t c = exits equality_step_tree (step Equal) (level_on (Joined Compare)) (step_at Equal) _ _ _ _ _ c.from_residual-in_err-sum.ensures.1 c.in_err-sum.ensures
+    (λ h. behind_fails Equal c.in_ok-operator.operator c.in_ok-operator.ensures (first_fails Compare h))
 
 pub equality_step-returns-in_err-relation : goal.equality_step-returns-in_err-relation
 equality_step-returns-in_err-relation t c = exits equality_step_tree (step Equal) (level_on (Joined Compare)) (step_at Equal) _ _ _ _ _ c.from_residual-in_err-relation.ensures.1 c.in_err-relation.ensures.read
-    (λ h. behind_fails Equal c.in_ok-operator.operator c.in_ok-operator.ensures (subst (λ mid. Fails (level {l = Joined Compare}) (level_on (Joined Compare)) mid c.relation_from.new.cursor) (sym c.in_ok-unary.ensures.0) h))
-
-pub relation_from-returns-in_err-first-clause-read : goal.relation_from-returns-in_err-first-clause-read
-relation_from-returns-in_err-first-clause-read t c = exits relation_tree level (level_on (Joined Compare)) level_at _ _ _ _ _ c.from_residual.ensures.1 c.in_err-first.ensures.read
-    (λ h. first_fails Compare h)
+    (λ h. behind_fails Equal c.in_ok-operator.operator c.in_ok-operator.ensures (subst (λ mid. Fails (level {l = Joined Compare}) (level_on (Joined Compare)) mid c.relation_from.new.cursor) (sym c.in_ok-sum.ensures.0) h))
 
 pub relation_from-returns-in_err-others-clause-read : goal.relation_from-returns-in_err-others-clause-read
-relation_from-returns-in_err-others-clause-read t c = exits relation_tree level (level_on (Joined Compare)) level_at _ _ _ _ _ c.from_residual-in_err-others.ensures.1 c.in_err-others.ensures
-    (λ h. others_fail Compare (sum_tree c.in_ok-first.first) c.in_ok-first.ensures.read h)
+relation_from-returns-in_err-others-clause-read t c = exits relation_tree level (level_on (Joined Compare)) level_at _ _ _ _ _ c.from_residual.ensures.1 c.in_err-others.ensures
+    (λ h. others_fail Compare (sum_tree c.args.sum) (refl, c.requires) h)
 
 pub relation_from-returns-clause-read : goal.relation_from-returns-clause-read
-relation_from-returns-clause-read t c = chain_is_read Compare _ _ _ (sum_tree c.in_ok-first.first) (map relation_step_tree c.in_ok-others.others.items) _ (relation_made c.in_ok-first.first c.in_ok-others.others) c.in_ok-first.ensures.read c.in_ok-others.ensures
+relation_from-returns-clause-read t c = chain_is_read Compare _ _ _ (sum_tree c.args.sum) (map relation_step_tree c.in_ok-others.others.items) _ (relation_made c.args.sum c.in_ok-others.others) (refl, c.requires) c.in_ok-others.ensures
 
 pub relation_steps-returns-in_err-relation_step : goal.relation_steps-returns-in_err-relation_step
 relation_steps-returns-in_err-relation_step t c = exits (λ v. map relation_step_tree v.items) (flat_map (step Compare)) (level_on (Joined Compare)) (steps_end Compare) _ _ _ _ _ c.from_residual.ensures.1 c.in_err-relation_step.ensures
@@ -155,13 +161,13 @@ pub relation_step-returns-in_err-operator : goal.relation_step-returns-in_err-op
 relation_step-returns-in_err-operator t c = exits relation_step_tree (step Compare) (level_on (Joined Add)) (step_at Compare) _ _ _ _ _ c.from_residual.ensures.1 c.in_err-operator.ensures
     (λ h. mark_fails Compare h)
 
-pub relation_step-returns-in_err-unary : goal.relation_step-returns-in_err-unary
-relation_step-returns-in_err-unary t c = exits relation_step_tree (step Compare) (level_on (Joined Add)) (step_at Compare) _ _ _ _ _ c.from_residual-in_err-unary.ensures.1 c.in_err-unary.ensures
-    (λ h. behind_fails Compare c.in_ok-operator.operator c.in_ok-operator.ensures (unary_fails (Joined Add) h))
-
 pub relation_step-returns-in_err-sum : goal.relation_step-returns-in_err-sum
-relation_step-returns-in_err-sum t c = exits relation_step_tree (step Compare) (level_on (Joined Add)) (step_at Compare) _ _ _ _ _ c.from_residual-in_err-sum.ensures.1 c.in_err-sum.ensures.read
-    (λ h. behind_fails Compare c.in_ok-operator.operator c.in_ok-operator.ensures (subst (λ mid. Fails (level {l = Joined Add}) (level_on (Joined Add)) mid c.sum_from.new.cursor) (sym c.in_ok-unary.ensures.0) h))
+relation_step-returns-in_err-sum t c = exits relation_step_tree (step Compare) (level_on (Joined Add)) (step_at Compare) _ _ _ _ _ c.from_residual-in_err-sum.ensures.1 c.in_err-sum.ensures
+    (λ h. behind_fails Compare c.in_ok-operator.operator c.in_ok-operator.ensures h)
+
+pub read_sum-returns-in_err-unary : goal.read_sum-returns-in_err-unary
+read_sum-returns-in_err-unary t c = exits sum_tree level (level_on (Joined Add)) level_at _ _ _ _ _ c.from_residual.ensures.1 c.in_err-unary.ensures
+    (λ h. unary_fails (Joined Add) h)
 
 pub sum_from-returns-in_err-first-clause-read : goal.sum_from-returns-in_err-first-clause-read
 sum_from-returns-in_err-first-clause-read t c = exits sum_tree level (level_on (Joined Add)) level_at _ _ _ _ _ c.from_residual.ensures.1 c.in_err-first.ensures.read

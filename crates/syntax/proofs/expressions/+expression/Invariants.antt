@@ -52,6 +52,9 @@ decreases-read_index l = 10 * length l.cursor.now
 abbrev pub decreases-read_parens : goal.decreases-read_parens
 decreases-read_parens l = 10 * length l.cursor.now
 
+abbrev pub decreases-read_sum : goal.decreases-read_sum
+decreases-read_sum l = 10 * length l.cursor.now + 4
+
 abbrev pub decreases-read_target : goal.decreases-read_target
 decreases-read_target l = 10 * length l.cursor.now
 
