@@ -15,11 +15,11 @@ among_from xs i d word b lt is =
 
 pub loop-kind-preserved : goal.loop-kind-preserved
 loop-kind-preserved c =
-    sym (among_from c.args.kinds.now c.loop-kind.kind-index Name c.args.word.now false c.loop-kind-test.true (ap (λ t. pointwise nat_eq t c.args.word.now) (sym c.written.ensures) ∙ sym c.eq.ensures ∙ c.if-eq.false)) ∙ c.loop-kind.invariant
+    sym (among_from c.args.kinds.now c.loop-kind.kind-index Name c.args.word.now false c.loop-kind-test.true (sym c.is_written.ensures ∙ c.if-is_written.false)) ∙ c.loop-kind.invariant
 
-pub returns-then-eq : goal.returns-then-eq
-returns-then-eq c =
-    sym (among_from c.args.kinds.now c.loop-kind.kind-index Name c.args.word.now true c.loop-kind-test.true (ap (λ t. pointwise nat_eq t c.args.word.now) (sym c.written.ensures) ∙ sym c.eq.ensures ∙ c.if-eq.true)) ∙ c.loop-kind.invariant
+pub returns-then-is_written : goal.returns-then-is_written
+returns-then-is_written c =
+    sym (among_from c.args.kinds.now c.loop-kind.kind-index Name c.args.word.now true c.loop-kind-test.true (sym c.is_written.ensures ∙ c.if-is_written.true)) ∙ c.loop-kind.invariant
 
 pub returns : goal.returns
 returns c = sym (at_drop_all (λ ks. kind_among ks c.args.word.now) c.args.kinds.now c.loop-kind.kind-index c.loop-kind-test.false) ∙ c.loop-kind.invariant
