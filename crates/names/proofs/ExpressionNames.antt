@@ -1,6 +1,6 @@
 -- Parts of an expression that are judged one after another.
 use Rattle.std.proofs.Common.{◌≡◌, ℕ, ◌+◌, ◌<◌, ◌≤◌, List, [], ◌∷◌, ◌++◌, length, map, take, get_or, sym, refl, ap, ◌∙◌, subst, if◌then◌else◌}
-use Rattle.std.specs.Prelude.{◌||◌, IfOk, Result, Ok, Err}
+use Rattle.std.specs.Prelude.{IfOk, Result, Ok, Err}
 use Rattle.std.proofs.lemmas.List.{take_more, take_all, map-append}
 use Rattle.source.specs.declared.finding.Finding.{Finding}
 use Rattle.source.specs.declared.fault.Memory.{Memory}
@@ -8,9 +8,9 @@ use Rattle.source.specs.declared.place.Place.{Place}
 use Rattle.tree.specs.Operators as levels
 use Rattle.tree.specs.Operators.{Operators, below}
 use Rattle.tree.specs.Expressions.{LevelTree, AtomTree, StepOf, Chain, Unary}
-use Rattle.tree.specs.ExpressionTrees.{step_row}
+use Rattle.tree.specs.Factors.{step_row}
 use Rattle.tree.specs.declared.expression.Prefix.{Prefix}
-use Rattle.names.specs.Expressions.{InScope, kind_of, place_of, joined_kind, left_asked, right_asked, signed_kind, sign_asked}
+use Rattle.names.specs.Expressions.{InScope, kind_of, place_of, signed_kind, sign_asked}
 use Rattle.names.specs.Found.{Adds}
 use Rattle.names.specs.Kinds.{is_unknown}
 use Rattle.names.specs.Operands.{IsJudged, Judges, IsJoined, IsSigned}
@@ -22,16 +22,28 @@ use Rattle.names.specs.declared.scope.Scope.{Scope}
 use Rattle.names.specs.declared.variables.Variables.{Variables}
 use Rattle.names.proofs.AddLemmas.{adds_then}
 
+-- what an expression is judged to be
+abbrev judged_as : InScope → Shape → Operand
+judged_as s e = record { kind = kind_of s e; place = place_of e }
+
+is_judged_as : (s : InScope) (e : Shape) (o : Operand) → o.kind ≡ kind_of s e → o.place ≡ place_of e → o ≡ judged_as s e
+is_judged_as s e o kind-is place-is =
+    let operand : Kind → Place → Operand = λ k p. record { kind = k; place = p } in
+    ap (λ k. operand k o.place) kind-is ∙ ap (operand (kind_of s e)) place-is
+
+-- two operands that are joined, by the expressions that they are
+pub joined_shapes : (s : InScope) (joint : Joint) (l r : Shape) {more new : List Finding} {left right o : Operand} → left.kind ≡ kind_of s l → left.place ≡ place_of l → right.kind ≡ kind_of s r → right.place ≡ place_of r → IsJoined joint left right more new o → IsJoined joint (judged_as s l) (judged_as s r) more new o
+joined_shapes s joint l r {more = more} {new = new} {left = left} {right = right} {o = o} left-kind left-place right-kind right-place both =
+    subst (λ a. IsJoined joint a (judged_as s r) more new o) (is_judged_as s l left left-kind left-place)
+    (subst (λ b. IsJoined joint left b more new o) (is_judged_as s r right right-kind right-place) both)
+
 judged_joined : (s : InScope) (joint : Joint) (l r : Shape) {old mid more new : List Finding} {left right o : Operand} → IsJudged s l old mid left → IsJudged s r mid more right → IsJoined joint left right more new o → IsJudged s (Joined joint l r) old new o
-judged_joined s joint l r {more = more} {new = new} {left = left} {right = right} first second both =
-    let unknown : Kind → Kind → Kind = λ a b. if is_unknown a || is_unknown b then kind.Unknown else joined_kind joint in
-    let asked = λ (a : Kind) (p : Place) (b : Kind) (q : Place). left_asked joint a p ++ right_asked joint a b q in
+judged_joined s joint l r first second both =
+    let asked = joined_shapes s joint l r first.kind first.place second.kind second.place both in
     record {
-      kind = both.kind ∙ ap (λ k. unknown k right.kind) first.kind ∙ ap (unknown (kind_of s l)) second.kind;
-      place = both.place ∙ first.place;
-      found = adds_then first.found (adds_then second.found
-          (subst (Adds more new) (ap (λ k. asked k left.place right.kind right.place) first.kind ∙ ap (λ p. asked (kind_of s l) p right.kind right.place) first.place
-          ∙ ap (λ k. asked (kind_of s l) (place_of l) k right.place) second.kind ∙ ap (asked (kind_of s l) (place_of l) (kind_of s r)) second.place) both.found));
+      kind = asked.kind;
+      place = asked.place;
+      found = adds_then first.found (adds_then second.found asked.found);
     }
 
 judged_signed : (s : InScope) (p : Prefix) (e : Shape) {old mid new : List Finding} {inner o : Operand} → IsJudged s e old mid inner → IsSigned (sign_of p.operator) p.place.place inner mid new o → IsJudged s (Signed (sign_of p.operator) p.place.place e) old new o

@@ -10,6 +10,7 @@ pub mod ItemLemmas
 pub mod FoundLemmas
 pub mod ExpressionTwins
 pub mod ExpressionNames
+pub mod TermLemmas
 pub mod MentionLemmas
 pub mod VariableLemmas
 pub mod WholeNames

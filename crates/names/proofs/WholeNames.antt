@@ -6,7 +6,7 @@ use Rattle.source.specs.declared.token.Span.{Span}
 use Rattle.tree.specs.Operators as levels
 use Rattle.tree.specs.Operators.{Operators, below}
 use Rattle.tree.specs.Expressions.{LevelTree, AtomTree, StepOf, Chain, Unary}
-use Rattle.tree.specs.ExpressionTrees.{step_row}
+use Rattle.tree.specs.Factors.{step_row}
 use Rattle.tree.specs.declared.expression.Prefix.{Prefix}
 use Rattle.names.specs.Operands.{mentioned}
 use Rattle.names.specs.Shapes.{Shape, Joint, Joined, joint_of, shape, joined, atom_shape}

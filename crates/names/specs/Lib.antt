@@ -18,6 +18,7 @@ pub mod Cases
 pub mod Bodies
 pub mod Frames
 pub mod Operands
+pub mod Terms
 pub mod Mentions
 pub mod Methods
 pub mod Heads

@@ -3,7 +3,7 @@
 ghost use Rattle.std.specs.Prelude.{◌≡◌, ℕ, List, OnOk, IfOk};
 ghost use Rattle.source.specs.declared.finding.Finding.{Finding};
 ghost use Rattle.tree.specs.ExpressionTrees.{expression_tree, disjunction_tree, conjunction_tree, equality_tree, relation_tree};
-ghost use Rattle.tree.specs.ExpressionTrees.{sum_tree, term_tree, unary_tree, atom_tree, target_tree};
+ghost use Rattle.tree.specs.ExpressionTrees.{sum_tree, factors_tree, factor_tree, unary_tree, prefixed_tree, atom_tree, target_tree};
 ghost use Rattle.names.specs.Expressions.{InScope, kind_of, expression_findings, whole_findings};
 ghost use Rattle.names.specs.Found.{Adds};
 ghost use Rattle.names.specs.Frames.{IsFrame};
@@ -11,19 +11,21 @@ ghost use Rattle.names.specs.Operands.{IsJudged, Judges};
 ghost use Rattle.names.specs.Program.{Program};
 ghost use Rattle.names.specs.Scopes.{IsScope};
 ghost use Rattle.names.specs.Shapes.{Shape, shape, atom_shape, target_shape, signed};
+ghost use Rattle.names.specs.Terms.{JudgesTerms, TermShapes, with_factor};
 ghost use Rattle.names.specs.Variables.{Frame};
 
 use crate::kinds::Kind;
 use crate::mentions;
 use crate::operands::{Joint, Operand, join, sign};
 use crate::scope::Scope;
+use crate::terms::{Terms, joined_terms};
 use crate::variables::Variables;
 use crate::wholes::judge_whole_operand;
 use source::{Finding, Memory};
 use std::alloc::Global;
 use tree::{
-    Atom, Conjunction, Disjunction, Equality, Expression, Prefix, Relation, Sum, Target, Term,
-    Unary,
+    Atom, Conjunction, Disjunction, Equality, Expression, Factor, FactorOperator, Factors, Prefix,
+    Prefixed, Relation, Sum, Target, Unary,
 };
 
 /// The kind of an expression, and where it begins; adds what is wrong in it.
@@ -38,7 +40,6 @@ pub(crate) fn judge_operand(
     ensures { IfOk result (Judges scope.now variables.now (shape (expression_tree expression.now)) found.old.items found.new.items) }
 {
     match expression {
-        Expression::Atom(atom) => judge_atom(alloc, scope, variables, atom, found),
         Expression::Sum(sum) => judge_sum(alloc, scope, variables, sum, found),
         Expression::Joined(joined) => judge_disjunction(alloc, scope, variables, joined, found),
     }
@@ -131,31 +132,63 @@ fn judge_sum(
 ) -> Result<Operand, Memory>
     ensures { IfOk result (Judges scope.now variables.now (shape (sum_tree sum.now)) found.old.items found.new.items) }
 {
-    let mut left = judge_term(alloc, scope, variables, &sum.first, found)?;
-    'each: for step in &sum.others {
-        let right = judge_term(alloc, scope, variables, &step.term, found)?;
-        left = join(alloc, Joint::Sum, left, right, found)?;
+    match sum {
+        Sum::Unary(unary) => judge_unary(alloc, scope, variables, unary, found),
+        Sum::Factors(factors) => judge_factors(alloc, scope, variables, factors, found),
     }
-    Ok(left)
 }
 
-/// The same of a term.
+/// The same of a row of factors.
 #[cycle(expressions)]
-fn judge_term(
+fn judge_factors(
     alloc: Global,
     scope: &Scope<'_>,
     variables: &Variables<'_>,
-    term: &Term,
+    factors: &Factors,
     found: &mut Vec<Finding>,
 ) -> Result<Operand, Memory>
-    ensures { IfOk result (Judges scope.now variables.now (shape (term_tree term.now)) found.old.items found.new.items) }
+    ensures { IfOk result (Judges scope.now variables.now (shape (factors_tree factors.now)) found.old.items found.new.items) }
 {
-    let mut left = judge_unary(alloc, scope, variables, &term.first, found)?;
-    'each: for unary in &term.others {
-        let right = judge_unary(alloc, scope, variables, unary, found)?;
-        left = join(alloc, Joint::Sum, left, right, found)?;
+    let first = judge_unary(alloc, scope, variables, &factors.first, found)?;
+    let mut terms = Terms::from_first(first);
+    terms = judge_factor(alloc, scope, variables, terms, &factors.second, found)?;
+    'each: for factor in &factors.others {
+        terms = judge_factor(alloc, scope, variables, terms, factor, found)?;
     }
-    Ok(left)
+    joined_terms(alloc, terms, found)
+}
+
+/// The terms of a sum with one more factor; adds what is wrong with that.
+#[cycle(expressions)]
+fn judge_factor(
+    alloc: Global,
+    scope: &Scope<'_>,
+    variables: &Variables<'_>,
+    terms: Terms,
+    factor: &Factor,
+    found: &mut Vec<Finding>,
+) -> Result<Terms, Memory>
+    ensures { IfOk result (λ o. (t : TermShapes) (start : List Finding) → JudgesTerms scope.now variables.now t start found.old.items terms
+        → JudgesTerms scope.now variables.now (with_factor t (factor_tree factor.now)) start found.new.items o) }
+{
+    match factor.operator {
+        FactorOperator::Times => {
+            let right = judge_unary(alloc, scope, variables, &factor.unary, found)?;
+            let last = join(alloc, Joint::Sum, terms.last, right, found)?;
+            Ok(Terms {
+                before: terms.before,
+                last,
+            })
+        }
+        FactorOperator::Sum(_) => {
+            let before = joined_terms(alloc, terms, found)?;
+            let last = judge_unary(alloc, scope, variables, &factor.unary, found)?;
+            Ok(Terms {
+                before: Some(before),
+                last,
+            })
+        }
+    }
 }
 
 /// The same of an atom with what stands before it.
@@ -169,8 +202,25 @@ fn judge_unary(
 ) -> Result<Operand, Memory>
     ensures { IfOk result (Judges scope.now variables.now (shape (unary_tree unary.now)) found.old.items found.new.items) }
 {
-    let atom = judge_atom(alloc, scope, variables, &unary.atom, found)?;
-    judge_signs(alloc, &unary.prefixes, atom, found)
+    match unary {
+        Unary::Atom(atom) => judge_atom(alloc, scope, variables, atom, found),
+        Unary::Prefixed(prefixed) => judge_prefixed(alloc, scope, variables, prefixed, found),
+    }
+}
+
+/// The same where something stands before the atom.
+#[cycle(expressions)]
+fn judge_prefixed(
+    alloc: Global,
+    scope: &Scope<'_>,
+    variables: &Variables<'_>,
+    prefixed: &Prefixed,
+    found: &mut Vec<Finding>,
+) -> Result<Operand, Memory>
+    ensures { IfOk result (Judges scope.now variables.now (shape (prefixed_tree prefixed.now)) found.old.items found.new.items) }
+{
+    let atom = judge_atom(alloc, scope, variables, &prefixed.atom, found)?;
+    judge_signs(alloc, &prefixed.prefixes, atom, found)
 }
 
 /// An operand with all of these before it, from the last on; adds what is wrong with that.
@@ -208,11 +258,11 @@ fn judge_atom(
         Atom::True(span) => Ok(Operand::truth(span.place)),
         Atom::False(span) => Ok(Operand::truth(span.place)),
         Atom::Target(target) => judge_mentioned(alloc, scope, variables, target, found),
-        Atom::Parens { open, inner } => {
-            let inner = judge_operand(alloc, scope, variables, inner, found)?;
+        Atom::Parens(parens) => {
+            let inner = judge_operand(alloc, scope, variables, &parens.inner, found)?;
             Ok(Operand {
                 kind: inner.kind,
-                place: open.place,
+                place: parens.open.place,
             })
         }
     }
@@ -231,12 +281,12 @@ fn judge_mentioned(
 {
     match target {
         Target::Variable(name) => mentions::judge_mention(alloc, scope, variables, *name, found),
-        Target::Field { variable, field } => {
-            mentions::judge_field_of(alloc, scope, variables, *variable, *field, found)
+        Target::Field(part) => {
+            mentions::judge_field_of(alloc, scope, variables, part.variable, part.field, found)
         }
-        Target::Element { variable, index } => {
-            let index = judge_operand(alloc, scope, variables, index, found)?;
-            mentions::judge_element_of(alloc, scope, variables, *variable, index, found)
+        Target::Element(part) => {
+            let index = judge_operand(alloc, scope, variables, &part.index, found)?;
+            mentions::judge_element_of(alloc, scope, variables, part.variable, index, found)
         }
     }
 }

@@ -37,6 +37,7 @@ mod state_paths;
 mod statements;
 mod surroundings;
 mod targets;
+mod terms;
 mod told;
 mod types;
 mod values;

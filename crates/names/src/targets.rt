@@ -31,12 +31,12 @@ pub(crate) fn judge_target(
 {
     match target {
         Target::Variable(name) => judge_variable(alloc, scope, variables, *name, found),
-        Target::Field { variable, field } => {
-            judge_field_target(alloc, scope, variables, *variable, *field, found)
+        Target::Field(part) => {
+            judge_field_target(alloc, scope, variables, part.variable, part.field, found)
         }
-        Target::Element { variable, index } => {
-            let index = judge_operand(alloc, scope, variables, index, found)?;
-            let element = judge_element_of(alloc, scope, variables, *variable, index, found)?;
+        Target::Element(part) => {
+            let index = judge_operand(alloc, scope, variables, &part.index, found)?;
+            let element = judge_element_of(alloc, scope, variables, part.variable, index, found)?;
             Ok(element.kind)
         }
     }

@@ -2,7 +2,7 @@
 
 ghost use Rattle.std.specs.Prelude.{◌≡◌, IfOk, OnOk, Option};
 ghost use Rattle.tree.specs.ExpressionTrees.{expression_tree, disjunction_tree, conjunction_tree, equality_tree, relation_tree};
-ghost use Rattle.tree.specs.ExpressionTrees.{sum_tree, term_tree, unary_tree, atom_tree, target_tree};
+ghost use Rattle.tree.specs.ExpressionTrees.{sum_tree, unary_tree, prefixed_tree, atom_tree, target_tree};
 ghost use Rattle.names.specs.Expressions.{truth_findings, number_findings};
 ghost use Rattle.names.specs.Found.{Adds};
 ghost use Rattle.names.specs.Frames.{IsFrame};
@@ -22,7 +22,7 @@ use crate::variables::Variables;
 use source::{Finding, Memory, Span};
 use std::alloc::Global;
 use tree::{
-    Atom, Conjunction, Disjunction, Equality, Expression, Relation, Sum, Target, Term, Unary,
+    Atom, Conjunction, Disjunction, Equality, Expression, Prefixed, Relation, Sum, Target, Unary,
 };
 
 /// The kind of an expression that is the whole of something, and where it begins; adds what is wrong in it.
@@ -98,7 +98,6 @@ fn mention_alone(expression: &Expression) -> Option<Span>
     ensures { result ≡ mentioned (shape (expression_tree expression.now)) }
 {
     match expression {
-        Expression::Atom(atom) => in_atom(atom),
         Expression::Sum(sum) => in_sum(sum),
         Expression::Joined(joined) => in_disjunction(joined),
     }
@@ -148,30 +147,30 @@ fn in_relation(relation: &Relation) -> Option<Span>
 fn in_sum(sum: &Sum) -> Option<Span>
     ensures { result ≡ mentioned (shape (sum_tree sum.now)) }
 {
-    if !sum.others.is_empty() {
-        return None;
+    match sum {
+        Sum::Unary(unary) => in_unary(unary),
+        Sum::Factors(_) => None,
     }
-    in_term(&sum.first)
-}
-
-/// The same of a term.
-fn in_term(term: &Term) -> Option<Span>
-    ensures { result ≡ mentioned (shape (term_tree term.now)) }
-{
-    if !term.others.is_empty() {
-        return None;
-    }
-    in_unary(&term.first)
 }
 
 /// The same of an atom with what stands before it.
 fn in_unary(unary: &Unary) -> Option<Span>
     ensures { result ≡ mentioned (shape (unary_tree unary.now)) }
 {
-    if !unary.prefixes.is_empty() {
+    match unary {
+        Unary::Atom(atom) => in_atom(atom),
+        Unary::Prefixed(prefixed) => in_prefixed(prefixed),
+    }
+}
+
+/// The same where something stands before the atom.
+fn in_prefixed(prefixed: &Prefixed) -> Option<Span>
+    ensures { result ≡ mentioned (shape (prefixed_tree prefixed.now)) }
+{
+    if !prefixed.prefixes.is_empty() {
         return None;
     }
-    in_atom(&unary.atom)
+    in_atom(&prefixed.atom)
 }
 
 /// The same of an atom.
@@ -183,7 +182,7 @@ fn in_atom(atom: &Atom) -> Option<Span>
         Atom::True(_) => None,
         Atom::False(_) => None,
         Atom::Target(target) => in_target(target),
-        Atom::Parens { .. } => None,
+        Atom::Parens(_) => None,
     }
 }
 
@@ -193,7 +192,7 @@ fn in_target(target: &Target) -> Option<Span>
 {
     match target {
         Target::Variable(name) => Some(*name),
-        Target::Field { .. } => None,
-        Target::Element { .. } => None,
+        Target::Field(_) => None,
+        Target::Element(_) => None,
     }
 }

@@ -5,7 +5,7 @@ use Rattle.lemmas.proofs.Lists.{some_of, none_of}
 use Rattle.tree.specs.Operators as levels
 use Rattle.tree.specs.Operators.{Operators, below}
 use Rattle.tree.specs.Expressions.{LevelTree, AtomTree, StepOf, Chain}
-use Rattle.tree.specs.ExpressionTrees.{step_row}
+use Rattle.tree.specs.Factors.{step_row}
 use Rattle.resolving.specs.Reads.{lone_atom}
 
 -- with operators behind its first part it is more

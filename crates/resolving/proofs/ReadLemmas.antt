@@ -4,7 +4,7 @@ use Rattle.std.proofs.lemmas.List.{take_more, take_all, map-append}
 use Rattle.tree.specs.Operators as levels
 use Rattle.tree.specs.Operators.{Operators, below}
 use Rattle.tree.specs.Expressions.{LevelTree, StepOf, Chain}
-use Rattle.tree.specs.ExpressionTrees.{step_row}
+use Rattle.tree.specs.Factors.{step_row}
 use Rattle.program.specs.declared.statement.Mention.{Mention}
 use Rattle.resolving.specs.Locals.{Local, Frame}
 use Rattle.resolving.specs.Reads.{reads, step_reads}

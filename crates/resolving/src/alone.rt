@@ -3,13 +3,13 @@
 ghost use Rattle.std.specs.Prelude.{◌≡◌, Some, option_map};
 ghost use Rattle.tree.specs.Expressions as trees;
 ghost use Rattle.tree.specs.ExpressionTrees.{expression_tree, disjunction_tree, conjunction_tree, equality_tree, relation_tree};
-ghost use Rattle.tree.specs.ExpressionTrees.{sum_tree, term_tree, unary_tree, atom_tree, target_tree};
+ghost use Rattle.tree.specs.ExpressionTrees.{sum_tree, unary_tree, prefixed_tree, atom_tree, target_tree};
 ghost use Rattle.resolving.specs.Reads.{lone_atom, atom_name, lone_name, atom_ways, ways};
 
 use program::Ways;
 use source::Span;
 use tree::{
-    Atom, Conjunction, Disjunction, Equality, Expression, Relation, Sum, Target, Term, Unary,
+    Atom, Conjunction, Disjunction, Equality, Expression, Prefixed, Relation, Sum, Target, Unary,
 };
 
 /// The name, if an expression is one and nothing more.
@@ -39,7 +39,7 @@ fn ways_of_atom(atom: &Atom) -> Ways
         Atom::False(_) => Ways::Past,
         Atom::Number(_) => Ways::Either,
         Atom::Target(_) => Ways::Either,
-        Atom::Parens { .. } => Ways::Either,
+        Atom::Parens(_) => Ways::Either,
     }
 }
 
@@ -52,7 +52,7 @@ fn name_of(atom: &Atom) -> Option<Span>
         Atom::Number(_) => None,
         Atom::True(_) => None,
         Atom::False(_) => None,
-        Atom::Parens { .. } => None,
+        Atom::Parens(_) => None,
     }
 }
 
@@ -61,8 +61,8 @@ fn name_of_target(target: &Target) -> Option<Span>
 {
     match target {
         Target::Variable(name) => Some(*name),
-        Target::Field { .. } => None,
-        Target::Element { .. } => None,
+        Target::Field(_) => None,
+        Target::Element(_) => None,
     }
 }
 
@@ -71,7 +71,6 @@ fn atom_alone(expression: &Expression) -> Option<&Atom>
     ensures { option_map (λ a. atom_tree a.now) result ≡ lone_atom (expression_tree expression.now) }
 {
     match expression {
-        Expression::Atom(atom) => Some(atom),
         Expression::Sum(sum) => in_sum(sum),
         Expression::Joined(joined) => in_disjunction(joined),
     }
@@ -121,28 +120,28 @@ fn in_relation(relation: &Relation) -> Option<&Atom>
 fn in_sum(sum: &Sum) -> Option<&Atom>
     ensures { option_map (λ a. atom_tree a.now) result ≡ lone_atom (sum_tree sum.now) }
 {
-    if !sum.others.is_empty() {
-        return None;
+    match sum {
+        Sum::Unary(unary) => in_unary(unary),
+        Sum::Factors(_) => None,
     }
-    in_term(&sum.first)
-}
-
-/// The same of a term.
-fn in_term(term: &Term) -> Option<&Atom>
-    ensures { option_map (λ a. atom_tree a.now) result ≡ lone_atom (term_tree term.now) }
-{
-    if !term.others.is_empty() {
-        return None;
-    }
-    in_unary(&term.first)
 }
 
 /// The same of an atom with what stands before it.
 fn in_unary(unary: &Unary) -> Option<&Atom>
     ensures { option_map (λ a. atom_tree a.now) result ≡ lone_atom (unary_tree unary.now) }
 {
-    if !unary.prefixes.is_empty() {
+    match unary {
+        Unary::Atom(atom) => Some(atom),
+        Unary::Prefixed(prefixed) => in_prefixed(prefixed),
+    }
+}
+
+/// The same where something stands before the atom.
+fn in_prefixed(prefixed: &Prefixed) -> Option<&Atom>
+    ensures { option_map (λ a. atom_tree a.now) result ≡ lone_atom (prefixed_tree prefixed.now) }
+{
+    if !prefixed.prefixes.is_empty() {
         return None;
     }
-    Some(&unary.atom)
+    Some(&prefixed.atom)
 }

@@ -53,15 +53,15 @@ fn tell_assign(
             let target = locals.mention(text, *name);
             tell_assigned(alloc, text, around, locals, target, value)
         }
-        Target::Field { variable, .. } => {
-            let whole = locals.mention(text, *variable);
+        Target::Field(part) => {
+            let whole = locals.mention(text, part.variable);
             let index = Vec::new(alloc);
             tell_part(alloc, text, around, locals, index, whole, value)
         }
-        Target::Element { variable, index } => {
-            let whole = locals.mention(text, *variable);
+        Target::Element(part) => {
+            let whole = locals.mention(text, part.variable);
             let mut reads = Vec::new(alloc);
-            add_reads(text, locals, index, &mut reads)?;
+            add_reads(text, locals, &part.index, &mut reads)?;
             tell_part(alloc, text, around, locals, reads, whole, value)
         }
     }

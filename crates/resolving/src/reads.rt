@@ -2,7 +2,7 @@
 
 ghost use Rattle.std.specs.Prelude.{OnOk};
 ghost use Rattle.tree.specs.ExpressionTrees.{expression_tree, disjunction_tree, conjunction_tree, equality_tree, relation_tree};
-ghost use Rattle.tree.specs.ExpressionTrees.{sum_tree, term_tree, unary_tree, atom_tree, target_tree};
+ghost use Rattle.tree.specs.ExpressionTrees.{sum_tree, factors_tree, unary_tree, prefixed_tree, atom_tree, target_tree};
 ghost use Rattle.resolving.specs.Locals.{mention};
 ghost use Rattle.resolving.specs.Reads.{reads, atom_reads, target_reads, listed};
 ghost use Rattle.resolving.specs.Steps.{AddsReads};
@@ -12,7 +12,8 @@ use program::Mention;
 use source::Span;
 use std::alloc::AllocError;
 use tree::{
-    Atom, Conjunction, Disjunction, Equality, Expression, Relation, Sum, Target, Term, Unary,
+    Atom, Conjunction, Disjunction, Equality, Expression, Factors, Prefixed, Relation, Sum, Target,
+    Unary,
 };
 
 /// Adds what an expression reads.
@@ -27,7 +28,6 @@ pub(crate) fn add_reads(
         (λ f. reads text.now f.locals (expression_tree expression.now)) found.old.items found.new.items) }
 {
     match expression {
-        Expression::Atom(atom) => add_atom(text, locals, atom, found),
         Expression::Sum(sum) => add_sum(text, locals, sum, found),
         Expression::Joined(joined) => add_disjunction(text, locals, joined, found),
     }
@@ -116,27 +116,27 @@ fn add_sum(
     ensures { OnOk result (AddsReads text.now locals.now
         (λ f. reads text.now f.locals (sum_tree sum.now)) found.old.items found.new.items) }
 {
-    add_term(text, locals, &sum.first, found)?;
-    'each: for step in &sum.others {
-        add_term(text, locals, &step.term, found)?;
+    match sum {
+        Sum::Unary(unary) => add_unary(text, locals, unary, found),
+        Sum::Factors(factors) => add_factors(text, locals, factors, found),
     }
-    Ok(())
 }
 
-/// The same of a term.
+/// The same of a row of factors.
 #[cycle(expressions)]
-fn add_term(
+fn add_factors(
     text: &[u8],
     locals: &Locals<'_>,
-    term: &Term,
+    factors: &Factors,
     found: &mut Vec<Mention>,
 ) -> Result<(), AllocError>
     ensures { OnOk result (AddsReads text.now locals.now
-        (λ f. reads text.now f.locals (term_tree term.now)) found.old.items found.new.items) }
+        (λ f. reads text.now f.locals (factors_tree factors.now)) found.old.items found.new.items) }
 {
-    add_unary(text, locals, &term.first, found)?;
-    'each: for unary in &term.others {
-        add_unary(text, locals, unary, found)?;
+    add_unary(text, locals, &factors.first, found)?;
+    add_unary(text, locals, &factors.second.unary, found)?;
+    'each: for factor in &factors.others {
+        add_unary(text, locals, &factor.unary, found)?;
     }
     Ok(())
 }
@@ -152,7 +152,24 @@ fn add_unary(
     ensures { OnOk result (AddsReads text.now locals.now
         (λ f. reads text.now f.locals (unary_tree unary.now)) found.old.items found.new.items) }
 {
-    add_atom(text, locals, &unary.atom, found)
+    match unary {
+        Unary::Atom(atom) => add_atom(text, locals, atom, found),
+        Unary::Prefixed(prefixed) => add_prefixed(text, locals, prefixed, found),
+    }
+}
+
+/// The same where something stands before the atom.
+#[cycle(expressions)]
+fn add_prefixed(
+    text: &[u8],
+    locals: &Locals<'_>,
+    prefixed: &Prefixed,
+    found: &mut Vec<Mention>,
+) -> Result<(), AllocError>
+    ensures { OnOk result (AddsReads text.now locals.now
+        (λ f. reads text.now f.locals (prefixed_tree prefixed.now)) found.old.items found.new.items) }
+{
+    add_atom(text, locals, &prefixed.atom, found)
 }
 
 /// The same of an atom.
@@ -171,7 +188,7 @@ fn add_atom(
         Atom::True(_) => Ok(()),
         Atom::False(_) => Ok(()),
         Atom::Target(target) => add_target(text, locals, target, found),
-        Atom::Parens { inner, .. } => add_reads(text, locals, inner, found),
+        Atom::Parens(parens) => add_reads(text, locals, &parens.inner, found),
     }
 }
 
@@ -188,10 +205,10 @@ fn add_target(
 {
     match target {
         Target::Variable(_) => Ok(()),
-        Target::Field { variable, .. } => add_mention(text, locals, *variable, found),
-        Target::Element { variable, index } => {
-            add_mention(text, locals, *variable, found)?;
-            add_reads(text, locals, index, found)
+        Target::Field(part) => add_mention(text, locals, part.variable, found),
+        Target::Element(part) => {
+            add_mention(text, locals, part.variable, found)?;
+            add_reads(text, locals, &part.index, found)
         }
     }
 }

@@ -1,5 +1,6 @@
 -- By which symbols a piece begins.
 use Rattle.std.proofs.Common.{◌≡◌, ◌<◌, suc, length, arith, Bool, true, false, List, [], ◌∷◌, ◌++◌, sym, refl, ap, ◌∙◌, subst}
+use Rattle.std.specs.Prelude.{not}
 use Rattle.std.proofs.lemmas.Bool.{true≢false}
 use Rattle.tree.specs.Symbols.{Symbol}
 use Rattle.syntax.specs.Reading.{never, Stops, leads, Fails}
@@ -79,6 +80,14 @@ splits_self {starts} = record { none = λ y h. h; last = λ y h. refl; apart = �
 pub leads_back : (on : Symbol → Bool) (front : List Symbol) (next : Symbol) (rest s : List Symbol) → leads on (front ++ next ∷ rest) ≡ true → leads on ((front ++ next ∷ []) ++ s) ≡ true
 leads_back on [] next rest s h = h
 leads_back on (y ∷ front) next rest s h = h
+
+-- where something fails, a token is next, and where it is none of these, it is another one
+pub fails_leads : {X : Type 0} {a : X → List Symbol} {f : Symbol → Bool} {old new : List Symbol} (on : Symbol → Bool) → Fails a f old new → Stops on old → leads (λ y. not (on y)) old ≡ true
+fails_leads {X} {a} {f} {old} {new} on h stops = ap (leads (λ y. not (on y))) h.old_is ∙ leading h.front (subst (Stops on) h.old_is stops)
+  where
+    leading : (front : List Symbol) → Stops on (front ++ h.next ∷ h.rest) → leads (λ y. not (on y)) (front ++ h.next ∷ h.rest) ≡ true
+    leading [] s = ap not s
+    leading (y ∷ front) s = ap not s
 
 -- a row begins as its first part does
 pub row_starts : {X Z : Type 0} {a : X → List Symbol} {starts : Symbol → Bool} (first : Z → X) (rest : Z → List Symbol) → Starts a starts → Starts (λ z. a (first z) ++ rest z) starts

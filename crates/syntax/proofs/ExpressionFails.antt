@@ -1,25 +1,23 @@
 -- Where an expression fails, and what its parts make of it.
-use Rattle.std.proofs.Common.{◌≡◌, true, false, List, [], ◌∷◌, ◌++◌, Some, Result, Ok, Err, sym, refl, ap, ◌∙◌, subst, append_assoc, map}
-use Rattle.std.proofs.lemmas.List.{map-append}
+use Rattle.std.proofs.Common.{◌≡◌, true, false, List, [], ◌∷◌, ◌++◌, Some, Result, Ok, Err, sym, refl, ap, ◌∙◌, subst, append_assoc}
 use Rattle.std.specs.List.{flat_map}
 use Rattle.source.specs.declared.kind.Kind.TheVariants as kind
 use Rattle.source.specs.declared.token.Span.{Span}
 use Rattle.tree.specs.Symbols.{Symbol, Placed, Named, by_kind, kind_at}
 use Rattle.tree.specs.Spelling.{within, parens, name, optional}
-use Rattle.syntax.specs.Reading.{never, Stops, leads, Fails, Takes, Reads, AtFault, last_at}
+use Rattle.syntax.specs.Reading.{never, Stops, leads, Fails, Takes, Reads, AtFault}
 use Rattle.syntax.specs.declared.cursor.Stuck.{Stuck}
 use Rattle.syntax.specs.declared.cursor.Stuck.TheVariants.{Unexpected, Memory}
 use Rattle.tree.specs.Operators.{Operators, Or, And, Equal, Compare, Add, Multiply, Level, Single, Joined, below, OperatorOf, operator, prefix}
 use Rattle.syntax.specs.OperatorReads.{joins, opens_prefix, opens_rest}
 use Rattle.tree.specs.Expressions.{LevelTree, AtomTree, Unary, Chain, Done, Number, True, False, Target, Parens, Variable, Field, Element, ExpressionTree, steps, StepOf, level, atom, target, step, expression, dot_name}
 use Rattle.syntax.specs.ExpressionReads.{expression_on, expression_at, opens_expression, level_on, level_at, step_at, steps_end, target_on, target_at, atom_at}
-use Rattle.tree.specs.ExpressionTrees.{step_row}
+use Rattle.tree.specs.Factors.{step_row}
 use Rattle.tree.specs.declared.expression.Prefix.{Prefix}
 use Rattle.tree.specs.declared.expression.PrefixOperator.{PrefixOperator}
 use Rattle.tree.specs.declared.expression.PrefixOperator.TheVariants as prefixes
 use Rattle.syntax.proofs.Pieces.{Piece, ReadsOneWay, both, via_fails, same_fails, wide_fails, fails_first, fails_second, fails_here, fails_after, stops_never, stops_with}
 use Rattle.syntax.proofs.Beginnings.{Begins, Starts, splits_self}
-use Rattle.syntax.proofs.Repeats.{last_more}
 use Rattle.syntax.proofs.Options.{opt_piece, opt_fails}
 use Rattle.syntax.proofs.Choices.{form_way, form_fails}
 use Rattle.syntax.proofs.KindLemmas.{kind_leads}
@@ -164,13 +162,6 @@ faulted Memory P Q f h = tt
 pub step_tail : (l : Operators) {X : Type 0} (view : X → LevelTree (below l)) (o : OperatorOf l) (old mid new : List Symbol) (r : Result X Stuck) → Takes (operator l) (λ _. never) old mid o → Reads view level (level_on (below l)) level_at mid new r → Reads {Y = StepOf l} (λ x. (o, view x)) (step l) (level_on (below l)) (step_at l) old new r
 step_tail l {X} view o old mid new (Ok x) read h = (read.0 ∙ ap (λ t. operator l o ++ t) h.0 ∙ sym (append_assoc (operator l o) (level (view x)) new), h.1)
 step_tail l {X} view o old mid new (Err fault) read h = faulted fault (Fails (level {l = below l}) (level_on (below l)) mid new) (Fails (step l) (level_on (below l)) old new) (behind_fails l o read) h
-
--- where the last step that was read ends
-pub last_step : (l : Operators) {X : Type 0} (view : X → StepOf l) (x : X) (xs all : List X) (r : List Symbol) → all ≡ xs ++ x ∷ [] → Stops (step_at l (view x)) r → Stops (last_at (step_at l) (map view all)) r
-last_step l {X} view x xs all r is h =
-    let last : last_at (step_at l) (map view all) ≡ step_at l (view x) =
-    ap (λ t. last_at (step_at l) (map view t)) is ∙ ap (last_at (step_at l)) (map-append view xs (x ∷ [])) ∙ last_more (step_at l) (map view xs) (view x) in
-    subst (λ at. Stops at r) (sym last) h
 
 -- the first step of a row is not empty
 pub step_starts : (l : Operators) → Starts (step l) (by_kind (joins l))

@@ -28,6 +28,8 @@ pub mod AloneRules
 pub mod AtomRules
 pub mod ExpressionRules
 pub mod ExpressionFails
+pub mod FactorTrees
+pub mod FactorRules
 pub mod TreeLemmas
 pub mod ValueRules
 pub mod SharedFronts

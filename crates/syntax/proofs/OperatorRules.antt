@@ -1,21 +1,23 @@
 -- Operators as pieces.
-use Rattle.std.proofs.Common.{◌≡◌, true, [], Some, refl, ap}
+use Rattle.std.proofs.Common.{◌≡◌, Bool, true, [], Some, refl, ap}
 use Rattle.std.specs.Prelude.{not}
 use Rattle.source.specs.declared.kind.Kind.{Kind}
 use Rattle.source.specs.declared.kind.Kind.TheVariants as kind
 use Rattle.source.specs.declared.token.Span.{Span}
-use Rattle.tree.specs.Symbols.{Fixed, Placed, is_kind, by_kind}
+use Rattle.tree.specs.Symbols.{Symbol, Fixed, Placed, is_kind, by_kind}
 use Rattle.tree.specs.Spelling.{placed}
 use Rattle.syntax.specs.Reading.{never}
 use Rattle.tree.specs.Operators.{Operators, Or, And, Equal, Compare, Add, Multiply, operator, equality_word, relation_word, prefix_word, prefix, sum_operator}
-use Rattle.syntax.specs.OperatorReads.{equality_of, relation_of, prefix_of, opens_prefix, joins}
+use Rattle.tree.specs.Factors.{factor_operator}
+use Rattle.syntax.specs.OperatorReads.{equality_of, relation_of, prefix_of, opens_prefix, joins, joins_factors}
 use Rattle.tree.specs.declared.expression as tree
 use Rattle.tree.specs.declared.expression.EqualityOperator.TheVariants as equality
 use Rattle.tree.specs.declared.expression.RelationOperator.TheVariants as relation
 use Rattle.tree.specs.declared.expression.SumOperator.TheVariants as sum
 use Rattle.tree.specs.declared.expression.PrefixOperator.TheVariants as prefixes
+use Rattle.tree.specs.declared.expression.FactorOperator.TheVariants as factors
 use Rattle.syntax.proofs.Pieces.{Piece, ReadsOneWay, via_piece}
-use Rattle.syntax.proofs.Beginnings.{Starts}
+use Rattle.syntax.proofs.Beginnings.{Begins, Starts}
 use Rattle.syntax.proofs.Choices.{Form, Same, Other, form_way}
 use Rattle.syntax.proofs.Words.{Words, words_piece, words_starts, marks_piece, one_some, none_some}
 use Rattle.syntax.proofs.KindLemmas.{fixed_starts}
@@ -143,3 +145,36 @@ operator_starts Equal = words_starts equalities
 operator_starts Compare = words_starts relations
 operator_starts Add = sum_starts
 operator_starts Multiply = fixed_starts kind.Star
+
+-- "*" | "+" | "-"
+
+abbrev pub of_times : Unit {0} → tree.FactorOperator.FactorOperator
+of_times u = factors.Times
+
+sum_begins : (o : tree.SumOperator.SumOperator) (starts : Symbol → Bool) → starts (Fixed kind.Plus) ≡ true → ((span : Span) → starts (Placed kind.Minus span) ≡ true) → Begins factor_operator starts (factors.Sum o)
+sum_begins sum.Plus starts plus minus = record { head = Fixed kind.Plus; tail = []; is = refl; first = plus }
+sum_begins (sum.Minus span) starts plus minus = record { head = Placed kind.Minus span; tail = []; is = refl; first = minus span }
+
+times_form : Form factor_operator (fixed kind.Star) of_times (is_kind kind.Star)
+times_form = record {
+  first = record { each = λ u. record { head = Fixed kind.Star; tail = []; is = refl; first = refl } };
+  same = λ u. refl;
+  each = elim [ factors.Times ↦ Same tt refl | factors.Sum o ↦ Other (sum_begins o (λ y. not (is_kind kind.Star y)) refl (λ span. refl)) ];
+}
+
+pub terms_form : Form factor_operator sum_operator factors.Sum (λ y. not (is_kind kind.Star y))
+terms_form = record {
+  first = record { each = elim [ sum.Plus ↦ record { head = Fixed kind.Plus; tail = []; is = refl; first = refl } | sum.Minus span ↦ record { head = Placed kind.Minus span; tail = []; is = refl; first = refl } ] };
+  same = λ o. refl;
+  each = elim [ factors.Times ↦ Other (record { head = Fixed kind.Star; tail = []; is = refl; first = refl }) | factors.Sum o ↦ Same o refl ];
+}
+
+pub factor_operator_piece : Piece factor_operator never (λ _. never)
+factor_operator_piece = record { some = factors.Times; each = way }
+  where
+    way : (o : tree.FactorOperator.FactorOperator) → ReadsOneWay factor_operator never (λ _. never) o
+    way factors.Times = form_way times_form (λ _ r h. h) ((fixed_piece kind.Star).each tt)
+    way (factors.Sum o) = form_way terms_form (λ _ r h. h) (sum_piece.each o)
+
+pub factor_operator_starts : Starts factor_operator (by_kind joins_factors)
+factor_operator_starts = record { each = elim [ factors.Times ↦ record { head = Fixed kind.Star; tail = []; is = refl; first = refl } | factors.Sum o ↦ sum_begins o (by_kind joins_factors) refl (λ span. refl) ] }

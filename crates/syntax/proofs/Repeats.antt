@@ -1,11 +1,11 @@
 -- Any number of pieces in a row, told from what follows by what one begins with.
-use Rattle.std.proofs.Common.{◌≡◌, Bool, true, false, List, [], ◌∷◌, ◌++◌, sym, refl, ap, ◌∙◌, subst, append_assoc}
+use Rattle.std.proofs.Common.{◌≡◌, Bool, true, false, List, [], ◌∷◌, ◌++◌, sym, refl, ap, ◌∙◌, subst, append_assoc, map}
 use Rattle.std.specs.Prelude.{◌||◌}
 use Rattle.std.specs.List.{flat_map}
-use Rattle.std.proofs.lemmas.List.{flat_map_more}
+use Rattle.std.proofs.lemmas.List.{flat_map_more, map-append}
 use Rattle.tree.specs.Symbols.{Symbol}
-use Rattle.syntax.specs.Reading.{never, Stops, leads, Rejects, Fails, last_at, many_at}
-use Rattle.syntax.proofs.Pieces.{ReadsOneWay, Piece, stops_with, stops_left, stops_right, same_way, same_piece}
+use Rattle.syntax.specs.Reading.{never, Stops, leads, Rejects, Fails, Takes, last_at, many_at}
+use Rattle.syntax.proofs.Pieces.{ReadsOneWay, Piece, stops_with, stops_left, stops_right, stops_both, stops_front, same_way, same_piece}
 use Rattle.syntax.proofs.Beginnings.{Starts, Splits, Leaves, starts_not, stops_leads, leads_back}
 
 module _ {X : Type 0} {a : X → List Symbol} {f starts on : Symbol → Bool} {at : X → Symbol → Bool} (begin : Starts a starts) (splits : Splits starts f on) (leaves : Leaves at starts) where
@@ -87,6 +87,34 @@ module _ {X : Type 0} {a : X → List Symbol} {f starts on : Symbol → Bool} {a
         h.rejects hr (e ∙ ap (λ t. t ++ s) (append_assoc (flat_map a xs) h.front (h.next ∷ [])) ∙ append_assoc (flat_map a xs) (h.front ++ h.next ∷ []) s);
   }
 
+  -- one is read, and those behind it fail
+  pub more_fail : {old mid new : List Symbol} (x : X) → Takes a at old mid x → Fails (flat_map a) on mid new → Fails (flat_map a) on old new
+  more_fail {old} {mid} {new} x read h = record {
+    front = a x ++ h.front;
+    next = h.next;
+    rest = h.rest;
+    old_is = read.0 ∙ ap (λ t. a x ++ t) h.old_is ∙ sym (append_assoc (a x) h.front (h.next ∷ h.rest));
+    new_is = h.new_is;
+    piece = x ∷ h.piece;
+    more = h.more;
+    begins = ap (λ t. a x ++ t) h.begins ∙ sym (append_assoc (a x) h.front h.more);
+    rejects = λ ys r s hr e. none ys r s hr (e ∙ ap (λ t. t ++ s) (append_assoc (a x) h.front (h.next ∷ [])) ∙ append_assoc (a x) (h.front ++ h.next ∷ []) s);
+  }
+    where
+      none : (ys : List X) (r s : List Symbol) → Stops on r → flat_map a ys ++ r ≡ a x ++ ((h.front ++ h.next ∷ []) ++ s) → ⊥
+      none [] r s hr e = starts_not a starts x ((h.front ++ h.next ∷ []) ++ s) r (begin.each x) (sym e) (stops_with on starts splits.none r hr)
+      none (y ∷ ys) r s hr e =
+          let u = (piece.each y).only x (flat_map a ys ++ r) ((h.front ++ h.next ∷ []) ++ s) (many_stops begin splits leaves ys r hr) (stops_front (at x) h.front h.next h.rest s (subst (Stops (at x)) h.old_is read.1)) (sym (append_assoc (a y) (flat_map a ys) r) ∙ e) in
+          h.rejects ys r s hr u.1
+
+-- one is read, and more behind it
+pub more_reads : {X : Type 0} (a : X → List Symbol) (starts : Symbol → Bool) (at : X → Symbol → Bool) (old mid new : List Symbol) (x : X) (xs : List X) → Takes a at old mid x → Takes (flat_map a) (many_at starts at) mid new xs → Takes (flat_map a) (many_at starts at) old new (x ∷ xs)
+more_reads {X = X} a starts at old mid new x xs first others = (first.0 ∙ ap (λ t. a x ++ t) others.0 ∙ sym (append_assoc (a x) (flat_map a xs) new), stops xs others)
+  where
+    stops : (xs : List X) → Takes (flat_map a) (many_at starts at) mid new xs → Stops (many_at starts at (x ∷ xs)) new
+    stops [] others = stops_both (at x) starts new (subst (Stops (at x)) others.0 first.1) others.1
+    stops (y ∷ ys) others = others.1
+
 -- pieces that each have an end of their own
 
 pub ended_stops : {X : Type 0} (starts : Symbol → Bool) (xs : List X) (r : List Symbol) → Stops starts r → Stops (many_at starts (λ _. never) xs) r
@@ -117,6 +145,13 @@ pub last_more : {X : Type 0} (at : X → Symbol → Bool) (xs : List X) (x : X) 
 last_more at [] x = refl
 last_more at (y ∷ []) x = refl
 last_more at (y ∷ z ∷ xs) x = last_more at (z ∷ xs) x
+
+-- where the last piece of a row ends that was read
+pub last_read : {X Y : Type 0} (at : Y → Symbol → Bool) (view : X → Y) (x : X) (xs all : List X) (r : List Symbol) → all ≡ xs ++ x ∷ [] → Stops (at (view x)) r → Stops (last_at at (map view all)) r
+last_read at view x xs all r is h =
+    let last : last_at at (map view all) ≡ at (view x) =
+    ap (λ t. last_at at (map view t)) is ∙ ap (last_at at) (map-append view xs (x ∷ [])) ∙ last_more at (map view xs) (view x) in
+    subst (λ at. Stops at r) (sym last) h
 
 -- where none of them goes on by a symbol that begins none, the row doesn't
 pub row_stops : {X : Type 0} (starts : Symbol → Bool) (at : X → Symbol → Bool) (y : Symbol) → starts y ≡ false → ((x : X) → at x y ≡ false) → (xs : List X) → many_at starts at xs y ≡ false

@@ -1,7 +1,6 @@
 -- Where an expression ends that could be the names of a call.
 use Rattle.std.proofs.Common.{◌≡◌, Bool, true, false, List, [], ◌∷◌, ◌++◌, sym, refl, ap, ◌∙◌, subst}
-use Rattle.std.specs.Prelude.{Vec, ◌||◌, ◌&&◌, not}
-use Rattle.std.specs.Global.{Global}
+use Rattle.std.specs.Prelude.{◌||◌, ◌&&◌, not}
 use Rattle.std.proofs.lemmas.Bool.{true≢false}
 use Rattle.source.specs.declared.kind.Kind.TheVariants as kind
 use Rattle.source.specs.declared.token.Span.{Span}
@@ -14,16 +13,15 @@ use Rattle.syntax.specs.ExpressionReads.{level_at, target_on, target_at, express
 use Rattle.tree.specs.ExpressionTrees.{unary_tree, target_tree}
 use Rattle.tree.specs.Values.{Expression}
 use Rattle.syntax.specs.ValueReads.{value_at, is_callee}
-use Rattle.tree.specs.declared.expression.Prefix.{Prefix}
 use Rattle.tree.specs.declared.expression.Target as targets
-use Rattle.tree.specs.declared.expression.Unary as unaries
+use Rattle.tree.specs.declared.expression.Unary.TheVariants as unary
 use Rattle.tree.specs.declared.expression.Atom.TheVariants as made
 use Rattle.syntax.proofs.Pieces.{stops_with}
 use Rattle.syntax.proofs.Choices.{form_fails}
 use Rattle.syntax.proofs.SharedFronts.{append_nil, tails}
 use Rattle.syntax.proofs.AtomRules.{target_form}
 use Rattle.syntax.proofs.ExpressionFails.{unary_fails, atom_fails}
-use Rattle.syntax.proofs.TreeLemmas.{unary_made, target_made}
+use Rattle.syntax.proofs.TreeLemmas.{plain_made, target_made}
 use Rattle.syntax.proofs.ValueForms.{opens_call}
 
 -- one name, or two with a dot between them
@@ -87,8 +85,8 @@ pub target_expression_fails : {mid new : List Symbol} (span : Span) → Fails ta
 target_expression_fails {mid} {new} span h = unary_fails (Joined Or) (atom_fails [] (refl, refl) (form_fails target_form refl h))
 
 -- a target without prefixes, as a unary
-pub target_unary : (prefixes : Vec Prefix Global) (t : targets.Target) → prefixes.items ≡ [] → unary_tree (unaries.roll-Unary (record { prefixes = prefixes; atom = made.Target t })) ≡ Unary [] (Target (target_tree t))
-target_unary prefixes t none = unary_made prefixes (made.Target t) ∙ (λ i. Unary (none i) (target_made t i))
+pub target_unary : (t : targets.Target) → unary_tree (unary.Atom (made.Target t)) ≡ Unary [] (Target (target_tree t))
+target_unary t = plain_made (made.Target t) ∙ ap (Unary []) (target_made t)
 
 pub target_unary_stops : (t : TargetTree) (u : LevelTree Single) (r : List Symbol) → u ≡ Unary [] (Target t) → Stops (target_at t) r → Stops (level_at u) r
 target_unary_stops t u r is h = subst (λ u. Stops (level_at u) r) (sym is) (stops_with (target_at t) (level_at (Unary [] (Target t))) (λ y e. e) r h)

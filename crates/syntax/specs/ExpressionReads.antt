@@ -6,8 +6,9 @@ use Rattle.tree.specs.Symbols.{Symbol, kind_is, by_kind}
 use Rattle.tree.specs.Operators.{Operators, Or, Level, Joined}
 use Rattle.tree.specs.Expressions.{LevelTree, Unary, Chain, StepTrees, Done, More, AtomTree, Number, True, False}
 use Rattle.tree.specs.Expressions.{Target, Parens, TargetTree, Variable, Field, Element, ExpressionTree, StepOf}
+use Rattle.tree.specs.Factors.{FactorTree}
 use Rattle.syntax.specs.Reading.{never, many_at}
-use Rattle.syntax.specs.OperatorReads.{opens_prefix, joins, opens_rest, goes_on}
+use Rattle.syntax.specs.OperatorReads.{opens_prefix, joins, joins_factors, opens_rest, goes_on}
 
 -- by what this target could go on
 abbrev pub target_at : TargetTree → Symbol → Bool
@@ -50,6 +51,14 @@ step_at l p = level_at p.1
 -- by what such a row could go on
 abbrev pub steps_end : (l : Operators) → List (StepOf l) → Symbol → Bool
 steps_end l = many_at (by_kind (joins l)) (step_at l)
+
+-- by what the unary behind an operator between factors could
+abbrev pub factor_at : FactorTree → Symbol → Bool
+factor_at f = level_at f.1
+
+-- by what a row of these could go on
+abbrev pub factors_end : List FactorTree → Symbol → Bool
+factors_end = many_at (by_kind joins_factors) factor_at
 
 -- by what some expression could go on
 abbrev pub expression_on : Symbol → Bool

@@ -46,6 +46,10 @@ joins Compare = λ k. is_some (relation_of k)
 joins Add = opens_sum
 joins Multiply = kind_is kind.Star
 
+-- whether it is an operator between two factors of a sum: "*", "+" or "-"
+abbrev pub joins_factors : Option Kind → Bool
+joins_factors k = joins Multiply k || joins Add k
+
 -- whether it is an operator that binds less than a sum
 abbrev pub behind_sum : Option Kind → Bool
 behind_sum k = ((joins Compare k || joins Equal k) || joins And k) || joins Or k

@@ -6,25 +6,27 @@ ghost use Rattle.source.specs.declared.kind.Kind.{Kind};
 ghost use Rattle.tree.specs.Symbols.{by_kind};
 ghost use Rattle.tree.specs.Spelling.{name, within, parens};
 ghost use Rattle.syntax.specs.Reading.{Stops, ReadsRow, Reads, ReadsEnded, never};
-ghost use Rattle.tree.specs.Operators.{Or, And, Equal, Compare, Add, Multiply, Single, Joined, prefix};
+ghost use Rattle.tree.specs.Operators.{Or, And, Equal, Compare, Add, Single, Joined, prefix};
+ghost use Rattle.tree.specs.Factors.{factor};
 ghost use Rattle.syntax.specs.OperatorReads.{joins, opens_prefix};
 ghost use Rattle.tree.specs.Expressions.{level, expression, step, atom, target, dot_name};
-ghost use Rattle.syntax.specs.ExpressionReads.{level_on, level_at, step_at, steps_end, atom_at, target_at, target_on, opens_expression};
+ghost use Rattle.syntax.specs.ExpressionReads.{level_on, level_at, step_at, steps_end, factor_at, factors_end, atom_at, target_at};
+ghost use Rattle.syntax.specs.ExpressionReads.{target_on, opens_expression};
 ghost use Rattle.tree.specs.ExpressionTrees.{expression_tree, disjunction_tree, conjunction_tree, equality_tree, equality_step_tree};
-ghost use Rattle.tree.specs.ExpressionTrees.{relation_tree, relation_step_tree, sum_tree, sum_step_tree};
-ghost use Rattle.tree.specs.ExpressionTrees.{term_tree, unary_tree, atom_tree, target_tree, unmarked};
+ghost use Rattle.tree.specs.ExpressionTrees.{relation_tree, relation_step_tree, sum_tree, factor_tree, unary_tree, atom_tree, target_tree};
+ghost use Rattle.tree.specs.ExpressionTrees.{unmarked};
 
 use crate::cursor::{Cursor, Stuck};
 use crate::fitted::{fitted, push};
 use crate::operators::{
-    equality_operator, goes_on, goes_on_behind_sum, is_equality, is_prefix, is_relation, is_sum,
-    prefix, relation_operator, sum_operator,
+    equality_operator, factor_operator, goes_on_behind_sum, is_equality, is_factor, is_prefix,
+    is_relation, prefix, relation_operator,
 };
 use source::{Kind, Span};
 use std::alloc::Global;
 use tree::{
-    Atom, Conjunction, Disjunction, Equality, EqualityStep, Expression, Prefix, Relation,
-    RelationStep, Sum, SumStep, Target, Term, Unary,
+    Atom, Conjunction, Disjunction, ElementTarget, Equality, EqualityStep, Expression, Factor,
+    Factors, FieldTarget, Parens, Prefix, Prefixed, Relation, RelationStep, Sum, Target, Unary,
 };
 
 /// Whether an expression begins with this token.
@@ -65,12 +67,9 @@ pub fn expression_from(
     ensures read { Reads expression_tree level (level_on (Joined Or)) level_at (level (unary_tree unary) ++ cursor.old) cursor.new result }
     ensures left { OnOk result (length cursor.new ≤ length cursor.old) }
 {
-    if unary.prefixes.is_empty() && !goes_on(cursor.peek()) {
-        return Ok(Expression::Atom(unary.atom));
-    }
     let sum = sum_from(alloc, cursor, unary)?;
     if !goes_on_behind_sum(cursor.peek()) {
-        return Ok(Expression::Sum(Box::new(alloc, sum)?));
+        return Ok(Expression::Sum(sum));
     }
     let disjunction = disjunction_from(alloc, cursor, sum)?;
     Ok(Expression::Joined(Box::new(alloc, disjunction)?))
@@ -234,69 +233,39 @@ fn sum_from(alloc: Global, cursor: &mut Cursor<'_>, unary: Unary) -> Result<Sum,
     ensures read { Reads sum_tree level (level_on (Joined Add)) level_at (level (unary_tree unary) ++ cursor.old) cursor.new result }
     ensures left { OnOk result (length cursor.new ≤ length cursor.old) }
 {
-    let first = term_from(alloc, cursor, unary)?;
-    let others = sum_steps(alloc, cursor)?;
-    Ok(Sum { first, others })
-}
-
-/// { ( "+" | "-" ) term }
-#[cycle(expression)]
-fn sum_steps(alloc: Global, cursor: &mut Cursor<'_>) -> Result<Vec<SumStep>, Stuck>
-    ensures { Reads (λ v. map sum_step_tree v.items) (flat_map (step Add)) (level_on (Joined Add)) (steps_end Add)
-        cursor.old cursor.new result }
-{
-    let mut all = Vec::new(alloc);
-    'each: while is_sum(cursor.peek()) {
-        push(&mut all, sum_step(alloc, cursor)?)?;
+    if !is_factor(cursor.peek()) {
+        return Ok(Sum::Unary(unary));
     }
-    Ok(fitted(all))
-}
-
-/// ( "+" | "-" ) term
-#[cycle(expression)]
-fn sum_step(alloc: Global, cursor: &mut Cursor<'_>) -> Result<SumStep, Stuck>
-    ensures { Reads sum_step_tree (step Add) (level_on (Joined Multiply)) (step_at Add) cursor.old cursor.new result }
-{
-    let operator = sum_operator(cursor)?;
-    let unary = read_unary(alloc, cursor)?;
-    let term = term_from(alloc, cursor, unary)?;
-    Ok(SumStep { operator, term })
-}
-
-/// term = unary { "*" unary }, from the unary that stands first.
-#[cycle(expression)]
-fn term_from(alloc: Global, cursor: &mut Cursor<'_>, unary: Unary) -> Result<Term, Stuck>
-    requires { Stops (level_at (unary_tree unary)) cursor.old }
-    ensures read { Reads term_tree level (level_on (Joined Multiply)) level_at (level (unary_tree unary) ++ cursor.old) cursor.new result }
-    ensures left { OnOk result (length cursor.new ≤ length cursor.old) }
-{
+    let second = read_factor(alloc, cursor)?;
     let others = factors(alloc, cursor)?;
-    Ok(Term {
+    let factors = Factors {
         first: unary,
+        second,
         others,
-    })
+    };
+    Ok(Sum::Factors(Box::new(alloc, factors)?))
 }
 
-/// { "*" unary }
+/// { ( "+" | "-" | "*" ) unary }
 #[cycle(expression)]
-fn factors(alloc: Global, cursor: &mut Cursor<'_>) -> Result<Vec<Unary>, Stuck>
-    ensures { Reads (λ v. map (unmarked unary_tree) v.items) (flat_map (step Multiply)) (level_on (Joined Multiply)) (steps_end Multiply)
-        cursor.old cursor.new result }
+fn factors(alloc: Global, cursor: &mut Cursor<'_>) -> Result<Vec<Factor>, Stuck>
+    ensures { Reads (λ v. map factor_tree v.items) (flat_map factor) (level_on (Joined Add)) factors_end cursor.old cursor.new result }
 {
     let mut all = Vec::new(alloc);
-    'each: while cursor.is_next(Kind::Star) {
-        push(&mut all, times_unary(alloc, cursor)?)?;
+    'each: while is_factor(cursor.peek()) {
+        push(&mut all, read_factor(alloc, cursor)?)?;
     }
     Ok(fitted(all))
 }
 
-/// "*" unary
+/// ( "+" | "-" | "*" ) unary
 #[cycle(expression)]
-fn times_unary(alloc: Global, cursor: &mut Cursor<'_>) -> Result<Unary, Stuck>
-    ensures { Reads (unmarked unary_tree) (step Multiply) (level_on Single) (step_at Multiply) cursor.old cursor.new result }
+fn read_factor(alloc: Global, cursor: &mut Cursor<'_>) -> Result<Factor, Stuck>
+    ensures { Reads factor_tree factor (level_on Single) factor_at cursor.old cursor.new result }
 {
-    cursor.expect(Kind::Star)?;
-    read_unary(alloc, cursor)
+    let operator = factor_operator(cursor)?;
+    let unary = read_unary(alloc, cursor)?;
+    Ok(Factor { operator, unary })
 }
 
 /// { "!" | "-" }
@@ -315,9 +284,13 @@ fn prefixes(alloc: Global, cursor: &mut Cursor<'_>) -> Result<Vec<Prefix>, Stuck
 fn read_unary(alloc: Global, cursor: &mut Cursor<'_>) -> Result<Unary, Stuck>
     ensures { Reads unary_tree level (level_on Single) level_at cursor.old cursor.new result }
 {
+    if !is_prefix(cursor.peek()) {
+        return Ok(Unary::Atom(read_atom(alloc, cursor)?));
+    }
     let prefixes = prefixes(alloc, cursor)?;
     let atom = read_atom(alloc, cursor)?;
-    Ok(Unary { prefixes, atom })
+    let prefixed = Prefixed { prefixes, atom };
+    Ok(Unary::Prefixed(Box::new(alloc, prefixed)?))
 }
 
 /// atom = NUMBER | "true" | "false" | target | "(" expression ")" .
@@ -329,8 +302,8 @@ fn read_atom(alloc: Global, cursor: &mut Cursor<'_>) -> Result<Atom, Stuck>
         Ok(Atom::Target(read_target(alloc, cursor)?))
     } else if cursor.is_next(Kind::OpenParen) {
         let (open, inner) = read_parens(alloc, cursor)?;
-        let inner = Box::new(alloc, inner)?;
-        Ok(Atom::Parens { open, inner })
+        let parens = Parens { open, inner };
+        Ok(Atom::Parens(Box::new(alloc, parens)?))
     } else if cursor.is_next(Kind::True) {
         Ok(Atom::True(cursor.skip()))
     } else if cursor.is_next(Kind::False) {
@@ -368,10 +341,12 @@ pub fn target_from(alloc: Global, cursor: &mut Cursor<'_>, variable: Span) -> Re
 {
     if cursor.is_next(Kind::Dot) {
         let field = dot_name(cursor)?;
-        Ok(Target::Field { variable, field })
+        let field = FieldTarget { variable, field };
+        Ok(Target::Field(Box::new(alloc, field)?))
     } else if cursor.is_next(Kind::OpenBracket) {
-        let index = Box::new(alloc, read_index(alloc, cursor)?)?;
-        Ok(Target::Element { variable, index })
+        let index = read_index(alloc, cursor)?;
+        let element = ElementTarget { variable, index };
+        Ok(Target::Element(Box::new(alloc, element)?))
     } else {
         Ok(Target::Variable(variable))
     }

@@ -2,12 +2,15 @@
 
 ghost use Rattle.std.specs.Prelude.{◌≡◌};
 ghost use Rattle.syntax.specs.Reading.{ReadsWord, ReadsRow, ReadsEnded};
-ghost use Rattle.tree.specs.Operators.{Or, And, Equal, Compare, Add, Multiply, prefix, equality_word, relation_word, sum_operator};
-ghost use Rattle.syntax.specs.OperatorReads.{after_expression, behind_sum, joins, equality_of, relation_of, prefix_of, opens_prefix};
+ghost use Rattle.tree.specs.Operators.{Or, And, Equal, Compare, prefix, equality_word, relation_word, sum_operator};
+ghost use Rattle.tree.specs.Factors.{factor_operator};
+ghost use Rattle.syntax.specs.OperatorReads.{behind_sum, joins, joins_factors, equality_of, relation_of, prefix_of, opens_prefix};
 
 use crate::cursor::{Cursor, Stuck};
 use source::{Kind, Span};
-use tree::{EqualityOperator, Prefix, PrefixOperator, RelationOperator, SumOperator};
+use tree::{
+    EqualityOperator, FactorOperator, Prefix, PrefixOperator, RelationOperator, SumOperator,
+};
 
 /// The equality that this token is.
 fn equality_of(kind: Option<Kind>) -> Option<EqualityOperator>
@@ -25,18 +28,6 @@ pub fn is_equality(kind: Option<Kind>) -> bool
     ensures { result ≡ joins Equal kind }
 {
     equality_of(kind).is_some()
-}
-
-/// Whether an expression goes on with this token, behind its first atom.
-pub fn goes_on(kind: Option<Kind>) -> bool
-    ensures { result ≡ after_expression kind }
-{
-    matches!(
-        kind,
-        Some(Kind::Dot | Kind::OpenBracket | Kind::Star | Kind::AndAnd | Kind::OrOr)
-    ) || is_sum(kind)
-        || is_relation(kind)
-        || is_equality(kind)
 }
 
 /// Whether an expression goes on with this token, behind its first sum.
@@ -88,15 +79,26 @@ pub fn relation_operator(cursor: &mut Cursor<'_>) -> Result<RelationOperator, St
     Ok(operator)
 }
 
-/// Whether this token is "+" or "-".
-pub fn is_sum(kind: Option<Kind>) -> bool
-    ensures { result ≡ joins Add kind }
+/// Whether this token is "*", "+" or "-".
+pub fn is_factor(kind: Option<Kind>) -> bool
+    ensures { result ≡ joins_factors kind }
 {
-    matches!(kind, Some(Kind::Plus | Kind::Minus))
+    matches!(kind, Some(Kind::Star | Kind::Plus | Kind::Minus))
+}
+
+/// "*" | "+" | "-"
+pub fn factor_operator(cursor: &mut Cursor<'_>) -> Result<FactorOperator, Stuck>
+    ensures { ReadsEnded (λ x. x) factor_operator cursor.old cursor.new result }
+{
+    if cursor.take_if(Kind::Star) {
+        Ok(FactorOperator::Times)
+    } else {
+        Ok(FactorOperator::Sum(sum_operator(cursor)?))
+    }
 }
 
 /// "+" | "-"
-pub fn sum_operator(cursor: &mut Cursor<'_>) -> Result<SumOperator, Stuck>
+fn sum_operator(cursor: &mut Cursor<'_>) -> Result<SumOperator, Stuck>
     ensures { ReadsEnded (λ x. x) sum_operator cursor.old cursor.new result }
 {
     if cursor.is_next(Kind::Minus) {

@@ -17,7 +17,9 @@ use crate::statement_ends::{
 use crate::types::{endpoint_end, is_side, pointer_tail, scalar_type};
 use source::{Kind, Span};
 use std::alloc::Global;
-use tree::{Assign, Call, Declare, Heap, NewChannel, Statement, Target, Type};
+use tree::{
+    Assign, Call, Declare, ElementTarget, FieldTarget, Heap, NewChannel, Statement, Target, Type,
+};
 
 /// A statement that begins so and holds no other.
 pub fn simple_statement(
@@ -87,12 +89,12 @@ fn after_variable(alloc: Global, cursor: &mut Cursor<'_>, first: Span) -> Result
         };
         Ok(Statement::Call(Box::new(alloc, call)?))
     } else if cursor.is_next(Kind::OpenBracket) {
-        let index = Box::new(alloc, read_index(alloc, cursor)?)?;
-        let value = assigned(alloc, cursor)?;
-        let target = Target::Element {
+        let element = ElementTarget {
             variable: first,
-            index,
+            index: read_index(alloc, cursor)?,
         };
+        let target = Target::Element(Box::new(alloc, element)?);
+        let value = assigned(alloc, cursor)?;
         let assign = Box::new(alloc, Assign { target, value })?;
         Ok(Statement::Assign(assign))
     } else {
@@ -157,10 +159,11 @@ fn after_member(
         Ok(Statement::Call(Box::new(alloc, call)?))
     } else {
         let value = assigned(alloc, cursor)?;
-        let target = Target::Field {
+        let field = FieldTarget {
             variable: first,
             field: member,
         };
+        let target = Target::Field(Box::new(alloc, field)?);
         let assign = Box::new(alloc, Assign { target, value })?;
         Ok(Statement::Assign(assign))
     }

@@ -21,7 +21,7 @@ use crate::types::scalar;
 use program::Scalar;
 use source::{Kind, Span};
 use std::alloc::Global;
-use tree::{Atom, Call, Expression, Made, New, Target, Unary, Value};
+use tree::{Atom, Call, Expression, FieldTarget, Made, New, Target, Unary, Value};
 
 /// Whether a value begins with this token.
 pub fn is_value(kind: Option<Kind>) -> bool
@@ -73,10 +73,11 @@ fn member_value(
         let call = call_from(alloc, cursor, variable, Some(member))?;
         Ok(Value::Call(Box::new(alloc, call)?))
     } else {
-        let first = Target::Field {
+        let field = FieldTarget {
             variable,
             field: member,
         };
+        let first = Target::Field(Box::new(alloc, field)?);
         Ok(Value::Expression(expression_of(alloc, cursor, first)?))
     }
 }
@@ -90,11 +91,7 @@ pub fn expression_of(
     requires { Stops (target_at (target_tree first)) cursor.old }
     ensures { Reads expression_tree expression expression_on expression_at (target (target_tree first) ++ cursor.old) cursor.new result }
 {
-    let unary = Unary {
-        prefixes: Vec::new(alloc),
-        atom: Atom::Target(first),
-    };
-    expression_from(alloc, cursor, unary)
+    expression_from(alloc, cursor, Unary::Atom(Atom::Target(first)))
 }
 
 /// call = ID [ "." ID ] arguments , behind its names.

@@ -1,16 +1,15 @@
-//! Trees of expressions: a level of operators a type.
+//! Trees of expressions: a level of operators a type, but for sums and terms, which share one.
 
 use source::Span;
 
 /// expression = conjunction { "||" conjunction } .
 ///
-/// Most expressions are an atom with no operator, and most others a sum. Such a one is kept without the levels between, which takes a
-/// quarter or half of the memory.
+/// Most expressions are a sum, or an atom, which is a sum too. Such a one is kept without the levels between, which takes a quarter of the
+/// memory.
 #[derive(Drop)]
 #[cycle(expression)]
 pub enum Expression {
-    Atom(Atom),
-    Sum(Box<Sum>),
+    Sum(Sum),
     Joined(Box<Disjunction>),
 }
 
@@ -78,20 +77,38 @@ pub enum RelationOperator {
     GreaterEqual,
 }
 
-/// sum = term { ( "+" | "-" ) term } .
+/// sum = term { ( "+" | "-" ) term } . term = unary { "*" unary } .
+///
+/// The terms are kept as one row of their factors, so that a term takes no memory of its own, and a unary alone takes no row.
 #[derive(Drop)]
 #[cycle(expression)]
-pub struct Sum {
-    pub first: Term,
-    pub others: Vec<SumStep>,
+pub enum Sum {
+    Unary(Unary),
+    Factors(Box<Factors>),
 }
 
-/// An operator, and the term behind it.
+/// unary ( "+" | "-" | "*" ) unary { ( "+" | "-" | "*" ) unary }
 #[derive(Drop)]
 #[cycle(expression)]
-pub struct SumStep {
-    pub operator: SumOperator,
-    pub term: Term,
+pub struct Factors {
+    pub first: Unary,
+    pub second: Factor,
+    pub others: Vec<Factor>,
+}
+
+/// An operator, and the unary behind it.
+#[derive(Drop)]
+#[cycle(expression)]
+pub struct Factor {
+    pub operator: FactorOperator,
+    pub unary: Unary,
+}
+
+/// "*" within a term, or "+" | "-" before the next one
+#[derive(Clone, Copy)]
+pub enum FactorOperator {
+    Times,
+    Sum(SumOperator),
 }
 
 /// "+" | "-"
@@ -101,18 +118,18 @@ pub enum SumOperator {
     Minus(Span),
 }
 
-/// term = unary { "*" unary } .
-#[derive(Drop)]
-#[cycle(expression)]
-pub struct Term {
-    pub first: Unary,
-    pub others: Vec<Unary>,
-}
-
 /// unary = { "!" | "-" } atom .
 #[derive(Drop)]
 #[cycle(expression)]
-pub struct Unary {
+pub enum Unary {
+    Atom(Atom),
+    Prefixed(Box<Prefixed>),
+}
+
+/// { "!" | "-" } atom
+#[derive(Drop)]
+#[cycle(expression)]
+pub struct Prefixed {
     pub prefixes: Vec<Prefix>,
     pub atom: Atom,
 }
@@ -139,20 +156,39 @@ pub enum Atom {
     True(Span),
     False(Span),
     Target(Target),
-    Parens { open: Span, inner: Box<Expression> },
+    Parens(Box<Parens>),
+}
+
+/// "(" expression ")"
+#[derive(Drop)]
+#[cycle(expression)]
+pub struct Parens {
+    pub open: Span,
+    pub inner: Expression,
 }
 
 /// target = ID | ID "." ID | ID "[" expression "]" .
+///
+/// What is larger than a name stands in a box, so that an atom, of which most are a name or a number, takes little.
 #[derive(Drop)]
 #[cycle(expression)]
 pub enum Target {
     Variable(Span),
-    Field {
-        variable: Span,
-        field: Span,
-    },
-    Element {
-        variable: Span,
-        index: Box<Expression>,
-    },
+    Field(Box<FieldTarget>),
+    Element(Box<ElementTarget>),
+}
+
+/// ID "." ID
+#[derive(Drop)]
+pub struct FieldTarget {
+    pub variable: Span,
+    pub field: Span,
+}
+
+/// ID "[" expression "]"
+#[derive(Drop)]
+#[cycle(expression)]
+pub struct ElementTarget {
+    pub variable: Span,
+    pub index: Expression,
 }

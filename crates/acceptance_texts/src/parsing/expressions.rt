@@ -5,7 +5,9 @@ use source::{Kind, Place, Span, Token, Tokens};
 use std::alloc::{AllocError, Global};
 use std::test::Fail;
 use syntax::parse;
-use tree::{Definition, Expression, Statement, SumOperator, Tree, Value};
+use tree::{
+    Definition, Expression, Factor, FactorOperator, Statement, Sum, SumOperator, Tree, Unary, Value,
+};
 
 /// What stands before a value here, in so many words.
 const FRONT: &str = "class K { static void F ( ) { v = ";
@@ -173,6 +175,10 @@ fn assigned(tree: &Tree) -> Result<&Expression, Fail> {
     Ok(expression)
 }
 
+fn is_plus(factor: &Factor) -> bool {
+    matches!(factor.operator, FactorOperator::Sum(SumOperator::Plus))
+}
+
 #[test]
 fn operators_by_level(rt: HostRuntime) -> Result<(), Fail> {
     let text = format!(in rt.alloc(); "{FRONT}a + b * c - d < e && f ; }} }}")?;
@@ -185,13 +191,18 @@ fn operators_by_level(rt: HostRuntime) -> Result<(), Fail> {
     assert_eq!(rt; read.first.others.len(), 1);
     let relation = &read.first.first.first;
     assert_eq!(rt; relation.others.len(), 1);
-    let sum = &relation.first;
-    assert_eq!(rt; sum.first.others.len(), 0);
-    assert_eq!(rt; sum.others.len(), 2);
-    assert!(rt; sum.others[0].operator == SumOperator::Plus);
-    assert_eq!(rt; sum.others[0].term.others.len(), 1);
-    assert!(rt; sum.others[1].operator != SumOperator::Plus);
-    assert_eq!(rt; sum.others[1].term.others.len(), 0);
+    let Sum::Factors(factors) = &relation.first else {
+        return Err(Fail::from("no factors"));
+    };
+    assert!(rt; is_plus(&factors.second));
+    assert_eq!(rt; factors.others.len(), 2);
+    assert!(rt; matches!(factors.others[0].operator, FactorOperator::Times));
+    assert!(rt;
+        matches!(
+            factors.others[1].operator,
+            FactorOperator::Sum(SumOperator::Minus(_))
+        )
+    );
     Ok(())
 }
 
@@ -206,7 +217,10 @@ fn atom_with_no_operator(rt: HostRuntime) -> Result<(), Fail> {
         let text = format!(in rt.alloc(); "{FRONT}{value} ; }} }}")?;
         let tokens = tokens_of(rt.alloc(), text.as_str())?;
         let tree = parse(rt.alloc(), &tokens)?;
-        let kept_alone = matches!(assigned(&tree)?, Expression::Atom(_));
+        let kept_alone = matches!(
+            assigned(&tree)?,
+            Expression::Sum(Sum::Unary(Unary::Atom(_)))
+        );
         assert_eq!(rt; kept_alone, alone);
     }
     Ok(())
@@ -218,7 +232,7 @@ fn sum_with_no_operator_about_it(rt: HostRuntime) -> Result<(), Fail> {
         ("a + b * c - d", true),
         ("a * b", true),
         ("! a", true),
-        ("a", false),
+        ("a", true),
         ("a + b < c", false),
         ("a == b + c", false),
         ("a && b", false),

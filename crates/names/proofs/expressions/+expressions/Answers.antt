@@ -1,15 +1,17 @@
-use Rattle.tree.specs.Operators.{Or, And, Equal, Compare, Add, Multiply}
-use Rattle.tree.specs.ExpressionTrees.{unmarked, disjunction_tree, conjunction_tree, equality_tree, equality_step_tree, relation_tree, relation_step_tree, sum_tree, sum_step_tree, term_tree, unary_tree, atom_tree}
+use Rattle.tree.specs.Operators.{Or, And, Equal, Compare}
+use Rattle.tree.specs.ExpressionTrees.{unmarked, disjunction_tree, conjunction_tree, equality_tree, equality_step_tree, relation_tree, relation_step_tree, sum_tree, factors_tree, factor_tree, unary_tree, prefixed_tree, atom_tree}
 use Rattle.tree.specs.declared.expression.Conjunction as conjunctions
 use Rattle.tree.specs.declared.expression.Disjunction as disjunctions
 use Rattle.tree.specs.declared.expression.Equality as equalitys
+use Rattle.tree.specs.declared.expression.Factor as factors
+use Rattle.tree.specs.declared.expression.Factors as factor_rows
+use Rattle.tree.specs.declared.expression.Prefixed as prefixeds
 use Rattle.tree.specs.declared.expression.Relation as relations
-use Rattle.tree.specs.declared.expression.Sum as sums
-use Rattle.tree.specs.declared.expression.Term as terms
-use Rattle.tree.specs.declared.expression.Unary as unarys
 use Rattle.names.specs.Shapes.{shape}
+use Rattle.names.specs.Terms.{first_term, with_factor}
 use Rattle.names.proofs.ExpressionNames.{judges_more, judges_all, judges_step, judges_signed}
-use Rattle.names.proofs.ExpressionTwins.{disjunction_seen, conjunction_seen, equality_seen, equality_step_seen, relation_seen, relation_step_seen, sum_seen, sum_step_seen, term_seen, unary_seen}
+use Rattle.names.proofs.ExpressionTwins.{disjunction_seen, conjunction_seen, equality_seen, equality_step_seen, relation_seen, relation_step_seen, prefixed_seen, factor_seen, factors_seen}
+use Rattle.names.proofs.TermLemmas.{factors_to, judges_first, judges_times, judges_next, judges_factor, judges_factors}
 use Rattle.names.proofs.expressions.+expressions.Goals as goal
 
 pub judge_disjunction-each-preserved : goal.judge_disjunction-each-preserved
@@ -52,27 +54,35 @@ judge_relation-returns t c =
     let e = c.args.relation.now in
     judges_all Compare relation_step_tree (sum_tree (relations.out-Relation e).first) c.deref-step-items.result.now (relations.out-Relation e).others.items c.each.step-index (relation_tree e) c.each-test.false c.deref-step-items.ensures.value (relation_seen e) c.each.invariant
 
-pub judge_sum-each-preserved : goal.judge_sum-each-preserved
-judge_sum-each-preserved t c =
-    judges_more Add sum_step_tree (shape (term_tree (sums.out-Sum c.args.sum.now).first)) c.deref-step-items.result.now c.each.step-index c.step-item.result c.each-test.true c.step-item.is
-    c.each.invariant (judges_step Add (sum_step_tree c.step-item.result) _ (sum_step_seen c.step-item.result) c.in_ok-right.ensures) c.in_ok-left-2.ensures
+pub judge_factors-each-init : goal.judge_factors-each-init
+judge_factors-each-init t c =
+    let row = factor_rows.out-Factors c.args.factors.now in
+    c.in_ok-terms.ensures (first_term (shape (unary_tree row.first))) c.args.found.now.items (judges_first (shape (unary_tree row.first)) c.from_first-terms.ensures c.in_ok-first.ensures)
 
-pub judge_sum-returns : goal.judge_sum-returns
-judge_sum-returns t c =
-    let e = c.args.sum.now in
-    judges_all Add sum_step_tree (term_tree (sums.out-Sum e).first) c.deref-step-items.result.now (sums.out-Sum e).others.items c.each.step-index (sum_tree e) c.each-test.false c.deref-step-items.ensures.value (sum_seen e) c.each.invariant
+pub judge_factors-each-preserved : goal.judge_factors-each-preserved
+judge_factors-each-preserved t c =
+    let row = factor_rows.out-Factors c.args.factors.now in
+    let before = with_factor (first_term (shape (unary_tree row.first))) (factor_tree row.second) in
+    judges_factor factor_tree before c.deref-factor-items.result.now c.each.factor-index c.factor-item.result c.each-test.true c.factor-item.is
+    (c.in_ok-terms-2.ensures (factors_to factor_tree before c.deref-factor-items.result.now c.each.factor-index) c.args.found.now.items c.each.invariant)
 
-pub judge_term-each-preserved : goal.judge_term-each-preserved
-judge_term-each-preserved t c =
-    judges_more Multiply (unmarked unary_tree) (shape (unary_tree (terms.out-Term c.args.term.now).first)) c.deref-unary-items.result.now c.each.unary-index c.unary-item.result c.each-test.true c.unary-item.is
-    c.each.invariant c.in_ok-right.ensures c.in_ok-left-2.ensures
+pub judge_factors-returns : goal.judge_factors-returns
+judge_factors-returns t c =
+    let row = factor_rows.out-Factors c.args.factors.now in
+    judges_factors factor_tree (unary_tree row.first) (factor_tree row.second) c.deref-factor-items.result.now row.others.items c.each.factor-index (factors_tree c.args.factors.now) c.joined_terms.result _ c.each-test.false c.deref-factor-items.ensures.value
+    (factors_seen c.args.factors.now) c.each.invariant c.joined_terms.ensures
 
-pub judge_term-returns : goal.judge_term-returns
-judge_term-returns t c =
-    let e = c.args.term.now in
-    judges_all Multiply (unmarked unary_tree) (unary_tree (terms.out-Term e).first) c.deref-unary-items.result.now (terms.out-Term e).others.items c.each.unary-index (term_tree e) c.each-test.false c.deref-unary-items.ensures.value (term_seen e) c.each.invariant
+pub judge_factor-returns-in_ok-last-in-Times : goal.judge_factor-returns-in_ok-last-in-Times
+judge_factor-returns-in_ok-last-in-Times t c = λ shapes start.
+    let factor = factors.out-Factor c.args.factor.now in
+    judges_times shapes (factor_tree c.args.factor.now) factor.operator (unary_tree factor.unary) (factor_seen c.args.factor.now) c.in-Times.is c.in_ok-right-in-Times.ensures c.in_ok-last-in-Times.ensures
 
-pub judge_unary-returns : goal.judge_unary-returns
-judge_unary-returns t c =
-    let u = c.args.unary.now in
-    judges_signed c.deref.result.now (unarys.out-Unary u).prefixes.items (atom_tree (unarys.out-Unary u).atom) (unary_tree u) c.judge_signs.result _ c.deref.ensures.value (unary_seen u) c.in_ok-atom.ensures c.judge_signs.ensures
+pub judge_factor-returns-in_ok-last-in-Sum : goal.judge_factor-returns-in_ok-last-in-Sum
+judge_factor-returns-in_ok-last-in-Sum t c = λ shapes start.
+    let factor = factors.out-Factor c.args.factor.now in
+    judges_next shapes (factor_tree c.args.factor.now) factor.operator c.in-Sum.field-0 (unary_tree factor.unary) (factor_seen c.args.factor.now) c.in-Sum.is c.in_ok-before-in-Sum.ensures c.in_ok-last-in-Sum.ensures
+
+pub judge_prefixed-returns : goal.judge_prefixed-returns
+judge_prefixed-returns t c =
+    let u = c.args.prefixed.now in
+    judges_signed c.deref.result.now (prefixeds.out-Prefixed u).prefixes.items (atom_tree (prefixeds.out-Prefixed u).atom) (prefixed_tree u) c.judge_signs.result _ c.deref.ensures.value (prefixed_seen u) c.in_ok-atom.ensures c.judge_signs.ensures

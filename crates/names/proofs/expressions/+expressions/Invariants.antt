@@ -1,14 +1,15 @@
-use Rattle.tree.specs.Operators.{Or, And, Equal, Compare, Add, Multiply}
-use Rattle.tree.specs.ExpressionTrees.{unmarked, conjunction_tree, equality_tree, equality_step_tree, relation_tree, relation_step_tree, sum_tree, sum_step_tree, term_tree, unary_tree}
+use Rattle.tree.specs.Operators.{Or, And, Equal, Compare}
+use Rattle.tree.specs.ExpressionTrees.{unmarked, conjunction_tree, equality_tree, equality_step_tree, relation_tree, relation_step_tree, sum_tree, factor_tree, unary_tree}
 use Rattle.tree.specs.declared.expression.Conjunction as conjunctions
 use Rattle.tree.specs.declared.expression.Disjunction as disjunctions
 use Rattle.tree.specs.declared.expression.Equality as equalitys
+use Rattle.tree.specs.declared.expression.Factors as factor_rows
 use Rattle.tree.specs.declared.expression.Relation as relations
-use Rattle.tree.specs.declared.expression.Sum as sums
-use Rattle.tree.specs.declared.expression.Term as terms
 use Rattle.names.specs.Operands.{Judges}
 use Rattle.names.specs.Shapes.{shape}
+use Rattle.names.specs.Terms.{JudgesTerms, first_term, with_factor}
 use Rattle.names.proofs.ExpressionNames.{chain_to}
+use Rattle.names.proofs.TermLemmas.{factors_to}
 use Rattle.names.proofs.expressions.+expressions.Given as goal
 
 abbrev pub invariant-judge_disjunction-each : goal.invariant-judge_disjunction-each
@@ -27,10 +28,7 @@ abbrev pub invariant-judge_relation-each : goal.invariant-judge_relation-each
 invariant-judge_relation-each l =
     Judges l.scope l.variables (chain_to Compare relation_step_tree (shape (sum_tree (relations.out-Relation l.relation).first)) l.step-items l.step-index) l.fn.found.items l.found.items l.left
 
-abbrev pub invariant-judge_sum-each : goal.invariant-judge_sum-each
-invariant-judge_sum-each l =
-    Judges l.scope l.variables (chain_to Add sum_step_tree (shape (term_tree (sums.out-Sum l.sum).first)) l.step-items l.step-index) l.fn.found.items l.found.items l.left
-
-abbrev pub invariant-judge_term-each : goal.invariant-judge_term-each
-invariant-judge_term-each l =
-    Judges l.scope l.variables (chain_to Multiply (unmarked unary_tree) (shape (unary_tree (terms.out-Term l.term).first)) l.unary-items l.unary-index) l.fn.found.items l.found.items l.left
+abbrev pub invariant-judge_factors-each : goal.invariant-judge_factors-each
+invariant-judge_factors-each l =
+    let row = factor_rows.out-Factors l.factors in
+    JudgesTerms l.scope l.variables (factors_to factor_tree (with_factor (first_term (shape (unary_tree row.first))) (factor_tree row.second)) l.factor-items l.factor-index) l.fn.found.items l.found.items l.terms

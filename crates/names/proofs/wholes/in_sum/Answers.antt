@@ -1,17 +1,11 @@
-use Rattle.std.proofs.Common.{sym, ◌∙◌}
-use Rattle.tree.specs.Operators.{Add}
-use Rattle.tree.specs.ExpressionTrees.{sum_step_tree, sum_tree, term_tree}
-use Rattle.tree.specs.declared.expression.Sum as sums
-use Rattle.names.proofs.ExpressionTwins.{sum_seen}
-use Rattle.names.proofs.WholeNames.{chain_is_more, chain_is_first}
+use Rattle.std.proofs.Common.{map, ap, ◌∙◌}
+use Rattle.tree.specs.ExpressionTrees.{sum_tree, factor_tree, unary_tree}
+use Rattle.tree.specs.declared.expression.Factors as factor_rows
+use Rattle.names.proofs.ExpressionTwins.{factors_seen, of_factors}
+use Rattle.names.proofs.TermLemmas.{gathered_is_more}
 use Rattle.names.proofs.wholes.in_sum.Goals as goal
 
-pub returns-then-not-is_empty : goal.returns-then-not-is_empty
-returns-then-not-is_empty c =
-    let e = sums.out-Sum c.args.sum.now in
-    chain_is_more Add sum_step_tree (term_tree e.first) e.others.items _ (sum_tree c.args.sum.now) (sum_seen c.args.sum.now) e.others.ok.0 (sym c.is_empty.ensures ∙ c.if-not-is_empty.true)
-
-pub returns : goal.returns
-returns c =
-    let e = sums.out-Sum c.args.sum.now in
-    chain_is_first Add sum_step_tree (term_tree e.first) e.others.items _ (sum_tree c.args.sum.now) (sum_seen c.args.sum.now) e.others.ok.0 (sym c.is_empty.ensures ∙ c.if-not-is_empty.false) c.in_term.ensures
+pub returns-in-Factors : goal.returns-in-Factors
+returns-in-Factors c =
+    let row = factor_rows.out-Factors c.in-Factors.field-0.value in
+    gathered_is_more (unary_tree row.first) (factor_tree row.second) (map factor_tree row.others.items) (sum_tree c.args.sum.now) (ap sum_tree c.in-Factors.is ∙ of_factors c.in-Factors.field-0 ∙ factors_seen c.in-Factors.field-0.value)

@@ -1,17 +1,18 @@
 use Rattle.std.proofs.Common.{refl, ap}
-use Rattle.tree.specs.Operators.{Or, And, Equal, Compare, Add, Multiply}
+use Rattle.tree.specs.Operators.{Or, And, Equal, Compare}
 use Rattle.tree.specs.Expressions.{StepOf}
-use Rattle.tree.specs.ExpressionTrees.{unmarked, disjunction_tree, conjunction_tree, equality_tree, equality_step_tree, relation_tree, relation_step_tree, sum_tree, sum_step_tree, term_tree, unary_tree}
+use Rattle.tree.specs.Factors.{FactorTree}
+use Rattle.tree.specs.ExpressionTrees.{unmarked, disjunction_tree, conjunction_tree, equality_tree, equality_step_tree, relation_tree, relation_step_tree, sum_tree, factors_tree, factor_tree, unary_tree}
 use Rattle.tree.specs.declared.expression.Conjunction as conjunctions
 use Rattle.tree.specs.declared.expression.Disjunction as disjunctions
 use Rattle.tree.specs.declared.expression.Equality as equalitys
 use Rattle.tree.specs.declared.expression.EqualityStep as equality_steps
+use Rattle.tree.specs.declared.expression.Factor as factors
+use Rattle.tree.specs.declared.expression.Factors as factor_rows
 use Rattle.tree.specs.declared.expression.Relation as relations
 use Rattle.tree.specs.declared.expression.RelationStep as relation_steps
-use Rattle.tree.specs.declared.expression.Sum as sums
-use Rattle.tree.specs.declared.expression.SumStep as sum_steps
-use Rattle.tree.specs.declared.expression.Term as terms
-use Rattle.resolving.proofs.ExpressionTwins.{disjunction_seen, conjunction_seen, equality_seen, equality_step_seen, relation_seen, relation_step_seen, sum_seen, sum_step_seen, term_seen}
+use Rattle.resolving.proofs.ExpressionTwins.{disjunction_seen, conjunction_seen, equality_seen, equality_step_seen, relation_seen, relation_step_seen, factors_seen, factor_seen}
+use Rattle.resolving.proofs.FactorLemmas.{row_first, row_more, row_all}
 use Rattle.resolving.proofs.ReadLemmas.{reads_first, reads_more, reads_all}
 use Rattle.resolving.proofs.reads.+expressions.Goals as goal
 
@@ -63,26 +64,17 @@ add_relation-returns t c =
     let e = c.args.relation.now in
     reads_all c.args.text.now Compare relation_step_tree (sum_tree (relations.out-Relation e).first) c.deref-step-items.result.now (relations.out-Relation e).others.items c.each.step-index (relation_tree e) c.each-test.false c.deref-step-items.ensures.value (relation_seen e) c.each.invariant
 
-pub add_sum-each-init : goal.add_sum-each-init
-add_sum-each-init t c = reads_first c.args.text.now Add sum_step_tree (term_tree (sums.out-Sum c.args.sum.now).first) c.deref-step-items.result.now c.in_ok-add_term.ensures
+pub add_factors-each-init : goal.add_factors-each-init
+add_factors-each-init t c =
+    let row = factor_rows.out-Factors c.args.factors.now in
+    row_first c.args.text.now (unary_tree row.first) (unary_tree (factors.out-Factor row.second).unary) (factor_tree row.second) c.deref-factor-items.result.now (ap (λ (f : FactorTree). f.1) (factor_seen row.second)) c.in_ok-add_unary.ensures c.in_ok-add_unary-2.ensures
 
-pub add_sum-each-preserved : goal.add_sum-each-preserved
-add_sum-each-preserved t c =
-    reads_more c.args.text.now Add sum_step_tree (term_tree (sums.out-Sum c.args.sum.now).first) c.deref-step-items.result.now c.each.step-index c.step-item.result (term_tree (sum_steps.out-SumStep c.step-item.result).term) c.each-test.true c.step-item.is (ap (λ (p : StepOf Add). p.1) (sum_step_seen c.step-item.result)) c.each.invariant c.in_ok-add_term-2.ensures
+pub add_factors-each-preserved : goal.add_factors-each-preserved
+add_factors-each-preserved t c =
+    let row = factor_rows.out-Factors c.args.factors.now in
+    row_more c.args.text.now (unary_tree row.first) (unary_tree (factors.out-Factor c.factor-item.result).unary) (factor_tree row.second) c.deref-factor-items.result.now c.each.factor-index c.factor-item.result c.each-test.true c.factor-item.is (ap (λ (f : FactorTree). f.1) (factor_seen c.factor-item.result)) c.each.invariant c.in_ok-add_unary-3.ensures
 
-pub add_sum-returns : goal.add_sum-returns
-add_sum-returns t c =
-    let e = c.args.sum.now in
-    reads_all c.args.text.now Add sum_step_tree (term_tree (sums.out-Sum e).first) c.deref-step-items.result.now (sums.out-Sum e).others.items c.each.step-index (sum_tree e) c.each-test.false c.deref-step-items.ensures.value (sum_seen e) c.each.invariant
-
-pub add_term-each-init : goal.add_term-each-init
-add_term-each-init t c = reads_first c.args.text.now Multiply (unmarked unary_tree) (unary_tree (terms.out-Term c.args.term.now).first) c.deref-unary-items.result.now c.in_ok-add_unary.ensures
-
-pub add_term-each-preserved : goal.add_term-each-preserved
-add_term-each-preserved t c =
-    reads_more c.args.text.now Multiply (unmarked unary_tree) (unary_tree (terms.out-Term c.args.term.now).first) c.deref-unary-items.result.now c.each.unary-index c.unary-item.result (unary_tree c.unary-item.result) c.each-test.true c.unary-item.is refl c.each.invariant c.in_ok-add_unary-2.ensures
-
-pub add_term-returns : goal.add_term-returns
-add_term-returns t c =
-    let e = c.args.term.now in
-    reads_all c.args.text.now Multiply (unmarked unary_tree) (unary_tree (terms.out-Term e).first) c.deref-unary-items.result.now (terms.out-Term e).others.items c.each.unary-index (term_tree e) c.each-test.false c.deref-unary-items.ensures.value (term_seen e) c.each.invariant
+pub add_factors-returns : goal.add_factors-returns
+add_factors-returns t c =
+    let row = factor_rows.out-Factors c.args.factors.now in
+    row_all c.args.text.now (unary_tree row.first) (factor_tree row.second) c.deref-factor-items.result.now row.others.items c.each.factor-index (factors_tree c.args.factors.now) c.each-test.false c.deref-factor-items.ensures.value (factors_seen c.args.factors.now) c.each.invariant

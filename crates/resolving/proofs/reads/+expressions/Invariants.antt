@@ -1,12 +1,12 @@
-use Rattle.tree.specs.Operators.{Or, And, Equal, Compare, Add, Multiply}
-use Rattle.tree.specs.ExpressionTrees.{unmarked, conjunction_tree, equality_tree, equality_step_tree, relation_tree, relation_step_tree, sum_tree, sum_step_tree, term_tree, unary_tree}
+use Rattle.tree.specs.Operators.{Or, And, Equal, Compare}
+use Rattle.tree.specs.ExpressionTrees.{unmarked, conjunction_tree, equality_tree, equality_step_tree, relation_tree, relation_step_tree, sum_tree, factor_tree, unary_tree}
 use Rattle.tree.specs.declared.expression.Conjunction as conjunctions
 use Rattle.tree.specs.declared.expression.Disjunction as disjunctions
 use Rattle.tree.specs.declared.expression.Equality as equalitys
+use Rattle.tree.specs.declared.expression.Factors as factor_rows
 use Rattle.tree.specs.declared.expression.Relation as relations
-use Rattle.tree.specs.declared.expression.Sum as sums
-use Rattle.tree.specs.declared.expression.Term as terms
 use Rattle.resolving.specs.Steps.{AddsReads}
+use Rattle.resolving.proofs.FactorLemmas.{row_reads}
 use Rattle.resolving.proofs.ReadLemmas.{chain_reads}
 use Rattle.resolving.proofs.reads.+expressions.Given as goal
 
@@ -26,10 +26,7 @@ abbrev pub invariant-add_relation-each : goal.invariant-add_relation-each
 invariant-add_relation-each l =
     AddsReads l.text l.locals (chain_reads l.text Compare relation_step_tree (sum_tree (relations.out-Relation l.relation).first) l.step-items l.step-index) l.fn.found.items l.found.items
 
-abbrev pub invariant-add_sum-each : goal.invariant-add_sum-each
-invariant-add_sum-each l =
-    AddsReads l.text l.locals (chain_reads l.text Add sum_step_tree (term_tree (sums.out-Sum l.sum).first) l.step-items l.step-index) l.fn.found.items l.found.items
-
-abbrev pub invariant-add_term-each : goal.invariant-add_term-each
-invariant-add_term-each l =
-    AddsReads l.text l.locals (chain_reads l.text Multiply (unmarked unary_tree) (unary_tree (terms.out-Term l.term).first) l.unary-items l.unary-index) l.fn.found.items l.found.items
+abbrev pub invariant-add_factors-each : goal.invariant-add_factors-each
+invariant-add_factors-each l =
+    let row = factor_rows.out-Factors l.factors in
+    AddsReads l.text l.locals (row_reads l.text (unary_tree row.first) (factor_tree row.second) l.factor-items l.factor-index) l.fn.found.items l.found.items

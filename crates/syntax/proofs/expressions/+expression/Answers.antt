@@ -1,33 +1,28 @@
-use Rattle.std.proofs.Common.{map, ◌≡◌, ◌++◌, [], sym, ap, ◌∙◌, refl, arith, subst}
+use Rattle.std.proofs.Common.{map, [], sym, ap, ◌∙◌, refl, arith, subst}
 use Rattle.std.specs.List.{flat_map}
 use Rattle.std.proofs.lemmas.Bool.{iff_false}
 use Rattle.std.proofs.lemmas.Grind.{common_steps}
 use Rattle.source.specs.declared.kind.Kind.TheVariants as kind
 use Rattle.tree.specs.Spelling.{parens}
 use Rattle.syntax.specs.Reading.{never, Reads, Fails}
-use Rattle.tree.specs.Operators.{Or, And, Equal, Compare, Add, Multiply, Single, Joined}
-use Rattle.syntax.specs.OperatorReads.{joins, behind_sum, after_expression}
+use Rattle.tree.specs.Operators.{Or, And, Equal, Compare, Add, Single, Joined}
+use Rattle.syntax.specs.OperatorReads.{joins, joins_factors, behind_sum, opens_prefix}
 use Rattle.tree.specs.Expressions.{Number, True, False, level, expression, step, atom, target}
-use Rattle.syntax.specs.ExpressionReads.{level_on, level_at, step_at, steps_end, atom_at, target_at, target_on}
-use Rattle.tree.specs.ExpressionTrees.{summed, expression_tree, disjunction_tree, conjunction_tree, equality_tree, equality_step_tree, relation_tree, relation_step_tree, sum_tree, sum_step_tree, term_tree, unary_tree, atom_tree, target_tree, unmarked}
+use Rattle.syntax.specs.ExpressionReads.{level_on, level_at, step_at, steps_end, factor_at, factors_end, atom_at, target_at, target_on}
+use Rattle.tree.specs.Factors.{factor}
+use Rattle.tree.specs.ExpressionTrees.{expression_tree, disjunction_tree, conjunction_tree, equality_tree, equality_step_tree, relation_tree, relation_step_tree, sum_tree, factor_tree, factors_tree, unary_tree, prefixed_tree, atom_tree, target_tree, unmarked}
 use Rattle.syntax.proofs.Exits.{exits}
-use Rattle.syntax.proofs.KindLemmas.{kind_leads, test_leads}
+use Rattle.syntax.proofs.KindLemmas.{kind_leads, test_leads, test_stops}
 use Rattle.syntax.proofs.Enclosed.{parens_open_fails, parens_fails, parens_close_fails, brackets_open_fails, brackets_fails, brackets_close_fails}
 use Rattle.syntax.proofs.AtomRules.{in_parens, in_brackets, index, target_form, parens_form, number_form, number_leads}
-use Rattle.syntax.proofs.AloneRules.{alone_is_read, summed_is_read}
-use Rattle.syntax.proofs.ExpressionFails.{first_fails, others_fail, unary_fails, mark_fails, behind_fails, step_fails, chain_is_read, expression_piece, prefixes_fail, atom_fails, variable_fails, dotted_fails, indexed_fails, unary_is_read, step_tail, last_step, atom_is_read}
-use Rattle.syntax.proofs.TreeLemmas.{alone_made, summed_made, unary_parts, disjunction_made, conjunction_made, equality_made, relation_made, sum_made, term_made, unary_made, number_made, true_made, false_made}
+use Rattle.syntax.proofs.AloneRules.{summed_is_read}
+use Rattle.syntax.proofs.Repeats.{last_read}
+use Rattle.syntax.proofs.FactorRules.{factor_mark_fails, factor_unary_fails, factor_fails, second_fails, other_factors_fail, factors_are_read, unary_is_sum}
+use Rattle.syntax.proofs.ExpressionFails.{first_fails, others_fail, unary_fails, mark_fails, behind_fails, step_fails, chain_is_read, expression_piece, prefixes_fail, atom_fails, variable_fails, dotted_fails, indexed_fails, unary_is_read, step_tail, atom_is_read}
+use Rattle.syntax.proofs.TreeLemmas.{summed_made, disjunction_made, conjunction_made, equality_made, relation_made, termed_made, row_made, factors_made, plain_made, prefixed_made, prefixed_parts, number_made, true_made, false_made}
 use Rattle.syntax.proofs.Pieces.{wide_fails, stops_never}
 use Rattle.syntax.proofs.Choices.{form_fails}
 use Rattle.syntax.proofs.expressions.+expression.Goals as goal
-
-pub expression_from-returns-then-not-goes_on-clause-read : goal.expression_from-returns-then-not-goes_on-clause-read
-expression_from-returns-then-not-goes_on-clause-read t c =
-    let unary = c.args.unary in
-    let read = ap (λ z. level z ++ c.args.cursor.now) (unary_parts unary) in
-    let none : unary.prefixes.items ≡ [] = grind (arith, common_steps) in
-    let ends = ap after_expression (sym c.peek.ensures.kind) ∙ sym c.goes_on.ensures ∙ c.if-not-goes_on.true in
-    alone_is_read _ _ unary.prefixes.items (atom_tree unary.atom) _ none (alone_made unary.atom) read ends
 
 pub expression_from-returns-in_err-sum-clause-read : goal.expression_from-returns-in_err-sum-clause-read
 expression_from-returns-in_err-sum-clause-read t c = exits expression_tree level (level_on (Joined Or)) level_at _ _ _ _ _ c.from_residual.ensures.1 c.in_err-sum.ensures.read
@@ -35,9 +30,8 @@ expression_from-returns-in_err-sum-clause-read t c = exits expression_tree level
 
 pub expression_from-returns-then-not-goes_on_behind_sum-clause-read : goal.expression_from-returns-then-not-goes_on_behind_sum-clause-read
 expression_from-returns-then-not-goes_on_behind_sum-clause-read t c =
-    let ends = ap behind_sum (sym c.peek-2.ensures.kind) ∙ sym c.goes_on_behind_sum.ensures ∙ c.if-not-goes_on_behind_sum.true in
-    let made = summed_made c.in_ok-new.field-0 ∙ ap (λ sum. summed (sum_tree sum)) c.in_ok-new.ensures.ok in
-    summed_is_read _ _ (sum_tree c.in_ok-sum.sum) _ made c.in_ok-sum.ensures.read ends
+    let ends = ap behind_sum (sym c.peek.ensures.kind) ∙ sym c.goes_on_behind_sum.ensures ∙ c.if-not-goes_on_behind_sum.true in
+    summed_is_read _ _ (sum_tree c.in_ok-sum.sum) _ (summed_made c.in_ok-sum.sum) c.in_ok-sum.ensures.read ends
 
 pub disjunction_from-returns-in_err-first-clause-read : goal.disjunction_from-returns-in_err-first-clause-read
 disjunction_from-returns-in_err-first-clause-read t c = exits disjunction_tree level (level_on (Joined Or)) level_at _ _ _ _ _ c.from_residual.ensures.1 c.in_err-first.ensures.read
@@ -57,7 +51,7 @@ conjunctions-returns-in_err-or_conjunction t c = exits (λ v. map (unmarked conj
 pub conjunctions-each-preserved : goal.conjunctions-each-preserved
 conjunctions-each-preserved t c = record {
   read = grind (arith, common_steps);
-  ended = last_step Or (unmarked conjunction_tree) c.in_ok-or_conjunction.field-0 c.each.all.items c.push.new.all.items _ c.in_ok-push.ensures c.in_ok-or_conjunction.ensures.1;
+  ended = last_read (step_at Or) (unmarked conjunction_tree) c.in_ok-or_conjunction.field-0 c.each.all.items c.push.new.all.items _ c.in_ok-push.ensures c.in_ok-or_conjunction.ensures.1;
   shorter = grind (arith, common_steps);
 }
 
@@ -90,7 +84,7 @@ equalities-returns-in_err-and_equality t c = exits (λ v. map (unmarked equality
 pub equalities-each-preserved : goal.equalities-each-preserved
 equalities-each-preserved t c = record {
   read = grind (arith, common_steps);
-  ended = last_step And (unmarked equality_tree) c.in_ok-and_equality.field-0 c.each.all.items c.push.new.all.items _ c.in_ok-push.ensures c.in_ok-and_equality.ensures.1;
+  ended = last_read (step_at And) (unmarked equality_tree) c.in_ok-and_equality.field-0 c.each.all.items c.push.new.all.items _ c.in_ok-push.ensures c.in_ok-and_equality.ensures.1;
   shorter = grind (arith, common_steps);
 }
 
@@ -123,7 +117,7 @@ equality_steps-returns-in_err-equality_step t c = exits (λ v. map equality_step
 pub equality_steps-each-preserved : goal.equality_steps-each-preserved
 equality_steps-each-preserved t c = record {
   read = grind (arith, common_steps);
-  ended = last_step Equal equality_step_tree c.in_ok-equality_step.field-0 c.each.all.items c.push.new.all.items _ c.in_ok-push.ensures c.in_ok-equality_step.ensures.1;
+  ended = last_read (step_at Equal) equality_step_tree c.in_ok-equality_step.field-0 c.each.all.items c.push.new.all.items _ c.in_ok-push.ensures c.in_ok-equality_step.ensures.1;
   shorter = grind (arith, common_steps);
 }
 
@@ -153,7 +147,7 @@ relation_steps-returns-in_err-relation_step t c = exits (λ v. map relation_step
 pub relation_steps-each-preserved : goal.relation_steps-each-preserved
 relation_steps-each-preserved t c = record {
   read = grind (arith, common_steps);
-  ended = last_step Compare relation_step_tree c.in_ok-relation_step.field-0 c.each.all.items c.push.new.all.items _ c.in_ok-push.ensures c.in_ok-relation_step.ensures.1;
+  ended = last_read (step_at Compare) relation_step_tree c.in_ok-relation_step.field-0 c.each.all.items c.push.new.all.items _ c.in_ok-push.ensures c.in_ok-relation_step.ensures.1;
   shorter = grind (arith, common_steps);
 }
 
@@ -169,71 +163,57 @@ pub read_sum-returns-in_err-unary : goal.read_sum-returns-in_err-unary
 read_sum-returns-in_err-unary t c = exits sum_tree level (level_on (Joined Add)) level_at _ _ _ _ _ c.from_residual.ensures.1 c.in_err-unary.ensures
     (λ h. unary_fails (Joined Add) h)
 
-pub sum_from-returns-in_err-first-clause-read : goal.sum_from-returns-in_err-first-clause-read
-sum_from-returns-in_err-first-clause-read t c = exits sum_tree level (level_on (Joined Add)) level_at _ _ _ _ _ c.from_residual.ensures.1 c.in_err-first.ensures.read
-    (λ h. first_fails Add h)
+pub sum_from-returns-then-not-is_factor-clause-read : goal.sum_from-returns-then-not-is_factor-clause-read
+sum_from-returns-then-not-is_factor-clause-read t c =
+    let ends = ap joins_factors (sym c.peek.ensures.kind) ∙ sym c.is_factor.ensures ∙ c.if-not-is_factor.true in
+    unary_is_sum _ _ (unary_tree c.args.unary) _ (termed_made c.args.unary) (refl, c.requires) ends
+
+pub sum_from-returns-in_err-second-clause-read : goal.sum_from-returns-in_err-second-clause-read
+sum_from-returns-in_err-second-clause-read t c = exits sum_tree level (level_on (Joined Add)) level_at _ _ _ _ _ c.from_residual.ensures.1 c.in_err-second.ensures
+    (λ h. second_fails (unary_tree c.args.unary) (refl, c.requires) (test_leads joins_factors c.args.cursor.now refl (ap joins_factors (sym c.peek.ensures.kind) ∙ sym c.is_factor.ensures ∙ c.if-not-is_factor.false)) h)
 
 pub sum_from-returns-in_err-others-clause-read : goal.sum_from-returns-in_err-others-clause-read
 sum_from-returns-in_err-others-clause-read t c = exits sum_tree level (level_on (Joined Add)) level_at _ _ _ _ _ c.from_residual-in_err-others.ensures.1 c.in_err-others.ensures
-    (λ h. others_fail Add (term_tree c.in_ok-first.first) c.in_ok-first.ensures.read h)
+    (λ h. other_factors_fail (unary_tree c.args.unary) (factor_tree c.in_ok-second.second) (refl, c.requires) c.in_ok-second.ensures h)
 
 pub sum_from-returns-clause-read : goal.sum_from-returns-clause-read
-sum_from-returns-clause-read t c = chain_is_read Add _ _ _ (term_tree c.in_ok-first.first) (map sum_step_tree c.in_ok-others.others.items) _ (sum_made c.in_ok-first.first c.in_ok-others.others) c.in_ok-first.ensures.read c.in_ok-others.ensures
+sum_from-returns-clause-read t c = factors_are_read _ _ _ _ (unary_tree c.args.unary) (factor_tree c.in_ok-second.second) (map factor_tree c.in_ok-others.others.items) _
+    (row_made c.in_ok-new.field-0 ∙ ap factors_tree c.in_ok-new.ensures.ok ∙ factors_made c.args.unary c.in_ok-second.second c.in_ok-others.others) (refl, c.requires) c.in_ok-second.ensures c.in_ok-others.ensures
 
-pub sum_steps-returns-in_err-sum_step : goal.sum_steps-returns-in_err-sum_step
-sum_steps-returns-in_err-sum_step t c = exits (λ v. map sum_step_tree v.items) (flat_map (step Add)) (level_on (Joined Add)) (steps_end Add) _ _ _ _ _ c.from_residual.ensures.1 c.in_err-sum_step.ensures
-    (λ h. step_fails Add (map sum_step_tree c.each.all.items) c.each.invariant.read (test_leads (joins Add) c.each.cursor refl (ap (joins Add) (sym c.peek.ensures.kind) ∙ sym c.is_sum.ensures ∙ c.each-test.true)) h)
-
-pub sum_steps-each-preserved : goal.sum_steps-each-preserved
-sum_steps-each-preserved t c = record {
-  read = grind (arith, common_steps);
-  ended = last_step Add sum_step_tree c.in_ok-sum_step.field-0 c.each.all.items c.push.new.all.items _ c.in_ok-push.ensures c.in_ok-sum_step.ensures.1;
-  shorter = grind (arith, common_steps);
-}
-
-pub sum_step-returns-in_err-operator : goal.sum_step-returns-in_err-operator
-sum_step-returns-in_err-operator t c = exits sum_step_tree (step Add) (level_on (Joined Multiply)) (step_at Add) _ _ _ _ _ c.from_residual.ensures.1 c.in_err-operator.ensures
-    (λ h. mark_fails Add h)
-
-pub sum_step-returns-in_err-unary : goal.sum_step-returns-in_err-unary
-sum_step-returns-in_err-unary t c = exits sum_step_tree (step Add) (level_on (Joined Multiply)) (step_at Add) _ _ _ _ _ c.from_residual-in_err-unary.ensures.1 c.in_err-unary.ensures
-    (λ h. behind_fails Add c.in_ok-operator.operator c.in_ok-operator.ensures (unary_fails (Joined Multiply) h))
-
-pub sum_step-returns-in_err-term : goal.sum_step-returns-in_err-term
-sum_step-returns-in_err-term t c = exits sum_step_tree (step Add) (level_on (Joined Multiply)) (step_at Add) _ _ _ _ _ c.from_residual-in_err-term.ensures.1 c.in_err-term.ensures.read
-    (λ h. behind_fails Add c.in_ok-operator.operator c.in_ok-operator.ensures (subst (λ mid. Fails (level {l = Joined Multiply}) (level_on (Joined Multiply)) mid c.term_from.new.cursor) (sym c.in_ok-unary.ensures.0) h))
-
-pub term_from-returns-in_err-others-clause-read : goal.term_from-returns-in_err-others-clause-read
-term_from-returns-in_err-others-clause-read t c = exits term_tree level (level_on (Joined Multiply)) level_at _ _ _ _ _ c.from_residual.ensures.1 c.in_err-others.ensures
-    (λ h. others_fail Multiply (unary_tree c.args.unary) (refl, c.requires) h)
-
-pub term_from-returns-clause-read : goal.term_from-returns-clause-read
-term_from-returns-clause-read t c = chain_is_read Multiply _ _ _ (unary_tree c.args.unary) (map (unmarked unary_tree) c.in_ok-others.others.items) _ (term_made c.args.unary c.in_ok-others.others) (refl, c.requires) c.in_ok-others.ensures
-
-pub factors-returns-in_err-times_unary : goal.factors-returns-in_err-times_unary
-factors-returns-in_err-times_unary t c = exits (λ v. map (unmarked unary_tree) v.items) (flat_map (step Multiply)) (level_on (Joined Multiply)) (steps_end Multiply) _ _ _ _ _ c.from_residual.ensures.1 c.in_err-times_unary.ensures
-    (λ h. step_fails Multiply (map (unmarked unary_tree) c.each.all.items) c.each.invariant.read (kind_leads kind.Star _ (c.each-test.ensures.is.0 refl)) h)
+pub factors-returns-in_err-read_factor : goal.factors-returns-in_err-read_factor
+factors-returns-in_err-read_factor t c = exits (λ v. map factor_tree v.items) (flat_map factor) (level_on (Joined Add)) factors_end _ _ _ _ _ c.from_residual.ensures.1 c.in_err-read_factor.ensures
+    (λ h. factor_fails (map factor_tree c.each.all.items) c.each.invariant.read (test_leads joins_factors c.each.cursor refl (ap joins_factors (sym c.peek.ensures.kind) ∙ sym c.is_factor.ensures ∙ c.each-test.true)) h)
 
 pub factors-each-preserved : goal.factors-each-preserved
 factors-each-preserved t c = record {
   read = grind (arith, common_steps);
-  ended = last_step Multiply (unmarked unary_tree) c.in_ok-times_unary.field-0 c.each.all.items c.push.new.all.items _ c.in_ok-push.ensures c.in_ok-times_unary.ensures.1;
+  ended = last_read factor_at factor_tree c.in_ok-read_factor.field-0 c.each.all.items c.push.new.all.items _ c.in_ok-push.ensures c.in_ok-read_factor.ensures.1;
   shorter = grind (arith, common_steps);
 }
 
-pub times_unary-returns-in_err-expect : goal.times_unary-returns-in_err-expect
-times_unary-returns-in_err-expect t c = exits (unmarked unary_tree) (step Multiply) (level_on Single) (step_at Multiply) _ _ _ _ _ c.from_residual.ensures.1 c.in_err-expect.ensures
-    (λ h. mark_fails Multiply h)
+pub read_factor-returns-in_err-operator : goal.read_factor-returns-in_err-operator
+read_factor-returns-in_err-operator t c = exits factor_tree factor (level_on Single) factor_at _ _ _ _ _ c.from_residual.ensures.1 c.in_err-operator.ensures
+    (λ h. factor_mark_fails h)
 
-pub times_unary-returns : goal.times_unary-returns
-times_unary-returns t c = step_tail Multiply unary_tree tt _ _ _ _ c.in_ok-expect.ensures c.read_unary.ensures
+pub read_factor-returns-in_err-unary : goal.read_factor-returns-in_err-unary
+read_factor-returns-in_err-unary t c = exits factor_tree factor (level_on Single) factor_at _ _ _ _ _ c.from_residual-in_err-unary.ensures.1 c.in_err-unary.ensures
+    (λ h. factor_unary_fails c.in_ok-operator.operator c.in_ok-operator.ensures h)
 
 pub read_expression-returns-in_err-unary : goal.read_expression-returns-in_err-unary
 read_expression-returns-in_err-unary t c = exits expression_tree level (level_on (Joined Or)) level_at _ _ _ _ _ c.from_residual.ensures.1 c.in_err-unary.ensures
     (λ h. unary_fails (Joined Or) h)
 
+pub read_unary-returns-in_err-read_atom : goal.read_unary-returns-in_err-read_atom
+read_unary-returns-in_err-read_atom t c = exits unary_tree level (level_on Single) level_at _ _ _ _ _ c.from_residual.ensures.1 c.in_err-read_atom.ensures
+    (λ h. atom_fails [] (refl, test_stops opens_prefix _ refl (ap opens_prefix (sym c.peek.ensures.kind) ∙ sym c.is_prefix.ensures ∙ c.if-not-is_prefix.true)) h)
+
+pub read_unary-returns-then-not-is_prefix : goal.read_unary-returns-then-not-is_prefix
+read_unary-returns-then-not-is_prefix t c =
+    let ends = test_stops opens_prefix c.args.cursor.now refl (ap opens_prefix (sym c.peek.ensures.kind) ∙ sym c.is_prefix.ensures ∙ c.if-not-is_prefix.true) in
+    unary_is_read _ _ _ [] (atom_tree c.in_ok-read_atom.field-0) _ (plain_made c.in_ok-read_atom.field-0) (refl, ends) c.in_ok-read_atom.ensures
+
 pub read_unary-returns-in_err-prefixes : goal.read_unary-returns-in_err-prefixes
-read_unary-returns-in_err-prefixes t c = exits unary_tree level (level_on Single) level_at _ _ _ _ _ c.from_residual.ensures.1 c.in_err-prefixes.ensures
+read_unary-returns-in_err-prefixes t c = exits unary_tree level (level_on Single) level_at _ _ _ _ _ c.from_residual-in_err-prefixes.ensures.1 c.in_err-prefixes.ensures
     (λ h. prefixes_fail h)
 
 pub read_unary-returns-in_err-atom : goal.read_unary-returns-in_err-atom
@@ -241,7 +221,8 @@ read_unary-returns-in_err-atom t c = exits unary_tree level (level_on Single) le
     (λ h. atom_fails c.in_ok-prefixes.prefixes.items c.in_ok-prefixes.ensures h)
 
 pub read_unary-returns : goal.read_unary-returns
-read_unary-returns t c = unary_is_read _ _ _ c.in_ok-prefixes.prefixes.items (atom_tree c.in_ok-atom.atom) _ (unary_made c.in_ok-prefixes.prefixes c.in_ok-atom.atom) c.in_ok-prefixes.ensures c.in_ok-atom.ensures
+read_unary-returns t c = unary_is_read _ _ _ c.in_ok-prefixes.prefixes.items (atom_tree c.in_ok-atom.atom) _
+    (prefixed_made c.in_ok-new.field-0 ∙ ap prefixed_tree c.in_ok-new.ensures.ok ∙ prefixed_parts c.in_ok-prefixes.prefixes c.in_ok-atom.atom) c.in_ok-prefixes.ensures c.in_ok-atom.ensures
 
 pub read_atom-returns-in_err-read_target : goal.read_atom-returns-in_err-read_target
 read_atom-returns-in_err-read_target t c = exits atom_tree atom (level_on Single) atom_at _ _ _ _ _ c.from_residual.ensures.1 c.in_err-read_target.ensures
@@ -296,6 +277,6 @@ pub target_from-returns-in_err-field-clause-read : goal.target_from-returns-in_e
 target_from-returns-in_err-field-clause-read t c = exits target_tree target target_on target_at _ _ _ _ _ c.from_residual.ensures.1 c.in_err-field.ensures
     (λ h. dotted_fails c.args.variable (c.is_next.ensures.is.0 c.if-is_next.true) h)
 
-pub target_from-returns-in_err-read_index-clause-read : goal.target_from-returns-in_err-read_index-clause-read
-target_from-returns-in_err-read_index-clause-read t c = exits target_tree target target_on target_at _ _ _ _ _ c.from_residual-in_err-read_index.ensures.1 c.in_err-read_index.ensures
+pub target_from-returns-in_err-index-clause-read : goal.target_from-returns-in_err-index-clause-read
+target_from-returns-in_err-index-clause-read t c = exits target_tree target target_on target_at _ _ _ _ _ c.from_residual-in_err-index.ensures.1 c.in_err-index.ensures
     (λ h. indexed_fails c.args.variable (c.is_next-else-is_next.ensures.is.0 c.if-is_next-2.true) h)

@@ -1,10 +1,11 @@
 use Rattle.std.proofs.Common.{◌≡◌, ◌++◌, ◌*◌, ◌+◌, ◌≤◌, length, map}
 use Rattle.std.specs.List.{flat_map}
 use Rattle.syntax.specs.Reading.{Stops, last_at}
-use Rattle.tree.specs.Operators.{Or, And, Equal, Compare, Add, Multiply}
+use Rattle.tree.specs.Operators.{Or, And, Equal, Compare}
 use Rattle.tree.specs.Expressions.{step}
-use Rattle.syntax.specs.ExpressionReads.{step_at}
-use Rattle.tree.specs.ExpressionTrees.{unmarked, conjunction_tree, equality_tree, equality_step_tree, relation_step_tree, sum_step_tree, unary_tree}
+use Rattle.syntax.specs.ExpressionReads.{step_at, factor_at}
+use Rattle.tree.specs.Factors.{factor}
+use Rattle.tree.specs.ExpressionTrees.{unmarked, conjunction_tree, equality_tree, equality_step_tree, relation_step_tree, factor_tree}
 use Rattle.syntax.proofs.expressions.+expression.Given as goal
 
 abbrev pub decreases-and_equality : goal.decreases-and_equality
@@ -46,6 +47,9 @@ decreases-read_atom l = 10 * length l.cursor.now + 1
 abbrev pub decreases-read_expression : goal.decreases-read_expression
 decreases-read_expression l = 10 * length l.cursor.now + 9
 
+abbrev pub decreases-read_factor : goal.decreases-read_factor
+decreases-read_factor l = 10 * length l.cursor.now
+
 abbrev pub decreases-read_index : goal.decreases-read_index
 decreases-read_index l = 10 * length l.cursor.now
 
@@ -73,20 +77,8 @@ decreases-relation_steps l = 10 * length l.cursor.now + 1
 abbrev pub decreases-sum_from : goal.decreases-sum_from
 decreases-sum_from l = 10 * length l.cursor.now + 3
 
-abbrev pub decreases-sum_step : goal.decreases-sum_step
-decreases-sum_step l = 10 * length l.cursor.now
-
-abbrev pub decreases-sum_steps : goal.decreases-sum_steps
-decreases-sum_steps l = 10 * length l.cursor.now + 1
-
 abbrev pub decreases-target_from : goal.decreases-target_from
 decreases-target_from l = 10 * length l.cursor.now + 1
-
-abbrev pub decreases-term_from : goal.decreases-term_from
-decreases-term_from l = 10 * length l.cursor.now + 2
-
-abbrev pub decreases-times_unary : goal.decreases-times_unary
-decreases-times_unary l = 10 * length l.cursor.now
 
 abbrev pub invariant-conjunctions-each : goal.invariant-conjunctions-each
 invariant-conjunctions-each l = record {
@@ -128,20 +120,10 @@ invariant-relation_steps-each l = record {
 abbrev pub decreases-relation_steps-each : goal.decreases-relation_steps-each
 decreases-relation_steps-each l = length l.cursor
 
-abbrev pub invariant-sum_steps-each : goal.invariant-sum_steps-each
-invariant-sum_steps-each l = record {
-  read : l.fn.cursor ≡ flat_map (step Add) (map sum_step_tree l.all.items) ++ l.cursor;
-  ended : Stops (last_at (step_at Add) (map sum_step_tree l.all.items)) l.cursor;
-  shorter : length l.cursor ≤ length l.fn.cursor;
-}
-
-abbrev pub decreases-sum_steps-each : goal.decreases-sum_steps-each
-decreases-sum_steps-each l = length l.cursor
-
 abbrev pub invariant-factors-each : goal.invariant-factors-each
 invariant-factors-each l = record {
-  read : l.fn.cursor ≡ flat_map (step Multiply) (map (unmarked unary_tree) l.all.items) ++ l.cursor;
-  ended : Stops (last_at (step_at Multiply) (map (unmarked unary_tree) l.all.items)) l.cursor;
+  read : l.fn.cursor ≡ flat_map factor (map factor_tree l.all.items) ++ l.cursor;
+  ended : Stops (last_at factor_at (map factor_tree l.all.items)) l.cursor;
   shorter : length l.cursor ≤ length l.fn.cursor;
 }
 

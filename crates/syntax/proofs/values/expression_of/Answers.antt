@@ -7,7 +7,7 @@ use Rattle.syntax.proofs.ValueEnds.{target_unary, target_unary_stops}
 use Rattle.syntax.proofs.values.expression_of.Goals as goal
 
 pub expression_from-requires : goal.expression_from-requires
-expression_from-requires c = target_unary_stops (target_tree c.args.first) _ _ (target_unary c.new.result c.args.first c.new.ensures.items) c.requires
+expression_from-requires c = target_unary_stops (target_tree c.args.first) _ _ (target_unary c.args.first) c.requires
 
 pub returns : goal.returns
-returns c = subst (λ u. Reads expression_tree expression expression_on expression_at (level u ++ c.args.cursor.now) c.expression_from.new.cursor c.expression_from.result) (target_unary c.new.result c.args.first c.new.ensures.items) c.expression_from.ensures.read
+returns c = subst (λ u. Reads expression_tree expression expression_on expression_at (level u ++ c.args.cursor.now) c.expression_from.new.cursor c.expression_from.result) (target_unary c.args.first) c.expression_from.ensures.read

@@ -1,4 +1,4 @@
-use Rattle.std.proofs.Common.{Bor, sym, ap, ◌∙◌, map, take}
+use Rattle.std.proofs.Common.{Bor, sym, ap, ◌∙◌, map}
 use Rattle.std.proofs.lemmas.List.{take_all}
 use Rattle.std.proofs.lemmas.Simd.{map-map}
 use Rattle.tree.specs.Trees.{MessageTree, message_tree}

@@ -1,7 +1,6 @@
-use Rattle.std.proofs.Common.{Bor, sym, subst, ap, ◌∙◌}
+use Rattle.std.proofs.Common.{sym, subst, ap, ◌∙◌}
 use Rattle.std.specs.Prelude.{IfSome}
 use Rattle.std.specs.Slice.{IsItemAt}
-use Rattle.program.specs.declared.contract.Part.{Part}
 use Rattle.names.specs.Labels.{Stands, in_parentheses}
 use Rattle.names.proofs.LabelLemmas.{shared_part}
 use Rattle.names.proofs.labels.Labels.shared.Goals as goal

@@ -1,0 +1,71 @@
+-- The terms of a sum, while its factors are judged from the left.
+use Rattle.std.specs.Prelude.{◌≡◌, ◌++◌, List, [], ◌∷◌, Option, Some, None}
+use Rattle.source.specs.declared.finding.Finding.{Finding}
+use Rattle.tree.specs.Factors.{FactorTree}
+use Rattle.tree.specs.declared.expression.FactorOperator.{FactorOperator}
+use Rattle.tree.specs.declared.expression.FactorOperator.TheVariants as operators
+use Rattle.names.specs.Expressions.{InScope, kind_of, place_of, expression_findings}
+use Rattle.names.specs.Found.{Adds, FindingParts}
+use Rattle.names.specs.Frames.{IsFrame}
+use Rattle.names.specs.Operands.{in_frame}
+use Rattle.names.specs.Program.{Program}
+use Rattle.names.specs.Scopes.{IsScope}
+use Rattle.names.specs.Shapes.{Shape, Joined, Sum, shape}
+use Rattle.names.specs.Variables.{Frame}
+use Rattle.names.specs.declared.operands.Operand.{Operand}
+use Rattle.names.specs.declared.scope.Scope.{Scope}
+use Rattle.names.specs.declared.terms.Terms.{Terms}
+use Rattle.names.specs.declared.variables.Variables.{Variables}
+
+-- the terms before the last one, joined, if there are some, and the last one
+pub record TermShapes : Type 0 where
+  pub before : Option Shape
+  pub last : Shape
+
+-- the first factor of a sum
+abbrev pub first_term : Shape → TermShapes
+first_term e = record { before = None; last = e }
+
+-- a term behind those before it
+abbrev pub behind : Option Shape → Shape → Shape
+behind None last = last
+behind (Some before) last = Joined Sum before last
+
+-- all terms as one shape
+abbrev pub whole : TermShapes → Shape
+whole t = behind t.before t.last
+
+-- the terms with one more factor
+abbrev pub multiplied : TermShapes → FactorOperator → Shape → TermShapes
+multiplied t operators.Times e = record { before = t.before; last = Joined Sum t.last e }
+multiplied t (operators.Sum o) e = record { before = Some (whole t); last = e }
+
+abbrev pub with_factor : TermShapes → FactorTree → TermShapes
+with_factor t f = multiplied t f.0 (shape f.1)
+
+-- the terms with all of these
+abbrev pub with_factors : TermShapes → List FactorTree → TermShapes
+with_factors t [] = t
+with_factors t (f ∷ fs) = with_factors (with_factor t f) fs
+
+-- the terms before the last one are of this kind and at this place
+abbrev pub IsBefore : InScope → Option Shape → Option Operand → Type 0
+IsBefore s None None = Unit {0}
+IsBefore s (Some e) (Some o) = (o.kind ≡ kind_of s e) × (o.place ≡ place_of e)
+IsBefore s _ _ = ⊥
+
+-- what is wrong in them
+abbrev pub before_findings : InScope → Option Shape → List FindingParts
+before_findings s None = []
+before_findings s (Some e) = expression_findings s e
+
+-- the terms are of these kinds and at these places, and what is wrong in them was added
+pub record IsJudgedTerms (s : InScope) (t : TermShapes) (old new : List Finding) (terms : Terms) : Type 0 where
+  pub before : IsBefore s t.before terms.before
+  pub kind : terms.last.kind ≡ kind_of s t.last
+  pub place : terms.last.place ≡ place_of t.last
+  pub found : Adds old new (before_findings s t.before ++ expression_findings s t.last)
+
+-- whatever these have in scope
+pub record JudgesTerms (scope : Scope) (variables : Variables) (t : TermShapes) (old new : List Finding) (terms : Terms) : Type 0 where
+  pub all : (p : Program) (f : Frame) → IsScope p scope → IsFrame p.text f variables → IsJudgedTerms (in_frame p f) t old new terms

@@ -1,0 +1,47 @@
+//! The terms of a sum, while its factors are judged from the left.
+
+ghost use Rattle.std.specs.Prelude.{IfOk, List};
+ghost use Rattle.source.specs.declared.finding.Finding.{Finding};
+ghost use Rattle.names.specs.Expressions.{InScope};
+ghost use Rattle.names.specs.Operands.{IsJudged};
+ghost use Rattle.names.specs.Shapes.{Shape};
+ghost use Rattle.names.specs.Terms.{IsJudgedTerms, TermShapes, first_term, whole};
+
+use crate::operands::{Joint, Operand, join};
+use source::{Finding, Memory};
+use std::alloc::Global;
+
+/// The terms before the last one, joined, if there are some, and the last one.
+#[derive(Clone, Copy)]
+pub(crate) struct Terms {
+    pub(crate) before: Option<Operand>,
+    pub(crate) last: Operand,
+}
+
+impl Terms {
+    /// The first factor of a sum.
+    pub(crate) fn from_first(first: Operand) -> Terms
+        ensures { (s : InScope) (e : Shape) (old new : List Finding) → IsJudged s e old new first
+            → IsJudgedTerms s (first_term e) old new result }
+    {
+        Terms {
+            before: None,
+            last: first,
+        }
+    }
+}
+
+/// All terms as one operand; adds what is wrong with the operator before the last one.
+pub(crate) fn joined_terms(
+    alloc: Global,
+    terms: Terms,
+    found: &mut Vec<Finding>,
+) -> Result<Operand, Memory>
+    ensures { IfOk result (λ o. (s : InScope) (t : TermShapes) (start : List Finding) → IsJudgedTerms s t start found.old.items terms
+        → IsJudged s (whole t) start found.new.items o) }
+{
+    match terms.before {
+        None => Ok(terms.last),
+        Some(before) => join(alloc, Joint::Sum, before, terms.last, found),
+    }
+}
