@@ -258,11 +258,11 @@ fn judge_atom(
         Atom::True(span) => Ok(Operand::truth(span.place)),
         Atom::False(span) => Ok(Operand::truth(span.place)),
         Atom::Target(target) => judge_mentioned(alloc, scope, variables, target, found),
-        Atom::Parens(parens) => {
-            let inner = judge_operand(alloc, scope, variables, &parens.inner, found)?;
+        Atom::Parens { open, inner } => {
+            let inner = judge_operand(alloc, scope, variables, inner, found)?;
             Ok(Operand {
                 kind: inner.kind,
-                place: parens.open.place,
+                place: open.place,
             })
         }
     }

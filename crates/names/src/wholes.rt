@@ -182,7 +182,7 @@ fn in_atom(atom: &Atom) -> Option<Span>
         Atom::True(_) => None,
         Atom::False(_) => None,
         Atom::Target(target) => in_target(target),
-        Atom::Parens(_) => None,
+        Atom::Parens { .. } => None,
     }
 }
 

@@ -5,7 +5,7 @@ use Rattle.source.specs.declared.token.Span.{Span}
 use Rattle.tree.specs.Expressions as targets
 use Rattle.tree.specs.Expressions.{LevelTree, StepOf, AtomTree, TargetTree}
 use Rattle.tree.specs.Factors.{FactorTree}
-use Rattle.tree.specs.ExpressionTrees.{expression_tree, target_tree, atom_of, expression_of, sum_of, target_of, unary_of, conjunction_of, disjunction_of, element_target_of, equality_of, equality_step_of, factor_of, factors_of, parens_of, prefixed_of, relation_of, relation_step_of}
+use Rattle.tree.specs.ExpressionTrees.{expression_tree, target_tree, atom_of, expression_of, sum_of, target_of, unary_of, conjunction_of, disjunction_of, element_target_of, equality_of, equality_step_of, factor_of, factors_of, prefixed_of, relation_of, relation_step_of}
 use Rattle.tree.specs.Operators.{Joined, Single, Or, And, Equal, Compare, Add}
 use Rattle.tree.specs.declared.expression.ElementTarget as elements
 use Rattle.tree.specs.declared.expression.FieldTarget.{FieldTarget}
@@ -25,19 +25,19 @@ use Rattle.program.specs.declared.statement.Statement.TheVariants as seen_varian
 pub of_variable : (name : Span) → target_tree (target.Variable name) ≡ targets.Variable name
 of_variable name =
     ap target_tree (sym (target.rolls-Variable name))
-    ∙ target_folds.fold-roll-Target AtomTree (LevelTree (Joined Or)) (LevelTree (Joined Add)) TargetTree (LevelTree Single) (LevelTree (Joined And)) (LevelTree (Joined Or)) (Span × LevelTree (Joined Or)) (LevelTree (Joined Equal)) (StepOf Equal) FactorTree (LevelTree (Joined Add)) (Span × LevelTree (Joined Or)) (LevelTree Single) (LevelTree (Joined Compare)) (StepOf Compare) atom_of expression_of sum_of target_of unary_of conjunction_of disjunction_of element_target_of equality_of equality_step_of factor_of factors_of parens_of prefixed_of relation_of relation_step_of (target_layer.Variable name)
+    ∙ target_folds.fold-roll-Target AtomTree (LevelTree (Joined Or)) (LevelTree (Joined Add)) TargetTree (LevelTree Single) (LevelTree (Joined And)) (LevelTree (Joined Or)) (Span × LevelTree (Joined Or)) (LevelTree (Joined Equal)) (StepOf Equal) FactorTree (LevelTree (Joined Add)) (LevelTree Single) (LevelTree (Joined Compare)) (StepOf Compare) atom_of expression_of sum_of target_of unary_of conjunction_of disjunction_of element_target_of equality_of equality_step_of factor_of factors_of prefixed_of relation_of relation_step_of (target_layer.Variable name)
 
 pub of_field : (f : Box FieldTarget Global) → target_tree (target.Field f) ≡ targets.Field f.value.variable f.value.field
 of_field f =
     ap target_tree (sym (target.rolls-Field f))
-    ∙ target_folds.fold-roll-Target AtomTree (LevelTree (Joined Or)) (LevelTree (Joined Add)) TargetTree (LevelTree Single) (LevelTree (Joined And)) (LevelTree (Joined Or)) (Span × LevelTree (Joined Or)) (LevelTree (Joined Equal)) (StepOf Equal) FactorTree (LevelTree (Joined Add)) (Span × LevelTree (Joined Or)) (LevelTree Single) (LevelTree (Joined Compare)) (StepOf Compare) atom_of expression_of sum_of target_of unary_of conjunction_of disjunction_of element_target_of equality_of equality_step_of factor_of factors_of parens_of prefixed_of relation_of relation_step_of (target_layer.Field f)
+    ∙ target_folds.fold-roll-Target AtomTree (LevelTree (Joined Or)) (LevelTree (Joined Add)) TargetTree (LevelTree Single) (LevelTree (Joined And)) (LevelTree (Joined Or)) (Span × LevelTree (Joined Or)) (LevelTree (Joined Equal)) (StepOf Equal) FactorTree (LevelTree (Joined Add)) (LevelTree Single) (LevelTree (Joined Compare)) (StepOf Compare) atom_of expression_of sum_of target_of unary_of conjunction_of disjunction_of element_target_of equality_of equality_step_of factor_of factors_of prefixed_of relation_of relation_step_of (target_layer.Field f)
 
 pub of_element : (e : Box elements.ElementTarget Global) → target_tree (target.Element e) ≡ targets.Element (elements.out-ElementTarget e.value).variable (expression_tree (elements.out-ElementTarget e.value).index)
 of_element e =
     ap target_tree (sym (target.rolls-Element e))
-    ∙ target_folds.fold-roll-Target AtomTree (LevelTree (Joined Or)) (LevelTree (Joined Add)) TargetTree (LevelTree Single) (LevelTree (Joined And)) (LevelTree (Joined Or)) (Span × LevelTree (Joined Or)) (LevelTree (Joined Equal)) (StepOf Equal) FactorTree (LevelTree (Joined Add)) (Span × LevelTree (Joined Or)) (LevelTree Single) (LevelTree (Joined Compare)) (StepOf Compare) atom_of expression_of sum_of target_of unary_of conjunction_of disjunction_of element_target_of equality_of equality_step_of factor_of factors_of parens_of prefixed_of relation_of relation_step_of (target_layer.Element e)
+    ∙ target_folds.fold-roll-Target AtomTree (LevelTree (Joined Or)) (LevelTree (Joined Add)) TargetTree (LevelTree Single) (LevelTree (Joined And)) (LevelTree (Joined Or)) (Span × LevelTree (Joined Or)) (LevelTree (Joined Equal)) (StepOf Equal) FactorTree (LevelTree (Joined Add)) (LevelTree Single) (LevelTree (Joined Compare)) (StepOf Compare) atom_of expression_of sum_of target_of unary_of conjunction_of disjunction_of element_target_of equality_of equality_step_of factor_of factors_of prefixed_of relation_of relation_step_of (target_layer.Element e)
     ∙ ap (λ (x : Span × LevelTree (Joined Or)). targets.Element x.0 x.1)
-    (elements.fold_out-ElementTarget AtomTree (LevelTree (Joined Or)) (LevelTree (Joined Add)) TargetTree (LevelTree Single) (LevelTree (Joined And)) (LevelTree (Joined Or)) (Span × LevelTree (Joined Or)) (LevelTree (Joined Equal)) (StepOf Equal) FactorTree (LevelTree (Joined Add)) (Span × LevelTree (Joined Or)) (LevelTree Single) (LevelTree (Joined Compare)) (StepOf Compare) atom_of expression_of sum_of target_of unary_of conjunction_of disjunction_of element_target_of equality_of equality_step_of factor_of factors_of parens_of prefixed_of relation_of relation_step_of e.value)
+    (elements.fold_out-ElementTarget AtomTree (LevelTree (Joined Or)) (LevelTree (Joined Add)) TargetTree (LevelTree Single) (LevelTree (Joined And)) (LevelTree (Joined Or)) (Span × LevelTree (Joined Or)) (LevelTree (Joined Equal)) (StepOf Equal) FactorTree (LevelTree (Joined Add)) (LevelTree Single) (LevelTree (Joined Compare)) (StepOf Compare) atom_of expression_of sum_of target_of unary_of conjunction_of disjunction_of element_target_of equality_of equality_step_of factor_of factors_of prefixed_of relation_of relation_step_of e.value)
 
 -- the forms of a resolved statement
 

@@ -39,7 +39,7 @@ fn ways_of_atom(atom: &Atom) -> Ways
         Atom::False(_) => Ways::Past,
         Atom::Number(_) => Ways::Either,
         Atom::Target(_) => Ways::Either,
-        Atom::Parens(_) => Ways::Either,
+        Atom::Parens { .. } => Ways::Either,
     }
 }
 
@@ -52,7 +52,7 @@ fn name_of(atom: &Atom) -> Option<Span>
         Atom::Number(_) => None,
         Atom::True(_) => None,
         Atom::False(_) => None,
-        Atom::Parens(_) => None,
+        Atom::Parens { .. } => None,
     }
 }
 

@@ -188,7 +188,7 @@ fn add_atom(
         Atom::True(_) => Ok(()),
         Atom::False(_) => Ok(()),
         Atom::Target(target) => add_target(text, locals, target, found),
-        Atom::Parens(parens) => add_reads(text, locals, &parens.inner, found),
+        Atom::Parens { inner, .. } => add_reads(text, locals, inner, found),
     }
 }
 

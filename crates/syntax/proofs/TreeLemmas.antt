@@ -7,7 +7,7 @@ use Rattle.source.specs.declared.token.Span.{Span}
 use Rattle.tree.specs.Operators.{Or, And, Equal, Compare}
 use Rattle.tree.specs.Expressions.{Unary, Chain, Number, True, False, Target, Field, StepOf}
 use Rattle.tree.specs.Factors.{gathered, step_row, summed, termed}
-use Rattle.tree.specs.ExpressionTrees.{unmarked, atom_of, expression_of, sum_of, target_of, unary_of, conjunction_of, disjunction_of, element_target_of, equality_of, equality_step_of, factor_of, factors_of, parens_of, prefixed_of, relation_of, relation_step_of}
+use Rattle.tree.specs.ExpressionTrees.{unmarked, atom_of, expression_of, sum_of, target_of, unary_of, conjunction_of, disjunction_of, element_target_of, equality_of, equality_step_of, factor_of, factors_of, prefixed_of, relation_of, relation_step_of}
 use Rattle.tree.specs.ExpressionTrees.{atom_tree, expression_tree, sum_tree, target_tree, unary_tree, conjunction_tree, disjunction_tree, equality_tree, equality_step_tree, factor_tree, factors_tree, prefixed_tree, relation_tree, relation_step_tree}
 use Rattle.tree.specs.declared.expression.Prefix.{Prefix}
 use Rattle.tree.specs.declared.expression.FieldTarget.{FieldTarget}
@@ -33,83 +33,83 @@ use Rattle.tree.specs.declared.expression.Target as targets
 use Rattle.tree.specs.declared.expression.Unary as unaries
 
 pub summed_made : (s : sums.Sum) → expression_tree (expression.Sum s) ≡ summed (sum_tree s)
-summed_made s = ap expression_tree (sym (expression.rolls-Sum s)) ∙ expressions.fold-roll-Expression _ _ _ _ _ _ _ _ _ _ _ _ _ _ _ _
+summed_made s = ap expression_tree (sym (expression.rolls-Sum s)) ∙ expressions.fold-roll-Expression _ _ _ _ _ _ _ _ _ _ _ _ _ _ _
     atom_of expression_of sum_of target_of unary_of conjunction_of disjunction_of element_target_of equality_of equality_step_of
-    factor_of factors_of parens_of prefixed_of relation_of relation_step_of (layer.Sum s)
+    factor_of factors_of prefixed_of relation_of relation_step_of (layer.Sum s)
 
 pub disjunction_made : (first : conjunctions.Conjunction) (others : Vec conjunctions.Conjunction Global) → disjunction_tree (disjunctions.roll-Disjunction (record { first = first; others = others })) ≡ Chain Or (conjunction_tree first) (step_row Or (map (unmarked conjunction_tree) others.items))
-disjunction_made first others = disjunctions.fold-roll-Disjunction _ _ _ _ _ _ _ _ _ _ _ _ _ _ _ _
+disjunction_made first others = disjunctions.fold-roll-Disjunction _ _ _ _ _ _ _ _ _ _ _ _ _ _ _
     atom_of expression_of sum_of target_of unary_of conjunction_of disjunction_of element_target_of equality_of equality_step_of
-    factor_of factors_of parens_of prefixed_of relation_of relation_step_of (record { first = first; others = others })
+    factor_of factors_of prefixed_of relation_of relation_step_of (record { first = first; others = others })
     ∙ ap (λ t. Chain Or (conjunction_tree first) (step_row Or t)) (map-map {C = StepOf Or} (λ x. (tt, x)) conjunction_tree others.items)
 
 pub conjunction_made : (first : equalities.Equality) (others : Vec equalities.Equality Global) → conjunction_tree (conjunctions.roll-Conjunction (record { first = first; others = others })) ≡ Chain And (equality_tree first) (step_row And (map (unmarked equality_tree) others.items))
-conjunction_made first others = conjunctions.fold-roll-Conjunction _ _ _ _ _ _ _ _ _ _ _ _ _ _ _ _
+conjunction_made first others = conjunctions.fold-roll-Conjunction _ _ _ _ _ _ _ _ _ _ _ _ _ _ _
     atom_of expression_of sum_of target_of unary_of conjunction_of disjunction_of element_target_of equality_of equality_step_of
-    factor_of factors_of parens_of prefixed_of relation_of relation_step_of (record { first = first; others = others })
+    factor_of factors_of prefixed_of relation_of relation_step_of (record { first = first; others = others })
     ∙ ap (λ t. Chain And (equality_tree first) (step_row And t)) (map-map {C = StepOf And} (λ x. (tt, x)) equality_tree others.items)
 
 pub equality_made : (first : relations.Relation) (others : Vec equality_steps.EqualityStep Global) → equality_tree (equalities.roll-Equality (record { first = first; others = others })) ≡ Chain Equal (relation_tree first) (step_row Equal (map equality_step_tree others.items))
-equality_made first others = equalities.fold-roll-Equality _ _ _ _ _ _ _ _ _ _ _ _ _ _ _ _
+equality_made first others = equalities.fold-roll-Equality _ _ _ _ _ _ _ _ _ _ _ _ _ _ _
     atom_of expression_of sum_of target_of unary_of conjunction_of disjunction_of element_target_of equality_of equality_step_of
-    factor_of factors_of parens_of prefixed_of relation_of relation_step_of (record { first = first; others = others })
+    factor_of factors_of prefixed_of relation_of relation_step_of (record { first = first; others = others })
 
 pub relation_made : (first : sums.Sum) (others : Vec relation_steps.RelationStep Global) → relation_tree (relations.roll-Relation (record { first = first; others = others })) ≡ Chain Compare (sum_tree first) (step_row Compare (map relation_step_tree others.items))
-relation_made first others = relations.fold-roll-Relation _ _ _ _ _ _ _ _ _ _ _ _ _ _ _ _
+relation_made first others = relations.fold-roll-Relation _ _ _ _ _ _ _ _ _ _ _ _ _ _ _
     atom_of expression_of sum_of target_of unary_of conjunction_of disjunction_of element_target_of equality_of equality_step_of
-    factor_of factors_of parens_of prefixed_of relation_of relation_step_of (record { first = first; others = others })
+    factor_of factors_of prefixed_of relation_of relation_step_of (record { first = first; others = others })
 
 pub termed_made : (u : unaries.Unary) → sum_tree (sum.Unary u) ≡ termed (unary_tree u)
-termed_made u = ap sum_tree (sym (sum.rolls-Unary u)) ∙ sums.fold-roll-Sum _ _ _ _ _ _ _ _ _ _ _ _ _ _ _ _
+termed_made u = ap sum_tree (sym (sum.rolls-Unary u)) ∙ sums.fold-roll-Sum _ _ _ _ _ _ _ _ _ _ _ _ _ _ _
     atom_of expression_of sum_of target_of unary_of conjunction_of disjunction_of element_target_of equality_of equality_step_of
-    factor_of factors_of parens_of prefixed_of relation_of relation_step_of (layer.Unary u)
+    factor_of factors_of prefixed_of relation_of relation_step_of (layer.Unary u)
 
 pub row_made : (f : Box factor_rows.Factors Global) → sum_tree (sum.Factors f) ≡ factors_tree f.value
-row_made f = ap sum_tree (sym (sum.rolls-Factors f)) ∙ sums.fold-roll-Sum _ _ _ _ _ _ _ _ _ _ _ _ _ _ _ _
+row_made f = ap sum_tree (sym (sum.rolls-Factors f)) ∙ sums.fold-roll-Sum _ _ _ _ _ _ _ _ _ _ _ _ _ _ _
     atom_of expression_of sum_of target_of unary_of conjunction_of disjunction_of element_target_of equality_of equality_step_of
-    factor_of factors_of parens_of prefixed_of relation_of relation_step_of (layer.Factors f)
+    factor_of factors_of prefixed_of relation_of relation_step_of (layer.Factors f)
 
 pub factors_made : (first : unaries.Unary) (second : factors.Factor) (others : Vec factors.Factor Global) → factors_tree (factor_rows.roll-Factors (record { first = first; second = second; others = others })) ≡ gathered (unary_tree first) (factor_tree second ∷ map factor_tree others.items)
-factors_made first second others = factor_rows.fold-roll-Factors _ _ _ _ _ _ _ _ _ _ _ _ _ _ _ _
+factors_made first second others = factor_rows.fold-roll-Factors _ _ _ _ _ _ _ _ _ _ _ _ _ _ _
     atom_of expression_of sum_of target_of unary_of conjunction_of disjunction_of element_target_of equality_of equality_step_of
-    factor_of factors_of parens_of prefixed_of relation_of relation_step_of (record { first = first; second = second; others = others })
+    factor_of factors_of prefixed_of relation_of relation_step_of (record { first = first; second = second; others = others })
 
 pub plain_made : (a : atoms.Atom) → unary_tree (unary.Atom a) ≡ Unary [] (atom_tree a)
-plain_made a = ap unary_tree (sym (unary.rolls-Atom a)) ∙ unaries.fold-roll-Unary _ _ _ _ _ _ _ _ _ _ _ _ _ _ _ _
+plain_made a = ap unary_tree (sym (unary.rolls-Atom a)) ∙ unaries.fold-roll-Unary _ _ _ _ _ _ _ _ _ _ _ _ _ _ _
     atom_of expression_of sum_of target_of unary_of conjunction_of disjunction_of element_target_of equality_of equality_step_of
-    factor_of factors_of parens_of prefixed_of relation_of relation_step_of (layer.Atom a)
+    factor_of factors_of prefixed_of relation_of relation_step_of (layer.Atom a)
 
 pub prefixed_made : (p : Box prefixeds.Prefixed Global) → unary_tree (unary.Prefixed p) ≡ prefixed_tree p.value
-prefixed_made p = ap unary_tree (sym (unary.rolls-Prefixed p)) ∙ unaries.fold-roll-Unary _ _ _ _ _ _ _ _ _ _ _ _ _ _ _ _
+prefixed_made p = ap unary_tree (sym (unary.rolls-Prefixed p)) ∙ unaries.fold-roll-Unary _ _ _ _ _ _ _ _ _ _ _ _ _ _ _
     atom_of expression_of sum_of target_of unary_of conjunction_of disjunction_of element_target_of equality_of equality_step_of
-    factor_of factors_of parens_of prefixed_of relation_of relation_step_of (layer.Prefixed p)
+    factor_of factors_of prefixed_of relation_of relation_step_of (layer.Prefixed p)
 
 pub prefixed_parts : (prefixes : Vec Prefix Global) (a : atoms.Atom) → prefixed_tree (prefixeds.roll-Prefixed (record { prefixes = prefixes; atom = a })) ≡ Unary prefixes.items (atom_tree a)
-prefixed_parts prefixes a = prefixeds.fold-roll-Prefixed _ _ _ _ _ _ _ _ _ _ _ _ _ _ _ _
+prefixed_parts prefixes a = prefixeds.fold-roll-Prefixed _ _ _ _ _ _ _ _ _ _ _ _ _ _ _
     atom_of expression_of sum_of target_of unary_of conjunction_of disjunction_of element_target_of equality_of equality_step_of
-    factor_of factors_of parens_of prefixed_of relation_of relation_step_of (record { prefixes = prefixes; atom = a })
+    factor_of factors_of prefixed_of relation_of relation_step_of (record { prefixes = prefixes; atom = a })
 
 pub number_made : (span : Span) → atom_tree (atom.Number span) ≡ Number span
-number_made span = ap atom_tree (sym (atom.rolls-Number span)) ∙ atoms.fold-roll-Atom _ _ _ _ _ _ _ _ _ _ _ _ _ _ _ _
+number_made span = ap atom_tree (sym (atom.rolls-Number span)) ∙ atoms.fold-roll-Atom _ _ _ _ _ _ _ _ _ _ _ _ _ _ _
     atom_of expression_of sum_of target_of unary_of conjunction_of disjunction_of element_target_of equality_of equality_step_of
-    factor_of factors_of parens_of prefixed_of relation_of relation_step_of (layer.Number span)
+    factor_of factors_of prefixed_of relation_of relation_step_of (layer.Number span)
 
 pub true_made : (span : Span) → atom_tree (atom.True span) ≡ True span
-true_made span = ap atom_tree (sym (atom.rolls-True span)) ∙ atoms.fold-roll-Atom _ _ _ _ _ _ _ _ _ _ _ _ _ _ _ _
+true_made span = ap atom_tree (sym (atom.rolls-True span)) ∙ atoms.fold-roll-Atom _ _ _ _ _ _ _ _ _ _ _ _ _ _ _
     atom_of expression_of sum_of target_of unary_of conjunction_of disjunction_of element_target_of equality_of equality_step_of
-    factor_of factors_of parens_of prefixed_of relation_of relation_step_of (layer.True span)
+    factor_of factors_of prefixed_of relation_of relation_step_of (layer.True span)
 
 pub false_made : (span : Span) → atom_tree (atom.False span) ≡ False span
-false_made span = ap atom_tree (sym (atom.rolls-False span)) ∙ atoms.fold-roll-Atom _ _ _ _ _ _ _ _ _ _ _ _ _ _ _ _
+false_made span = ap atom_tree (sym (atom.rolls-False span)) ∙ atoms.fold-roll-Atom _ _ _ _ _ _ _ _ _ _ _ _ _ _ _
     atom_of expression_of sum_of target_of unary_of conjunction_of disjunction_of element_target_of equality_of equality_step_of
-    factor_of factors_of parens_of prefixed_of relation_of relation_step_of (layer.False span)
+    factor_of factors_of prefixed_of relation_of relation_step_of (layer.False span)
 
 pub target_made : (t : targets.Target) → atom_tree (atom.Target t) ≡ Target (target_tree t)
-target_made t = ap atom_tree (sym (atom.rolls-Target t)) ∙ atoms.fold-roll-Atom _ _ _ _ _ _ _ _ _ _ _ _ _ _ _ _
+target_made t = ap atom_tree (sym (atom.rolls-Target t)) ∙ atoms.fold-roll-Atom _ _ _ _ _ _ _ _ _ _ _ _ _ _ _
     atom_of expression_of sum_of target_of unary_of conjunction_of disjunction_of element_target_of equality_of equality_step_of
-    factor_of factors_of parens_of prefixed_of relation_of relation_step_of (layer.Target t)
+    factor_of factors_of prefixed_of relation_of relation_step_of (layer.Target t)
 
 pub field_made : (f : Box FieldTarget Global) (variable field : Span) → f.value ≡ record { variable = variable; field = field } → target_tree (place.Field f) ≡ Field variable field
-field_made f variable field is = ap target_tree (sym (place.rolls-Field f)) ∙ targets.fold-roll-Target _ _ _ _ _ _ _ _ _ _ _ _ _ _ _ _
+field_made f variable field is = ap target_tree (sym (place.rolls-Field f)) ∙ targets.fold-roll-Target _ _ _ _ _ _ _ _ _ _ _ _ _ _ _
     atom_of expression_of sum_of target_of unary_of conjunction_of disjunction_of element_target_of equality_of equality_step_of
-    factor_of factors_of parens_of prefixed_of relation_of relation_step_of (layer.Field f) ∙ ap (λ (g : FieldTarget). Field g.variable g.field) is
+    factor_of factors_of prefixed_of relation_of relation_step_of (layer.Field f) ∙ ap (λ (g : FieldTarget). Field g.variable g.field) is

@@ -26,7 +26,7 @@ use source::{Kind, Span};
 use std::alloc::Global;
 use tree::{
     Atom, Conjunction, Disjunction, ElementTarget, Equality, EqualityStep, Expression, Factor,
-    Factors, FieldTarget, Parens, Prefix, Prefixed, Relation, RelationStep, Sum, Target, Unary,
+    Factors, FieldTarget, Prefix, Prefixed, Relation, RelationStep, Sum, Target, Unary,
 };
 
 /// Whether an expression begins with this token.
@@ -302,8 +302,8 @@ fn read_atom(alloc: Global, cursor: &mut Cursor<'_>) -> Result<Atom, Stuck>
         Ok(Atom::Target(read_target(alloc, cursor)?))
     } else if cursor.is_next(Kind::OpenParen) {
         let (open, inner) = read_parens(alloc, cursor)?;
-        let parens = Parens { open, inner };
-        Ok(Atom::Parens(Box::new(alloc, parens)?))
+        let inner = Box::new(alloc, inner)?;
+        Ok(Atom::Parens { open, inner })
     } else if cursor.is_next(Kind::True) {
         Ok(Atom::True(cursor.skip()))
     } else if cursor.is_next(Kind::False) {

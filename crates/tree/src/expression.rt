@@ -156,15 +156,7 @@ pub enum Atom {
     True(Span),
     False(Span),
     Target(Target),
-    Parens(Box<Parens>),
-}
-
-/// "(" expression ")"
-#[derive(Drop)]
-#[cycle(expression)]
-pub struct Parens {
-    pub open: Span,
-    pub inner: Expression,
+    Parens { open: Span, inner: Box<Expression> },
 }
 
 /// target = ID | ID "." ID | ID "[" expression "]" .

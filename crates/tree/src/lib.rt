@@ -13,8 +13,8 @@ pub use class::{Class, Field, Method, Parameter, Struct};
 pub use contract::{Contract, Edge, Member, Message, Param, Path, State, StateBody};
 pub use expression::{
     Atom, Conjunction, Disjunction, ElementTarget, Equality, EqualityOperator, EqualityStep,
-    Expression, Factor, FactorOperator, Factors, FieldTarget, Parens, Prefix, PrefixOperator,
-    Prefixed, Relation, RelationOperator, RelationStep, Sum, SumOperator, Target, Unary,
+    Expression, Factor, FactorOperator, Factors, FieldTarget, Prefix, PrefixOperator, Prefixed,
+    Relation, RelationOperator, RelationStep, Sum, SumOperator, Target, Unary,
 };
 pub use item::{Access, Definition, Item, Tree};
 pub use statement::{
