@@ -1,9 +1,9 @@
 -- Reserved words by the byte that they begin with.
-use Rattle.std.proofs.Common.{◌≡◌, ◌≢◌, ℕ, Bool, true, false, cond, List, [], ◌∷◌, Some, sym, refl, ◌∙◌, ap, arith, eqb-true, eq-eqb}
+use Rattle.std.proofs.Common.{◌≡◌, ◌≢◌, ◌<◌, ℕ, Bool, true, false, cond, List, [], ◌∷◌, length, ltb, None, Some, sym, refl, ◌∙◌, ap, arith, eqb-true, eq-eqb}
 use Rattle.std.specs.Prelude.{◌==◌, ◌||◌, find, nat_eq, slice_index, unwrap_or, if◌then◌else◌}
 use Rattle.std.specs.List.{list_all}
-use Rattle.std.specs.Cmp.Lexicographic.{pointwise}
-use Rattle.std.proofs.lemmas.Bool.{false≢true, and_parts}
+use Rattle.std.specs.Cmp.Lexicographic.{pointwise, unequal}
+use Rattle.std.proofs.lemmas.Bool.{false≢true, and_parts, ltb-true}
 use Rattle.std.proofs.lemmas.Bool.Decides.{nat_tests}
 use Rattle.source.specs.declared.kind.Kind.{Kind}
 use Rattle.source.specs.declared.kind.Kind.TheVariants.{Name}
@@ -63,3 +63,16 @@ pub name_of_first : (word : List ℕ) → is_first (slice_index word 0) ≡ fals
 name_of_first word none =
     ap (λ ks. kind_among ks word) (sym (of_no_first reserved (slice_index word 0) refl none))
     ∙ kind_of_first word (slice_index word 0) refl
+
+-- a word that is shorter than each of these is none of them
+none_shorter : (ks : List Kind) (word : List ℕ) → list_all (λ k. ltb 1 (length (word_text k))) ks ≡ true → length word < 2 → find (is_written word) ks ≡ None
+none_shorter [] word all h = refl
+none_shorter (k ∷ ks) word all h =
+    let both = and_parts (ltb 1 (length (word_text k))) (list_all (λ k. ltb 1 (length (word_text k))) ks) all in
+    let apart : length (word_text k) ≢ length word = λ e. omega (arith, e, h, ltb-true 1 (length (word_text k)) both.0) in
+    ap (λ t. cond t (Some k) (find (is_written word) ks)) (unequal nat_eq (word_text k) word apart) ∙ none_shorter ks word both.1 h
+
+-- a word of one letter is a name
+pub letter_is_name : (word : List ℕ) → length word < 2 → Name ≡ word_kind word
+unfolding word_kind
+letter_is_name word h = ap (λ r. unwrap_or r Name) (sym (none_shorter reserved word refl h))

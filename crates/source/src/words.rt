@@ -90,11 +90,14 @@ fn among(kinds: &[Kind], word: &[u8]) -> Kind
     Kind::Name
 }
 
-/// The kind of a whole word. Only words that begin as it does are compared with it.
+/// The kind of a whole word. No reserved word is one letter. Only those that begin as the word does are compared with it.
 pub(crate) fn of_word(word: &[u8]) -> Kind
     requires { 0 < length word.now }
     ensures { result ≡ word_kind word.now }
 {
+    if word.len() == 1 {
+        return Kind::Name;
+    }
     match word[0] {
         b'b' => among(&[Kind::Bool, Kind::Break, Kind::Byte], word),
         b'c' => among(

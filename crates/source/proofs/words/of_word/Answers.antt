@@ -1,7 +1,10 @@
 use Rattle.std.proofs.Common.{◌∙◌, arith}
 use Rattle.std.specs.Prelude.{slice_index}
-use Rattle.source.proofs.WordLemmas.{kind_of_first, name_of_first, no_first}
+use Rattle.source.proofs.WordLemmas.{kind_of_first, letter_is_name, name_of_first, no_first}
 use Rattle.source.proofs.words.of_word.Goals as goal
+
+pub returns-then-word-eq1 : goal.returns-then-word-eq1
+returns-then-word-eq1 c = letter_is_name c.args.word.now (omega arith)
 
 pub returns-in-98 : goal.returns-in-98
 returns-in-98 c = c.among.ensures ∙ kind_of_first c.args.word.now 98 c.in-98.is
