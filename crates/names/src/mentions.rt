@@ -83,6 +83,7 @@ pub(crate) fn judge_field_of(
 }
 
 /// An element of a variable within an expression, where the index was judged; adds what is wrong with it.
+#[inline(always)]
 pub(crate) fn judge_element_of(
     alloc: Global,
     scope: &Scope<'_>,

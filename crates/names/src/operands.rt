@@ -184,6 +184,7 @@ fn kind_joined(joint: Joint, left: Kind, right: Kind) -> Kind
 }
 
 /// Two operands, joined; adds what is wrong with that.
+#[inline(always)]
 pub(crate) fn join(
     alloc: Global,
     joint: Joint,

@@ -259,6 +259,7 @@ fn factors(alloc: Global, cursor: &mut Cursor<'_>) -> Result<Vec<Factor>, Stuck>
 }
 
 /// ( "+" | "-" | "*" ) unary
+#[inline(always)]
 #[cycle(expression)]
 fn read_factor(alloc: Global, cursor: &mut Cursor<'_>) -> Result<Factor, Stuck>
     ensures { Reads factor_tree factor (level_on Single) factor_at cursor.old cursor.new result }
@@ -280,6 +281,7 @@ fn prefixes(alloc: Global, cursor: &mut Cursor<'_>) -> Result<Vec<Prefix>, Stuck
 }
 
 /// unary = { "!" | "-" } atom .
+#[inline(always)]
 #[cycle(expression)]
 fn read_unary(alloc: Global, cursor: &mut Cursor<'_>) -> Result<Unary, Stuck>
     ensures { Reads unary_tree level (level_on Single) level_at cursor.old cursor.new result }
@@ -294,6 +296,7 @@ fn read_unary(alloc: Global, cursor: &mut Cursor<'_>) -> Result<Unary, Stuck>
 }
 
 /// atom = NUMBER | "true" | "false" | target | "(" expression ")" .
+#[inline(always)]
 #[cycle(expression)]
 fn read_atom(alloc: Global, cursor: &mut Cursor<'_>) -> Result<Atom, Stuck>
     ensures { Reads atom_tree atom (level_on Single) atom_at cursor.old cursor.new result }
@@ -334,6 +337,7 @@ fn read_target(alloc: Global, cursor: &mut Cursor<'_>) -> Result<Target, Stuck>
 }
 
 /// The target that begins with this name.
+#[inline(always)]
 #[cycle(expression)]
 pub fn target_from(alloc: Global, cursor: &mut Cursor<'_>, variable: Span) -> Result<Target, Stuck>
     ensures read { Reads target_tree target target_on target_at (name variable ++ cursor.old) cursor.new result }
