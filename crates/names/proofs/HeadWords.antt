@@ -145,11 +145,11 @@ switch_heads_are s =
     ∙ mapped head_of case_tree (made.Switch.out-Switch s).others.items)
 
 -- a case on what is no endpoint
-pub no_endpoint : (s : InScope) (all earlier : List Head) (k : Kind) (h : Head) → ((n : ℕ) (end : Side) → k ≡ kind.Endpoint n end → ⊥) → kind_head_findings s all earlier k h ≡ (if is_silent k then [] else other_head_findings h)
+pub no_endpoint : (s : InScope) (all earlier : List Head) (k : Kind) (h : Head) → ((end : Side) (n : ℕ) → k ≡ kind.Endpoint end n → ⊥) → kind_head_findings s all earlier k h ≡ (if is_silent k then [] else other_head_findings h)
 no_endpoint s all earlier (kind.Scalar t) h other = refl
 no_endpoint s all earlier (kind.Pointer n) h other = refl
 no_endpoint s all earlier (kind.Array t) h other = refl
-no_endpoint s all earlier (kind.Endpoint n end) h other = absurd (other n end refl)
+no_endpoint s all earlier (kind.Endpoint end n) h other = absurd (other end n refl)
 no_endpoint s all earlier kind.Missing h other = refl
 no_endpoint s all earlier kind.Unknown h other = refl
 

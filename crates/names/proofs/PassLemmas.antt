@@ -26,11 +26,11 @@ class_lacks text None h = refl
 class_lacks text (Some c) h = absurd h
 
 -- a call on what is no endpoint
-pub no_send : (s : InScope) (k : Kind) (role : Role) (variable word : Span) (arguments : List Shape) → ((n : ℕ) (end : Side) → k ≡ kind.Endpoint n end → ⊥) → send_findings s k role variable word arguments ≡ unless (is_silent k) variable.place ++ argument_findings s [] arguments
+pub no_send : (s : InScope) (k : Kind) (role : Role) (variable word : Span) (arguments : List Shape) → ((end : Side) (n : ℕ) → k ≡ kind.Endpoint end n → ⊥) → send_findings s k role variable word arguments ≡ unless (is_silent k) variable.place ++ argument_findings s [] arguments
 no_send s (kind.Scalar t) role variable word arguments other = refl
 no_send s (kind.Pointer n) role variable word arguments other = refl
 no_send s (kind.Array t) role variable word arguments other = refl
-no_send s (kind.Endpoint n end) role variable word arguments other = absurd (other n end refl)
+no_send s (kind.Endpoint end n) role variable word arguments other = absurd (other end n refl)
 no_send s kind.Missing role variable word arguments other = refl
 no_send s kind.Unknown role variable word arguments other = refl
 

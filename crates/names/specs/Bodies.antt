@@ -59,11 +59,11 @@ abbrev pub delete_findings : InScope → Span → List FindingParts
 delete_findings s name = variable_findings s name ++ unless (is_silent (held (meant s name)) || is_block (held (meant s name))) name.place
 
 abbrev pub is_end_of : ℕ → Kind → Bool
-is_end_of n (kind.Endpoint k end) = n == k
+is_end_of n (kind.Endpoint end k) = n == k
 is_end_of n _ = false
 
 abbrev pub same_end : Kind → Kind → Bool
-same_end (kind.Endpoint m s) (kind.Endpoint n t) = same_side s t
+same_end (kind.Endpoint s m) (kind.Endpoint t n) = same_side s t
 same_end _ _ = false
 
 -- the two ends of a new channel: ends of that contract, and not the same one

@@ -136,7 +136,7 @@ contract_message s n word =
 
 -- a call on a variable is a send; only an endpoint sends
 abbrev pub send_findings : InScope → Kind → Role → Span → Span → List Shape → List FindingParts
-send_findings s (kind.Endpoint n end) role variable word arguments = message_findings s (contract_message s n word) end role word arguments
+send_findings s (kind.Endpoint end n) role variable word arguments = message_findings s (contract_message s n word) end role word arguments
 send_findings s k role variable word arguments = unless (is_silent k) variable.place ++ argument_findings s [] arguments
 
 abbrev pub class_findings : InScope → Option ClassTree → Role → Span → Span → List Shape → List FindingParts

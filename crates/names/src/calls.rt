@@ -242,7 +242,7 @@ fn judge_send(
         (record { program = p; variables = f.variables }) kind role variable word (map shape (map expression_tree arguments.now)))) }
 {
     match kind {
-        Kind::Endpoint(place, end) => judge_end(
+        Kind::Endpoint(end, place) => judge_end(
             alloc, scope, variables, place, end, role, word, arguments, found,
         ),
         _ => {

@@ -46,7 +46,7 @@ pub(crate) fn judge_head<'a>(
 {
     judge_use(alloc, scope, variables, case.endpoint, found)?;
     match kind_held(scope, variables, case.endpoint) {
-        Kind::Endpoint(item, end) => {
+        Kind::Endpoint(end, item) => {
             judge_endpoint_head(alloc, scope, heads, place, item, end, case, found)
         }
         kind => judge_no_endpoint(alloc, kind, case, found),
@@ -66,7 +66,7 @@ fn judge_endpoint_head<'a>(
 ) -> Result<(), Memory>
     ensures { (p : Program) (vs : List Variable) (all : List Head) → IsScope p scope.now → IsHeads p.text all heads.now
         → OnOk result (Adds found.old.items found.new.items (kind_head_findings (record { program = p; variables = vs }) all
-        (take place all) (Kind.Endpoint item end) (case_head case.now))) }
+        (take place all) (Kind.Endpoint end item) (case_head case.now))) }
 {
     let twice = heads.is_twice(scope.text, place, awaiting_at(case));
     judge_awaited(alloc, scope, item, end, twice, case, found)?;
@@ -86,7 +86,7 @@ fn judge_awaited(
 ) -> Result<(), Memory>
     ensures { (p : Program) (vs : List Variable) (earlier : List Head) → IsScope p scope.now
         → twice ≡ awaits_too p.text (case_head case.now) earlier → OnOk result (Adds found.old.items found.new.items
-        (endpoint_head_findings (record { program = p; variables = vs }) earlier (Kind.Endpoint item end) end (case_head case.now))) }
+        (endpoint_head_findings (record { program = p; variables = vs }) earlier (Kind.Endpoint end item) end (case_head case.now))) }
 {
     match case.message {
         Awaited::Closed(word) => {
@@ -112,7 +112,7 @@ fn judge_message(
 ) -> Result<(), Memory>
     ensures { (p : Program) (vs : List Variable) (earlier : List Head) → IsScope p scope.now → case.now.message ≡ Awaited.Message word
         → twice ≡ awaits_too p.text (case_head case.now) earlier → OnOk result (Adds found.old.items found.new.items (awaited_findings
-        (record { program = p; variables = vs }) earlier (Kind.Endpoint item end) end (case_head case.now) (Awaited.Message word))) }
+        (record { program = p; variables = vs }) earlier (Kind.Endpoint end item) end (case_head case.now) (Awaited.Message word))) }
 {
     match message_named(scope, item, word) {
         Some(message) => {
@@ -155,7 +155,7 @@ pub(crate) fn judge_binds<'a>(
         }) (held (meant (record { program = p; variables = f.variables }) endpoint)) awaited)) binds.now f)) }
 {
     match kind_held(scope, variables, endpoint) {
-        Kind::Endpoint(place, end) => {
+        Kind::Endpoint(end, place) => {
             let message = awaited_message(scope, place, end, awaited);
             let parameters = parameters_of(message);
             judge_bound(alloc, scope, variables, parameters, binds, found)
@@ -181,7 +181,7 @@ fn awaited_message<'a>(
     awaited: Awaited,
 ) -> Option<&'a Message>
     ensures { (p : Program) (vs : List Variable) → IsScope p scope.now → option_map (λ m. message_tree m.now) result
-        ≡ awaited_message (record { program = p; variables = vs }) (Kind.Endpoint place end) awaited }
+        ≡ awaited_message (record { program = p; variables = vs }) (Kind.Endpoint end place) awaited }
 {
     match awaited {
         Awaited::Message(word) => message_named(scope, place, word),

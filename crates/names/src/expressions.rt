@@ -151,47 +151,42 @@ fn judge_factors(
 {
     let first = judge_unary(alloc, scope, variables, &factors.first, found)?;
     let mut terms = Terms::from_first(first);
-    terms = judge_factor(alloc, scope, variables, terms, &factors.second, found)?;
+    judge_factor(alloc, scope, variables, &factors.second, &mut terms, found)?;
     'each: for factor in &factors.others {
-        terms = judge_factor(alloc, scope, variables, terms, factor, found)?;
+        judge_factor(alloc, scope, variables, factor, &mut terms, found)?;
     }
     joined_terms(alloc, terms, found)
 }
 
-/// The terms of a sum with one more factor; adds what is wrong with that.
+/// Takes one more factor into the terms of a sum; adds what is wrong with that.
+#[inline(always)]
 #[cycle(expressions)]
 fn judge_factor(
     alloc: Global,
     scope: &Scope<'_>,
     variables: &Variables<'_>,
-    terms: Terms,
     factor: &Factor,
+    terms: &mut Terms,
     found: &mut Vec<Finding>,
-) -> Result<Terms, Memory>
-    ensures { IfOk result (λ o. (t : TermShapes) (start : List Finding) → JudgesTerms scope.now variables.now t start found.old.items terms
-        → JudgesTerms scope.now variables.now (with_factor t (factor_tree factor.now)) start found.new.items o) }
+) -> Result<(), Memory>
+    ensures { OnOk result ((t : TermShapes) (start : List Finding) → JudgesTerms scope.now variables.now t start found.old.items terms.old
+        → JudgesTerms scope.now variables.now (with_factor t (factor_tree factor.now)) start found.new.items terms.new) }
 {
     match factor.operator {
         FactorOperator::Times => {
             let right = judge_unary(alloc, scope, variables, &factor.unary, found)?;
-            let last = join(alloc, Joint::Sum, terms.last, right, found)?;
-            Ok(Terms {
-                before: terms.before,
-                last,
-            })
+            terms.last = join(alloc, Joint::Sum, terms.last, right, found)?;
         }
         FactorOperator::Sum(_) => {
-            let before = joined_terms(alloc, terms, found)?;
-            let last = judge_unary(alloc, scope, variables, &factor.unary, found)?;
-            Ok(Terms {
-                before: Some(before),
-                last,
-            })
+            terms.before = Some(joined_terms(alloc, *terms, found)?);
+            terms.last = judge_unary(alloc, scope, variables, &factor.unary, found)?;
         }
     }
+    Ok(())
 }
 
 /// The same of an atom with what stands before it.
+#[inline(always)]
 #[cycle(expressions)]
 fn judge_unary(
     alloc: Global,
@@ -243,6 +238,7 @@ fn judge_signs(
 }
 
 /// The same of an atom.
+#[inline(always)]
 #[cycle(expressions)]
 fn judge_atom(
     alloc: Global,

@@ -13,8 +13,8 @@ pub enum Kind {
     Pointer(usize),
     /// An array of such elements.
     Array(Scalar),
-    /// An end of a channel of a contract.
-    Endpoint(usize, Side),
+    /// An end of a channel of a contract. The side stands beside the tag: behind the number it would take eight bytes more.
+    Endpoint(Side, usize),
     /// None: what is read of a variable that has no fields or no elements. Nothing is asked of it.
     Missing,
     /// It is built on a name that is not declared. Nothing is asked of it, nor of what is built on it.
@@ -67,7 +67,7 @@ impl Kind {
             (Kind::Scalar(_), Kind::Scalar(_)) => self.is_number() == other.is_number(),
             (Kind::Pointer(left), Kind::Pointer(right)) => left == right,
             (Kind::Array(left), Kind::Array(right)) => left == right,
-            (Kind::Endpoint(left, side), Kind::Endpoint(right, other_side)) => {
+            (Kind::Endpoint(side, left), Kind::Endpoint(other_side, right)) => {
                 left == right && side == other_side
             }
             _ => false,

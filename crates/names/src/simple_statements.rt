@@ -146,7 +146,7 @@ fn is_end_of(place: usize, kind: Kind) -> bool
     ensures { result ≡ is_end_of place kind }
 {
     match kind {
-        Kind::Endpoint(contract, _) => place == contract,
+        Kind::Endpoint(_, contract) => place == contract,
         _ => false,
     }
 }
@@ -156,7 +156,7 @@ fn same_end(first: Kind, second: Kind) -> bool
     ensures { result ≡ same_end first second }
 {
     match (first, second) {
-        (Kind::Endpoint(_, first), Kind::Endpoint(_, second)) => first == second,
+        (Kind::Endpoint(first, _), Kind::Endpoint(second, _)) => first == second,
         _ => false,
     }
 }

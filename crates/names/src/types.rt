@@ -89,7 +89,7 @@ fn kind_of_end(
 {
     match state {
         Some(state) => kind_of_end_in(text, place, declared, side, state),
-        None => Kind::Endpoint(place, side),
+        None => Kind::Endpoint(side, place),
     }
 }
 
@@ -104,7 +104,7 @@ fn kind_of_end_in(
         → result ≡ endpoint_kind text.now (Some (place, c)) side (Some state) }
 {
     match declared.states.find(state.slice(text)) {
-        Some(_) => Kind::Endpoint(place, side),
+        Some(_) => Kind::Endpoint(side, place),
         None => Kind::Unknown,
     }
 }

@@ -107,7 +107,7 @@ pub(crate) fn kind_held(
     match kind {
         names::Kind::Pointer(place) => struct_held(around, place),
         names::Kind::Array(element) => Some(Kind::Array(element)),
-        names::Kind::Endpoint(place, side) => endpoint_held(around, place, side, state),
+        names::Kind::Endpoint(side, place) => endpoint_held(around, place, side, state),
         names::Kind::Scalar(_) => None,
         names::Kind::Missing => None,
         names::Kind::Unknown => None,

@@ -239,7 +239,7 @@ fn contract_of(kind: names::Kind) -> Option<usize>
     ensures { result ≡ contract_of kind }
 {
     match kind {
-        names::Kind::Endpoint(place, _) => Some(place),
+        names::Kind::Endpoint(_, place) => Some(place),
         _ => None,
     }
 }

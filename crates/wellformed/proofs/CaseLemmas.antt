@@ -77,7 +77,7 @@ other_wrong h (Closed word) none = cc
 
 -- a head with which nothing is wrong names an endpoint, and this does not lack its close
 no_lack : (p : Program) (s : InScope) (all before : List Head) (h : Head) (k : Kind) → IsKnown p k → kind_head_findings s all before k h ≡ [] → lack_findings s all before h ≡ []
-no_lack p s all before h (kind.Endpoint n end) known none = (both_none (endpoint_head_findings s before (kind.Endpoint n end) end h) (lack_findings s all before h) none).1
+no_lack p s all before h (kind.Endpoint end n) known none = (both_none (endpoint_head_findings s before (kind.Endpoint end n) end h) (lack_findings s all before h) none).1
 no_lack p s all before h (kind.Scalar t) known none = absurd (other_wrong h h.awaited none)
 no_lack p s all before h (kind.Array element) known none = absurd (other_wrong h h.awaited none)
 no_lack p s all before h (kind.Pointer n) known none = absurd (other_wrong h h.awaited none)

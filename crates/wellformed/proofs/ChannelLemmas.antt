@@ -35,10 +35,10 @@ use Rattle.wellformed.proofs.Standing.{AreStanding, Around, IsHeld, IsKnown, las
 -- a kind that is that of an end of this contract
 record IsEndKind (n : ℕ) (k : declared.Kind.Kind) : Type 0 where
   pub side : Side
-  pub is : k ≡ kind.Endpoint n side
+  pub is : k ≡ kind.Endpoint side n
 
 end_kind : (p : Program) (n : ℕ) (k : declared.Kind.Kind) → IsKnown p k → (is_silent k || is_end_of n k) ≡ true → IsEndKind n k
-end_kind p n (kind.Endpoint m side) known fits = record { side = side; is = ap (λ x. kind.Endpoint x side) (sym (eqb-true n m fits)) }
+end_kind p n (kind.Endpoint side m) known fits = record { side = side; is = ap (λ x. kind.Endpoint side x) (sym (eqb-true n m fits)) }
 end_kind p n (kind.Scalar x) known fits = cc
 end_kind p n (kind.Array x) known fits = cc
 end_kind p n (kind.Pointer x) known fits = cc
@@ -63,7 +63,7 @@ right_of false true c quiet h = h
 right_of false false c quiet h = cc
 
 -- two variables that hold ends of a contract, and not the same one
-ends_fit : (p : Program) (n : ℕ) (a b : Side) (x y : Kind) → HoldsEnd p n a x → HoldsEnd p n b y → not (is_end_of n (kind.Endpoint n a) && same_end (kind.Endpoint n a) (kind.Endpoint n b)) ≡ true
+ends_fit : (p : Program) (n : ℕ) (a b : Side) (x y : Kind) → HoldsEnd p n a x → HoldsEnd p n b y → not (is_end_of n (kind.Endpoint a n) && same_end (kind.Endpoint a n) (kind.Endpoint b n)) ≡ true
     → are_ends (contract_number p n).0 x y ≡ true
 ends_fit p n a b x y left right differ =
     let k = contract_number p n in
@@ -72,7 +72,7 @@ ends_fit p n a b x y left right differ =
     subst (λ z. are_ends k.0 z y ≡ true) (sym left.is) (subst (λ z. are_ends k.0 (Endpoint k a left.state) z ≡ true) (sym right.is) ends)
 
 -- the contract of an end that is known
-channel_contract : (p : Program) (contract : Span) (c : Numbered ContractTree) (side : Side) → items.contract_named p contract ≡ Some c → IsKnown p (kind.Endpoint c.0 side) → contract_named p contract ≡ Some (contract_number p c.0)
+channel_contract : (p : Program) (contract : Span) (c : Numbered ContractTree) (side : Side) → items.contract_named p contract ≡ Some c → IsKnown p (kind.Endpoint side c.0) → contract_named p contract ≡ Some (contract_number p c.0)
 channel_contract p contract c side named known =
     let has : HasContract p c.0 = contract_known p c.0 side known in
     let at = contract_is_at p c.0 has.tree has.is in
@@ -97,7 +97,7 @@ found_fits p class s f g n c named here standing first second none =
     let w = block_mentioned p s.variables f g n.second standing second (ap is_block end_b.is) in
     let holds_v = end_holds p c.0 end_a.side v.variable.kind (subst (λ k. IsHeld p k v.variable.kind) end_a.is v.holds) in
     let holds_w = end_holds p c.0 end_b.side w.variable.kind (subst (λ k. IsHeld p k w.variable.kind) end_b.is w.holds) in
-    let apart = subst (λ k. not (is_end_of c.0 k && same_end k (kind.Endpoint c.0 end_b.side)) ≡ true) end_a.is (subst (λ k. not (is_end_of c.0 a && same_end a k) ≡ true) end_b.is differ) in
+    let apart = subst (λ k. not (is_end_of c.0 k && same_end k (kind.Endpoint end_b.side c.0)) ≡ true) end_a.is (subst (λ k. not (is_end_of c.0 a && same_end a k) ≡ true) end_b.is differ) in
     let ends = ends_fit p c.0 end_a.side end_b.side v.variable.kind w.variable.kind holds_v holds_w apart in
     let contract = channel_contract p n.contract c end_a.side named (subst (IsKnown p) end_a.is known_a) in
     let mentions : channel_of p class f n (contract_number p c.0) ≡ Some (ends_of p class f n.word.place (contract_number p c.0) (mention_of n.first v.number) (mention_of n.second w.number)) =

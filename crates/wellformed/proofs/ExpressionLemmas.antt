@@ -86,7 +86,7 @@ pub field_scalar : (p : Program) (g : names.Frame) (k : declared.Kind.Kind) (nam
 field_scalar p g (kind.Scalar s) name field known none = absurd (cc)
 field_scalar p g (kind.Array element) name field known none = length_scalar p (is_length (scope_of p g) field) (none_said (is_length (scope_of p g) field) (unknown p.text field) none)
 field_scalar p g (kind.Pointer n) name field known none = struct_scalar p g (item_at as_struct p n) field known none
-field_scalar p g (kind.Endpoint n side) name field known none = absurd (cc)
+field_scalar p g (kind.Endpoint side n) name field known none = absurd (cc)
 field_scalar p g kind.Missing name field known none = absurd known
 field_scalar p g kind.Unknown name field known none = absurd known
 
@@ -95,7 +95,7 @@ pub element_scalar : (p : Program) (k : declared.Kind.Kind) (name : Span) → Is
 element_scalar p (kind.Array element) name known none = (tt, refl)
 element_scalar p (kind.Scalar s) name known none = absurd (cc)
 element_scalar p (kind.Pointer n) name known none = absurd (cc)
-element_scalar p (kind.Endpoint n side) name known none = absurd (cc)
+element_scalar p (kind.Endpoint side n) name known none = absurd (cc)
 element_scalar p kind.Missing name known none = absurd known
 element_scalar p kind.Unknown name known none = absurd known
 
@@ -113,7 +113,7 @@ counted_scalar : (p : Program) (k : declared.Kind.Kind) → (is_number k || is_t
 counted_scalar p (kind.Scalar s) is = (tt, refl)
 counted_scalar p (kind.Pointer n) is = absurd (cc)
 counted_scalar p (kind.Array element) is = absurd (cc)
-counted_scalar p (kind.Endpoint n side) is = absurd (cc)
+counted_scalar p (kind.Endpoint side n) is = absurd (cc)
 counted_scalar p kind.Missing is = absurd (cc)
 counted_scalar p kind.Unknown is = absurd (cc)
 

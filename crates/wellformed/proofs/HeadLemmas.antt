@@ -49,7 +49,7 @@ pub record HeadFits (p : Program) (s : Setting) (f : Frame) (g : names.Frame) (h
 
 -- the endpoint of a case is one of a contract that is there
 end_fits : (p : Program) (t : ClassTree) (class : ℕ) (result : Option type_nodes.Type.Type) (s : Setting) (f : Frame) (g : names.Frame) (name : Span) (n : ℕ) (side : Side) (P : ContractSeen → Type 0)
-    → Around p t class result s → AreStanding p s.variables f g → variable_findings (scope_of p g) name ≡ [] → held (meant (scope_of p g) name) ≡ kind.Endpoint n side
+    → Around p t class result s → AreStanding p s.variables f g → variable_findings (scope_of p g) name ≡ [] → held (meant (scope_of p g) name) ≡ kind.Endpoint side n
     → ((r : ContractSeen) → contract_at p n ≡ Some r → P r) → IsEnd s P (case_endpoint p f name)
 end_fits p t class result s f g name n side P around standing none is each =
     let c = contract_known p n side (subst (IsKnown p) is (held_known p s.variables f g name standing none)) in
@@ -59,10 +59,10 @@ end_fits p t class result s f g name n side P around standing none is each =
 
 -- what its case awaits is looked up in that contract
 message_looked : (p : Program) (vs : List VariableSeen) (f : Frame) (g : names.Frame) (name : Span) (n : ℕ) (side : Side) (word : Span) → AreStanding p vs f g
-    → variable_findings (scope_of p g) name ≡ [] → held (meant (scope_of p g) name) ≡ kind.Endpoint n side → awaited_message p f name (waits.Message word) ≡ message_named p n word
+    → variable_findings (scope_of p g) name ≡ [] → held (meant (scope_of p g) name) ≡ kind.Endpoint side n → awaited_message p f name (waits.Message word) ≡ message_named p n word
 message_looked p vs f g name n side word standing none is =
     let m = meant_stands p vs f g name standing none in
-    let same : m.local.kind ≡ kind.Endpoint n side = ap held (sym m.meant_is) ∙ is in
+    let same : m.local.kind ≡ kind.Endpoint side n = ap held (sym m.meant_is) ∙ is in
     ap (λ o. option_and_then (λ k. message_named p k word) (option_and_then (λ v. contract_of v.kind) o)) m.is ∙ ap (λ k. option_and_then (λ c. message_named p c word) (contract_of k)) same
 
 -- what it brings stands at its number
@@ -82,7 +82,7 @@ close_brings s (v ∷ bound) holds = absurd holds
 -- a case on a message of that contract
 message_fits : (p : Program) (t : ClassTree) (class : ℕ) (result : Option type_nodes.Type.Type) (s : Setting) (f : Frame) (g : names.Frame) (name : Span) (word : Span) (binds : List made.Bind.Bind) (n : ℕ) (side : Side)
     (c : ContractTree) (o : Option MessageTree)
-    → Around p t class result s → AreStanding p s.variables f g → variable_findings (scope_of p g) name ≡ [] → held (meant (scope_of p g) name) ≡ kind.Endpoint n side
+    → Around p t class result s → AreStanding p s.variables f g → variable_findings (scope_of p g) name ≡ [] → held (meant (scope_of p g) name) ≡ kind.Endpoint side n
     → item_at as_contract p n ≡ Some (n, c) → message_written p.text c (word_at p.text word) ≡ o → message_case_findings (scope_of p g) o side word binds ≡ []
     → HeadFits p s f g (record { endpoint = name; awaited = waits.Message word; binds = binds })
 message_fits p t class result s f g name word binds n side c None around standing none is there written found = absurd (cc)
@@ -110,9 +110,9 @@ head_by : (p : Program) (t : ClassTree) (class : ℕ) (result : Option type_node
     (binds : List made.Bind.Bind) (k : declared.Kind.Kind)
     → Around p t class result s → AreStanding p s.variables f g → variable_findings (scope_of p g) name ≡ [] → held (meant (scope_of p g) name) ≡ k → IsKnown p k
     → kind_head_findings (scope_of p g) all before k (record { endpoint = name; awaited = awaited; binds = binds }) ≡ [] → HeadFits p s f g (record { endpoint = name; awaited = awaited; binds = binds })
-head_by p t class result s f g all before name (waits.Closed word) binds (kind.Endpoint n side) around standing none is known found =
+head_by p t class result s f g all before name (waits.Closed word) binds (kind.Endpoint side n) around standing none is known found =
     let h : Head = record { endpoint = name; awaited = waits.Closed word; binds = binds } in
-    let first = both_none (endpoint_head_findings (scope_of p g) before (kind.Endpoint n side) side h) (lack_findings (scope_of p g) all before h) found in
+    let first = both_none (endpoint_head_findings (scope_of p g) before (kind.Endpoint side n) side h) (lack_findings (scope_of p g) all before h) found in
     let second = both_none (closed_findings binds word) (twice_findings (scope_of p g) before h) first.0 in
     record {
       end = end_fits p t class result s f g name n side (IsAwaited s Closed) around standing none is (λ r at. tt);
@@ -121,10 +121,10 @@ head_by p t class result s f g all before name (waits.Closed word) binds (kind.E
       many = as_many {X = made.Bind.Bind} [] binds word.place second.0;
       brings = close_brings s;
     }
-head_by p t class result s f g all before name (waits.Message word) binds (kind.Endpoint n side) around standing none is known found =
+head_by p t class result s f g all before name (waits.Message word) binds (kind.Endpoint side n) around standing none is known found =
     let h : Head = record { endpoint = name; awaited = waits.Message word; binds = binds } in
-    let o = cases.awaited_message (scope_of p g) (kind.Endpoint n side) (waits.Message word) in
-    let first = both_none (endpoint_head_findings (scope_of p g) before (kind.Endpoint n side) side h) (lack_findings (scope_of p g) all before h) found in
+    let o = cases.awaited_message (scope_of p g) (kind.Endpoint side n) (waits.Message word) in
+    let first = both_none (endpoint_head_findings (scope_of p g) before (kind.Endpoint side n) side h) (lack_findings (scope_of p g) all before h) found in
     let second = both_none (message_case_findings (scope_of p g) o side word binds) (if is_some o then twice_findings (scope_of p g) before h else []) first.0 in
     let c = contract_known p n side known in
     let same : o ≡ message_written p.text c.tree (word_at p.text word) = ap (option_and_then (λ x. message_written p.text x.1 (word_at p.text word))) c.is in

@@ -62,7 +62,7 @@ contract_has p n (Some (k, c)) is some =
     let at : n ≡ k = item_number as_contract n (slice_get p.items n) (k, c) is in
     record { tree = c; is = is ∙ ap (λ m. Some (m, c)) (sym at) }
 
-pub contract_known : (p : Program) (n : ℕ) (side : Side) → IsKnown p (kind.Endpoint n side) → HasContract p n
+pub contract_known : (p : Program) (n : ℕ) (side : Side) → IsKnown p (kind.Endpoint side n) → HasContract p n
 contract_known p n side known = contract_has p n (item_at as_contract p n) refl known
 
 -- a variable of a scalar kind holds nothing of the exchange heap
@@ -70,7 +70,7 @@ pub scalar_holds : (p : Program) (k : declared.Kind.Kind) (state : Option Span) 
 scalar_holds p (kind.Scalar s) state scalar = refl
 scalar_holds p (kind.Array element) state scalar = cc
 scalar_holds p (kind.Pointer n) state scalar = cc
-scalar_holds p (kind.Endpoint n end) state scalar = cc
+scalar_holds p (kind.Endpoint end n) state scalar = cc
 scalar_holds p kind.Missing state scalar = refl
 scalar_holds p kind.Unknown state scalar = refl
 
@@ -86,14 +86,14 @@ pointer_holds : (p : Program) (n : ℕ) (state : Option Span) (o : Option ItemTr
 pointer_holds p n state None is known = absurd known
 pointer_holds p n state (Some i) is known = record { held = _; is = ap (option_map (λ j. struct_of (structs_before p.items n))) is }
 
-endpoint_holds : (p : Program) (n : ℕ) (end : Side) (state : Option Span) (c : ContractSeen) → contract_at p n ≡ Some c → Holding p (kind.Endpoint n end) state
+endpoint_holds : (p : Program) (n : ℕ) (end : Side) (state : Option Span) (c : ContractSeen) → contract_at p n ≡ Some c → Holding p (kind.Endpoint end n) state
 endpoint_holds p n end state c is = record { held = _; is = ap (option_map (λ x. holds.Endpoint (contract_number p n) end (state_of p n x state))) is }
 
 pub block_holds : (p : Program) (k : declared.Kind.Kind) (state : Option Span) → IsKnown p k → is_block k ≡ true → Holding p k state
 block_holds p (kind.Scalar s) state known block = cc
 block_holds p (kind.Array element) state known block = record { held = holds.Array element; is = refl }
 block_holds p (kind.Pointer n) state known block = pointer_holds p n state (slice_get p.items n) refl known
-block_holds p (kind.Endpoint n end) state known block =
+block_holds p (kind.Endpoint end n) state known block =
     let c : HasContract p n = contract_known p n end known in
     endpoint_holds p n end state _ (contract_is_at p n c.tree c.is).is
 block_holds p kind.Missing state known block = absurd known
@@ -124,7 +124,7 @@ pub alike_block : (a b : declared.Kind.Kind) → alike a b ≡ true → is_block
 alike_block (kind.Scalar s) (kind.Scalar t) fits = refl
 alike_block (kind.Pointer m) (kind.Pointer n) fits = refl
 alike_block (kind.Array s) (kind.Array t) fits = refl
-alike_block (kind.Endpoint m s) (kind.Endpoint n t) fits = refl
+alike_block (kind.Endpoint s m) (kind.Endpoint t n) fits = refl
 alike_block a b fits = cc
 
 mapped_is : {X Y : Type 0} (y z : Y) (o : Option X) → option_map (λ x. y) o ≡ Some z → z ≡ y
@@ -170,10 +170,10 @@ state_holds p n end held state (Some c) there is = record {
   is = sym (same_Some (holds.Endpoint (contract_number p n) end (state_of p n c state)) held is);
 }
 
-end_state : (p : Program) (n : ℕ) (end : Side) (held : Kind) → IsHeld p (kind.Endpoint n end) held → HoldsState p n end held
+end_state : (p : Program) (n : ℕ) (end : Side) (held : Kind) → IsHeld p (kind.Endpoint end n) held → HoldsState p n end held
 end_state p n end held is = state_holds p n end held is.state (contract_at p n) refl is.is
 
-pub end_holds : (p : Program) (n : ℕ) (side : Side) (held : Kind) → IsHeld p (kind.Endpoint n side) held → HoldsEnd p n side held
+pub end_holds : (p : Program) (n : ℕ) (side : Side) (held : Kind) → IsHeld p (kind.Endpoint side n) held → HoldsEnd p n side held
 end_holds p n side held is = let h : HoldsState p n side held = end_state p n side held is in record { state = h.state; is = h.is }
 
 -- variables of like kinds hold blocks of one type
@@ -184,7 +184,7 @@ alike_held p (kind.Pointer m) (kind.Pointer n) x y fits left right =
     ∙ eq-eqb (structs_before p.items m) (structs_before p.items n) (ap (structs_before p.items) (eqb-true m n fits))
 alike_held p (kind.Array s) (kind.Array t) x y fits left right =
     ap (λ z. same_type z y) (array_held p s x left) ∙ ap (same_type (holds.Array s)) (array_held p t y right) ∙ fits
-alike_held p (kind.Endpoint m s) (kind.Endpoint n t) x y fits left right =
+alike_held p (kind.Endpoint s m) (kind.Endpoint t n) x y fits left right =
     let h : HoldsEnd p m s x = end_holds p m s x left in
     let k : HoldsEnd p n t y = end_holds p n t y right in
     let parts = and_parts (m == n) (same_side s t) fits in
@@ -201,14 +201,14 @@ pub held_kind : (p : Program) (k : declared.Kind.Kind) (held : Kind) → IsHeld 
 held_kind p (kind.Scalar s) held is = let none = is.is in cc
 held_kind p (kind.Array element) held is = subst (IsKind (resolved_contracts p.text (contracts_of p.items))) (sym (array_held p element held is)) tt
 held_kind p (kind.Pointer n) held is = subst (IsKind (resolved_contracts p.text (contracts_of p.items))) (sym (pointer_held p n held is)) tt
-held_kind p (kind.Endpoint n end) held is =
+held_kind p (kind.Endpoint end n) held is =
     let h : HoldsState p n end held = end_state p n end held is in
     subst (IsKind (resolved_contracts p.text (contracts_of p.items))) (sym h.is) (some_and (λ c. IsStateOf c h.state) (contract_at p n) h.contract h.there h.of)
 held_kind p kind.Missing held is = let none = is.is in cc
 held_kind p kind.Unknown held is = let none = is.is in cc
 
 -- the contract of an endpoint
-pub end_held : (p : Program) (n : ℕ) (side : Side) (held : Kind) → IsHeld p (kind.Endpoint n side) held
+pub end_held : (p : Program) (n : ℕ) (side : Side) (held : Kind) → IsHeld p (kind.Endpoint side n) held
     → contract_held (resolved_contracts p.text (contracts_of p.items)) held ≡ contract_at p n
 end_held p n side held is = ap (contract_held (resolved_contracts p.text (contracts_of p.items))) (end_holds p n side held is).is
 
@@ -230,7 +230,7 @@ pub alike_self : (p : Program) (k : declared.Kind.Kind) → IsKnown p k → alik
 alike_self p (kind.Scalar s) known = count_self (counts s)
 alike_self p (kind.Array element) known = scalar_self element
 alike_self p (kind.Pointer n) known = eq-eqb n n refl
-alike_self p (kind.Endpoint n end) known = and_from (n == n) (same_side end end) (eq-eqb n n refl) (side_self end)
+alike_self p (kind.Endpoint end n) known = and_from (n == n) (same_side end end) (eq-eqb n n refl) (side_self end)
 alike_self p kind.Missing known = absurd known
 alike_self p kind.Unknown known = absurd known
 
@@ -255,7 +255,7 @@ pub alike_sym : (a b : declared.Kind.Kind) → alike a b ≡ true → alike b a 
 alike_sym (kind.Scalar s) (kind.Scalar t) fits = count_sym (counts s) (counts t) fits
 alike_sym (kind.Pointer m) (kind.Pointer n) fits = eq-eqb n m (sym (eqb-true m n fits))
 alike_sym (kind.Array s) (kind.Array t) fits = scalar_sym s t fits
-alike_sym (kind.Endpoint m s) (kind.Endpoint n t) fits =
+alike_sym (kind.Endpoint s m) (kind.Endpoint t n) fits =
     let parts = and_parts (m == n) (same_side s t) fits in
     and_from (n == m) (same_side t s) (eq-eqb n m (sym (eqb-true m n parts.0))) (side_sym s t parts.1)
 alike_sym a b fits = cc

@@ -112,7 +112,7 @@ stands_then p vs a b (l ∷ ls) leads all =
 pub block_held : (p : Program) (k : Kind) (held : held.Kind.Kind) → IsHeld p k held → is_block k ≡ true
 block_held p (kinds.Pointer n) held is = refl
 block_held p (kinds.Array element) held is = refl
-block_held p (kinds.Endpoint n side) held is = refl
+block_held p (kinds.Endpoint side n) held is = refl
 block_held p (kinds.Scalar x) held is = let none = is.is in cc
 block_held p kinds.Missing held is = let none = is.is in cc
 block_held p kinds.Unknown held is = let none = is.is in cc

@@ -42,7 +42,7 @@ use Rattle.wellformed.proofs.Standing.{Around, AreStanding, IsHeld, IsKnown, nam
 
 -- the contract of an endpoint that is there
 pub is_end : (p : Program) (s : Setting) (n : ℕ) (side : Side) (c : ContractTree) (P : ContractSeen → Type 0) (m : Mention) (v : VariableSeen) → s.contracts ≡ resolved_contracts p.text (contracts_of p.items)
-    → item_at as_contract p n ≡ Some (n, c) → slice_get s.variables m.variable.0 ≡ Some v → IsHeld p (kind.Endpoint n side) v.kind
+    → item_at as_contract p n ≡ Some (n, c) → slice_get s.variables m.variable.0 ≡ Some v → IsHeld p (kind.Endpoint side n) v.kind
     → ((r : ContractSeen) → contract_at p n ≡ Some r → P r) → IsEnd s P m
 is_end p s n side c P m v contracts is there holds each =
     let at = contract_is_at p n c is in
@@ -89,18 +89,18 @@ sending p g n side t role word es clean there (Some m) found none =
     )
 
 -- the contract of the endpoint that a name means
-end_of : (p : Program) (locals : List Local) (name : Span) (l : Local) (n : ℕ) (side : Side) → local_named p.text locals name ≡ Some l → l.kind ≡ kind.Endpoint n side → end_contract p locals name ≡ Some n
+end_of : (p : Program) (locals : List Local) (name : Span) (l : Local) (n : ℕ) (side : Side) → local_named p.text locals name ≡ Some l → l.kind ≡ kind.Endpoint side n → end_contract p locals name ≡ Some n
 end_of p locals name l n side local is = ap (option_and_then (λ v. contract_of v.kind)) local ∙ ap contract_of is
 
 end_sends : (p : Program) (t : ClassTree) (class : ℕ) (result : Option type_nodes.Type.Type) (s : Setting) (f : Frame) (g : names.Frame) (role : _) (c : CallTree) (word : Span) → Around p t class result s
-    → AreStanding p s.variables f g → c.member ≡ Some word → (l : Local) → local_named p.text f.locals c.name ≡ Some l → (n : ℕ) (side : Side) → l.kind ≡ kind.Endpoint n side → IsKnown p (kind.Endpoint n side)
-    → meant (scope_of p g) c.name ≡ Some (named l) → send_findings (scope_of p g) (kind.Endpoint n side) role c.name word (map shape c.arguments) ≡ [] → (is_alone role ≡ true) × SendsMessage p class s f c
+    → AreStanding p s.variables f g → c.member ≡ Some word → (l : Local) → local_named p.text f.locals c.name ≡ Some l → (n : ℕ) (side : Side) → l.kind ≡ kind.Endpoint side n → IsKnown p (kind.Endpoint side n)
+    → meant (scope_of p g) c.name ≡ Some (named l) → send_findings (scope_of p g) (kind.Endpoint side n) role c.name word (map shape c.arguments) ≡ [] → (is_alone role ≡ true) × SendsMessage p class s f c
 end_sends p t class result s f g role c word around standing member l local n side kind_is known meant_is none =
     let has : HasContract p n = contract_known p n side known in
     let of_contract = ap (option_and_then (λ x. sent_message p.text x.1 (word_at p.text word))) has.is in
     let clean = subst (λ o. message_findings (scope_of p g) o side role word (map shape c.arguments) ≡ []) of_contract none in
     let x = sending p g n side has.tree role word c.arguments around.clean has.is (sent_message p.text has.tree (word_at p.text word)) refl clean in
-    let held_is : held (meant (scope_of p g) c.name) ≡ kind.Endpoint n side = ap held meant_is ∙ kind_is in
+    let held_is : held (meant (scope_of p g) c.name) ≡ kind.Endpoint side n = ap held meant_is ∙ kind_is in
     let found : variable_findings (scope_of p g) c.name ≡ [] = ap (λ o. if is_some o then [] else unknown p.text c.name ∷ []) meant_is in
     let m = block_mentioned p s.variables f g c.name standing found (ap is_block held_is) in
     let a = x.1.answer in
@@ -121,7 +121,7 @@ end_sends p t class result s f g role c word around standing member l local n si
 pub local_call : (p : Program) (t : ClassTree) (class : ℕ) (result : Option type_nodes.Type.Type) (s : Setting) (f : Frame) (g : names.Frame) (role : _) (c : CallTree) (word : Span) → Around p t class result s
     → AreStanding p s.variables f g → c.member ≡ Some word → (l : Local) → local_named p.text f.locals c.name ≡ Some l → meant (scope_of p g) c.name ≡ Some (named l) → IsKnown p l.kind → (k : declared.Kind.Kind) → l.kind ≡ k
     → send_findings (scope_of p g) k role c.name word (map shape c.arguments) ≡ [] → (is_alone role ≡ true) × SendsMessage p class s f c
-local_call p t class result s f g role c word around standing member l local meant_is known (kind.Endpoint n side) is none =
+local_call p t class result s f g role c word around standing member l local meant_is known (kind.Endpoint side n) is none =
     end_sends p t class result s f g role c word around standing member l local n side is (subst (IsKnown p) is known) meant_is none
 local_call p t class result s f g role c word around standing member l local meant_is known (kind.Scalar x) is none = cc
 local_call p t class result s f g role c word around standing member l local meant_is known (kind.Array x) is none = cc

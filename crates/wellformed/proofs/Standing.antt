@@ -38,7 +38,7 @@ abbrev pub IsKnown : Program → declared.Kind.Kind → Type 0
 IsKnown p (kind.Scalar s) = Unit {0}
 IsKnown p (kind.Array element) = Unit {0}
 IsKnown p (kind.Pointer n) = IsSomeAnd (item_at as_struct p n) (λ s. Unit {0})
-IsKnown p (kind.Endpoint n side) = IsSomeAnd (item_at as_contract p n) (λ c. Unit {0})
+IsKnown p (kind.Endpoint side n) = IsSomeAnd (item_at as_contract p n) (λ c. Unit {0})
 IsKnown p kind.Missing = ⊥
 IsKnown p kind.Unknown = ⊥
 

@@ -37,7 +37,7 @@ pub pointer_known : (p : Program) (name : Span) (o : Option _) → struct_named 
 pointer_known p name None is none = cc
 pointer_known p name (Some s) is none = there_is (item_at as_struct p s.0) s (found_itself as_struct p (first_among p.text (item_names p) name) s is)
 
-declared_known : (p : Program) (c : ℕ × ContractTree) (end : Side) (state : Span) (b : Bool) → item_at as_contract p c.0 ≡ Some c → (if b then [] else unknown p.text state ∷ []) ≡ [] → IsKnown p (if b then kind.Endpoint c.0 end else kind.Unknown)
+declared_known : (p : Program) (c : ℕ × ContractTree) (end : Side) (state : Span) (b : Bool) → item_at as_contract p c.0 ≡ Some c → (if b then [] else unknown p.text state ∷ []) ≡ [] → IsKnown p (if b then kind.Endpoint end c.0 else kind.Unknown)
 declared_known p c end state true is none = there_is (item_at as_contract p c.0) c is
 declared_known p c end state false is none = cc
 
@@ -52,7 +52,7 @@ pub pointer_block : {X : Type 0} (p : Program) (o : Option (ℕ × X)) → IsKno
 pointer_block p None known = absurd known
 pointer_block p (Some s) known = refl
 
-declared_block : (p : Program) (n : ℕ) (end : Side) (b : Bool) → IsKnown p (if b then kind.Endpoint n end else kind.Unknown) → true ≡ is_block (if b then kind.Endpoint n end else kind.Unknown)
+declared_block : (p : Program) (n : ℕ) (end : Side) (b : Bool) → IsKnown p (if b then kind.Endpoint end n else kind.Unknown) → true ≡ is_block (if b then kind.Endpoint end n else kind.Unknown)
 declared_block p n end true known = refl
 declared_block p n end false known = absurd known
 

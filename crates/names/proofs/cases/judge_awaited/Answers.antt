@@ -18,7 +18,7 @@ returns-in_ok-judge_closed-in-Closed c = λ p vs earlier scope twice.
     let mid = c.judge_closed.new.found.items in
     let new = c.judge_case_twice.new.found.items in
     let word = c.in-Closed.word in
-    subst (λ a. OnOk result (Adds old new (awaited_findings s earlier (kind.Endpoint c.args.item c.args.end) c.args.end h a))) (sym c.in-Closed.is)
+    subst (λ a. OnOk result (Adds old new (awaited_findings s earlier (kind.Endpoint c.args.end c.args.item) c.args.end h a))) (sym c.in-Closed.is)
     (on_adds result old mid new (closed_findings h.binds word) (twice_findings s earlier h)
     (subst (λ b. Adds old mid (closed_findings b word)) c.deref.ensures.value c.in_ok-judge_closed-in-Closed.ensures)
     (told_twice result mid new s earlier h c.args.twice scope.text_is twice c.judge_case_twice.ensures))
@@ -30,5 +30,5 @@ returns-in-Message c = λ p vs earlier scope twice.
     let result = c.judge_message.result in
     let old = c.args.found.now.items in
     let new = c.judge_message.new.found.items in
-    subst (λ a. OnOk result (Adds old new (awaited_findings s earlier (kind.Endpoint c.args.item c.args.end) c.args.end h a))) (sym c.in-Message.is)
+    subst (λ a. OnOk result (Adds old new (awaited_findings s earlier (kind.Endpoint c.args.end c.args.item) c.args.end h a))) (sym c.in-Message.is)
     (c.judge_message.ensures p vs earlier scope c.in-Message.is twice)

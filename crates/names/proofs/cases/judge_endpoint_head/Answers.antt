@@ -25,7 +25,7 @@ returns c = λ p vs all scope heads.
     let twice = c.is_twice-twice.ensures all h own (c.awaiting_at.ensures ∙ ap (λ k. awaiting_of (head_of k)) (case_is c.args.case.now)) ∙ ap (λ t. awaits_too t h earlier) scope.text_is in
     let lacking = c.is_lacking-lacking.ensures all h own refl in
     let said = told_unless (names_endpoint tokens h.endpoint earlier || awaits_closed tokens h.endpoint all) (lacks_closed tokens h.endpoint ∷ []) in
-    on_adds result old mid new (endpoint_head_findings s earlier (kind.Endpoint c.args.item c.args.end) c.args.end h) (lack_findings s all earlier h)
+    on_adds result old mid new (endpoint_head_findings s earlier (kind.Endpoint c.args.end c.args.item) c.args.end h) (lack_findings s all earlier h)
     (c.in_ok-judge_awaited.ensures p vs earlier scope twice)
     (subst (λ t. OnOk result (Adds mid new (if names_endpoint t h.endpoint earlier || awaits_closed t h.endpoint all then [] else lacks_closed t h.endpoint ∷ []))) scope.text_is
     (subst (λ l. OnOk result (Adds mid new l)) (ap (λ b. if b then lacks_closed tokens h.endpoint ∷ [] else []) lacking ∙ said) c.judge_lacking.ensures))

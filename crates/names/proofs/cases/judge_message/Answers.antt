@@ -19,7 +19,7 @@ returns-in_ok-judge_message_case-in-Some c = λ p vs earlier scope awaits twice.
     let mid = c.judge_message_case.new.found.items in
     let new = c.judge_case_twice.new.found.items in
     let word = c.args.word in
-    let k = kind.Endpoint c.args.item c.args.end in
+    let k = kind.Endpoint c.args.end c.args.item in
     let message = message_tree c.in-Some.message.now in
     let named : awaited_message s k h.awaited ≡ Some message = ap (awaited_message s k) awaits ∙ sym (c.message_named.ensures p scope) ∙ ap (option_map (λ m. message_tree m.now)) c.in-Some.is in
     subst (λ o. OnOk result (Adds old new (message_case_findings s o c.args.end word h.binds ++ (if is_some o then twice_findings s earlier h else [])))) (sym named)
@@ -35,7 +35,7 @@ returns-in-None c = λ p vs earlier scope awaits twice.
     let old = c.args.found.now.items in
     let new = c.add_unknown.new.found.items in
     let word = c.args.word in
-    let k = kind.Endpoint c.args.item c.args.end in
+    let k = kind.Endpoint c.args.end c.args.item in
     let named : awaited_message s k h.awaited ≡ None = ap (awaited_message s k) awaits ∙ sym (c.message_named.ensures p scope) ∙ ap (option_map (λ m. message_tree m.now)) c.in-None.is in
     subst (λ o. OnOk result (Adds old new (message_case_findings s o c.args.end word h.binds ++ (if is_some o then twice_findings s earlier h else [])))) (sym named)
     (subst (λ t. OnOk result (Adds old new (unknown t word ∷ []))) scope.text_is c.add_unknown.ensures)

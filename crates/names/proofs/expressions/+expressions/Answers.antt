@@ -57,14 +57,14 @@ judge_relation-returns t c =
 pub judge_factors-each-init : goal.judge_factors-each-init
 judge_factors-each-init t c =
     let row = factor_rows.out-Factors c.args.factors.now in
-    c.in_ok-terms.ensures (first_term (shape (unary_tree row.first))) c.args.found.now.items (judges_first (shape (unary_tree row.first)) c.from_first-terms.ensures c.in_ok-first.ensures)
+    c.in_ok-judge_factor.ensures (first_term (shape (unary_tree row.first))) c.args.found.now.items (judges_first (shape (unary_tree row.first)) c.from_first-terms.ensures c.in_ok-first.ensures)
 
 pub judge_factors-each-preserved : goal.judge_factors-each-preserved
 judge_factors-each-preserved t c =
     let row = factor_rows.out-Factors c.args.factors.now in
     let before = with_factor (first_term (shape (unary_tree row.first))) (factor_tree row.second) in
     judges_factor factor_tree before c.deref-factor-items.result.now c.each.factor-index c.factor-item.result c.each-test.true c.factor-item.is
-    (c.in_ok-terms-2.ensures (factors_to factor_tree before c.deref-factor-items.result.now c.each.factor-index) c.args.found.now.items c.each.invariant)
+    (c.in_ok-judge_factor-2.ensures (factors_to factor_tree before c.deref-factor-items.result.now c.each.factor-index) c.args.found.now.items c.each.invariant)
 
 pub judge_factors-returns : goal.judge_factors-returns
 judge_factors-returns t c =
@@ -72,15 +72,15 @@ judge_factors-returns t c =
     judges_factors factor_tree (unary_tree row.first) (factor_tree row.second) c.deref-factor-items.result.now row.others.items c.each.factor-index (factors_tree c.args.factors.now) c.joined_terms.result _ c.each-test.false c.deref-factor-items.ensures.value
     (factors_seen c.args.factors.now) c.each.invariant c.joined_terms.ensures
 
-pub judge_factor-returns-in_ok-last-in-Times : goal.judge_factor-returns-in_ok-last-in-Times
-judge_factor-returns-in_ok-last-in-Times t c = λ shapes start.
+pub judge_factor-returns-in_ok-terms-in-Times : goal.judge_factor-returns-in_ok-terms-in-Times
+judge_factor-returns-in_ok-terms-in-Times t c = λ shapes start.
     let factor = factors.out-Factor c.args.factor.now in
-    judges_times shapes (factor_tree c.args.factor.now) factor.operator (unary_tree factor.unary) (factor_seen c.args.factor.now) c.in-Times.is c.in_ok-right-in-Times.ensures c.in_ok-last-in-Times.ensures
+    judges_times shapes (factor_tree c.args.factor.now) factor.operator (unary_tree factor.unary) (factor_seen c.args.factor.now) c.in-Times.is c.in_ok-right-in-Times.ensures c.in_ok-terms-in-Times.ensures
 
-pub judge_factor-returns-in_ok-last-in-Sum : goal.judge_factor-returns-in_ok-last-in-Sum
-judge_factor-returns-in_ok-last-in-Sum t c = λ shapes start.
+pub judge_factor-returns-in_ok-terms-in-Sum : goal.judge_factor-returns-in_ok-terms-in-Sum
+judge_factor-returns-in_ok-terms-in-Sum t c = λ shapes start.
     let factor = factors.out-Factor c.args.factor.now in
-    judges_next shapes (factor_tree c.args.factor.now) factor.operator c.in-Sum.field-0 (unary_tree factor.unary) (factor_seen c.args.factor.now) c.in-Sum.is c.in_ok-before-in-Sum.ensures c.in_ok-last-in-Sum.ensures
+    judges_next shapes (factor_tree c.args.factor.now) factor.operator c.in-Sum.field-0 (unary_tree factor.unary) (factor_seen c.args.factor.now) c.in-Sum.is c.in_ok-joined_terms-in-Sum.ensures c.in_ok-terms-in-Sum.ensures
 
 pub judge_prefixed-returns : goal.judge_prefixed-returns
 judge_prefixed-returns t c =
