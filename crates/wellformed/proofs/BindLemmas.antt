@@ -1,12 +1,11 @@
 -- What a case binds: it comes into scope.
-use Rattle.std.proofs.Common.{◌≡◌, ℕ, suc, ◌<◌, ◌≤◌, Bool, true, false, List, [], ◌∷◌, ◌++◌, length, if◌then◌else◌, refl, subst, le_refl, le_trans, arith, length-append, eqb-true}
-use Rattle.std.specs.Prelude.{Option, None, Some, option_map, IfSome}
-use Rattle.source.specs.declared.place.Place.{Place}
+use Rattle.std.proofs.Common.{◌≡◌, List, [], ◌∷◌, ◌++◌, length, refl, arith}
+use Rattle.std.specs.Prelude.{Option, None, Some}
 use Rattle.source.specs.declared.token.Span.{Span}
 use Rattle.tree.specs.declared.statement as made
 use Rattle.tree.specs.declared.types as type_nodes
 use Rattle.tree.specs.declared.contract.Param.{Param}
-use Rattle.names.specs.Cases.{bind_turn, binds_turn, brings_heap, brought_kind, typed_turn}
+use Rattle.names.specs.Cases.{bind_turn, binds_turn, brought_kind, typed_turn}
 use Rattle.names.specs.Kinds.{agree, is_heap, type_kind, type_unknown, unless}
 use Rattle.names.specs.Program.{Program}
 use Rattle.names.specs.Variables as names
@@ -18,7 +17,7 @@ use Rattle.program.specs.declared.method.Role.TheVariants.{Local}
 use Rattle.program.specs.declared.number.VarId.{VarId}
 use Rattle.resolving.specs.Binds.{bind_told, binds_told, bound_as, one_number}
 use Rattle.resolving.specs.Kinds.{kind_held, state_in, type_held}
-use Rattle.resolving.specs.Locals.{Frame, declared, forget, forgotten, next_number, number_of, same_last}
+use Rattle.resolving.specs.Locals.{Frame, declared, next_number}
 use Rattle.program.specs.Lists.{Each}
 use Rattle.program.specs.Scopes.{LeadsOut, InTurn}
 use Rattle.wellformed.proofs.GrowthLemmas.{binds_grow, within_before}
@@ -26,7 +25,7 @@ use Rattle.wellformed.proofs.KindLemmas.{heap_block, held_as, type_known}
 use Rattle.wellformed.proofs.ListLemmas.{both_none}
 use Rattle.wellformed.proofs.LeadLemmas.{leads_here, leads_then}
 use Rattle.wellformed.proofs.ScopeLemmas.{declared_inner, declared_local, declared_stands}
-use Rattle.wellformed.proofs.Standing.{AreStanding, IsKnown, Within, declares, last_of}
+use Rattle.wellformed.proofs.Standing.{AreStanding, Within, declares, last_of}
 
 -- what is bound comes into scope in turn
 pub record Binding (p : Program) (vs : List VariableSeen) (f after : Frame) (behind : names.Frame) (bound : List VarId) : Type 0 where

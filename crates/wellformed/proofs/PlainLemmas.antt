@@ -18,7 +18,6 @@ use Rattle.names.specs.Values.{length_findings, target_findings, target_kind, va
 use Rattle.names.specs.Variables as names
 use Rattle.tables.specs.Words.{word_at}
 use Rattle.names.specs.declared.kinds as declared
-use Rattle.names.specs.declared.kinds.Kind.TheVariants as kind
 use Rattle.program.specs.Methods.{VariableSeen}
 use Rattle.program.specs.declared.kind.Kind.{Kind}
 use Rattle.program.specs.declared.method.Role.{Role}

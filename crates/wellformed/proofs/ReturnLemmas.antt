@@ -1,7 +1,7 @@
 -- Calls and starts that stand alone, and returns, with which nothing is wrong.
-use Rattle.std.proofs.Common.{◌≡◌, ℕ, ◌<◌, ◌&&◌, Bool, true, false, not, [], length, sym, refl, subst, ◌⊎◌, inl, inr}
+use Rattle.std.proofs.Common.{◌≡◌, ℕ, ◌&&◌, Bool, true, false, not, [], sym, refl, subst, ◌⊎◌, inl, inr}
 use Rattle.std.specs.Option.{option_map_or}
-use Rattle.std.specs.Prelude.{Option, None, Some, is_some, option_map, IfSome, IsSomeAnd}
+use Rattle.std.specs.Prelude.{Option, None, Some, is_some, option_map, IsSomeAnd}
 use Rattle.source.specs.declared.token.Span.{Span}
 use Rattle.tree.specs.Expressions.{ExpressionTree}
 use Rattle.tree.specs.StatementTrees as stated
@@ -19,10 +19,9 @@ use Rattle.names.specs.Variables as names
 use Rattle.program.specs.Statements as seen
 use Rattle.program.specs.declared.statement.Action.TheVariants as does
 use Rattle.resolving.specs.Kinds.{result_held, state_in, type_held}
-use Rattle.resolving.specs.Locals.{Frame, number_of}
+use Rattle.resolving.specs.Locals.{Frame}
 use Rattle.resolving.specs.Methods.{method_told}
 use Rattle.resolving.specs.Plain.{call_of, called, lone, returned, started, stated_call, told}
-use Rattle.program.specs.Scopes.{LeadsOut}
 use Rattle.program.specs.WellFormed.{IsStartOf, IsStatement, IsTaken, Setting}
 use Rattle.wellformed.proofs.ArgumentLemmas.{IsAsked, asked_block, asked_known, asked_scalar}
 use Rattle.wellformed.proofs.CallLemmas.{CallsMethod, call_means, call_of_fits, method_there}

@@ -1,9 +1,7 @@
 -- What is declared comes into scope, and goes out of it where its block ends.
-use Rattle.std.proofs.Common.{◌≡◌, ◌≢◌, ◌==◌, ◌+◌, ℕ, zero, suc, ◌<◌, ◌≤◌, Bool, true, false, List, [], ◌∷◌, ◌++◌, length, map, if◌then◌else◌, is_some, refl, sym, ap, ◌∙◌, subst, append_assoc, arith, length-append, eq-eqb, eqb-true}
+use Rattle.std.proofs.Common.{◌≡◌, ◌≢◌, ◌==◌, ◌+◌, ℕ, ◌<◌, ◌≤◌, Bool, true, false, List, [], ◌∷◌, ◌++◌, length, map, if◌then◌else◌, is_some, refl, sym, ap, ◌∙◌, subst, append_assoc, arith, length-append, eq-eqb}
 use Rattle.std.proofs.lemmas.Option.{slice_get-map}
-use Rattle.std.specs.Option.{option_map_or}
 use Rattle.std.specs.Prelude.{Option, None, Some, option_and_then, option_map, slice_get, IfSome, IsSomeAnd}
-use Rattle.source.specs.declared.place.Place.{Place}
 use Rattle.source.specs.declared.token.Span.{Span}
 use Rattle.names.specs.Declarations.{first_among}
 use Rattle.names.specs.Program.{Program}
@@ -17,7 +15,7 @@ use Rattle.program.specs.Methods.{VariableSeen}
 use Rattle.program.specs.declared.kind as held
 use Rattle.program.specs.declared.method.Role.{Role}
 use Rattle.program.specs.declared.number.VarId.{VarId}
-use Rattle.resolving.specs.Locals.{Local, Frame, local_named, number_of, closed, forget, forgotten, same_last}
+use Rattle.resolving.specs.Locals.{Local, Frame, local_named, number_of, closed}
 use Rattle.program.specs.Lists.{Each}
 use Rattle.program.specs.Scopes as scopes
 use Rattle.program.specs.Scopes.{LeadsOut, IsLocalBehind, outer_of}

@@ -1,6 +1,5 @@
 -- Values that variables and parts of blocks take.
 use Rattle.std.proofs.Common.{◌≡◌, ℕ, Bool, true, false, not, List, [], ◌++◌, length, sym, refl, ◌∙◌, subst, ◌⊎◌, inl, inr}
-use Rattle.std.proofs.lemmas.Option.{slice_get_within}
 use Rattle.std.specs.Option.{option_map_or}
 use Rattle.std.specs.Prelude.{Option, None, Some, option_map, slice_get, IsSomeAnd}
 use Rattle.std.proofs.lemmas.Bool.{not-true}
