@@ -1,5 +1,6 @@
 -- What a search for `*/` finds.
-use Rattle.std.proofs.Common.{◌≡◌, ℕ, zero, suc, ◌+◌, ◌<◌, List, [], ◌∷◌, length, get_or, Some, None, sym, ◌∙◌, ap, subst, arith}
+use Rattle.std.proofs.Common.{◌≡◌, ℕ, zero, suc, ◌+◌, ◌<◌, List, [], ◌∷◌, length, get_or, Some, None, ⊎_elim, sym, ◌∙◌, ap, subst, arith}
+use Rattle.std.proofs.lemmas.Bool.{cases_lt}
 use Rattle.source.specs.Cutting.{IsFirstPiece}
 use Rattle.source.specs.Faults.{IsOpenComment}
 use Rattle.source.proofs.BlockLemmas.{first_block, open_block}
@@ -8,7 +9,7 @@ use Rattle.bstr.specs.Find.{FindsNeedle, OccursAt}
 abbrev pub closing : List ℕ
 closing = 42 ∷ 47 ∷ []
 
-occurs : (bs : List ℕ) (k : ℕ) → suc k < length bs → get_or bs k 0 ≡ 42 → get_or bs (suc k) 0 ≡ 47 → OccursAt bs closing k
+pub occurs : (bs : List ℕ) (k : ℕ) → suc k < length bs → get_or bs k 0 ≡ 42 → get_or bs (suc k) 0 ≡ 47 → OccursAt bs closing k
 occurs bs k within star slash = record { fits = omega arith; reads = reads }
   where
     reads : (j : ℕ) → j < 2 → get_or bs (k + j) 0 ≡ get_or closing j 0
@@ -45,3 +46,10 @@ block_found rest bs needle k e is h =
 pub block_open : (rest bs needle : List ℕ) → rest ≡ 47 ∷ 42 ∷ bs → needle ≡ closing → FindsNeedle bs needle 0 None → IsOpenComment rest
 block_open rest bs needle e is h =
     subst IsOpenComment (sym e) (open_block bs (found_none bs (subst (λ n. FindsNeedle bs n 0 None) is h)))
+
+-- that it stands nowhere before a place, nor at that place
+pub none_yet : (bs : List ℕ) (i : ℕ) → ((j : ℕ) → j < i → OccursAt bs closing j → ⊥) → (get_or bs i 0 ≡ 42 → get_or bs (i + 1) 0 ≡ 47 → ⊥) → (j : ℕ) → j < i + 1 → OccursAt bs closing j → ⊥
+none_yet bs i none here j lt h = ⊎_elim (λ less. none j less h) (λ le. not_here (omega (arith, lt, le))) (cases_lt j i)
+  where
+    not_here : j ≡ i → ⊥
+    not_here is = here (ap (λ n. get_or bs n 0) (omega (arith, is)) ∙ h.reads 0 (omega arith)) (ap (λ n. get_or bs (n + 1) 0) (sym is) ∙ h.reads 1 (omega arith))
