@@ -1,15 +1,21 @@
 -- What contracts declare, in a row.
-use Rattle.std.proofs.Common.{◌≡◌, ℕ, List, [], ◌∷◌, ◌++◌, map, refl, sym, ap, ◌∙◌, append_assoc}
+use Rattle.std.proofs.Common.{◌≡◌, ◌≤◌, ℕ, List, [], ◌∷◌, ◌++◌, length, map, refl, sym, ap, ◌∙◌, append_assoc, arith}
 use Rattle.std.specs.List.{flat_map}
-use Rattle.std.proofs.lemmas.List.{map-append}
+use Rattle.std.specs.Option.{option_map_or}
+use Rattle.std.proofs.lemmas.List.{length-append, map-append}
+use Rattle.std.proofs.lemmas.Option.{slice_get_past}
+use Rattle.source.specs.declared.token.Span.{Span}
 use Rattle.tree.specs.Trees.{ItemTree, DefinitionTree, Contract, Struct, Class, ContractTree, contract_of, contracts_of}
 use Rattle.names.specs.Declarations.{names_of_contracts, counted_states, states_of}
 use Rattle.names.specs.Findings.{all_counted_states}
+use Rattle.names.specs.Found.{limit_passed}
+use Rattle.names.specs.Listed.{past_limit}
 use Rattle.names.specs.Outlines.{outlined_states}
 use Rattle.names.specs.Scopes.{AllMembers, AreMembers, AreDeclared, declared_among}
 use Rattle.names.specs.declared.members.Declared.{Declared}
 use Rattle.names.specs.declared.members.Members.{Members}
 use Rattle.names.specs.declared.members.Members.TheVariants as members
+use Rattle.names.proofs.MeantLemmas.{names_counted}
 
 one_declared : (text : List ℕ) (d : DefinitionTree) (m : Members) (cs : List ContractTree) (ds : List Declared) → AreMembers text d m → AreDeclared text cs ds → AreDeclared text (contract_of d ++ cs) (declared_among m ++ ds)
 one_declared text (Contract c) (members.Contract d) cs ds h all = (h, all)
@@ -62,3 +68,22 @@ all_names text items ms all = map_within (λ (d : Declared). d.outline.name) dec
 -- the names at which their states are counted
 pub all_states : (text : List ℕ) (items : List ItemTree) (ms : List Members) → AllMembers text items ms → flat_map (λ m. flat_map (λ (d : Declared). counted_states (outlined_states d.outline)) (declared_among m)) ms ≡ all_counted_states (contracts_of items)
 all_states text items ms all = flat_within (λ (d : Declared). counted_states (outlined_states d.outline)) declared_among ms ∙ states_are text (contracts_of items) (flat_map declared_among ms) (all_declared text items ms all)
+
+counts_are : (text : List ℕ) (cs : List ContractTree) (ds : List Declared) → AreDeclared text cs ds → length (flat_map (λ (d : Declared). d.counted.all.items) ds) ≡ length (all_counted_states cs)
+counts_are text [] [] all = refl
+counts_are text [] (d ∷ ds) all = absurd all
+counts_are text (c ∷ cs) [] all = absurd all
+counts_are text (c ∷ cs) (d ∷ ds) all =
+    let code = length-append d.counted.all.items (flat_map (λ (e : Declared). e.counted.all.items) ds) in
+    let here = ap length all.0.all ∙ names_counted (states_of c) in
+    let counted = length-append (counted_states (states_of c)) (all_counted_states cs) in
+    let rest = counts_are text cs ds all.1 in
+    omega (arith, code, here, counted, rest)
+
+-- as many states are in scope as are counted
+pub many_states : (text : List ℕ) (items : List ItemTree) (ms : List Members) → AllMembers text items ms → length (flat_map (λ m. flat_map (λ (d : Declared). d.counted.all.items) (declared_among m)) ms) ≡ length (all_counted_states (contracts_of items))
+many_states text items ms all = ap length (flat_within (λ (d : Declared). d.counted.all.items) declared_among ms) ∙ counts_are text (contracts_of items) (flat_map declared_among ms) (all_declared text items ms all)
+
+-- none of so few names is past the limit
+pub none_past : (most : ℕ) (names : List Span) → length names ≤ most → past_limit most names ≡ []
+none_past most names few = ap (λ o. option_map_or (λ name. limit_passed name ∷ []) o []) (slice_get_past names most few)

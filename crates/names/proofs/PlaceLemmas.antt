@@ -15,7 +15,7 @@ use Rattle.names.proofs.BehindLemmas.{single_at, singles}
 
 -- the named state at a place, among all
 pub named_there : (text : List ℕ) (c : ContractTree) (d : Declared) (name : Span) (place : ℕ) → IsDeclared text c d → first_among text (names_of_states (states_of c)) name ≡ Some place
-    → slice_get d.named.items place ≡ place_among text (states_of c) name
+    → slice_get d.counted.named.items place ≡ place_among text (states_of c) name
 named_there text c d name place h found =
     let states : List StateTree = states_of c in
     let words = words_at text (names_of_states states) in
@@ -24,4 +24,4 @@ named_there text c d name place h found =
     let lt : place < length states = omega (arith, below, size) in
     let many = ap length h.named ∙ singles (λ b. length (counted_states b)) [] states in
     let value = ap (λ l. get_or l place 0) h.named ∙ single_at (λ b. length (counted_states b)) [] states place 0 lt in
-    slice_get-get_or d.named.items place 0 (omega (arith, lt, many)) ∙ ap Some value ∙ sym (ap (option_map (λ k. length (counted_states (take k states)))) found)
+    slice_get-get_or d.counted.named.items place 0 (omega (arith, lt, many)) ∙ ap Some value ∙ sym (ap (option_map (λ k. length (counted_states (take k states)))) found)

@@ -18,6 +18,7 @@ use Rattle.names.specs.Findings.{all_counted_states, counted_findings, definitio
 use Rattle.names.specs.Found.{Adds, limit_passed}
 use Rattle.names.specs.Listed.{past_limit, twice_among}
 use Rattle.names.specs.Methods.{items_findings}
+use Rattle.names.specs.Numbered.{names_in, places_named}
 use Rattle.names.specs.Outlines.{outlined_messages, outlined_states}
 use Rattle.names.specs.Program.{Program}
 use Rattle.names.specs.Ready.{IsReady, all_resolved, declared_in, declared_messages, declared_states, resolved_declared}
@@ -91,6 +92,8 @@ one_ready p c d one none =
     record {
       messages = subst (λ l. IsTable (words_at p.text (names_of_messages l)) d.messages) (sym one.outline.messages) one.messages;
       states = subst (λ l. IsTable (words_at p.text (names_of_states l)) d.states) (sym one.outline.states) one.states;
+      all = one.all ∙ ap (flat_map names_in) (sym one.outline.states);
+      named = one.named ∙ ap places_named (sym one.outline.states);
       clean = ap (λ l. findings l (outlined_states d.outline)) one.outline.messages ∙ ap (findings (messages_of c)) one.outline.states ∙ clean_edges p c none;
     }
 

@@ -3,6 +3,7 @@ use Rattle.std.specs.Prelude.{◌≡◌, ℕ, List, [], ◌∷◌, length}
 use Rattle.std.specs.List.{flat_map}
 use Rattle.names.specs.Declarations.{names_of_messages, names_of_states, counted_states}
 use Rattle.names.specs.ContractFindings.{state_findings}
+use Rattle.names.specs.Numbered.{names_in, places_named}
 use Rattle.names.specs.Outlines.{outlined_messages, outlined_states}
 use Rattle.program.specs.Parts.{ContractSeen}
 use Rattle.names.specs.Resolution.{each_behind, resolved_contract}
@@ -12,10 +13,12 @@ use Rattle.names.specs.Scopes.{declared_among}
 use Rattle.names.specs.declared.members.Declared.{Declared}
 use Rattle.names.specs.declared.members.Members.{Members}
 
--- the tables are those of what is declared, and nothing is wrong with the names in its edges
+-- the tables and the states are those of what is declared, and nothing is wrong with the names in its edges
 pub record IsReady (text : List ℕ) (d : Declared) : Type 0 where
   pub messages : IsTable (words_at text (names_of_messages (outlined_messages d.outline))) d.messages
   pub states : IsTable (words_at text (names_of_states (outlined_states d.outline))) d.states
+  pub all : d.counted.all.items ≡ flat_map names_in (outlined_states d.outline)
+  pub named : d.counted.named.items ≡ places_named (outlined_states d.outline)
   pub clean : flat_map (state_findings text (names_of_messages (outlined_messages d.outline))
       (names_of_states (outlined_states d.outline))) (outlined_states d.outline) ≡ []
 

@@ -1,13 +1,14 @@
 -- The names of a program, as the code has them.
 use Rattle.std.specs.Prelude.{◌≡◌, ℕ, List, [], ◌∷◌, map, Option, None, Some, option_map}
 use Rattle.std.specs.BTreeMap.{get}
+use Rattle.std.specs.List.{flat_map}
 use Rattle.std.specs.Ordering.{nat_cmp}
 use Rattle.tree.specs.declared.types.Type.TheVariants as type
 use Rattle.tree.specs.Trees.{ItemTree, DefinitionTree, Contract, Struct, Class, ContractTree}
 use Rattle.tree.specs.Trees.{StructTree, ClassTree, MethodTree, item_tree, method_tree}
 use Rattle.names.specs.Declarations.{names_of_messages, names_of_states, messages_of, states_of}
 use Rattle.names.specs.Kinds.{type_kind}
-use Rattle.names.specs.Numbered.{places_named}
+use Rattle.names.specs.Numbered.{names_in, places_named}
 use Rattle.names.specs.Outlines.{IsOutline}
 use Rattle.names.specs.Program.{Program, item_names}
 use Rattle.tables.specs.Tables.{IsTable}
@@ -23,12 +24,13 @@ use Rattle.names.specs.declared.noted.NotedKinds.{NotedKinds}
 use Rattle.names.specs.declared.scope.Scope.{Scope}
 use Rattle.names.specs.declared.starts.Callee.{Callee}
 
--- what a contract declares, the tables of it, and where its named states stand among all
+-- what a contract declares, the tables of it, all of its states, and where its named ones stand among them
 pub record IsDeclared (text : List ℕ) (c : ContractTree) (d : Declared) : Type 0 where
   pub outline : IsOutline c d.outline
   pub messages : IsTable (words_at text (names_of_messages (messages_of c))) d.messages
   pub states : IsTable (words_at text (names_of_states (states_of c))) d.states
-  pub named : d.named.items ≡ places_named (states_of c)
+  pub all : d.counted.all.items ≡ flat_map names_in (states_of c)
+  pub named : d.counted.named.items ≡ places_named (states_of c)
 
 -- the fields of a struct, and the table of them
 pub record AreFields (text : List ℕ) (s : StructTree) (f : Fields) : Type 0 where

@@ -9,7 +9,7 @@ ghost use Rattle.names.specs.Found.{Adds};
 ghost use Rattle.names.specs.Program.{Program};
 ghost use Rattle.names.specs.Scopes.{IsScope, IsDeclared, declared_among};
 
-use crate::counted::all_counted;
+use crate::counted::{all_counted, are_few};
 use crate::judging::{judge_limit, judge_twice};
 use crate::members::{Declared, Members};
 use crate::message_types::judge_messages;
@@ -47,6 +47,9 @@ pub(crate) fn judge_counted(
 {
     let names = contract_names(alloc, &scope.members)?;
     judge_limit(alloc, MOST_CONTRACTS, &names, found)?;
+    if are_few(&scope.members, MOST_STATES) {
+        return Ok(());
+    }
     let counted = all_counted(alloc, &scope.members)?;
     judge_limit(alloc, MOST_STATES, &counted, found)
 }

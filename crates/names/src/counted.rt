@@ -1,6 +1,6 @@
 //! The names at which states are counted.
 
-ghost use Rattle.std.specs.Prelude.{◌≡◌, ◌++◌, map, OnOk, IfOk};
+ghost use Rattle.std.specs.Prelude.{◌≡◌, ◌≤◌, ◌↔◌, ◌++◌, length, map, IsTrue, OnOk, IfOk};
 ghost use Rattle.std.specs.List.{flat_map};
 ghost use Rattle.tree.specs.Trees.{path_tree, state_tree};
 ghost use Rattle.names.specs.Declarations.{unnamed_of, counted_states};
@@ -24,6 +24,30 @@ pub(crate) fn all_counted(alloc: Global, items: &[Members<'_>]) -> Result<Vec<Sp
         add_counted(&mut names, item)?;
     }
     Ok(names)
+}
+
+/// Whether the contracts among these have no more than so many states.
+pub(crate) fn are_few(items: &[Members<'_>], most: usize) -> bool
+    ensures { IsTrue result ↔ (length (flat_map (λ m. flat_map (λ d. d.counted.all.items) (declared_among m)) items.now) ≤ most) }
+{
+    let mut left = most;
+    for item in items {
+        match left.checked_sub(state_count(item)) {
+            Some(rest) => left = rest,
+            None => return false,
+        }
+    }
+    true
+}
+
+/// How many states the contract has that an item is, if it is one.
+fn state_count(item: &Members<'_>) -> usize
+    ensures { result ≡ length (flat_map (λ d. d.counted.all.items) (declared_among item.now)) }
+{
+    match item {
+        Members::Contract(declared) => declared.counted.all.len(),
+        _ => 0,
+    }
 }
 
 fn add_counted(names: &mut Vec<Span>, item: &Members<'_>) -> Result<(), AllocError>

@@ -22,7 +22,8 @@ pub(crate) fn edges_of(alloc: Global, meaning: &Meaning<'_, '_>) -> Result<Vec<E
         (states_in meaning.now) ≡ [] }
     ensures { IfOk result (λ edges. edges.items ≡ edges_from (meanings meaning.now) meaning.now.states_before (states_in meaning.now)) }
 {
-    let mut edges = Vec::new(alloc);
+    // Most states have one edge, and a list that grows is copied.
+    let mut edges = Vec::with_capacity(alloc, meaning.declared.counted.all.len())?;
     for (i, state) in meaning.declared.outline.states.iter().enumerate() {
         let number = meaning.states_before + meaning.named[i] as u32;
         add_paths(meaning, number, paths(state), &mut edges)?;

@@ -11,20 +11,19 @@ ghost use Rattle.names.specs.Values.{message_written, method_named};
 
 use crate::outline::Outline;
 use crate::starts::{Callee, startable_methods};
-use crate::state_names::state_names;
+use crate::state_names::{StateNames, state_names};
 use source::Span;
 use std::alloc::{AllocError, Global};
 use tables::Table;
 use tree::{Class, Contract, Definition, Field, Message, Method, Struct};
 
-/// What a contract declares, where each of its names is declared first, and where its named states stand among all of its
-/// states.
+/// What a contract declares, where each of its names is declared first, and the names at which its states are counted.
 #[derive(Drop)]
 pub(crate) struct Declared<'a> {
     pub(crate) outline: Outline<'a>,
     pub(crate) messages: Table<'a>,
     pub(crate) states: Table<'a>,
-    pub(crate) named: Vec<usize>,
+    pub(crate) counted: StateNames,
 }
 
 /// The fields of a struct, and where each of their names is declared first.
@@ -120,12 +119,12 @@ impl<'a> Declared<'a> {
         let states = outline.state_names(alloc)?;
         let messages = Table::of(alloc, text, &messages)?;
         let states = Table::of(alloc, text, &states)?;
-        let named = state_names(alloc, &outline.states)?.named;
+        let counted = state_names(alloc, &outline.states)?;
         Ok(Declared {
             outline,
             messages,
             states,
-            named,
+            counted,
         })
     }
 
@@ -140,9 +139,9 @@ impl<'a> Declared<'a> {
 
     /// Where the named state at this place stands among all of its states.
     pub(crate) fn named_place(&self, place: usize) -> Option<usize>
-        ensures { result ≡ slice_get self.now.named.items place }
+        ensures { result ≡ slice_get self.now.counted.named.items place }
     {
-        self.named.get(place).copied()
+        self.counted.named.get(place).copied()
     }
 }
 

@@ -21,7 +21,6 @@ use crate::meaning::Meaning;
 use crate::members::{Declared, Members};
 use crate::numbering::{number_messages, number_states};
 use crate::scope::Scope;
-use crate::state_names::state_names;
 use program::{Contract, Resolved, StateId};
 use source::Memory;
 use std::alloc::Global;
@@ -144,17 +143,22 @@ fn resolve_contract(
     ensures { IfOk result (λ c. contract_seen c ≡ resolved_declared text.now messages_before states_before declared.now) }
 {
     let outline = &declared.outline;
-    let names = state_names(alloc, &outline.states)?;
     let messages = number_messages(alloc, text, &outline.messages, messages_before)?;
     let mut printed = String::new(alloc);
     let labels = Labels::of(alloc, text, declared, &mut printed)?;
-    let states = number_states(alloc, &labels, &mut printed, &names.all, states_before)?;
+    let states = number_states(
+        alloc,
+        &labels,
+        &mut printed,
+        &declared.counted.all,
+        states_before,
+    )?;
     let meaning = Meaning {
         text,
         declared,
         messages_before,
         states_before,
-        named: &names.named,
+        named: &declared.counted.named,
     };
     let edges = edges_of(alloc, &meaning)?;
     Ok(Contract {
