@@ -39,6 +39,16 @@ def comment(n):
     return '/*' + ('* ' + 'y' * 77 + '\n') * n + '*/'
 
 
+def line_comments(n):
+    """n comments to the end of their line, of 79 bytes each."""
+    return ('// ' + 'x' * 76 + '\n') * n
+
+
+def short_comments(n):
+    """n comments with nothing in them."""
+    return '/**/' * n
+
+
 def declared_twice(n):
     """n messages of one name, and n states of one name."""
     return 'contract B { ' + 'in message M();' * n + 'state S: ;' * n + '}'
@@ -84,6 +94,28 @@ def methods(n):
     count = min(4096, n)
     calls = ''.join('M%d(b); ' % k for k in range(n // count))
     return 'class K {\n' + ''.join('static void M%d(bool b) { %s}\n' % (k, calls) for k in range(count)) + '}\n'
+
+
+def expressions(n):
+    """n sums of products and elements, with a test and a sign behind each, eight to a method."""
+    parts = ' + '.join('a * %d - v[a + %d]' % (k, k) for k in range(6))
+    work = ('r = ' + parts + '; if (r < a && (b || r != 3)) { v[r] = -a; }\n') * 8
+    one = 'static int F%d(int a, bool b, int[] in ExHeap v) { int r;\n' + work + 'return r; }\n'
+    return 'class K {\n' + ''.join(one % k for k in range(max(1, n // 8))) + '}\n'
+
+
+def turns(n):
+    """n blocks that are freed on both ways of a test, with a loop of a send and a switch behind each, eight to a method."""
+    contract = 'contract B { in message Ask(); out message Tell(); state S: Ask? -> Tell! -> S; }\nrep struct D { int n; }\n'
+    block = '{ D* in ExHeap p = new[ExHeap] D(); if (b) { delete p; } else { p.n = 1; delete p; } }\n'
+    loop = 'while (b) { i.SendAsk(); switch receive { case i.Tell(): break; case i.ChannelClosed(): break; } }\n'
+    one = 'static void F%d(bool b, B.Imp:S i) {\n' + (block + loop) * 8 + '}\n'
+    return contract + 'class K {\n' + ''.join(one % k for k in range(max(1, n // 8))) + '}\n'
+
+
+def short_statements(n):
+    """n statements that read a field."""
+    return in_method('int k;\n' + 'k=p.n;' * n)
 
 
 def unknown_names(n):
@@ -242,8 +274,8 @@ def many_rows(n):
     return 'rep struct D { int n; }\nclass K {\n' + ''.join(one % k for k in range(max(1, n // 32))) + '}\n'
 
 
-LOADS = [path, ring, named_states, messages, contracts_256, comment, declared_twice, long_names,
-         statements, else_ifs, long_sum, deep_parentheses, deep_blocks, methods,
+LOADS = [path, ring, named_states, messages, contracts_256, comment, line_comments, short_comments, declared_twice, long_names,
+         statements, short_statements, else_ifs, long_sum, deep_parentheses, deep_blocks, methods, expressions, turns,
          unknown_names, variables_twice, variables, cases, blocks_of_variables, starts, long_types]
 CHECKED = [reads, small_methods, scalars, many_variables, ways, loops, returns,
            messages_with_cases, sends, endpoints_in_a_switch, calls_with_endpoints, contracts_of_1900_states, many_rows]

@@ -1,0 +1,175 @@
+//! Names and types: finds what each name stands for, and gives all findings of the stage.
+mod bodies;
+mod calls;
+mod channels;
+mod contracts;
+mod expressions;
+mod table;
+mod types;
+
+pub use contracts::{Contract, Edge, State};
+
+use crate::report::{Findings, Name};
+use crate::tree::{self, ItemBody, Program};
+use table::Table;
+use types::Type;
+
+const MOST_CONTRACTS: usize = 256;
+const MOST_METHODS: usize = 4096;
+
+#[derive(Clone, Copy)]
+pub enum ItemNumber {
+    Contract(usize),
+    Struct(usize),
+    Class(usize),
+}
+
+/// A parameter of a message or method; `claims` is true where what is given is given away.
+#[derive(Clone, Copy)]
+pub struct Parameter {
+    pub typed: Type,
+    pub in_heap: bool,
+    pub claims: bool,
+}
+
+pub struct Struct<'a> {
+    pub field_names: Table<'a, u32>,
+    pub fields: Vec<Type>,
+}
+
+/// The methods of a class are numbered through the whole program.
+pub struct Class<'a> {
+    pub method_names: Table<'a, u32>,
+}
+
+/// A method without a result is void.
+pub struct Method<'a> {
+    pub node: &'a tree::Method<'a>,
+    pub class: usize,
+    pub result: Option<Type>,
+    pub parameters: Vec<Parameter>,
+}
+
+pub struct Tables<'a> {
+    pub text: &'a [u8],
+    pub items: Table<'a, ItemNumber>,
+    pub contracts: Vec<Contract<'a>>,
+    pub structs: Vec<Struct<'a>>,
+    pub classes: Vec<Class<'a>>,
+    pub methods: Vec<Method<'a>>,
+}
+
+/// The items of a program by their kinds.
+#[derive(Default)]
+struct Nodes<'a> {
+    contracts: Vec<&'a tree::Contract<'a>>,
+    structs: Vec<&'a tree::Struct<'a>>,
+    classes: Vec<&'a tree::Class<'a>>,
+    names: Vec<(Name<'a>, ItemNumber)>,
+}
+
+impl<'a> Nodes<'a> {
+    fn new(program: &'a Program<'a>) -> Nodes<'a> {
+        let mut nodes = Nodes::default();
+        for item in &program.items {
+            match &item.body {
+                ItemBody::Contract(node) => {
+                    nodes.names.push((node.name, ItemNumber::Contract(nodes.contracts.len())));
+                    nodes.contracts.push(node);
+                }
+                ItemBody::Struct(node) => {
+                    nodes.names.push((node.name, ItemNumber::Struct(nodes.structs.len())));
+                    nodes.structs.push(node);
+                }
+                ItemBody::Class(node) => {
+                    nodes.names.push((node.name, ItemNumber::Class(nodes.classes.len())));
+                    nodes.classes.push(node);
+                }
+            }
+        }
+        nodes
+    }
+}
+
+impl<'a> Tables<'a> {
+    /// The tables in which other names are looked up: everything but the types of parameters and results, and the edges.
+    fn declare(nodes: &mut Nodes<'a>, findings: &mut Findings<'a>) -> Tables<'a> {
+        if let Some(node) = nodes.contracts.get(MOST_CONTRACTS) {
+            findings.limit_passed(node.name);
+        }
+        let items = Table::new(std::mem::take(&mut nodes.names), findings);
+        let mut contracts = Vec::with_capacity(nodes.contracts.len());
+        let mut states = 0;
+        for node in &nodes.contracts {
+            let contract = contracts::declare(node, states, findings);
+            states += contract.states.len();
+            contracts.push(contract);
+        }
+        let structs = nodes.structs.iter().map(|node| Struct::declare(node, findings)).collect();
+        let mut methods = 0;
+        let classes = nodes.classes.iter().map(|node| Class::declare(node, &mut methods, findings)).collect();
+        Tables { text: findings.text, items, contracts, structs, classes, methods: Vec::new() }
+    }
+
+    pub fn word(&self, name: Name) -> &'a [u8] {
+        name.word(self.text)
+    }
+
+    pub fn parameter(&self, written: &tree::Type, claims: bool, findings: &mut Findings<'a>) -> Parameter {
+        Parameter { typed: self.written(written, findings), in_heap: types::in_heap(written), claims }
+    }
+
+    fn method(&self, node: &'a tree::Method<'a>, class: usize, findings: &mut Findings<'a>) -> Method<'a> {
+        let result = node.result.as_ref().map(|written| self.written(written, findings));
+        let parameter = |it: &tree::Parameter| self.parameter(&it.written, it.claims, findings);
+        Method { node, class, result, parameters: node.parameters.iter().map(parameter).collect() }
+    }
+
+    /// Adds what looks names up in the tables: the types of parameters and results, and the edges.
+    fn complete(&mut self, nodes: &Nodes<'a>, findings: &mut Findings<'a>) {
+        for (class, node) in nodes.classes.iter().enumerate() {
+            for method in &node.methods {
+                let method = self.method(method, class, findings);
+                self.methods.push(method);
+            }
+        }
+        if let Some(method) = self.methods.get(MOST_METHODS) {
+            findings.limit_passed(method.node.name);
+        }
+        for (number, node) in nodes.contracts.iter().enumerate() {
+            let parameters = contracts::parameters(node, self, findings);
+            let contract = &mut self.contracts[number];
+            for (message, parameters) in contract.messages.iter_mut().zip(parameters) {
+                message.parameters = parameters;
+            }
+            contract.connect(node, findings);
+        }
+    }
+}
+
+impl<'a> Struct<'a> {
+    fn declare(node: &tree::Struct<'a>, findings: &mut Findings<'a>) -> Struct<'a> {
+        let field_names = Table::new(node.fields.iter().map(|field| field.name).zip(0..), findings);
+        Struct { field_names, fields: node.fields.iter().map(|field| Type::Scalar(field.scalar)).collect() }
+    }
+}
+
+impl<'a> Class<'a> {
+    fn declare(node: &tree::Class<'a>, methods: &mut u32, findings: &mut Findings<'a>) -> Class<'a> {
+        let before = *methods;
+        *methods += node.methods.len() as u32;
+        let names = node.methods.iter().map(|method| method.name).zip(before..);
+        Class { method_names: Table::new(names, findings) }
+    }
+}
+
+/// The contracts in numbers. They can be trusted only where nothing was found.
+pub fn resolve<'a>(program: &'a Program<'a>, findings: &mut Findings<'a>) -> Vec<Contract<'a>> {
+    let mut nodes = Nodes::new(program);
+    let mut tables = Tables::declare(&mut nodes, findings);
+    tables.complete(&nodes, findings);
+    for method in &tables.methods {
+        bodies::check(&tables, method, findings);
+    }
+    tables.contracts
+}
