@@ -113,8 +113,7 @@ impl<'t, 'a> Body<'t, 'a> {
         self.arguments(&call.arguments, &method.parameters);
         let wrong = match (standing, method.result) {
             (Standing::Start, result) => {
-                let lends = method.parameters.iter().any(|parameter| parameter.in_heap && !parameter.claims);
-                if result.is_some() || lends {
+                if result.is_some() || method.borrows {
                     let text = format!("{} cannot be started", self.findings.shown(call.name));
                     self.findings.add(call.name.place, Code::N07, text);
                 }

@@ -48,6 +48,8 @@ pub struct Method<'a> {
     pub class: usize,
     pub result: Option<Type>,
     pub parameters: Vec<Parameter>,
+    /// Whether a block that it is given is only lent. Found once, so that a start takes no time in the parameters.
+    pub borrows: bool,
 }
 
 pub struct Tables<'a> {
@@ -122,7 +124,9 @@ impl<'a> Tables<'a> {
     fn method(&self, node: &'a tree::Method<'a>, class: usize, findings: &mut Findings<'a>) -> Method<'a> {
         let result = node.result.as_ref().map(|written| self.written(written, findings));
         let parameter = |it: &tree::Parameter| self.parameter(&it.written, it.claims, findings);
-        Method { node, class, result, parameters: node.parameters.iter().map(parameter).collect() }
+        let parameters: Vec<_> = node.parameters.iter().map(parameter).collect();
+        let borrows = parameters.iter().any(|parameter| parameter.in_heap && !parameter.claims);
+        Method { node, class, result, parameters, borrows }
     }
 
     /// Adds what looks names up in the tables: the types of parameters and results, and the edges.
