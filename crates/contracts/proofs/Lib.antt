@@ -2,6 +2,8 @@ pub mod ArcLemmas
 pub mod BoundLemmas
 pub mod CandidateLemmas
 pub mod ChainLemmas
+pub mod CompletionLemmas
+pub mod ComponentLemmas
 pub mod ConditionLemmas
 pub mod EndLemmas
 pub mod FoundLemmas
@@ -26,5 +28,6 @@ pub mod SignLemmas
 pub mod SoundLemmas
 pub mod SourceLemmas
 pub mod SpanLemmas
+pub mod StepLemmas
 pub mod WalkLemmas
 pub mod WholeLemmas

@@ -13,6 +13,7 @@ pub mod Parts
 pub mod Peeling
 pub mod Positions
 pub mod Reached
+pub mod Searches
 pub mod Sounds
 pub mod Spans
 pub mod TwoEnds

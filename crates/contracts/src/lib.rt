@@ -3,6 +3,7 @@
 
 mod arcs;
 mod bounds;
+mod components;
 mod conditions;
 mod drawing;
 mod ends;

@@ -1,0 +1,297 @@
+-- What a search for components keeps as it completes the last component.
+use Rattle.std.proofs.Common.{◌≡◌, ℕ, zero, suc, ◌+◌, ◌-◌, ◌*◌, ◌<◌, ◌≤◌, List, [], ◌∷◌, ◌++◌, length, take, drop, get_or, cond, sym, refl, ap, ◌∙◌, subst, arith, inl, inr, ⊎_elim, Bool, true, false}
+use Rattle.std.specs.Prelude.{◌⊎◌, Contains, count_by}
+use Rattle.std.specs.Global.{Vec}
+use Rattle.std.specs.Vec.{with_items}
+use Rattle.std.proofs.Math.ListN.{set, length-set}
+use Rattle.std.proofs.lemmas.List.{drop_all, drop_more, get_or-append_right, get_or-drop, get_or-set_other, get_or-set_same, get_or-take, get_or_append_left, get_or_default, length-append, length-drop, length-take-le, length_push, set_past, take-append-le, with_items_is}
+use Rattle.std.proofs.lemmas.List.Elements.{Contains-append_left, Contains-append_right, Contains-push, Contains-push_cases}
+use Rattle.std.proofs.lemmas.List.Sums.{sum_by-set}
+use Rattle.std.proofs.lemmas.Bool.{cases_eq, cases_lt}
+use Rattle.contracts.specs.declared.arcs.Arc.{Arc}
+use Rattle.contracts.specs.declared.components.Status.{Status}
+use Rattle.contracts.specs.declared.components.Status.TheVariants.{New, Pending, Complete}
+use Rattle.contracts.specs.Arcs.{arc}
+use Rattle.contracts.specs.Graphs.{HasEdge, OnRing, Walk}
+use Rattle.contracts.specs.Numbering.{TellsRings}
+use Rattle.contracts.specs.Searches.{AreFound, IsSearch, Leads, NotBefore, is_new, status_at, written}
+use Rattle.contracts.proofs.ComponentLemmas.{pending_same, pending_there, rising_last, rising_prefix, status_cases}
+use Rattle.contracts.proofs.PartLemmas.{at_place}
+use Rattle.contracts.proofs.RingLemmas.{contains_either}
+use Rattle.contracts.proofs.Rings.{walk_on}
+
+pub written_length : {A : Type 0} (xs : List A) (vs : List ℕ) (x : A) → length (written xs vs x) ≡ length xs
+written_length xs [] x = refl
+written_length xs (v ∷ vs) x = written_length (set xs v x) vs x ∙ length-set xs v x
+
+-- what is written at a place stays there
+written_stays : {A : Type 0} (xs : List A) (vs : List ℕ) (x d : A) (v : ℕ) → v < length xs → get_or xs v d ≡ x → get_or (written xs vs x) v d ≡ x
+written_stays xs [] x d v lt is = is
+written_stays xs (u ∷ us) x d v lt is = written_stays (set xs u x) us x d v (let e = length-set xs u x in omega (arith, lt, e))
+    (⊎_elim
+    (λ same. subst (λ k. get_or (set xs k x) v d ≡ x) same (get_or-set_same xs v x d lt))
+    (λ other. get_or-set_other xs u v x d other ∙ is)
+    (cases_eq v u))
+
+pub written_at : {A : Type 0} (xs : List A) (vs : List ℕ) (x d : A) (v : ℕ) → v < length xs → Contains vs v → get_or (written xs vs x) v d ≡ x
+written_at xs [] x d v lt c = let none = c.1 in absurd (omega (arith, none))
+written_at xs (u ∷ us) x d v lt c = contains_either (get_or (written (set xs u x) us x) v d ≡ x) u v us c
+    (λ same. written_stays (set xs u x) us x d v (let e = length-set xs u x in omega (arith, lt, e)) (subst (λ k. get_or (set xs k x) v d ≡ x) (sym same) (get_or-set_same xs v x d lt)))
+    (λ later. written_at (set xs u x) us x d v (let e = length-set xs u x in omega (arith, lt, e)) later)
+
+pub written_other : {A : Type 0} (xs : List A) (vs : List ℕ) (x d : A) (v : ℕ) → (Contains vs v → ⊥) → get_or (written xs vs x) v d ≡ get_or xs v d
+written_other xs [] x d v none = refl
+written_other xs (u ∷ us) x d v none =
+    written_other (set xs u x) us x d v (λ later. none (let lt = later.1 in (suc later.0, omega (arith, lt), later.2)))
+    ∙ get_or-set_other xs u v x d (λ same. none (0, omega arith, sym same))
+
+-- a vector in which an item was written at each of the places
+pub vec_written : {A : Type 0} (v : Vec A) (now ws : List A) (places part : List ℕ) (x : A) → ws ≡ written now places x → now ≡ v.items → places ≡ part → (with_items v ws).items ≡ written v.items part x
+vec_written v now ws places part x is same parts =
+    with_items_is v ws (ap length is ∙ written_length now places x ∙ ap length same ∙ sym v.ok.0) ∙ is
+    ∙ ap (λ l. written l places x) same ∙ ap (λ l. written v.items l x) parts
+
+-- no more vertices are new
+pub written_fewer : (statuses : List Status) (vs : List ℕ) (x : Status) → is_new x ≡ false → count_by is_new (written statuses vs x) ≤ count_by is_new statuses
+written_fewer statuses [] x old = omega arith
+written_fewer statuses (v ∷ vs) x old =
+    let f : Status → ℕ = λ s. cond (is_new s) 1 0 in
+    let rest = written_fewer (set statuses v x) vs x old in
+    ⊎_elim
+    (λ lt. let e = sum_by-set f statuses v x New lt in
+    let none : f x ≡ 0 = ap (λ b. cond b 1 0) old in
+    omega (arith, rest, e, none))
+    (λ past. let e = ap (count_by is_new) (set_past statuses v x past) in omega (arith, rest, e))
+    (cases_lt v (length statuses))
+
+pub contains_take : (xs ys : List ℕ) (x i : ℕ) → length xs ≤ i → i ≤ length (xs ++ ys) → Contains xs x → Contains (take i (xs ++ ys)) x
+contains_take xs ys x i le in_i (k, lt, e) =
+    let size = length-take-le i (xs ++ ys) in_i in
+    (k, omega (arith, lt, le, size), get_or-take i (xs ++ ys) k x (omega (arith, lt, le)) ∙ get_or_append_left xs ys x k lt ∙ e)
+
+-- a walk there and another one back make a ring
+ring_of : (graph : List (List ℕ)) (v w : ℕ) → (v ≡ w → ⊥) → Leads graph v w → Leads graph w v → OnRing graph v
+ring_of graph v w differ (zero, walk) back = absurd (differ walk)
+ring_of graph v w differ (suc n, walk) back =
+    (n + back.0, subst (λ k. Walk graph v v k) (let e : suc n + back.0 ≡ suc (n + back.0) = omega arith in e) (walk_on graph (suc n) back.0 v w v walk back.1))
+
+-- the last component begins at a place, and no arc from there on is left
+module _ (graph : List (List ℕ)) (statuses : List Status) (pending rest : List ℕ) (arcs : List Arc) (rings : List Bool) (order : List ℕ) (place : ℕ) (on : Bool)
+    (none : (a : Arc) → Contains arcs a → a.from < place)
+    (several : 1 < length (drop place pending) → on ≡ true)
+    (one : (v : ℕ) → drop place pending ≡ v ∷ [] → on ≡ true → HasEdge graph v v)
+    (itself : (v : ℕ) → drop place pending ≡ v ∷ [] → HasEdge graph v v → on ≡ true)
+    (s : IsSearch graph statuses pending (rest ++ place ∷ []) arcs) (f : AreFound graph statuses rings order) where
+  within : place ≤ length pending
+  within = s.within place (Contains-push rest place)
+
+  size : length (take place pending) ≡ place
+  size = length-take-le place pending within
+
+  before : (i : ℕ) → i < place → get_or (take place pending) i 0 ≡ get_or pending i 0
+  before i lt = get_or-take place pending i 0 lt
+
+  -- the vertices of the component
+  part_in : (i : ℕ) → place ≤ i → i < length pending → Contains (drop place pending) (get_or pending i 0)
+  part_in i le lt =
+      let long = length-drop place pending in
+      let at = get_or-drop place pending (i - place) 0 in
+      let same : place + (i - place) ≡ i = omega (arith, le) in
+      let in_drop : i - place < length (drop place pending) = omega (arith, le, lt, long) in
+      subst (Contains (drop place pending)) (at ∙ ap (λ k. get_or pending k 0) same) (at_place (drop place pending) (i - place) 0 in_drop)
+
+  in_part : (v : ℕ) → Contains (drop place pending) v → (i : ℕ) × (place ≤ i) × (i < length pending) × (get_or pending i 0 ≡ v)
+  in_part v (k, lt, e) =
+      let long = length-drop place pending in
+      (place + k, omega arith, omega (arith, lt, long), sym (get_or-drop place pending k 0) ∙ get_or_default (drop place pending) k 0 v lt ∙ e)
+
+  abbrev more : List Status
+  more = written statuses (drop place pending) Complete
+
+  now_complete : (i : ℕ) → place ≤ i → i < length pending → status_at more (get_or pending i 0) ≡ Complete
+  now_complete i le lt = written_at statuses (drop place pending) Complete New (get_or pending i 0) (pending_there statuses (get_or pending i 0) i (s.held i lt)) (part_in i le lt)
+
+  still : (v : ℕ) (x : Status) → status_at statuses v ≡ x → ((p : ℕ) → x ≡ Pending p → p < place) → status_at more v ≡ x
+  still v x is early = written_other statuses (drop place pending) Complete New v
+      (λ c. let r = in_part v c in
+      let le = r.1 in
+      let lt = early r.0 (sym is ∙ ap (status_at statuses) (sym r.3) ∙ s.held r.0 r.2) in
+      absurd (omega (arith, le, lt)))
+      ∙ is
+
+  back_pending : (v p : ℕ) → status_at more v ≡ Pending p → (status_at statuses v ≡ Pending p) × (p < place)
+  back_pending v p is = ⊎_elim
+      (λ new. let e = still v New new (λ q wrong. cc) in absurd (cc))
+      (λ met. ⊎_elim
+      (λ q. ⊎_elim
+      (λ less. let e = still v (Pending q.0) q.1 (λ k same. let at = pending_same q.0 k same in omega (arith, at, less)) in
+      let same = pending_same q.0 p (sym e ∙ is) in
+      (q.1 ∙ ap Pending same, omega (arith, same, less)))
+      (λ more_q. let r = s.placed v q.0 q.1 in
+      let e = now_complete q.0 more_q r.0 in
+      let e2 = ap (status_at more) r.1 in absurd (cc))
+      (cases_lt q.0 place))
+      (λ complete. let e = still v Complete complete (λ q wrong. cc) in absurd (cc))
+      met)
+      (status_cases (status_at statuses v))
+
+  back_complete : (v : ℕ) → status_at more v ≡ Complete → (status_at statuses v ≡ Complete) ⊎ ((p : ℕ) × (place ≤ p) × (p < length pending) × (get_or pending p 0 ≡ v))
+  back_complete v is = ⊎_elim
+      (λ new. let e = still v New new (λ q wrong. cc) in absurd (cc))
+      (λ met. ⊎_elim
+      (λ q. ⊎_elim
+      (λ less. let e = still v (Pending q.0) q.1 (λ k same. let at = pending_same q.0 k same in omega (arith, at, less)) in absurd (cc))
+      (λ more_q. let r = s.placed v q.0 q.1 in inr (q.0, more_q, r.0, r.1))
+      (cases_lt q.0 place))
+      (λ complete. inl complete)
+      met)
+      (status_cases (status_at statuses v))
+
+  complete_still : (v : ℕ) → status_at statuses v ≡ Complete → status_at more v ≡ Complete
+  complete_still v is = still v Complete is (λ p wrong. cc)
+
+  -- where the arcs of the component lead
+  successor : (p w : ℕ) → place ≤ p → p < length pending → HasEdge graph (get_or pending p 0) w
+      → (status_at statuses w ≡ Complete) ⊎ ((j : ℕ) × (place ≤ j) × (j < length pending) × (get_or pending j 0 ≡ w))
+  successor p w le lt edge = ⊎_elim
+      (λ left. let less = none (arc p w) left in absurd (omega (arith, less, le)))
+      (λ done. ⊎_elim
+      (λ complete. inl complete)
+      (λ here. let r = s.placed w here.0 here.1 in inr (here.0, here.2 place (Contains-push rest place) le, r.0, r.1))
+      done)
+      (s.settled p w lt edge)
+
+  -- each leads to each
+  together : (i j : ℕ) → i < length pending → place ≤ j → j < length pending → Leads graph (get_or pending i 0) (get_or pending j 0)
+  together i j in_i le in_j = s.joined i j in_i in_j (λ b c _. let last = rising_last rest place b s.bounds_rise c in omega (arith, last, le))
+
+  pub completed_search : IsSearch graph more (take place pending) rest arcs
+  completed_search = record {
+    long = written_length statuses (drop place pending) Complete ∙ s.long;
+    placed = λ v p is. let r = back_pending v p is in
+        let lt = r.1 in
+        (omega (arith, lt, size), before p lt ∙ (s.placed v p r.0).1);
+    held = λ p lt. let less : p < place = omega (arith, lt, size) in
+        ap (status_at more) (before p less) ∙ still (get_or pending p 0) (Pending p) (s.held p (omega (arith, less, within))) (λ q same. let e = pending_same p q same in omega (arith, e, less));
+    joined = λ i j in_i in_j h. let less_i : i < place = omega (arith, in_i, size) in
+        let less_j : j < place = omega (arith, in_j, size) in
+        subst (λ x. Leads graph x (get_or (take place pending) j 0)) (sym (before i less_i)) (subst (Leads graph (get_or pending i 0)) (sym (before j less_j))
+        (s.joined i j (omega (arith, less_i, within)) (omega (arith, less_j, within))
+        (λ b c le. ⊎_elim (λ old. h b old le) (λ same. absurd (omega (arith, same, le, less_i))) (Contains-push_cases rest place b c))));
+    settled = λ i w in_i edge. let less : i < place = omega (arith, in_i, size) in ⊎_elim
+        (λ left. inl left)
+        (λ done. inr (⊎_elim
+        (λ complete. inl (complete_still w complete))
+        (λ here. ⊎_elim
+        (λ lower. inr (here.0, still w (Pending here.0) here.1 (λ q same. let e = pending_same here.0 q same in omega (arith, e, lower)),
+        λ b c le. here.2 b (Contains-append_left rest (place ∷ []) b c) le))
+        (λ upper. let r = s.placed w here.0 here.1 in inl (subst (λ x. status_at more x ≡ Complete) r.1 (now_complete here.0 upper r.0)))
+        (cases_lt here.0 place))
+        done))
+        (s.settled i w (omega (arith, less, within)) (subst (λ x. HasEdge graph x w) (before i less) edge));
+    left = λ a c. let less = none a c in (omega (arith, less, size), subst (λ x. HasEdge graph x a.to) (sym (before a.from less)) (s.left a c).1);
+    arcs_rise = s.arcs_rise;
+    bounds_rise = rising_prefix rest (place ∷ []) s.bounds_rise;
+    within = λ b c. let le = rising_last rest place b s.bounds_rise (Contains-append_left rest (place ∷ []) b c) in omega (arith, le, size);
+    first = λ some. ⊎_elim (λ old. old) (λ same. absurd (omega (arith, same, some, size))) (Contains-push_cases rest place 0 (s.first (omega (arith, some, size, within))));
+  }
+
+  closed_walk : (n u v : ℕ) → status_at statuses u ≡ Complete → Walk graph u v n → status_at statuses v ≡ Complete
+  closed_walk zero u v is walk = sym (ap (status_at statuses) walk) ∙ is
+  closed_walk (suc n) u v is walk = closed_walk n walk.0 v (f.closed u walk.0 is walk.1) walk.2
+
+  -- of two places of the component the vertices differ
+  differ : (i j : ℕ) → i < length pending → j < length pending → (i ≡ j → ⊥) → get_or pending i 0 ≡ get_or pending j 0 → ⊥
+  differ i j in_i in_j other same = other (pending_same i j (sym (s.held i in_i) ∙ ap (status_at statuses) same ∙ s.held j in_j))
+
+  tells_on : (p : ℕ) → place ≤ p → p < length pending → TellsRings graph (get_or pending p 0) on
+  tells_on p le lt = ⊎_elim
+      (λ many. record {
+        yes = λ _. ⊎_elim
+            (λ first. round (place + 1) (λ same. absurd (omega (arith, same, first))) (omega arith) (omega (arith, many, long)))
+            (λ later. round place (λ same. later same) (omega arith) (omega (arith, le, lt)))
+            (cases_eq p place);
+        no = λ _. several many;
+      })
+      (λ few. let first : p ≡ place = omega (arith, few, long, le, lt) in
+      let part = alone first few in
+      record {
+        yes = λ is. (0, (get_or pending p 0, one (get_or pending p 0) part is, refl));
+        no = λ ring. itself (get_or pending p 0) part (⊎_elim
+            (λ complete. let back = closed_walk ring.0 ring.1.0 (get_or pending p 0) complete ring.1.2 in
+            let here = s.held p lt in absurd (cc))
+            (λ j. let same : j.0 ≡ p = let a = j.1 in let b = j.2 in omega (arith, a, b, few, long, first) in
+            subst (HasEdge graph (get_or pending p 0)) (sym j.3 ∙ ap (λ k. get_or pending k 0) same) ring.1.1)
+            (successor p ring.1.0 le lt ring.1.1));
+      })
+      (cases_lt 1 (length (drop place pending)))
+    where
+      long : length (drop place pending) ≡ length pending - place
+      long = length-drop place pending
+
+      round : (q : ℕ) → (p ≡ q → ⊥) → place ≤ q → q < length pending → OnRing graph (get_or pending p 0)
+      round q other le_q in_q = ring_of graph (get_or pending p 0) (get_or pending q 0) (differ p q lt in_q other) (together p q lt le_q in_q) (together q p in_q le lt)
+
+      alone : p ≡ place → length (drop place pending) ≤ 1 → drop place pending ≡ get_or pending p 0 ∷ []
+      alone first few =
+          drop_more pending place 0 (omega (arith, first, lt))
+          ∙ ap (λ l. get_or pending place 0 ∷ l) (drop_all (place + 1) pending (omega (arith, few, long)))
+          ∙ ap (λ k. get_or pending k 0 ∷ []) (sym first)
+
+  -- the vertices of the component come after what they lead to
+  listed_after : (i w : ℕ) → i < length (order ++ drop place pending) → HasEdge graph (get_or (order ++ drop place pending) i 0) w
+      → Contains (take i (order ++ drop place pending)) w ⊎ Leads graph w (get_or (order ++ drop place pending) i 0)
+  listed_after i w in_i edge = ⊎_elim
+      (λ old. let at = get_or_append_left order (drop place pending) 0 i old in
+      let same : take i (order ++ drop place pending) ≡ take i order = take-append-le i order (drop place pending) (omega (arith, old)) in
+      ⊎_elim
+      (λ earlier. inl (subst (λ l. Contains l w) (sym same) earlier))
+      (λ leads. inr (subst (Leads graph w) (sym at) leads))
+      (f.after i w old (subst (λ x. HasEdge graph x w) at edge)))
+      (λ new. let all = length-append order (drop place pending) in
+      let long = length-drop place pending in
+      let in_p : place + (i - length order) < length pending = omega (arith, in_i, new, all, long) in
+      let at = get_or-append_right order (drop place pending) (length order) i 0 refl new ∙ get_or-drop place pending (i - length order) 0 in
+      ⊎_elim
+      (λ complete. inl (contains_take order (drop place pending) w i new (omega (arith, in_i)) (f.listed w complete)))
+      (λ j. inr (subst (λ x. Leads graph x (get_or (order ++ drop place pending) i 0)) j.3 (subst (Leads graph (get_or pending j.0 0)) (sym at)
+      (together j.0 (place + (i - length order)) j.2 (omega arith) in_p))))
+      (successor (place + (i - length order)) w (omega arith) in_p (subst (λ x. HasEdge graph x w) at edge)))
+      (cases_lt i (length order))
+
+  pub completed_found : AreFound graph more (written rings (drop place pending) on) (order ++ drop place pending)
+  completed_found = record {
+    long = written_length rings (drop place pending) on ∙ f.long;
+    closed = λ v w is edge. ⊎_elim
+        (λ old. complete_still w (f.closed v w old edge))
+        (λ p. ⊎_elim
+        (λ complete. complete_still w complete)
+        (λ j. subst (λ x. status_at more x ≡ Complete) j.3 (now_complete j.0 j.1 j.2))
+        (successor p.0 w p.1 p.2 (subst (λ x. HasEdge graph x w) (sym p.3) edge)))
+        (back_complete v is);
+    tells = λ v is. ⊎_elim
+        (λ old. subst (TellsRings graph v) (sym (written_other rings (drop place pending) on true v
+        (λ c. let r = in_part v c in let here = s.held r.0 r.2 in let same = ap (status_at statuses) r.3 in absurd (cc)))) (f.tells v old))
+        (λ p. subst (TellsRings graph v) (sym (written_at rings (drop place pending) on true v (subst (λ x. x < length rings) p.3 (let a = s.long in let b = f.long in let lt = pending_there statuses (get_or pending p.0 0) p.0 (s.held p.0 p.2) in omega (arith, lt, a, b))) (subst (Contains (drop place pending)) p.3 (part_in p.0 p.1 p.2))))
+        (subst (λ x. TellsRings graph x on) p.3 (tells_on p.0 p.1 p.2)))
+        (back_complete v is);
+    listed = λ v is. ⊎_elim
+        (λ old. Contains-append_left order (drop place pending) v (f.listed v old))
+        (λ p. Contains-append_right order (drop place pending) v (subst (Contains (drop place pending)) p.3 (part_in p.0 p.1 p.2)))
+        (back_complete v is);
+    after = listed_after;
+  }
+
+  pub completed_met : (v : ℕ) → (status_at statuses v ≡ New → ⊥) → status_at more v ≡ New → ⊥
+  completed_met v met is = ⊎_elim
+      (λ new. met new)
+      (λ other. ⊎_elim
+      (λ q. ⊎_elim
+      (λ less. let e = still v (Pending q.0) q.1 (λ k same. let at = pending_same q.0 k same in omega (arith, at, less)) in absurd (cc))
+      (λ upper. let r = s.placed v q.0 q.1 in
+      let e = now_complete q.0 upper r.0 in
+      let e2 = ap (status_at more) r.1 in absurd (cc))
+      (cases_lt q.0 place))
+      (λ complete. let e = complete_still v complete in absurd (cc))
+      other)
+      (status_cases (status_at statuses v))

@@ -1,0 +1,64 @@
+use Rattle.std.proofs.Common.{◌≡◌, ◌++◌, ◌∷◌, [], ◌∙◌, ◌+◌, ℕ, length, map, sym, ap, subst, arith}
+use Rattle.std.proofs.Math.ListN.{set}
+use Rattle.std.proofs.lemmas.List.{length-append, length-map, length_push}
+use Rattle.std.specs.Prelude.{count_by}
+use Rattle.contracts.specs.declared.components.Status.TheVariants.{Pending}
+use Rattle.contracts.specs.Arcs.{arc}
+use Rattle.contracts.specs.Graphs.{rows, row_at}
+use Rattle.contracts.specs.Searches.{AreFound, is_new}
+use Rattle.contracts.proofs.ComponentLemmas.{entered, entered_found, fewer_new, search_same}
+use Rattle.contracts.proofs.StepLemmas.{enter_fewer, row_short}
+use Rattle.contracts.proofs.components.Search.enter.Goals as goal
+use Rattle.contracts.proofs.components.Search.enter.Goals.{In_ok-add_arcs}
+
+-- the place is the number of pending vertices
+place_is : (c : In_ok-add_arcs) → c.len-place.result ≡ length c.args.self.now.pending.items
+place_is c = c.len-place.ensures ∙ c.args.self.now.pending.ok.0
+
+arcs_are : (c : In_ok-add_arcs) → c.add_arcs.new.arcs.items ≡ c.args.self.now.arcs.items ++ map (arc (length c.args.self.now.pending.items)) (row_at (rows c.args.graph.now) c.args.v)
+arcs_are c =
+    let old = c.args.self.now.arcs.items in
+    c.in_ok-add_arcs.ensures ∙ ap (λ k. old ++ map (arc k) c.row.result.now) (place_is c)
+    ∙ ap (λ r. old ++ map (arc (length c.args.self.now.pending.items)) r) c.row.ensures
+
+pub returns-clause-kept : goal.returns-clause-kept
+returns-clause-kept c =
+    let graph = rows c.args.graph.now in
+    let old = c.args.self.now in
+    let statuses = old.statuses.items in
+    let pending = old.pending.items in
+    let bounds = old.bounds.items in
+    let arcs = old.arcs.items in
+    let v = c.args.v in
+    let n = length pending in
+    let place = place_is (goal.at.returns-clause-kept c).In_ok-add_arcs in
+    let search = c.requires.kept.search in
+    let is = ap (λ k. set statuses v (Pending k)) place in
+    record {
+      search = search_same graph (set statuses v (Pending n)) _ (pending ++ v ∷ []) _ (bounds ++ n ∷ []) _ (arcs ++ map (arc n) (row_at graph v)) _
+          is c.in_ok-push.ensures.items (c.in_ok-push-2.ensures.items ∙ ap (λ k. bounds ++ k ∷ []) place) (arcs_are (goal.at.returns-clause-kept c).In_ok-add_arcs)
+          (entered graph statuses pending bounds arcs v c.requires.v c.requires.new c.requires.leads search);
+      found = subst (λ l. AreFound graph l old.rings.items old.order.items) (sym is) (entered_found graph statuses pending bounds arcs v c.requires.v c.requires.new c.requires.leads search old.rings.items old.order.items c.requires.kept.found);
+    }
+
+pub returns-clause-fewer : goal.returns-clause-fewer
+returns-clause-fewer c =
+    let graph = rows c.args.graph.now in
+    let old = c.args.self.now in
+    let statuses = old.statuses.items in
+    let pending = old.pending.items in
+    let bounds = old.bounds.items in
+    let arcs = old.arcs.items in
+    let v = c.args.v in
+    let row = row_at graph v in
+    let place = place_is (goal.at.returns-clause-fewer c).In_ok-add_arcs in
+    let one : count_by is_new (set statuses v (Pending c.len-place.result)) + 1 ≡ count_by is_new statuses
+    = subst (λ k. count_by is_new (set statuses v (Pending k)) + 1 ≡ count_by is_new statuses) (sym place) (fewer_new graph statuses pending bounds arcs v c.requires.v c.requires.new c.requires.leads c.requires.kept.search) in
+    let less = enter_fewer (count_by is_new statuses) (count_by is_new (set statuses v (Pending c.len-place.result))) (length c.args.graph.now.items.items) (length arcs) (length bounds) (length row)
+        one (row_short c.args.graph.now v c.requires.v) in
+    let more_arcs = ap length (arcs_are (goal.at.returns-clause-fewer c).In_ok-add_arcs) in
+    let size = length-append arcs (map (arc (length pending)) row) in
+    let row_size = length-map row (arc (length pending)) in
+    let more_bounds = ap length c.in_ok-push-2.ensures.items in
+    let bounds_size = length_push bounds c.len-place.result in
+    omega (arith, less, more_arcs, size, row_size, more_bounds, bounds_size)

@@ -1,0 +1,25 @@
+use Rattle.std.proofs.Common.{◌≡◌, ◌<◌, ℕ, length, arith}
+use Rattle.contracts.specs.declared.components.Status.TheVariants.{Complete}
+use Rattle.contracts.specs.Graphs.{rows}
+use Rattle.contracts.specs.Searches.{status_at}
+use Rattle.contracts.proofs.ComponentLemmas.{all_complete}
+use Rattle.contracts.proofs.components.components_of.Goals as goal
+use Rattle.contracts.proofs.components.components_of.Goals.{After-drop-search-5}
+
+complete_at : (c : After-drop-search-5) (v : ℕ) → v < length (rows c.args.graph.now) → status_at c.loop-start.search.statuses.items v ≡ Complete
+complete_at c v lt =
+    let now = c.loop-start.search in
+    let kept = c.loop-start.invariant in
+    let past = c.loop-start-test.false in
+    let size = c.len-start-end.ensures in
+    all_complete (rows c.args.graph.now) now.statuses.items now.pending.items now.bounds.items now.arcs.items kept.kept.search kept.idle v (kept.met v (omega (arith, past, size, lt)))
+
+pub returns-clause-rings : goal.returns-clause-rings
+returns-clause-rings c =
+    let found = c.loop-start.invariant.kept.found in
+    record { long = found.long; tells = λ v lt. found.tells v (complete_at c v lt) }
+
+pub returns-clause-order : goal.returns-clause-order
+returns-clause-order c =
+    let found = c.loop-start.invariant.kept.found in
+    record { all = λ v lt. found.listed v (complete_at c v lt); after = found.after }

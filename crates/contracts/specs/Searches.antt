@@ -1,0 +1,105 @@
+-- A search for strongly connected components, and what it keeps.
+use Rattle.std.specs.Prelude.{◌≡◌, ℕ, ◌+◌, ◌*◌, ◌<◌, ◌≤◌, List, [], ◌∷◌, ◌++◌, length, map, take, Contains}
+use Rattle.std.specs.Prelude.{Bool, true, false, ◌⊎◌, get_or, count_by, slice_set}
+use Rattle.contracts.specs.declared.arcs.Arc.{Arc}
+use Rattle.contracts.specs.declared.rows.Rows.{Rows}
+use Rattle.contracts.specs.declared.components.Search.{Search}
+use Rattle.contracts.specs.declared.components.Status.{Status}
+use Rattle.contracts.specs.declared.components.Status.TheVariants.{New, Pending, Complete}
+use Rattle.contracts.specs.Arcs.{arc}
+use Rattle.contracts.specs.Graphs.{HasEdge, Walk}
+use Rattle.contracts.specs.Numbering.{TellsRings}
+
+abbrev pub status_at : List Status → ℕ → Status
+status_at statuses v = get_or statuses v New
+
+abbrev pub is_new : Status → Bool
+is_new New = true
+is_new (Pending place) = false
+is_new Complete = false
+
+-- no list of numbers falls
+abbrev pub AreRising : List ℕ → Type 0
+AreRising xs = (j k : ℕ) → j ≤ k → k < length xs → get_or xs j 0 ≤ get_or xs k 0
+
+abbrev pub Leads : List (List ℕ) → ℕ → ℕ → Type 0
+Leads graph v w = (n : ℕ) × Walk graph v w n
+
+-- the second place is in the component of the first, or in a later one
+abbrev pub NotBefore : List ℕ → ℕ → ℕ → Type 0
+NotBefore bounds i j = (b : ℕ) → Contains bounds b → b ≤ i → b ≤ j
+
+-- the vertex is in a complete component, or not before that of the place
+abbrev pub IsSettled : List Status → List ℕ → ℕ → ℕ → Type 0
+IsSettled statuses bounds i w = (status_at statuses w ≡ Complete)
+    ⊎ ((j : ℕ) × (status_at statuses w ≡ Pending j) × NotBefore bounds i j)
+
+-- The pending vertices have their places, and each leads to all that are not before its component. What their arcs lead to is settled
+-- but for the arcs that are left.
+pub record IsSearch (graph : List (List ℕ)) (statuses : List Status) (pending bounds : List ℕ) (arcs : List Arc) : Type 0 where
+  pub long : length statuses ≡ length graph
+  pub placed : (v p : ℕ) → status_at statuses v ≡ Pending p → (p < length pending) × (get_or pending p 0 ≡ v)
+  pub held : (p : ℕ) → p < length pending → status_at statuses (get_or pending p 0) ≡ Pending p
+  pub joined : (i j : ℕ) → i < length pending → j < length pending → NotBefore bounds i j
+      → Leads graph (get_or pending i 0) (get_or pending j 0)
+  pub settled : (i w : ℕ) → i < length pending → HasEdge graph (get_or pending i 0) w
+      → Contains arcs (arc i w) ⊎ IsSettled statuses bounds i w
+  pub left : (a : Arc) → Contains arcs a → (a.from < length pending) × HasEdge graph (get_or pending a.from 0) a.to
+  pub arcs_rise : AreRising (map (λ a. a.from) arcs)
+  pub bounds_rise : AreRising bounds
+  pub within : (b : ℕ) → Contains bounds b → b ≤ length pending
+  pub first : 0 < length pending → Contains bounds 0
+
+-- each vertex of the list has its successors before it, but for those that lead back to it
+abbrev pub ComeAfter : List (List ℕ) → List ℕ → Type 0
+ComeAfter graph order = (i w : ℕ) → i < length order → HasEdge graph (get_or order i 0) w
+    → Contains (take i order) w ⊎ Leads graph w (get_or order i 0)
+
+-- No arc leaves the complete components, it is known which of their vertices lie on a ring, and all are listed.
+pub record AreFound (graph : List (List ℕ)) (statuses : List Status) (rings : List Bool) (order : List ℕ) : Type 0 where
+  pub long : length rings ≡ length graph
+  pub closed : (v w : ℕ) → status_at statuses v ≡ Complete → HasEdge graph v w → status_at statuses w ≡ Complete
+  pub tells : (v : ℕ) → status_at statuses v ≡ Complete → TellsRings graph v (get_or rings v true)
+  pub listed : (v : ℕ) → status_at statuses v ≡ Complete → Contains order v
+  pub after : ComeAfter graph order
+
+pub record IsKept (graph : List (List ℕ)) (s : Search) : Type 0 where
+  pub search : IsSearch graph s.statuses.items s.pending.items s.bounds.items s.arcs.items
+  pub found : AreFound graph s.statuses.items s.rings.items s.order.items
+
+-- no component is begun
+abbrev pub IsIdle : Search → Type 0
+IsIdle s = s.pending.items ≡ []
+
+abbrev pub IsMet : Search → ℕ → Type 0
+IsMet s v = status_at s.statuses.items v ≡ New → ⊥
+
+-- each vertex that was met still is
+abbrev pub StayMet : Search → Search → Type 0
+StayMet old new = (v : ℕ) → IsMet old v → IsMet new v
+
+-- a bound of the steps that are left: to meet a vertex, to follow an arc, to complete a component
+abbrev pub steps_left : Rows ℕ → Search → ℕ
+steps_left graph s = count_by is_new s.statuses.items * (length graph.items.items + 2) + length s.arcs.items + length s.bounds.items
+
+-- the last arc that is left leads here, and from the last component
+abbrev pub IsNextEnd : List Arc → List ℕ → ℕ → Type 0
+IsNextEnd arcs bounds end = (rest : List Arc) × ((from : ℕ) × (arcs ≡ rest ++ arc from end ∷ [])
+    × ((b : ℕ) → Contains bounds b → b ≤ from))
+
+-- the bounds up to a place
+pub record AreBoundsTo (place : ℕ) (old new : List ℕ) : Type 0 where
+  pub right : (b : ℕ) → Contains new b → Contains old b × (b ≤ place)
+  pub all : (b : ℕ) → Contains old b → b ≤ place → Contains new b
+  pub rise : AreRising new
+  pub fewer : length new ≤ length old
+
+-- the list with the item at each of the places
+abbrev pub written : {A : Type 0} → List A → List ℕ → A → List A
+written xs [] x = xs
+written xs (v ∷ vs) x = written (slice_set xs v x) vs x
+
+-- all vertices, each with its successors before it but for those that lead back to it
+pub record IsFinishing (graph : List (List ℕ)) (order : List ℕ) : Type 0 where
+  pub all : (v : ℕ) → v < length graph → Contains order v
+  pub after : ComeAfter graph order

@@ -1,0 +1,226 @@
+//! The strongly connected components of a graph: which vertices lie on a ring, and an order in which a component comes after
+//! those that it leads to.
+//!
+//! The search is Gabow's: "Path-based depth-first search for strong and biconnected components" (2000). The components that are
+//! not complete are parts of one list of vertices. An arc to an earlier part joins all parts from there on.
+
+ghost use Rattle.std.specs.Prelude.{◌≡◌, ◌++◌, ◌<◌, ◌≤◌, ℕ, [], ◌∷◌, length, get_or, map, All, Contains, IfOk, IfSome, IfNone, OnOk, true};
+ghost use Rattle.contracts.specs.Arcs.{arc};
+ghost use Rattle.contracts.specs.Graphs.{rows, HasEdge, InRange};
+ghost use Rattle.contracts.specs.Numbering.{AreRings};
+ghost use Rattle.contracts.specs.Searches.{AreBoundsTo, AreRising, IsFinishing, IsIdle, IsKept, IsMet, IsNextEnd};
+ghost use Rattle.contracts.specs.Searches.{Leads, StayMet, status_at, steps_left, written};
+ghost use Rattle.contracts.specs.declared.arcs.Arc.{Arc};
+
+use crate::arcs::Arc;
+use crate::rows::Rows;
+use std::alloc::{AllocError, Global};
+
+/// Which vertices lie on a ring, and all vertices in the order in which their components were completed.
+#[derive(Drop)]
+pub struct Components {
+    pub rings: Vec<bool>,
+    pub order: Vec<usize>,
+}
+
+/// How far the search has come with a vertex.
+#[derive(Clone, Copy)]
+enum Status {
+    /// The search has not met it.
+    New,
+    /// Its component is not complete. This is its place among such vertices.
+    Pending(usize),
+    /// Its component is complete.
+    Complete,
+}
+
+/// A search for components.
+#[derive(Drop)]
+struct Search {
+    statuses: Vec<Status>,
+    /// The vertices whose components are not complete, in the order in which they were met.
+    pending: Vec<usize>,
+    /// The places at which these components begin.
+    bounds: Vec<usize>,
+    /// The arcs that are left to follow, each from a place among the pending vertices to a vertex.
+    arcs: Vec<Arc>,
+    rings: Vec<bool>,
+    order: Vec<usize>,
+}
+
+/// The components of the graph. The time is linear in its vertices and arcs.
+pub fn components_of(alloc: Global, graph: &Rows<usize>) -> Result<Components, AllocError>
+    requires range { InRange (rows graph.now) }
+    ensures rings { IfOk result (λ found. AreRings (rows graph.now) found.rings.items) }
+    ensures order { IfOk result (λ found. IsFinishing (rows graph.now) found.order.items) }
+{
+    let mut search = Search::new(alloc, graph.len())?;
+    for start in 0..graph.len() {
+        if let Status::New = search.statuses[start] {
+            search.enter(graph, start)?;
+        }
+        search.complete(graph)?;
+    }
+    Ok(Components {
+        rings: search.rings,
+        order: search.order,
+    })
+}
+
+impl Search {
+    ghost use Rattle.std.specs.Prelude.{List};
+
+    /// A search that has met none of so many vertices.
+    fn new(alloc: Global, count: usize) -> Result<Search, AllocError>
+        ensures kept { IfOk result (λ search. (graph : List (List ℕ)) → length graph ≡ count → IsKept graph search) }
+        ensures idle { IfOk result IsIdle }
+    {
+        Ok(Search {
+            statuses: vec![in alloc; Status::New; count]?,
+            pending: Vec::new(alloc),
+            bounds: Vec::new(alloc),
+            arcs: Vec::new(alloc),
+            rings: vec![in alloc; false; count]?,
+            order: Vec::with_capacity(alloc, count)?,
+        })
+    }
+
+    /// Completes all components that are begun.
+    fn complete(&mut self, graph: &Rows<usize>) -> Result<(), AllocError>
+        requires range { InRange (rows graph.now) }
+        requires kept { IsKept (rows graph.now) self.old }
+        ensures kept { OnOk result (IsKept (rows graph.now) self.new) }
+        ensures idle { OnOk result (IsIdle self.new) }
+        ensures met { OnOk result (StayMet self.old self.new) }
+    {
+        'components: while let Some(bound) = self.bounds.last().copied() {
+            match self.next_end(bound) {
+                Some(end) => self.follow(graph, end)?,
+                None => self.complete_last(graph, bound)?,
+            }
+        }
+        Ok(())
+    }
+
+    /// The end of the last arc that is left from the last component, which begins at this place.
+    fn next_end(&self, bound: usize) -> Option<usize>
+        requires last { (b : ℕ) → Contains self.now.bounds.items b → b ≤ bound }
+        requires rise { AreRising (map (λ a. a.from) self.now.arcs.items) }
+        ensures some { IfSome result (λ end. IsNextEnd self.now.arcs.items self.now.bounds.items end) }
+        ensures none { IfNone result ((a : Arc) → Contains self.now.arcs.items a → a.from < bound) }
+    {
+        match self.arcs.last() {
+            Some(arc) if arc.from >= bound => Some(arc.to),
+            _ => None,
+        }
+    }
+
+    /// Looks at the last arc that is left: enters its end, or else takes the arc off.
+    fn follow(&mut self, graph: &Rows<usize>, end: usize) -> Result<(), AllocError>
+        requires range { InRange (rows graph.now) }
+        requires kept { IsKept (rows graph.now) self.old }
+        requires end { IsNextEnd self.old.arcs.items self.old.bounds.items end }
+        ensures kept { OnOk result (IsKept (rows graph.now) self.new) }
+        ensures met { OnOk result (StayMet self.old self.new) }
+        ensures fewer { OnOk result (steps_left graph.now self.new < steps_left graph.now self.old) }
+    {
+        match self.statuses[end] {
+            Status::New => self.enter(graph, end)?,
+            Status::Pending(place) => {
+                join(&mut self.bounds, place);
+                self.arcs.pop();
+            }
+            Status::Complete => {
+                self.arcs.pop();
+            }
+        }
+        Ok(())
+    }
+
+    /// Begins a component with a new vertex, to which all pending ones lead.
+    fn enter(&mut self, graph: &Rows<usize>, v: usize) -> Result<(), AllocError>
+        requires v { v < length (rows graph.now) }
+        requires new { status_at self.old.statuses.items v ≡ Status.New }
+        requires kept { IsKept (rows graph.now) self.old }
+        requires leads { (i : ℕ) → i < length self.old.pending.items
+            → Leads (rows graph.now) (get_or self.old.pending.items i 0) v }
+        ensures kept { OnOk result (IsKept (rows graph.now) self.new) }
+        ensures met { OnOk result (StayMet self.old self.new) }
+        ensures this { OnOk result (IsMet self.new v) }
+        ensures fewer { OnOk result (steps_left graph.now self.new < steps_left graph.now self.old) }
+    {
+        let place = self.pending.len();
+        self.statuses[v] = Status::Pending(place);
+        self.pending.push(v)?;
+        self.bounds.push(place)?;
+        add_arcs(&mut self.arcs, place, graph.row(v))?;
+        Ok(())
+    }
+
+    /// Completes the last component, which begins at this place and from which no arc is left.
+    fn complete_last(&mut self, graph: &Rows<usize>, bound: usize) -> Result<(), AllocError>
+        requires range { InRange (rows graph.now) }
+        requires kept { IsKept (rows graph.now) self.old }
+        requires within { bound ≤ length self.old.pending.items }
+        requires last { (rest : List ℕ) × (self.old.bounds.items ≡ rest ++ bound ∷ []) }
+        requires none { (a : Arc) → Contains self.old.arcs.items a → a.from < bound }
+        ensures kept { OnOk result (IsKept (rows graph.now) self.new) }
+        ensures met { OnOk result (StayMet self.old self.new) }
+        ensures fewer { OnOk result (steps_left graph.now self.new < steps_left graph.now self.old) }
+    {
+        let component = &self.pending[bound..];
+        let on = are_on_ring(graph, component);
+        write_each(&mut self.statuses, component, Status::Complete);
+        write_each(&mut self.rings, component, on);
+        self.order.extend_from_slice(component)?;
+        self.pending.truncate(bound);
+        self.bounds.pop();
+        Ok(())
+    }
+}
+
+/// Adds an arc from a place to each of these vertices.
+fn add_arcs(arcs: &mut Vec<Arc>, from: usize, ends: &[usize]) -> Result<(), AllocError>
+    ensures { OnOk result (arcs.new.items ≡ arcs.old.items ++ map (arc from) ends.now) }
+{
+    for end in ends {
+        arcs.push(Arc { from, to: *end })?;
+    }
+    Ok(())
+}
+
+/// Takes the bounds behind a place off.
+fn join(bounds: &mut Vec<usize>, place: usize)
+    requires { AreRising bounds.old.items }
+    ensures { AreBoundsTo place bounds.old.items bounds.new.items }
+{
+    'bounds: while let Some(bound) = bounds.last().copied() {
+        if bound <= place {
+            return;
+        }
+        bounds.pop();
+    }
+}
+
+/// Whether the vertices of a component lie on a ring: several do, and one does if an arc leads from it to itself.
+fn are_on_ring(graph: &Rows<usize>, component: &[usize]) -> bool
+    requires within { All (λ v. v < length (rows graph.now)) component.now }
+    ensures several { 1 < length component.now → result ≡ true }
+    ensures one { (v : ℕ) → component.now ≡ v ∷ [] → result ≡ true → HasEdge (rows graph.now) v v }
+    ensures itself { (v : ℕ) → component.now ≡ v ∷ [] → HasEdge (rows graph.now) v v → result ≡ true }
+{
+    match component {
+        [v] => graph.row(*v).contains(v),
+        _ => true,
+    }
+}
+
+/// Writes an item to each of the places.
+fn write_each<T: Copy>(items: &mut [T], places: &[usize], item: T)
+    requires { All (λ p. p < length items.old) places.now }
+    ensures { items.new ≡ written items.old places.now item }
+{
+    for place in places {
+        items[*place] = item;
+    }
+}
