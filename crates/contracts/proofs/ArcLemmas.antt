@@ -1,12 +1,11 @@
 -- Arcs, their ends, and the graph that they are.
-use Rattle.std.proofs.Common.{◌≡◌, ◌==◌, ℕ, ◌<◌, List, [], ◌∷◌, ◌++◌, length, map, sym, ap, ◌∙◌, subst, arith, ⊎_elim}
-use Rattle.std.specs.Prelude.{Contains, All, filter}
-use Rattle.std.proofs.lemmas.List.Elements.{All-weaker, All-same, All-filter, All-map, Contains-push_cases, Contains-append_left, Contains-push}
+use Rattle.std.proofs.Common.{◌≡◌, ℕ, ◌<◌, List, [], ◌∷◌, ◌++◌, length, sym, ap, ◌∙◌, subst, arith, ⊎_elim}
+use Rattle.std.specs.Prelude.{Contains, All}
+use Rattle.std.proofs.lemmas.List.Elements.{All-weaker, Contains-push_cases, Contains-append_left, Contains-push}
 use Rattle.contracts.specs.declared.arcs.Arc.{Arc}
 use Rattle.program.specs.declared.contract.Sign.{Sign}
 use Rattle.program.specs.declared.contract.Edge.{Edge}
-use Rattle.contracts.specs.Arcs.{AllWithin, AreRows, AreArcs, Joins, IsDrawn, arc, turned_arc}
-use Rattle.contracts.specs.Numbering.{number_in}
+use Rattle.contracts.specs.Arcs.{AllWithin, AreRows, AreArcs, Joins, IsDrawn, arc}
 use Rattle.contracts.proofs.PartLemmas.{all_from}
 
 -- nothing is in an empty list
@@ -16,17 +15,6 @@ none_in x c = let lt = c.1 in absurd (omega (arith, lt))
 -- arcs begin below the count
 pub starts_within : (n : ℕ) (arcs : List Arc) → AllWithin n arcs → All (λ a. a.from < n) arcs
 starts_within n arcs all = All-weaker (λ a. (a.from < n) × (a.to < n)) (λ a. a.from < n) (λ a both. both.0) arcs all
-
--- arcs between vertices of one number stay below the count
-pub inner_within : (numbers : List ℕ) (arcs inner : List Arc) → inner ≡ filter (λ a. number_in numbers a.from == number_in numbers a.to) arcs → AllWithin (length numbers) arcs → AllWithin (length numbers) inner
-inner_within numbers arcs inner is all =
-    let n = length numbers in
-    All-same (λ a. (a.from < n) × (a.to < n)) inner (filter (λ a. number_in numbers a.from == number_in numbers a.to) arcs) is
-    (All-filter (λ a. number_in numbers a.from == number_in numbers a.to) (λ a. (a.from < n) × (a.to < n)) arcs all)
-
--- turned arcs stay below the count
-pub turned_within : (n : ℕ) (arcs turned : List Arc) → turned ≡ map turned_arc arcs → AllWithin n arcs → AllWithin n turned
-turned_within n arcs turned is all = All-same (λ a. (a.from < n) × (a.to < n)) turned (map turned_arc arcs) is (All-map (λ a. (a.from < n) × (a.to < n)) turned_arc arcs (All-weaker (λ a. (a.from < n) × (a.to < n)) (λ a. (a.to < n) × (a.from < n)) (λ a both. (both.1, both.0)) arcs all))
 
 pub arcs_none : (numbers : List ℕ) (sign : Sign) → AreArcs numbers [] sign []
 arcs_none numbers sign = record { right = λ a c. absurd (none_in a c); all = λ e c s. absurd (none_in e c) }

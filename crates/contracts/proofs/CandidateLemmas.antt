@@ -10,7 +10,7 @@ use Rattle.contracts.specs.Conditions.{FindingParts, IsFault, AreExactly}
 use Rattle.contracts.specs.Parts.{Parts, StateParts, MessageParts}
 use Rattle.contracts.proofs.ArcLemmas.{none_in}
 use Rattle.contracts.proofs.ConditionLemmas.{against, twice, both}
-use Rattle.contracts.proofs.RingLemmas.{contains_head, contains_tail, contains_either}
+use Rattle.contracts.proofs.ListLemmas.{contains_head, contains_tail, contains_either}
 use Rattle.contracts.proofs.RoundLemmas.{round}
 
 -- It can't be that no list has exactly those elements of a list of which P holds, though nothing tells of which it holds. Did

@@ -12,7 +12,7 @@ use Rattle.contracts.specs.Graphs.{row_at}
 use Rattle.contracts.specs.Spans.{AreWithin, cut, start_of}
 use Rattle.contracts.proofs.ArcLemmas.{none_in}
 use Rattle.contracts.proofs.PartLemmas.{contains_map}
-use Rattle.contracts.proofs.RingLemmas.{kept_in, in_kept, made_from}
+use Rattle.contracts.proofs.ListLemmas.{kept_in, in_kept, made_from}
 use Rattle.contracts.proofs.SpanLemmas.{closed_more, cut_more, within_more}
 
 none : Arc

@@ -1,23 +1,23 @@
 -- What a search for components keeps as it completes the last component.
-use Rattle.std.proofs.Common.{◌≡◌, ℕ, zero, suc, ◌+◌, ◌-◌, ◌*◌, ◌<◌, ◌≤◌, List, [], ◌∷◌, ◌++◌, length, take, drop, get_or, cond, sym, refl, ap, ◌∙◌, subst, arith, inl, inr, ⊎_elim, Bool, true, false}
+use Rattle.std.proofs.Common.{◌≡◌, ℕ, zero, suc, ◌+◌, ◌-◌, ◌<◌, ◌≤◌, List, [], ◌∷◌, ◌++◌, length, take, drop, get_or, cond, sym, refl, ap, ◌∙◌, subst, arith, inl, inr, ⊎_elim, Bool, true, false}
 use Rattle.std.specs.Prelude.{◌⊎◌, Contains, count_by}
 use Rattle.std.specs.Global.{Vec}
 use Rattle.std.specs.Vec.{with_items}
 use Rattle.std.proofs.Math.ListN.{set, length-set}
-use Rattle.std.proofs.lemmas.List.{drop_all, drop_more, get_or-append_right, get_or-drop, get_or-set_other, get_or-set_same, get_or-take, get_or_append_left, get_or_default, length-append, length-drop, length-take-le, length_push, set_past, take-append-le, with_items_is}
-use Rattle.std.proofs.lemmas.List.Elements.{Contains-append_left, Contains-append_right, Contains-push, Contains-push_cases}
-use Rattle.std.proofs.lemmas.List.Sums.{sum_by-set}
+use Rattle.std.proofs.lemmas.List.{drop_all, drop_more, get_or-append_right, get_or-drop, get_or-set_other, get_or-set_same, get_or-take, get_or_append_left, get_or_default, length-append, length-drop, length-take-le, set_past, take-append-le, with_items_is}
+use Rattle.std.proofs.lemmas.List.Elements.{All-append, All-drop, Contains-append_left, Contains-append_right, Contains-push, Contains-push_cases}
+use Rattle.std.proofs.lemmas.List.Sums.{sum_by-cons, sum_by-set}
 use Rattle.std.proofs.lemmas.Bool.{cases_eq, cases_lt}
 use Rattle.contracts.specs.declared.arcs.Arc.{Arc}
 use Rattle.contracts.specs.declared.components.Status.{Status}
 use Rattle.contracts.specs.declared.components.Status.TheVariants.{New, Pending, Complete}
 use Rattle.contracts.specs.Arcs.{arc}
 use Rattle.contracts.specs.Graphs.{HasEdge, OnRing, Walk}
-use Rattle.contracts.specs.Numbering.{TellsRings}
-use Rattle.contracts.specs.Searches.{AreFound, IsSearch, Leads, NotBefore, is_new, status_at, written}
-use Rattle.contracts.proofs.ComponentLemmas.{pending_same, pending_there, rising_last, rising_prefix, status_cases}
+use Rattle.contracts.specs.Rings.{TellsRings}
+use Rattle.contracts.specs.Searches.{AreFound, IsSearch, Leads, TellsComponent, is_new, status_at, written}
+use Rattle.contracts.proofs.ComponentLemmas.{pending_same, pending_there, pending_within, rising_last, rising_prefix, status_cases}
 use Rattle.contracts.proofs.PartLemmas.{at_place}
-use Rattle.contracts.proofs.RingLemmas.{contains_either}
+use Rattle.contracts.proofs.ListLemmas.{contains_either}
 use Rattle.contracts.proofs.Rings.{walk_on}
 
 pub written_length : {A : Type 0} (xs : List A) (vs : List ℕ) (x : A) → length (written xs vs x) ≡ length xs
@@ -51,18 +51,34 @@ vec_written v now ws places part x is same parts =
     with_items_is v ws (ap length is ∙ written_length now places x ∙ ap length same ∙ sym v.ok.0) ∙ is
     ∙ ap (λ l. written l places x) same ∙ ap (λ l. written v.items l x) parts
 
--- no more vertices are new
-pub written_fewer : (statuses : List Status) (vs : List ℕ) (x : Status) → is_new x ≡ false → count_by is_new (written statuses vs x) ≤ count_by is_new statuses
-written_fewer statuses [] x old = omega arith
-written_fewer statuses (v ∷ vs) x old =
-    let f : Status → ℕ = λ s. cond (is_new s) 1 0 in
-    let rest = written_fewer (set statuses v x) vs x old in
-    ⊎_elim
+-- as many vertices are new, if none was at these places
+pub written_new : (statuses : List Status) (vs : List ℕ) (x : Status) → is_new x ≡ false → ((v : ℕ) → Contains vs v → is_new (status_at statuses v) ≡ false) → count_by is_new (written statuses vs x) ≡ count_by is_new statuses
+written_new statuses [] x old met = refl
+written_new statuses (v ∷ vs) x old met = ⊎_elim
     (λ lt. let e = sum_by-set f statuses v x New lt in
     let none : f x ≡ 0 = ap (λ b. cond b 1 0) old in
-    omega (arith, rest, e, none))
-    (λ past. let e = ap (count_by is_new) (set_past statuses v x past) in omega (arith, rest, e))
+    let had : f (status_at statuses v) ≡ 0 = ap (λ b. cond b 1 0) (met v (0, omega arith, refl)) in
+    let rest = written_new (set statuses v x) vs x old (λ u c. ⊎_elim
+    (λ same. ap is_new (ap (status_at (set statuses v x)) same ∙ get_or-set_same statuses v x New lt) ∙ old)
+    (λ other. ap is_new (get_or-set_other statuses v u x New other) ∙ met u (let k = c.1 in (suc c.0, omega (arith, k), c.2)))
+    (cases_eq u v)) in
+    omega (arith, e, none, had, rest))
+    (λ past. let same = set_past statuses v x past in
+    ap (λ l. count_by is_new (written l vs x)) same ∙ written_new statuses vs x old (λ u c. met u (let k = c.1 in (suc c.0, omega (arith, k), c.2))))
     (cases_lt v (length statuses))
+  where
+    f : Status → ℕ
+    f s = cond (is_new s) 1 0
+
+-- no vertex is new
+pub none_new : (statuses : List Status) → ((v : ℕ) → v < length statuses → is_new (status_at statuses v) ≡ false) → count_by is_new statuses ≡ 0
+none_new [] all = refl
+none_new (x ∷ xs) all =
+    let f : Status → ℕ = λ s. cond (is_new s) 1 0 in
+    let e : count_by is_new (x ∷ xs) ≡ f x + count_by is_new xs = sum_by-cons f x xs in
+    let first : f x ≡ 0 = ap (λ b. cond b 1 0) (all 0 (omega arith)) in
+    let rest = none_new xs (λ v lt. all (suc v) (omega (arith, lt))) in
+    omega (arith, e, first, rest)
 
 pub contains_take : (xs ys : List ℕ) (x i : ℕ) → length xs ≤ i → i ≤ length (xs ++ ys) → Contains xs x → Contains (take i (xs ++ ys)) x
 contains_take xs ys x i le in_i (k, lt, e) =
@@ -76,11 +92,9 @@ ring_of graph v w differ (suc n, walk) back =
     (n + back.0, subst (λ k. Walk graph v v k) (let e : suc n + back.0 ≡ suc (n + back.0) = omega arith in e) (walk_on graph (suc n) back.0 v w v walk back.1))
 
 -- the last component begins at a place, and no arc from there on is left
-module _ (graph : List (List ℕ)) (statuses : List Status) (pending rest : List ℕ) (arcs : List Arc) (rings : List Bool) (order : List ℕ) (place : ℕ) (on : Bool)
+module _ (graph : List (List ℕ)) (statuses : List Status) (pending rest : List ℕ) (arcs : List Arc) (rings : List Bool) (order : List ℕ) (place : ℕ) (on_ring : Bool)
     (none : (a : Arc) → Contains arcs a → a.from < place)
-    (several : 1 < length (drop place pending) → on ≡ true)
-    (one : (v : ℕ) → drop place pending ≡ v ∷ [] → on ≡ true → HasEdge graph v v)
-    (itself : (v : ℕ) → drop place pending ≡ v ∷ [] → HasEdge graph v v → on ≡ true)
+    (told : TellsComponent graph (drop place pending) on_ring)
     (s : IsSearch graph statuses pending (rest ++ place ∷ []) arcs) (f : AreFound graph statuses rings order) where
   within : place ≤ length pending
   within = s.within place (Contains-push rest place)
@@ -159,7 +173,7 @@ module _ (graph : List (List ℕ)) (statuses : List Status) (pending rest : List
       (λ complete. inl complete)
       (λ here. let r = s.placed w here.0 here.1 in inr (here.0, here.2 place (Contains-push rest place) le, r.0, r.1))
       done)
-      (s.settled p w lt edge)
+      (s.followed p w lt edge)
 
   -- each leads to each
   together : (i j : ℕ) → i < length pending → place ≤ j → j < length pending → Leads graph (get_or pending i 0) (get_or pending j 0)
@@ -178,17 +192,20 @@ module _ (graph : List (List ℕ)) (statuses : List Status) (pending rest : List
         subst (λ x. Leads graph x (get_or (take place pending) j 0)) (sym (before i less_i)) (subst (Leads graph (get_or pending i 0)) (sym (before j less_j))
         (s.joined i j (omega (arith, less_i, within)) (omega (arith, less_j, within))
         (λ b c le. ⊎_elim (λ old. h b old le) (λ same. absurd (omega (arith, same, le, less_i))) (Contains-push_cases rest place b c))));
-    settled = λ i w in_i edge. let less : i < place = omega (arith, in_i, size) in ⊎_elim
+    followed = λ i w in_i edge. let less : i < place = omega (arith, in_i, size) in ⊎_elim
         (λ left. inl left)
         (λ done. inr (⊎_elim
         (λ complete. inl (complete_still w complete))
         (λ here. ⊎_elim
-        (λ lower. inr (here.0, still w (Pending here.0) here.1 (λ q same. let e = pending_same here.0 q same in omega (arith, e, lower)),
-        λ b c le. here.2 b (Contains-append_left rest (place ∷ []) b c) le))
+        (λ lower. inr (
+          here.0,
+          still w (Pending here.0) here.1 (λ q same. let e = pending_same here.0 q same in omega (arith, e, lower)),
+          λ b c le. here.2 b (Contains-append_left rest (place ∷ []) b c) le,
+        ))
         (λ upper. let r = s.placed w here.0 here.1 in inl (subst (λ x. status_at more x ≡ Complete) r.1 (now_complete here.0 upper r.0)))
         (cases_lt here.0 place))
         done))
-        (s.settled i w (omega (arith, less, within)) (subst (λ x. HasEdge graph x w) (before i less) edge));
+        (s.followed i w (omega (arith, less, within)) (subst (λ x. HasEdge graph x w) (before i less) edge));
     left = λ a c. let less = none a c in (omega (arith, less, size), subst (λ x. HasEdge graph x a.to) (sym (before a.from less)) (s.left a c).1);
     arcs_rise = s.arcs_rise;
     bounds_rise = rising_prefix rest (place ∷ []) s.bounds_rise;
@@ -204,20 +221,20 @@ module _ (graph : List (List ℕ)) (statuses : List Status) (pending rest : List
   differ : (i j : ℕ) → i < length pending → j < length pending → (i ≡ j → ⊥) → get_or pending i 0 ≡ get_or pending j 0 → ⊥
   differ i j in_i in_j other same = other (pending_same i j (sym (s.held i in_i) ∙ ap (status_at statuses) same ∙ s.held j in_j))
 
-  tells_on : (p : ℕ) → place ≤ p → p < length pending → TellsRings graph (get_or pending p 0) on
+  tells_on : (p : ℕ) → place ≤ p → p < length pending → TellsRings graph (get_or pending p 0) on_ring
   tells_on p le lt = ⊎_elim
       (λ many. record {
         yes = λ _. ⊎_elim
             (λ first. round (place + 1) (λ same. absurd (omega (arith, same, first))) (omega arith) (omega (arith, many, long)))
             (λ later. round place (λ same. later same) (omega arith) (omega (arith, le, lt)))
             (cases_eq p place);
-        no = λ _. several many;
+        no = λ _. told.several many;
       })
       (λ few. let first : p ≡ place = omega (arith, few, long, le, lt) in
       let part = alone first few in
       record {
-        yes = λ is. (0, (get_or pending p 0, one (get_or pending p 0) part is, refl));
-        no = λ ring. itself (get_or pending p 0) part (⊎_elim
+        yes = λ is. (0, (get_or pending p 0, told.yes (get_or pending p 0) part is, refl));
+        no = λ ring. told.no (get_or pending p 0) part (⊎_elim
             (λ complete. let back = closed_walk ring.0 ring.1.0 (get_or pending p 0) complete ring.1.2 in
             let here = s.held p lt in absurd (cc))
             (λ j. let same : j.0 ≡ p = let a = j.1 in let b = j.2 in omega (arith, a, b, few, long, first) in
@@ -259,9 +276,9 @@ module _ (graph : List (List ℕ)) (statuses : List Status) (pending rest : List
       (successor (place + (i - length order)) w (omega arith) in_p (subst (λ x. HasEdge graph x w) at edge)))
       (cases_lt i (length order))
 
-  pub completed_found : AreFound graph more (written rings (drop place pending) on) (order ++ drop place pending)
+  pub completed_found : AreFound graph more (written rings (drop place pending) on_ring) (order ++ drop place pending)
   completed_found = record {
-    long = written_length rings (drop place pending) on ∙ f.long;
+    long = written_length rings (drop place pending) on_ring ∙ f.long;
     closed = λ v w is edge. ⊎_elim
         (λ old. complete_still w (f.closed v w old edge))
         (λ p. ⊎_elim
@@ -270,17 +287,31 @@ module _ (graph : List (List ℕ)) (statuses : List Status) (pending rest : List
         (successor p.0 w p.1 p.2 (subst (λ x. HasEdge graph x w) (sym p.3) edge)))
         (back_complete v is);
     tells = λ v is. ⊎_elim
-        (λ old. subst (TellsRings graph v) (sym (written_other rings (drop place pending) on true v
+        (λ old. subst (TellsRings graph v) (sym (written_other rings (drop place pending) on_ring true v
         (λ c. let r = in_part v c in let here = s.held r.0 r.2 in let same = ap (status_at statuses) r.3 in absurd (cc)))) (f.tells v old))
-        (λ p. subst (TellsRings graph v) (sym (written_at rings (drop place pending) on true v (subst (λ x. x < length rings) p.3 (let a = s.long in let b = f.long in let lt = pending_there statuses (get_or pending p.0 0) p.0 (s.held p.0 p.2) in omega (arith, lt, a, b))) (subst (Contains (drop place pending)) p.3 (part_in p.0 p.1 p.2))))
-        (subst (λ x. TellsRings graph x on) p.3 (tells_on p.0 p.1 p.2)))
+        (λ p. subst (TellsRings graph v) (sym (written_at rings (drop place pending) on_ring true v (subst (λ x. x < length rings) p.3 (let a = s.long in let b = f.long in let lt = pending_there statuses (get_or pending p.0 0) p.0 (s.held p.0 p.2) in omega (arith, lt, a, b))) (subst (Contains (drop place pending)) p.3 (part_in p.0 p.1 p.2))))
+        (subst (λ x. TellsRings graph x on_ring) p.3 (tells_on p.0 p.1 p.2)))
         (back_complete v is);
     listed = λ v is. ⊎_elim
         (λ old. Contains-append_left order (drop place pending) v (f.listed v old))
         (λ p. Contains-append_right order (drop place pending) v (subst (Contains (drop place pending)) p.3 (part_in p.0 p.1 p.2)))
         (back_complete v is);
+    within = All-append (λ v. v < length graph) order (drop place pending) f.within
+        (All-drop (λ v. v < length graph) place pending (pending_within graph statuses pending (rest ++ place ∷ []) arcs s));
     after = listed_after;
   }
+
+  -- as many vertices are new
+  pub completed_new : count_by is_new more ≡ count_by is_new statuses
+  completed_new = written_new statuses (drop place pending) Complete refl
+      (λ v c. let r = in_part v c in ap is_new (ap (status_at statuses) (sym r.3) ∙ s.held r.0 r.2))
+
+  pub completed_room : (n : ℕ) → count_by is_new statuses + length pending + length order ≡ n → count_by is_new more + length (take place pending) + length (order ++ drop place pending) ≡ n
+  completed_room n room =
+      let same = completed_new in
+      let a = length-append order (drop place pending) in
+      let b = length-drop place pending in
+      omega (arith, room, same, size, within, a, b)
 
   pub completed_met : (v : ℕ) → (status_at statuses v ≡ New → ⊥) → status_at more v ≡ New → ⊥
   completed_met v met is = ⊎_elim

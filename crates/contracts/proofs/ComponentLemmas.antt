@@ -1,5 +1,5 @@
 -- What a search for components keeps as it enters a vertex, takes an arc off, and joins components.
-use Rattle.std.proofs.Common.{◌≡◌, ℕ, zero, suc, ◌+◌, ◌-◌, ◌<◌, ◌≤◌, List, [], ◌∷◌, ◌++◌, length, map, take, get_or, cond, None, Some, sym, refl, ap, ◌∙◌, subst, arith, inl, inr, ⊎_elim, Bool, true}
+use Rattle.std.proofs.Common.{◌≡◌, ℕ, zero, suc, ◌+◌, ◌-◌, ◌<◌, ◌≤◌, List, [], ◌∷◌, ◌++◌, length, map, take, get_or, cond, None, Some, sym, refl, ap, ◌∙◌, subst, arith, inl, inr, ⊎_elim, Bool}
 use Rattle.std.specs.Prelude.{◌⊎◌, All, Contains, count_by, slice_get}
 use Rattle.std.proofs.Math.ListN.{set, length-set}
 use Rattle.std.proofs.lemmas.List.{get_or-set_same, get_or-set_other, get_or_append_left, get_or-append_right, get_or_default, get_or-map, get_or_past, get_or_push, length-append, length-map, length_push, map-append, take_all, take_at, take_more}
@@ -12,9 +12,9 @@ use Rattle.contracts.specs.declared.components.Status.{Status}
 use Rattle.contracts.specs.declared.components.Status.TheVariants.{New, Pending, Complete}
 use Rattle.contracts.specs.Arcs.{arc}
 use Rattle.contracts.specs.Graphs.{HasEdge, InRange, row_at}
-use Rattle.contracts.specs.Searches.{AreBoundsTo, AreFound, AreRising, IsNextEnd, IsSearch, IsSettled, Leads, NotBefore, is_new, status_at}
+use Rattle.contracts.specs.Searches.{AreBoundsTo, AreFound, AreRising, IsNextEnd, IsSearch, IsFollowed, Leads, NotBefore, is_new, status_at}
 use Rattle.contracts.proofs.PartLemmas.{at_place, contains_map}
-use Rattle.contracts.proofs.RingLemmas.{made_from}
+use Rattle.contracts.proofs.ListLemmas.{made_from}
 use Rattle.contracts.proofs.Rings.{walk_on}
 
 pub leads_here : (graph : List (List ℕ)) (v w : ℕ) → v ≡ w → Leads graph v w
@@ -117,21 +117,29 @@ pub found_same : (graph : List (List ℕ)) (statuses new : List Status) (rings m
 found_same graph statuses new rings more order list a b c f =
     subst (λ x. AreFound graph x more list) (sym a) (subst (λ x. AreFound graph statuses x list) (sym b) (subst (λ x. AreFound graph statuses rings x) (sym c) f))
 
+pub room_same : (n : ℕ) (statuses new : List Status) (pending more order list : List ℕ) → new ≡ statuses → more ≡ pending → list ≡ order
+    → count_by is_new statuses + length pending + length order ≡ n → count_by is_new new + length more + length list ≡ n
+room_same n statuses new pending more order list a b c room =
+    let d = ap (count_by is_new) a in
+    let e = ap length b in
+    let f = ap length c in
+    omega (arith, d, e, f, room)
+
 -- an arc is taken off whose end is settled
-pub arc_off : (graph : List (List ℕ)) (statuses : List Status) (pending bounds : List ℕ) (rest : List Arc) (from end : ℕ) → IsSettled statuses bounds from end
+pub arc_off : (graph : List (List ℕ)) (statuses : List Status) (pending bounds : List ℕ) (rest : List Arc) (from end : ℕ) → IsFollowed statuses bounds from end
     → IsSearch graph statuses pending bounds (rest ++ arc from end ∷ []) → IsSearch graph statuses pending bounds rest
 arc_off graph statuses pending bounds rest from end is s = record {
   long = s.long;
   placed = s.placed;
   held = s.held;
   joined = s.joined;
-  settled = λ i w lt edge. ⊎_elim
+  followed = λ i w lt edge. ⊎_elim
       (λ left. ⊎_elim
       (λ old. inl old)
-      (λ same. inr (subst (λ x. IsSettled statuses bounds x w) (ap (λ (a : Arc). a.from) same) (subst (λ x. IsSettled statuses bounds from x) (ap (λ (a : Arc). a.to) same) is)))
+      (λ same. inr (subst (λ x. IsFollowed statuses bounds x w) (ap (λ (a : Arc). a.from) same) (subst (λ x. IsFollowed statuses bounds from x) (ap (λ (a : Arc). a.to) same) is)))
       (Contains-push_cases rest (arc from end) (arc i w) left))
       (λ done. inr done)
-      (s.settled i w lt edge);
+      (s.followed i w lt edge);
   left = λ a c. s.left a (Contains-append_left rest (arc from end ∷ []) a c);
   arcs_rise = rising_prefix (map (λ (a : Arc). a.from) rest) (from ∷ []) (subst AreRising (map-append (λ (a : Arc). a.from) rest (arc from end ∷ [])) s.arcs_rise);
   bounds_rise = s.bounds_rise;
@@ -154,13 +162,13 @@ joined_to graph statuses pending bounds new arcs from place in_from in_place edg
       (leads_along graph (get_or pending i 0) (get_or pending from 0) (get_or pending place 0) round edge) on)
       (λ less. s.joined i j in_i in_j (λ b c le. before b (kept.all b c (omega (arith, le, less))) le))
       (cases_lt place i);
-  settled = λ i w lt at. ⊎_elim
+  followed = λ i w lt at. ⊎_elim
       (λ left. inl left)
       (λ done. ⊎_elim
       (λ complete. inr (inl complete))
       (λ here. inr (inr (here.0, here.1, λ b c le. here.2 b (kept.right b c).0 le)))
       done)
-      (s.settled i w lt at);
+      (s.followed i w lt at);
   left = s.left;
   arcs_rise = s.arcs_rise;
   bounds_rise = kept.rise;
@@ -189,7 +197,7 @@ module _ (graph : List (List ℕ)) (statuses : List Status) (pending bounds : Li
   pub next_leads : (i : ℕ) → i < length pending → Leads graph (get_or pending i 0) end
   next_leads i lt = leads_along graph (get_or pending i 0) (get_or pending next.1.0 0) end (s.joined i next.1.0 lt edge.0 (λ b c _. next.1.2 b c)) edge.1
 
-  off : (limits : List ℕ) (less : List Arc) → less ≡ take (length arcs - 1) arcs → IsSettled statuses limits next.1.0 end → IsSearch graph statuses pending limits arcs → IsSearch graph statuses pending limits less
+  off : (limits : List ℕ) (less : List Arc) → less ≡ take (length arcs - 1) arcs → IsFollowed statuses limits next.1.0 end → IsSearch graph statuses pending limits arcs → IsSearch graph statuses pending limits less
   off limits less taken is t = subst (IsSearch graph statuses pending limits) (sym (but_last arcs next.0 less (arc next.1.0 end) next.1.1 taken))
       (arc_off graph statuses pending limits next.0 next.1.0 end is (subst (IsSearch graph statuses pending limits) next.1.1 t))
 
@@ -236,7 +244,6 @@ module _ (graph : List (List ℕ)) (statuses : List Status) (pending bounds : Li
   abbrev ends : List Arc
   ends = map (arc (length pending)) (row_at graph v)
 
-
   -- it leads to what follows in its own component
   met_leads : (i j : ℕ) → i < length (pending ++ v ∷ []) → j < length (pending ++ v ∷ []) → NotBefore (bounds ++ length pending ∷ []) i j
       → Leads graph (get_or (pending ++ v ∷ []) i 0) (get_or (pending ++ v ∷ []) j 0)
@@ -253,22 +260,25 @@ module _ (graph : List (List ℕ)) (statuses : List Status) (pending bounds : Li
       (cases_eq j (length pending))))
       (cases_eq i (length pending))
 
-  settled_still : (i w : ℕ) → i < length pending → IsSettled statuses bounds i w → IsSettled more (bounds ++ length pending ∷ []) i w
-  settled_still i w lt is = ⊎_elim
+  followed_still : (i w : ℕ) → i < length pending → IsFollowed statuses bounds i w → IsFollowed more (bounds ++ length pending ∷ []) i w
+  followed_still i w lt is = ⊎_elim
       (λ complete. inl (other w Complete complete (λ e. cc)))
-      (λ here. inr (here.0, other w (Pending here.0) here.1 (λ e. cc),
-      λ b c le. ⊎_elim (λ old. here.2 b old le) (λ same. absurd (omega (arith, same, le, lt))) (Contains-push_cases bounds (length pending) b c)))
+      (λ here. inr (
+        here.0,
+        other w (Pending here.0) here.1 (λ e. cc),
+        λ b c le. ⊎_elim (λ old. here.2 b old le) (λ same. absurd (omega (arith, same, le, lt))) (Contains-push_cases bounds (length pending) b c),
+      ))
       is
 
-  met_settled : (i w : ℕ) → i < length (pending ++ v ∷ []) → HasEdge graph (get_or (pending ++ v ∷ []) i 0) w
-      → Contains (arcs ++ ends) (arc i w) ⊎ IsSettled more (bounds ++ length pending ∷ []) i w
-  met_settled i w in_i edge = ⊎_elim
+  met_followed : (i w : ℕ) → i < length (pending ++ v ∷ []) → HasEdge graph (get_or (pending ++ v ∷ []) i 0) w
+      → Contains (arcs ++ ends) (arc i w) ⊎ IsFollowed more (bounds ++ length pending ∷ []) i w
+  met_followed i w in_i edge = ⊎_elim
       (λ same. inl (subst (λ k. Contains (arcs ++ ends) (arc k w)) (sym same)
       (Contains-append_right arcs ends (arc (length pending) w) (contains_map (arc (length pending)) (row_at graph v) w (subst (λ x. HasEdge graph x w) (last i same) edge)))))
       (λ differ. let less : i < length pending = grind (arith, in_i, size, differ) in ⊎_elim
       (λ left. inl (Contains-append_left arcs ends (arc i w) left))
-      (λ done. inr (settled_still i w less done))
-      (s.settled i w less (subst (λ x. HasEdge graph x w) (before i less) edge)))
+      (λ done. inr (followed_still i w less done))
+      (s.followed i w less (subst (λ x. HasEdge graph x w) (before i less) edge)))
       (cases_eq i (length pending))
 
   met_left : (a : Arc) → Contains (arcs ++ ends) a → (a.from < length (pending ++ v ∷ [])) × HasEdge graph (get_or (pending ++ v ∷ []) a.from 0) a.to
@@ -316,7 +326,7 @@ module _ (graph : List (List ℕ)) (statuses : List Status) (pending bounds : Li
         ap (status_at more) (before p less) ∙ other (get_or pending p 0) (Pending p) (s.held p less) (λ e. cc))
         (cases_eq p (length pending));
     joined = met_leads;
-    settled = met_settled;
+    followed = met_followed;
     left = met_left;
     arcs_rise = met_rise;
     bounds_rise = rising_append bounds (length pending ∷ []) s.bounds_rise (one_rises (length pending))
@@ -345,6 +355,7 @@ module _ (graph : List (List ℕ)) (statuses : List Status) (pending bounds : Li
     closed = λ u w is edge. other w Complete (f.closed u w (still_complete u is) edge) (λ e. cc);
     tells = λ u is. f.tells u (still_complete u is);
     listed = λ u is. f.listed u (still_complete u is);
+    within = f.within;
     after = f.after;
   }
 

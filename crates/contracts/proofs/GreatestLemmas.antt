@@ -19,7 +19,7 @@ use Rattle.contracts.specs.Parts.{Parts, StateParts, IsWhole, state_ids}
 use Rattle.contracts.specs.Walks.{IsWalk, HasSign, IsRoundBy}
 use Rattle.contracts.proofs.ArcLemmas.{none_in}
 use Rattle.contracts.proofs.PartLemmas.{all_from, contains_map}
-use Rattle.contracts.proofs.RingLemmas.{made_from}
+use Rattle.contracts.proofs.ListLemmas.{made_from}
 use Rattle.contracts.proofs.RoundLemmas.{round}
 
 -- Where none is the greatest, each has one above it, and so on past the limit. The rest up to there becomes less each time.

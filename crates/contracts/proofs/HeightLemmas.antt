@@ -7,12 +7,11 @@ use Rattle.std.proofs.lemmas.List.Elements.{All-contains}
 use Rattle.std.proofs.lemmas.Bool.{cases_eq, cases_Bool, true≢false}
 use Rattle.contracts.specs.Graphs.{Walk, HasEdge, InRange, OnRing, IsHeight, height_at, row_at}
 use Rattle.contracts.specs.Marking.{IsMarked, unmarked}
-use Rattle.contracts.specs.Numbering.{AreRings}
+use Rattle.contracts.specs.Rings.{AreRings}
 use Rattle.contracts.specs.Peeling.{AreHeights, Settled}
 use Rattle.contracts.specs.Reached.{IsLongest, counted_height}
 use Rattle.contracts.proofs.MarkLemmas.{unmarked_set, marked_in}
-use Rattle.contracts.proofs.RingLemmas.{in_row}
-use Rattle.contracts.proofs.Rings.{no_ring, walk_on}
+use Rattle.contracts.proofs.Rings.{in_row, no_ring, walk_on}
 
 -- from a vertex without a height one comes to a ring; the marked ones were passed
 ring_from : (graph : List (List ℕ)) (heights : List (Option ℕ)) → InRange graph → ((v : ℕ) → v < length graph → Settled graph heights v)

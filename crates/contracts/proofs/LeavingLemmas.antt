@@ -22,7 +22,7 @@ use Rattle.contracts.specs.Positions.{listed}
 use Rattle.contracts.specs.Walks.{IsNext}
 use Rattle.contracts.proofs.ArcLemmas.{none_in}
 use Rattle.contracts.proofs.PartLemmas.{all_from as each_from, contains_map}
-use Rattle.contracts.proofs.RingLemmas.{contains_head, contains_tail, contains_either, kept_in, in_kept}
+use Rattle.contracts.proofs.ListLemmas.{contains_head, contains_tail, contains_either, kept_in, in_kept}
 use Rattle.contracts.proofs.SoundLemmas.{same_edge, same_sign as one_sign}
 
 state_of : ℕ → StateId

@@ -19,7 +19,7 @@ use Rattle.program.specs.declared.contract.Contract.{Contract}
 use Rattle.contracts.specs.Arcs.{IsDrawn}
 use Rattle.contracts.specs.Graphs.{OnRing}
 use Rattle.contracts.proofs.GraphLemmas.{state_number}
-use Rattle.contracts.proofs.RingLemmas.{in_row}
+use Rattle.contracts.proofs.Rings.{in_row}
 use Rattle.contracts.proofs.WalkLemmas.{ring_round}
 
 abbrev pub round : StateParts → FindingParts

@@ -13,7 +13,7 @@ use Rattle.contracts.specs.Parts.{Parts, StateParts, MessageParts, IsWhole}
 use Rattle.contracts.specs.TwoEnds.{Leads}
 use Rattle.contracts.proofs.ConditionLemmas.{both, twice}
 use Rattle.contracts.proofs.PartLemmas.{get_again}
-use Rattle.contracts.proofs.RingLemmas.{made_from}
+use Rattle.contracts.proofs.ListLemmas.{made_from}
 
 pub record IsDirected (edges : List Edge) : Type 0 where
   pub one_way : (q : StateId) (m n : MessageId) (s t : Sign) (u v : StateId) → Leads edges q m s u → Leads edges q n t v → s ≡ t

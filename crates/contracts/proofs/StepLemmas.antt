@@ -1,6 +1,5 @@
 -- The steps that a search for components has left.
-use Rattle.std.proofs.Common.{◌≡◌, ℕ, ◌+◌, ◌-◌, ◌*◌, ◌<◌, ◌≤◌, List, length, take, drop, get_or, sym, ap, ◌∙◌, arith}
-use Rattle.std.proofs.Math.Nat.{mul-le-mul_right}
+use Rattle.std.proofs.Common.{◌≡◌, ℕ, ◌+◌, ◌*◌, ◌<◌, ◌≤◌, length, take, get_or, sym, ap, ◌∙◌, arith}
 use Rattle.std.proofs.lemmas.List.{length-drop, length-take}
 use Rattle.std.proofs.lemmas.Slice.{between_is}
 use Rattle.contracts.specs.Graphs.{row_at, rows}
@@ -27,7 +26,7 @@ enter_fewer before after size arcs bounds row one short =
     let e : before * (size + 2) ≡ (after + 1) * (size + 2) = ap (λ n. n * (size + 2)) (sym one) in
     omega (arith, e, short)
 
-pub complete_fewer : (before after size arcs bounds fewer : ℕ) → after ≤ before → fewer + 1 ≡ bounds → after * (size + 2) + arcs + fewer < before * (size + 2) + arcs + bounds
-complete_fewer before after size arcs bounds fewer le one =
-    let e = mul-le-mul_right (size + 2) le in
+pub complete_fewer : (before after size arcs bounds fewer : ℕ) → after ≡ before → fewer + 1 ≡ bounds → after * (size + 2) + arcs + fewer < before * (size + 2) + arcs + bounds
+complete_fewer before after size arcs bounds fewer same one =
+    let e = ap (λ n. n * (size + 2)) same in
     omega (arith, e, one)

@@ -4,7 +4,7 @@ use Rattle.std.specs.Prelude.{Contains, All, AllPairs}
 use Rattle.std.proofs.lemmas.List.{length-map, get_or-map}
 use Rattle.contracts.specs.Parts.{AreInRow}
 use Rattle.contracts.proofs.PartLemmas.{get_again, contains_map}
-use Rattle.contracts.proofs.RingLemmas.{made_from}
+use Rattle.contracts.proofs.ListLemmas.{made_from}
 
 -- numbers that go up by one differ
 pub row_once : (first : ℕ) (numbers : List ℕ) → AreInRow first numbers → AllPairs (λ x y. x ≢ y) numbers

@@ -8,9 +8,6 @@ use Rattle.contracts.specs.Graphs.{HasEdge, InRange}
 abbrev pub arc : ℕ → ℕ → Arc
 arc v w = record { from = v; to = w }
 
-abbrev pub turned_arc : Arc → Arc
-turned_arc a = record { from = a.to; to = a.from }
-
 abbrev pub begins : ℕ → Arc → Bool
 begins v a = a.from == v
 

@@ -10,7 +10,7 @@ use Rattle.contracts.specs.Arcs.{IsDrawn}
 use Rattle.contracts.specs.Bounds.{IsBound}
 use Rattle.contracts.specs.Conditions.{IsSound}
 use Rattle.contracts.specs.Graphs.{InRange, rows}
-use Rattle.contracts.specs.Numbering.{AreRings}
+use Rattle.contracts.specs.Rings.{AreRings}
 use Rattle.contracts.specs.Parts.{contract_parts}
 use Rattle.contracts.specs.Peeling.{AreHeights}
 

@@ -7,12 +7,12 @@ pub mod Found
 pub mod Graphs
 pub mod Leaving
 pub mod Marking
-pub mod Numbering
 pub mod Orders
 pub mod Parts
 pub mod Peeling
 pub mod Positions
 pub mod Reached
+pub mod Rings
 pub mod Searches
 pub mod Sounds
 pub mod Spans

@@ -1,5 +1,5 @@
 -- A search for strongly connected components, and what it keeps.
-use Rattle.std.specs.Prelude.{◌≡◌, ℕ, ◌+◌, ◌*◌, ◌<◌, ◌≤◌, List, [], ◌∷◌, ◌++◌, length, map, take, Contains}
+use Rattle.std.specs.Prelude.{◌≡◌, ℕ, ◌+◌, ◌*◌, ◌<◌, ◌≤◌, List, [], ◌∷◌, ◌++◌, length, map, take, All, Contains}
 use Rattle.std.specs.Prelude.{Bool, true, false, ◌⊎◌, get_or, count_by, slice_set}
 use Rattle.contracts.specs.declared.arcs.Arc.{Arc}
 use Rattle.contracts.specs.declared.rows.Rows.{Rows}
@@ -8,7 +8,7 @@ use Rattle.contracts.specs.declared.components.Status.{Status}
 use Rattle.contracts.specs.declared.components.Status.TheVariants.{New, Pending, Complete}
 use Rattle.contracts.specs.Arcs.{arc}
 use Rattle.contracts.specs.Graphs.{HasEdge, Walk}
-use Rattle.contracts.specs.Numbering.{TellsRings}
+use Rattle.contracts.specs.Rings.{TellsRings}
 
 abbrev pub status_at : List Status → ℕ → Status
 status_at statuses v = get_or statuses v New
@@ -18,7 +18,7 @@ is_new New = true
 is_new (Pending place) = false
 is_new Complete = false
 
--- no list of numbers falls
+-- the numbers do not fall along the list
 abbrev pub AreRising : List ℕ → Type 0
 AreRising xs = (j k : ℕ) → j ≤ k → k < length xs → get_or xs j 0 ≤ get_or xs k 0
 
@@ -29,21 +29,21 @@ Leads graph v w = (n : ℕ) × Walk graph v w n
 abbrev pub NotBefore : List ℕ → ℕ → ℕ → Type 0
 NotBefore bounds i j = (b : ℕ) → Contains bounds b → b ≤ i → b ≤ j
 
--- the vertex is in a complete component, or not before that of the place
-abbrev pub IsSettled : List Status → List ℕ → ℕ → ℕ → Type 0
-IsSettled statuses bounds i w = (status_at statuses w ≡ Complete)
+-- an arc from the place to the vertex was followed: the vertex is in a complete component, or not before the component of the place
+abbrev pub IsFollowed : List Status → List ℕ → ℕ → ℕ → Type 0
+IsFollowed statuses bounds i w = (status_at statuses w ≡ Complete)
     ⊎ ((j : ℕ) × (status_at statuses w ≡ Pending j) × NotBefore bounds i j)
 
--- The pending vertices have their places, and each leads to all that are not before its component. What their arcs lead to is settled
--- but for the arcs that are left.
+-- The pending vertices have their places, and each leads to all that are not before its component. Their arcs were followed but
+-- for those that are left.
 pub record IsSearch (graph : List (List ℕ)) (statuses : List Status) (pending bounds : List ℕ) (arcs : List Arc) : Type 0 where
   pub long : length statuses ≡ length graph
   pub placed : (v p : ℕ) → status_at statuses v ≡ Pending p → (p < length pending) × (get_or pending p 0 ≡ v)
   pub held : (p : ℕ) → p < length pending → status_at statuses (get_or pending p 0) ≡ Pending p
   pub joined : (i j : ℕ) → i < length pending → j < length pending → NotBefore bounds i j
       → Leads graph (get_or pending i 0) (get_or pending j 0)
-  pub settled : (i w : ℕ) → i < length pending → HasEdge graph (get_or pending i 0) w
-      → Contains arcs (arc i w) ⊎ IsSettled statuses bounds i w
+  pub followed : (i w : ℕ) → i < length pending → HasEdge graph (get_or pending i 0) w
+      → Contains arcs (arc i w) ⊎ IsFollowed statuses bounds i w
   pub left : (a : Arc) → Contains arcs a → (a.from < length pending) × HasEdge graph (get_or pending a.from 0) a.to
   pub arcs_rise : AreRising (map (λ a. a.from) arcs)
   pub bounds_rise : AreRising bounds
@@ -61,11 +61,14 @@ pub record AreFound (graph : List (List ℕ)) (statuses : List Status) (rings : 
   pub closed : (v w : ℕ) → status_at statuses v ≡ Complete → HasEdge graph v w → status_at statuses w ≡ Complete
   pub tells : (v : ℕ) → status_at statuses v ≡ Complete → TellsRings graph v (get_or rings v true)
   pub listed : (v : ℕ) → status_at statuses v ≡ Complete → Contains order v
+  pub within : All (λ v. v < length graph) order
   pub after : ComeAfter graph order
 
+-- what the search keeps; each vertex is new, pending or listed
 pub record IsKept (graph : List (List ℕ)) (s : Search) : Type 0 where
   pub search : IsSearch graph s.statuses.items s.pending.items s.bounds.items s.arcs.items
   pub found : AreFound graph s.statuses.items s.rings.items s.order.items
+  pub room : count_by is_new s.statuses.items + length s.pending.items + length s.order.items ≡ length graph
 
 -- no component is begun
 abbrev pub IsIdle : Search → Type 0
@@ -94,12 +97,20 @@ pub record AreBoundsTo (place : ℕ) (old new : List ℕ) : Type 0 where
   pub rise : AreRising new
   pub fewer : length new ≤ length old
 
+-- several vertices of a component lie on a ring, and one does if an edge leads from it to itself
+pub record TellsComponent (graph : List (List ℕ)) (component : List ℕ) (on_ring : Bool) : Type 0 where
+  pub several : 1 < length component → on_ring ≡ true
+  pub yes : (v : ℕ) → component ≡ v ∷ [] → on_ring ≡ true → HasEdge graph v v
+  pub no : (v : ℕ) → component ≡ v ∷ [] → HasEdge graph v v → on_ring ≡ true
+
 -- the list with the item at each of the places
 abbrev pub written : {A : Type 0} → List A → List ℕ → A → List A
 written xs [] x = xs
 written xs (v ∷ vs) x = written (slice_set xs v x) vs x
 
--- all vertices, each with its successors before it but for those that lead back to it
+-- all vertices, each once, and with its successors before it but for those that lead back to it
 pub record IsFinishing (graph : List (List ℕ)) (order : List ℕ) : Type 0 where
+  pub long : length order ≡ length graph
   pub all : (v : ℕ) → v < length graph → Contains order v
+  pub within : All (λ v. v < length graph) order
   pub after : ComeAfter graph order

@@ -3,15 +3,15 @@
 ghost use Rattle.std.specs.Prelude.{◌≡◌, ◌==◌, ◌≤◌, length, map, not, IfOk};
 ghost use Rattle.contracts.specs.Graphs.{InRange, rows};
 ghost use Rattle.contracts.specs.Arcs.{AreArcs, IsDrawn, EndsListed};
-ghost use Rattle.contracts.specs.Numbering.{AreRings};
+ghost use Rattle.contracts.specs.Rings.{AreRings};
 ghost use Rattle.contracts.specs.Peeling.{AreHeights};
 ghost use Rattle.contracts.specs.Positions.{listed};
 ghost use Rattle.program.specs.declared.limits.TheConstants.{MOST_STATES};
 
 use crate::grouping::rows_of;
-use crate::heights::{all_heights, first_heights};
+use crate::heights::first_heights;
 use crate::positions::Listing;
-use crate::ringing::{filled, order_for, rings};
+use crate::ringing::{filled, rings};
 use crate::rows::Rows;
 use program::{Edge, Sign};
 use std::alloc::{AllocError, Global};
@@ -57,10 +57,9 @@ impl SignGraph {
     {
         let arcs = arcs_of(alloc, edges, states, sign)?;
         let rows = rows_of(alloc, states.len(), &arcs)?;
+        drop(arcs); // a large contract takes less memory so
         let mut heights = first_heights(alloc, &rows)?;
-        let order = order_for(alloc, &rows, &heights)?;
-        all_heights(&rows, &order, &mut heights);
-        let rings = rings(alloc, &rows, arcs, order, &heights)?;
+        let rings = rings(alloc, &rows, &mut heights)?;
         Ok(SignGraph {
             rows,
             heights,

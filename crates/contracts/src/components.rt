@@ -1,22 +1,24 @@
-//! The strongly connected components of a graph: which vertices lie on a ring, and an order in which a component comes after
+//! The strongly connected components of a graph: which vertices lie on a ring, and an order in which each component comes after
 //! those that it leads to.
 //!
-//! The search is Gabow's: "Path-based depth-first search for strong and biconnected components" (2000). The components that are
-//! not complete are parts of one list of vertices. An arc to an earlier part joins all parts from there on.
+//! The algorithm is Gabow's, of "Path-based depth-first search for strong and biconnected components" (2000). The components that
+//! are not complete yet are consecutive parts of one list of vertices. An arc from the last part to an earlier one joins all parts
+//! from there on. The last part is complete once no arc from it is left to follow.
 
-ghost use Rattle.std.specs.Prelude.{◌≡◌, ◌++◌, ◌<◌, ◌≤◌, ℕ, [], ◌∷◌, length, get_or, map, All, Contains, IfOk, IfSome, IfNone, OnOk, true};
+ghost use Rattle.std.specs.Prelude.{◌≡◌, ◌++◌, ◌<◌, ◌≤◌, ℕ, [], ◌∷◌, length, get_or, map, All, Contains, IfOk, IfSome, IfNone, OnOk};
 ghost use Rattle.contracts.specs.Arcs.{arc};
-ghost use Rattle.contracts.specs.Graphs.{rows, HasEdge, InRange};
-ghost use Rattle.contracts.specs.Numbering.{AreRings};
+ghost use Rattle.contracts.specs.Graphs.{rows, InRange};
+ghost use Rattle.contracts.specs.Rings.{AreRings};
 ghost use Rattle.contracts.specs.Searches.{AreBoundsTo, AreRising, IsFinishing, IsIdle, IsKept, IsMet, IsNextEnd};
-ghost use Rattle.contracts.specs.Searches.{Leads, StayMet, status_at, steps_left, written};
+ghost use Rattle.contracts.specs.Searches.{Leads, StayMet, TellsComponent, status_at, steps_left, written};
 ghost use Rattle.contracts.specs.declared.arcs.Arc.{Arc};
 
 use crate::arcs::Arc;
 use crate::rows::Rows;
 use std::alloc::{AllocError, Global};
 
-/// Which vertices lie on a ring, and all vertices in the order in which their components were completed.
+/// Which vertices lie on a ring, and all vertices in the order in which their components were completed: each vertex comes after its
+/// successors, except those that lead back to it.
 #[derive(Drop)]
 pub struct Components {
     pub rings: Vec<bool>,
@@ -28,7 +30,7 @@ pub struct Components {
 enum Status {
     /// The search has not met it.
     New,
-    /// Its component is not complete. This is its place among such vertices.
+    /// Its component is not complete yet. The number is its place among the pending vertices.
     Pending(usize),
     /// Its component is complete.
     Complete,
@@ -38,17 +40,19 @@ enum Status {
 #[derive(Drop)]
 struct Search {
     statuses: Vec<Status>,
-    /// The vertices whose components are not complete, in the order in which they were met.
+    /// The vertices whose components are not complete yet, in the order in which the search met them.
     pending: Vec<usize>,
     /// The places at which these components begin.
     bounds: Vec<usize>,
-    /// The arcs that are left to follow, each from a place among the pending vertices to a vertex.
+    /// The arcs that are left to follow, each from the place of a pending vertex to a vertex.
     arcs: Vec<Arc>,
+    /// Whether each vertex lies on a ring, once its component is complete.
     rings: Vec<bool>,
+    /// The vertices of the complete components, in the order of their completion.
     order: Vec<usize>,
 }
 
-/// The components of the graph. The time is linear in its vertices and arcs.
+/// Finds the components of a graph, in time linear in its vertices and arcs.
 pub fn components_of(alloc: Global, graph: &Rows<usize>) -> Result<Components, AllocError>
     requires range { InRange (rows graph.now) }
     ensures rings { IfOk result (λ found. AreRings (rows graph.now) found.rings.items) }
@@ -70,7 +74,7 @@ pub fn components_of(alloc: Global, graph: &Rows<usize>) -> Result<Components, A
 impl Search {
     ghost use Rattle.std.specs.Prelude.{List};
 
-    /// A search that has met none of so many vertices.
+    /// A search that has met no vertex of a graph with this number of vertices.
     fn new(alloc: Global, count: usize) -> Result<Search, AllocError>
         ensures kept { IfOk result (λ search. (graph : List (List ℕ)) → length graph ≡ count → IsKept graph search) }
         ensures idle { IfOk result IsIdle }
@@ -85,7 +89,7 @@ impl Search {
         })
     }
 
-    /// Completes all components that are begun.
+    /// Follows the arcs that are left, until every component that was begun is complete.
     fn complete(&mut self, graph: &Rows<usize>) -> Result<(), AllocError>
         requires range { InRange (rows graph.now) }
         requires kept { IsKept (rows graph.now) self.old }
@@ -102,7 +106,7 @@ impl Search {
         Ok(())
     }
 
-    /// The end of the last arc that is left from the last component, which begins at this place.
+    /// The end of the next arc to follow from the last component, which begins at this place. `None` if no such arc is left.
     fn next_end(&self, bound: usize) -> Option<usize>
         requires last { (b : ℕ) → Contains self.now.bounds.items b → b ≤ bound }
         requires rise { AreRising (map (λ a. a.from) self.now.arcs.items) }
@@ -115,7 +119,7 @@ impl Search {
         }
     }
 
-    /// Looks at the last arc that is left: enters its end, or else takes the arc off.
+    /// Follows the last arc. If its end is new, the arc stays until the search comes back to it.
     fn follow(&mut self, graph: &Rows<usize>, end: usize) -> Result<(), AllocError>
         requires range { InRange (rows graph.now) }
         requires kept { IsKept (rows graph.now) self.old }
@@ -137,7 +141,7 @@ impl Search {
         Ok(())
     }
 
-    /// Begins a component with a new vertex, to which all pending ones lead.
+    /// Begins a component with a new vertex to which all pending vertices lead.
     fn enter(&mut self, graph: &Rows<usize>, v: usize) -> Result<(), AllocError>
         requires v { v < length (rows graph.now) }
         requires new { status_at self.old.statuses.items v ≡ Status.New }
@@ -157,7 +161,7 @@ impl Search {
         Ok(())
     }
 
-    /// Completes the last component, which begins at this place and from which no arc is left.
+    /// Completes the last component, which begins at this place and has no arc left to follow.
     fn complete_last(&mut self, graph: &Rows<usize>, bound: usize) -> Result<(), AllocError>
         requires range { InRange (rows graph.now) }
         requires kept { IsKept (rows graph.now) self.old }
@@ -169,9 +173,9 @@ impl Search {
         ensures fewer { OnOk result (steps_left graph.now self.new < steps_left graph.now self.old) }
     {
         let component = &self.pending[bound..];
-        let on = are_on_ring(graph, component);
+        let on_ring = are_on_ring(graph, component);
         write_each(&mut self.statuses, component, Status::Complete);
-        write_each(&mut self.rings, component, on);
+        write_each(&mut self.rings, component, on_ring);
         self.order.extend_from_slice(component)?;
         self.pending.truncate(bound);
         self.bounds.pop();
@@ -179,7 +183,7 @@ impl Search {
     }
 }
 
-/// Adds an arc from a place to each of these vertices.
+/// Adds an arc from a place to each of the vertices.
 fn add_arcs(arcs: &mut Vec<Arc>, from: usize, ends: &[usize]) -> Result<(), AllocError>
     ensures { OnOk result (arcs.new.items ≡ arcs.old.items ++ map (arc from) ends.now) }
 {
@@ -189,7 +193,7 @@ fn add_arcs(arcs: &mut Vec<Arc>, from: usize, ends: &[usize]) -> Result<(), Allo
     Ok(())
 }
 
-/// Takes the bounds behind a place off.
+/// Removes the bounds after a place.
 fn join(bounds: &mut Vec<usize>, place: usize)
     requires { AreRising bounds.old.items }
     ensures { AreBoundsTo place bounds.old.items bounds.new.items }
@@ -202,12 +206,10 @@ fn join(bounds: &mut Vec<usize>, place: usize)
     }
 }
 
-/// Whether the vertices of a component lie on a ring: several do, and one does if an arc leads from it to itself.
+/// Whether the vertices of a component lie on a ring. Several do. A single one does if an arc leads from it to itself.
 fn are_on_ring(graph: &Rows<usize>, component: &[usize]) -> bool
     requires within { All (λ v. v < length (rows graph.now)) component.now }
-    ensures several { 1 < length component.now → result ≡ true }
-    ensures one { (v : ℕ) → component.now ≡ v ∷ [] → result ≡ true → HasEdge (rows graph.now) v v }
-    ensures itself { (v : ℕ) → component.now ≡ v ∷ [] → HasEdge (rows graph.now) v v → result ≡ true }
+    ensures { TellsComponent (rows graph.now) component.now result }
 {
     match component {
         [v] => graph.row(*v).contains(v),

@@ -13,7 +13,6 @@ mod keys;
 pub mod laws;
 mod leaving;
 mod marking;
-mod numbering;
 mod order;
 mod positions;
 mod ringing;

@@ -1,8 +1,9 @@
-use Rattle.std.proofs.Common.{◌≡◌, ◌<◌, ℕ, length, arith}
+use Rattle.std.proofs.Common.{◌≡◌, ◌<◌, ℕ, length, ap, arith}
 use Rattle.contracts.specs.declared.components.Status.TheVariants.{Complete}
 use Rattle.contracts.specs.Graphs.{rows}
-use Rattle.contracts.specs.Searches.{status_at}
+use Rattle.contracts.specs.Searches.{is_new, status_at}
 use Rattle.contracts.proofs.ComponentLemmas.{all_complete}
+use Rattle.contracts.proofs.CompletionLemmas.{none_new}
 use Rattle.contracts.proofs.components.components_of.Goals as goal
 use Rattle.contracts.proofs.components.components_of.Goals.{After-drop-search-5}
 
@@ -21,5 +22,11 @@ returns-clause-rings c =
 
 pub returns-clause-order : goal.returns-clause-order
 returns-clause-order c =
+    let now = c.loop-start.search in
     let found = c.loop-start.invariant.kept.found in
-    record { all = λ v lt. found.listed v (complete_at c v lt); after = found.after }
+    let room = c.loop-start.invariant.kept.room in
+    let none = ap length c.loop-start.invariant.idle in
+    let size = c.loop-start.invariant.kept.search.long in
+    let met = none_new now.statuses.items (λ v lt. ap is_new (complete_at c v (omega (arith, size, lt)))) in
+    let long : length now.order.items ≡ length (rows c.args.graph.now) = omega (arith, room, none, met) in
+    record { long = long; all = λ v lt. found.listed v (complete_at c v lt); within = found.within; after = found.after }

@@ -10,7 +10,7 @@ use Rattle.program.specs.declared.limits.TheConstants.{MOST_STATES}
 use Rattle.contracts.specs.Arcs.{EndsListed, IsDrawn}
 use Rattle.contracts.specs.Drawings.{DrawsSign}
 use Rattle.contracts.specs.Graphs.{rows}
-use Rattle.contracts.specs.Numbering.{AreRings}
+use Rattle.contracts.specs.Rings.{AreRings}
 use Rattle.contracts.specs.Parts.{IsWhole, contract_parts}
 use Rattle.contracts.specs.Positions.{listed}
 use Rattle.contracts.proofs.PartLemmas.{ends_listed, few_numbers}

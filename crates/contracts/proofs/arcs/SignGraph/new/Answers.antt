@@ -2,7 +2,6 @@ use Rattle.std.proofs.Common.{◌<◌, length, sym, subst, arith}
 use Rattle.std.specs.Prelude.{All}
 use Rattle.contracts.specs.Graphs.{rows}
 use Rattle.contracts.specs.Positions.{listed}
-use Rattle.contracts.specs.Arcs.{AllWithin, AreRows}
 use Rattle.contracts.proofs.ArcLemmas.{arcs_made, arcs_within, drawn, starts_within}
 use Rattle.contracts.proofs.arcs.SignGraph.new.Goals as goal
 
@@ -19,24 +18,14 @@ first_heights-requires c =
     let long = made.long in
     record { few = omega (arith, long, c.requires.few); range = made.range }
 
-pub all_heights-requires-clause-few : goal.all_heights-requires-clause-few
-all_heights-requires-clause-few c =
+pub rings-requires-clause-few : goal.rings-requires-clause-few
+rings-requires-clause-few c =
     let made = arcs_made _ c.args.edges.now _ _ _ _ _ c.in_ok-arcs.ensures.arcs c.deref.ensures.value c.len.ensures c.in_ok-rows.ensures.rows in
     let long = made.long in
     omega (arith, long, c.requires.few)
 
-pub all_heights-requires-clause-range : goal.all_heights-requires-clause-range
-all_heights-requires-clause-range c = (arcs_made _ c.args.edges.now _ _ _ _ _ c.in_ok-arcs.ensures.arcs c.deref.ensures.value c.len.ensures c.in_ok-rows.ensures.rows).range
-
-pub rings-requires-clause-rows : goal.rings-requires-clause-rows
-rings-requires-clause-rows c =
-    let made = arcs_made _ c.args.edges.now _ _ _ _ _ c.in_ok-arcs.ensures.arcs c.deref.ensures.value c.len.ensures c.in_ok-rows.ensures.rows in
-    subst (λ n. AreRows n c.in_ok-arcs.arcs.items (rows c.in_ok-rows.rows)) (sym made.long) made
-
 pub rings-requires-clause-range : goal.rings-requires-clause-range
-rings-requires-clause-range c =
-    let made = arcs_made _ c.args.edges.now _ _ _ _ _ c.in_ok-arcs.ensures.arcs c.deref.ensures.value c.len.ensures c.in_ok-rows.ensures.rows in
-    subst (λ n. AllWithin n c.in_ok-arcs.arcs.items) (sym made.long) (arcs_within _ c.args.edges.now _ _ c.in_ok-arcs.ensures.arcs)
+rings-requires-clause-range c = (arcs_made _ c.args.edges.now _ _ _ _ _ c.in_ok-arcs.ensures.arcs c.deref.ensures.value c.len.ensures c.in_ok-rows.ensures.rows).range
 
 pub returns-clause-range : goal.returns-clause-range
 returns-clause-range c = (arcs_made _ c.args.edges.now _ _ _ _ _ c.in_ok-arcs.ensures.arcs c.deref.ensures.value c.len.ensures c.in_ok-rows.ensures.rows).range

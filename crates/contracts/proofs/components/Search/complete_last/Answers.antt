@@ -1,14 +1,13 @@
-use Rattle.std.proofs.Common.{◌≡◌, ◌≤◌, ◌++◌, ◌∷◌, [], ◌∙◌, ◌+◌, ◌-◌, ◌*◌, ◌<◌, ℕ, List, length, drop, take, sym, refl, ap, subst, arith}
-use Rattle.std.specs.Prelude.{All, Bool, count_by, true}
+use Rattle.std.proofs.Common.{◌≡◌, ◌++◌, ◌∷◌, [], ◌∙◌, ◌+◌, ◌-◌, ◌<◌, ℕ, length, drop, take, sym, refl, ap, subst, arith}
+use Rattle.std.specs.Prelude.{All, count_by}
 use Rattle.std.specs.Vec.{with_items}
 use Rattle.std.proofs.lemmas.List.{length_push, take_rest}
 use Rattle.std.proofs.lemmas.List.Elements.{All-drop}
-use Rattle.contracts.specs.declared.components.Status.{Status}
 use Rattle.contracts.specs.declared.components.Status.TheVariants.{Complete, New}
-use Rattle.contracts.specs.Graphs.{HasEdge, rows}
-use Rattle.contracts.specs.Searches.{IsSearch, is_new, status_at, written}
-use Rattle.contracts.proofs.ComponentLemmas.{but_last, found_same, pending_within, search_same}
-use Rattle.contracts.proofs.CompletionLemmas.{completed_found, completed_met, completed_search, vec_written, written_fewer}
+use Rattle.contracts.specs.Graphs.{rows}
+use Rattle.contracts.specs.Searches.{IsSearch, TellsComponent, is_new, status_at, written}
+use Rattle.contracts.proofs.ComponentLemmas.{but_last, found_same, pending_within, room_same, search_same}
+use Rattle.contracts.proofs.CompletionLemmas.{completed_found, completed_met, completed_new, completed_room, completed_search, vec_written}
 use Rattle.contracts.proofs.StepLemmas.{complete_fewer}
 use Rattle.contracts.proofs.components.Search.complete_last.Goals as goal
 use Rattle.contracts.proofs.components.Search.complete_last.Goals.{After-deref, After-pop}
@@ -25,8 +24,8 @@ part_within c n long =
     (subst (All (λ v. v < length graph)) (sym (part_is c)) (All-drop (λ v. v < length graph) c.args.bound old.pending.items
     (pending_within graph old.statuses.items old.pending.items old.bounds.items old.arcs.items c.requires.kept.search)))
 
-pub are_on_ring-on-requires : goal.are_on_ring-on-requires
-are_on_ring-on-requires c = record { within = part_within (goal.at.are_on_ring-on-requires c).After-deref (length (rows c.args.graph.now)) refl }
+pub are_on_ring-on_ring-requires : goal.are_on_ring-on_ring-requires
+are_on_ring-on_ring-requires c = record { within = part_within (goal.at.are_on_ring-on_ring-requires c).After-deref (length (rows c.args.graph.now)) refl }
 
 pub write_each-requires : goal.write_each-requires
 write_each-requires c = part_within (goal.at.write_each-requires c).After-deref (length c.deref_mut.result.now) (ap length c.deref_mut.ensures.value ∙ c.requires.kept.search.long)
@@ -47,6 +46,10 @@ bounds_are c = but_last c.args.self.now.bounds.items c.requires.last.0 c.pop.new
 search_is : (c : After-pop) → IsSearch (rows c.args.graph.now) c.args.self.now.statuses.items c.args.self.now.pending.items (c.requires.last.0 ++ c.args.bound ∷ []) c.args.self.now.arcs.items
 search_is c = subst (λ l. IsSearch (rows c.args.graph.now) c.args.self.now.statuses.items c.args.self.now.pending.items l c.args.self.now.arcs.items) c.requires.last.1 c.requires.kept.search
 
+-- whether it lies on a ring
+told_is : (c : After-pop) → TellsComponent (rows c.args.graph.now) (drop c.args.bound c.args.self.now.pending.items) c.are_on_ring-on_ring.result
+told_is c = subst (λ l. TellsComponent (rows c.args.graph.now) l c.are_on_ring-on_ring.result) (take_rest c.deref.result.now c.args.bound ∙ ap (drop c.args.bound) c.deref.ensures.value) c.are_on_ring-on_ring.ensures
+
 pub returns-clause-kept : goal.returns-clause-kept
 returns-clause-kept c =
     let graph = rows c.args.graph.now in
@@ -58,45 +61,36 @@ returns-clause-kept c =
     let part = drop place pending in
     let rest = c.requires.last.0 in
     let at = (goal.at.returns-clause-kept c).After-pop in
-    let on = c.are_on_ring-on.result in
-    let told = c.are_on_ring-on.ensures in
+    let on_ring = c.are_on_ring-on_ring.result in
     let parts = take_rest c.deref.result.now place ∙ ap (drop place) c.deref.ensures.value in
-    let several = subst (λ (l : List ℕ). 1 < length l → on ≡ true) parts told.several in
-    let one = subst (λ (l : List ℕ). (v : ℕ) → l ≡ v ∷ [] → on ≡ true → HasEdge graph v v) parts told.one in
-    let itself = subst (λ (l : List ℕ). (v : ℕ) → l ≡ v ∷ [] → HasEdge graph v v → on ≡ true) parts told.itself in
-    let rings = vec_written old.rings c.deref_mut-2.result.now c.write_each-2.new.items _ part on c.write_each-2.ensures c.deref_mut-2.ensures.value parts in
+    let rings = vec_written old.rings c.deref_mut-2.result.now c.write_each-2.new.items _ part on_ring c.write_each-2.ensures c.deref_mut-2.ensures.value parts in
     let order = c.in_ok-extend_from_slice.ensures.items ∙ ap (λ l. old.order.items ++ l) parts in
     record {
       search = search_same graph (written statuses part Complete) _ (take place pending) _ rest _ arcs _ (statuses_are at) c.truncate.ensures.items (bounds_are at) refl
-          (completed_search graph statuses pending rest arcs old.rings.items old.order.items place on c.requires.none several one itself (search_is at) c.requires.kept.found);
-      found = found_same graph (written statuses part Complete) _ (written old.rings.items part on) _ (old.order.items ++ part) _ (statuses_are at) rings order
-          (completed_found graph statuses pending rest arcs old.rings.items old.order.items place on c.requires.none several one itself (search_is at) c.requires.kept.found);
+          (completed_search graph statuses pending rest arcs old.rings.items old.order.items place on_ring c.requires.none (told_is at) (search_is at) c.requires.kept.found);
+      found = found_same graph (written statuses part Complete) _ (written old.rings.items part on_ring) _ (old.order.items ++ part) _ (statuses_are at) rings order
+          (completed_found graph statuses pending rest arcs old.rings.items old.order.items place on_ring c.requires.none (told_is at) (search_is at) c.requires.kept.found);
+      room = room_same (length graph) (written statuses part Complete) _ (take place pending) _ (old.order.items ++ part) _ (statuses_are at) c.truncate.ensures.items order
+          (completed_room graph statuses pending rest arcs old.rings.items old.order.items place on_ring c.requires.none (told_is at) (search_is at) c.requires.kept.found (length graph) c.requires.kept.room);
     }
 
 pub returns-clause-met : goal.returns-clause-met
 returns-clause-met c =
-    let graph = rows c.args.graph.now in
     let old = c.args.self.now in
     let statuses = old.statuses.items in
-    let place = c.args.bound in
-    let on = c.are_on_ring-on.result in
-    let told = c.are_on_ring-on.ensures in
-    let parts = take_rest c.deref.result.now place ∙ ap (drop place) c.deref.ensures.value in
     let at = (goal.at.returns-clause-met c).After-pop in
     subst (λ l. (v : ℕ) → (status_at statuses v ≡ New → ⊥) → status_at l v ≡ New → ⊥) (sym (statuses_are at))
-    (completed_met graph statuses old.pending.items c.requires.last.0 old.arcs.items old.rings.items old.order.items place on c.requires.none
-    (subst (λ (l : List ℕ). 1 < length l → on ≡ true) parts told.several)
-    (subst (λ (l : List ℕ). (v : ℕ) → l ≡ v ∷ [] → on ≡ true → HasEdge graph v v) parts told.one)
-    (subst (λ (l : List ℕ). (v : ℕ) → l ≡ v ∷ [] → HasEdge graph v v → on ≡ true) parts told.itself)
-    (search_is at) c.requires.kept.found)
+    (completed_met (rows c.args.graph.now) statuses old.pending.items c.requires.last.0 old.arcs.items old.rings.items old.order.items c.args.bound c.are_on_ring-on_ring.result
+    c.requires.none (told_is at) (search_is at) c.requires.kept.found)
 
 pub returns-clause-fewer : goal.returns-clause-fewer
 returns-clause-fewer c =
     let old = c.args.self.now in
     let statuses = old.statuses.items in
-    let part = drop c.args.bound old.pending.items in
     let at = (goal.at.returns-clause-fewer c).After-pop in
     let new = (with_items old.statuses c.write_each.new.items).items in
-    let le : count_by is_new new ≤ count_by is_new statuses = subst (λ l. count_by is_new l ≤ count_by is_new statuses) (sym (statuses_are at)) (written_fewer statuses part Complete refl) in
+    let same : count_by is_new new ≡ count_by is_new statuses = ap (count_by is_new) (statuses_are at)
+    ∙ completed_new (rows c.args.graph.now) statuses old.pending.items c.requires.last.0 old.arcs.items old.rings.items old.order.items c.args.bound c.are_on_ring-on_ring.result
+    c.requires.none (told_is at) (search_is at) c.requires.kept.found in
     let one : length c.pop.new.self.items + 1 ≡ length old.bounds.items = let a = ap length (bounds_are at) in let b = ap length c.requires.last.1 in let d = length_push c.requires.last.0 c.args.bound in omega (arith, a, b, d) in
-    complete_fewer (count_by is_new statuses) (count_by is_new new) (length c.args.graph.now.items.items) (length old.arcs.items) (length old.bounds.items) (length c.pop.new.self.items) le one
+    complete_fewer (count_by is_new statuses) (count_by is_new new) (length c.args.graph.now.items.items) (length old.arcs.items) (length old.bounds.items) (length c.pop.new.self.items) same one

@@ -1,4 +1,4 @@
-use Rattle.std.proofs.Common.{◌≡◌, ◌++◌, ◌∷◌, [], ◌∙◌, ◌+◌, ℕ, length, map, sym, ap, subst, arith}
+use Rattle.std.proofs.Common.{◌≡◌, ◌++◌, ◌∷◌, [], ◌∙◌, ◌+◌, length, map, sym, ap, subst, arith}
 use Rattle.std.proofs.Math.ListN.{set}
 use Rattle.std.proofs.lemmas.List.{length-append, length-map, length_push}
 use Rattle.std.specs.Prelude.{count_by}
@@ -21,6 +21,14 @@ arcs_are c =
     c.in_ok-add_arcs.ensures ∙ ap (λ k. old ++ map (arc k) c.row.result.now) (place_is c)
     ∙ ap (λ r. old ++ map (arc (length c.args.self.now.pending.items)) r) c.row.ensures
 
+-- one vertex fewer is new
+new_is : (c : In_ok-add_arcs) → count_by is_new (set c.args.self.now.statuses.items c.args.v (Pending c.len-place.result)) + 1 ≡ count_by is_new c.args.self.now.statuses.items
+new_is c =
+    let old = c.args.self.now in
+    let statuses = old.statuses.items in
+    subst (λ k. count_by is_new (set statuses c.args.v (Pending k)) + 1 ≡ count_by is_new statuses) (sym (place_is c))
+    (fewer_new (rows c.args.graph.now) statuses old.pending.items old.bounds.items old.arcs.items c.args.v c.requires.v c.requires.new c.requires.leads c.requires.kept.search)
+
 pub returns-clause-kept : goal.returns-clause-kept
 returns-clause-kept c =
     let graph = rows c.args.graph.now in
@@ -39,6 +47,11 @@ returns-clause-kept c =
           is c.in_ok-push.ensures.items (c.in_ok-push-2.ensures.items ∙ ap (λ k. bounds ++ k ∷ []) place) (arcs_are (goal.at.returns-clause-kept c).In_ok-add_arcs)
           (entered graph statuses pending bounds arcs v c.requires.v c.requires.new c.requires.leads search);
       found = subst (λ l. AreFound graph l old.rings.items old.order.items) (sym is) (entered_found graph statuses pending bounds arcs v c.requires.v c.requires.new c.requires.leads search old.rings.items old.order.items c.requires.kept.found);
+      room = let one = new_is (goal.at.returns-clause-kept c).In_ok-add_arcs in
+          let more = ap length c.in_ok-push.ensures.items in
+          let size = length_push pending v in
+          let room = c.requires.kept.room in
+          omega (arith, one, more, size, room);
     }
 
 pub returns-clause-fewer : goal.returns-clause-fewer
@@ -51,11 +64,8 @@ returns-clause-fewer c =
     let arcs = old.arcs.items in
     let v = c.args.v in
     let row = row_at graph v in
-    let place = place_is (goal.at.returns-clause-fewer c).In_ok-add_arcs in
-    let one : count_by is_new (set statuses v (Pending c.len-place.result)) + 1 ≡ count_by is_new statuses
-    = subst (λ k. count_by is_new (set statuses v (Pending k)) + 1 ≡ count_by is_new statuses) (sym place) (fewer_new graph statuses pending bounds arcs v c.requires.v c.requires.new c.requires.leads c.requires.kept.search) in
     let less = enter_fewer (count_by is_new statuses) (count_by is_new (set statuses v (Pending c.len-place.result))) (length c.args.graph.now.items.items) (length arcs) (length bounds) (length row)
-        one (row_short c.args.graph.now v c.requires.v) in
+    (new_is (goal.at.returns-clause-fewer c).In_ok-add_arcs) (row_short c.args.graph.now v c.requires.v) in
     let more_arcs = ap length (arcs_are (goal.at.returns-clause-fewer c).In_ok-add_arcs) in
     let size = length-append arcs (map (arc (length pending)) row) in
     let row_size = length-map row (arc (length pending)) in

@@ -1,4 +1,4 @@
-use Rattle.std.proofs.Common.{◌≡◌, ◌∙◌, ◌-◌, ◌<◌, length, take, sym, ap, arith}
+use Rattle.std.proofs.Common.{◌≡◌, ◌∙◌, ◌-◌, take, sym, ap, arith}
 use Rattle.std.proofs.lemmas.List.{get_or_read}
 use Rattle.contracts.specs.declared.components.Status.TheVariants.{New}
 use Rattle.contracts.specs.Graphs.{rows}
@@ -43,6 +43,7 @@ returns-in-Pending-clause-kept c =
           c.join.new.bounds.items c.pop.new.self.items c.in-Pending.place (c.pop.ensures.rest ∙ ap (λ n. take (n - 1) old.arcs.items) old.arcs.ok.0)
           (status_is (goal.at.returns-in-Pending-clause-kept c).After-index ∙ c.in-Pending.is) c.join.ensures;
       found = c.requires.kept.found;
+      room = c.requires.kept.room;
     }
 
 pub returns-in-Complete-clause-kept : goal.returns-in-Complete-clause-kept
@@ -53,4 +54,5 @@ returns-in-Complete-clause-kept c =
           c.pop-in-Complete.new.self.items (c.pop-in-Complete.ensures.rest ∙ ap (λ n. take (n - 1) old.arcs.items) old.arcs.ok.0)
           (status_is (goal.at.returns-in-Complete-clause-kept c).After-index ∙ c.in-Complete.is);
       found = c.requires.kept.found;
+      room = c.requires.kept.room;
     }
