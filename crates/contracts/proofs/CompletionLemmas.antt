@@ -1,12 +1,8 @@
 -- What a search for components keeps as it completes the last component.
-use Rattle.std.proofs.Common.{◌≡◌, ℕ, zero, suc, ◌+◌, ◌-◌, ◌<◌, ◌≤◌, List, [], ◌∷◌, ◌++◌, length, take, drop, get_or, cond, sym, refl, ap, ◌∙◌, subst, arith, inl, inr, ⊎_elim, Bool, true, false}
+use Rattle.std.proofs.Common.{◌≡◌, ℕ, zero, suc, ◌+◌, ◌-◌, ◌<◌, ◌≤◌, List, [], ◌∷◌, ◌++◌, length, take, drop, get_or, sym, refl, ap, ◌∙◌, subst, arith, inl, inr, ⊎_elim, Bool, true}
 use Rattle.std.specs.Prelude.{◌⊎◌, Contains, count_by}
-use Rattle.std.specs.Global.{Vec}
-use Rattle.std.specs.Vec.{with_items}
-use Rattle.std.proofs.Math.ListN.{set, length-set}
-use Rattle.std.proofs.lemmas.List.{drop_all, drop_more, get_or-append_right, get_or-drop, get_or-set_other, get_or-set_same, get_or-take, get_or_append_left, get_or_default, length-append, length-drop, length-take-le, set_past, take-append-le, with_items_is}
+use Rattle.std.proofs.lemmas.List.{drop_all, drop_more, get_or-append_right, get_or-drop, get_or-take, get_or_append_left, get_or_default, length-append, length-drop, length-take-le, take-append-le}
 use Rattle.std.proofs.lemmas.List.Elements.{All-append, All-drop, Contains-append_left, Contains-append_right, Contains-push, Contains-push_cases}
-use Rattle.std.proofs.lemmas.List.Sums.{sum_by-cons, sum_by-set}
 use Rattle.std.proofs.lemmas.Bool.{cases_eq, cases_lt}
 use Rattle.contracts.specs.declared.arcs.Arc.{Arc}
 use Rattle.contracts.specs.declared.components.Status.{Status}
@@ -15,70 +11,12 @@ use Rattle.contracts.specs.Arcs.{arc}
 use Rattle.contracts.specs.Graphs.{HasEdge, OnRing, Walk}
 use Rattle.contracts.specs.Rings.{TellsRings}
 use Rattle.contracts.specs.Searches.{AreFound, IsSearch, Leads, TellsComponent, is_new, status_at, written}
-use Rattle.contracts.proofs.ComponentLemmas.{pending_same, pending_there, pending_within, rising_last, rising_prefix, status_cases}
+use Rattle.contracts.proofs.StatusLemmas.{pending_same, pending_there, status_cases, written_new}
+use Rattle.contracts.proofs.ComponentLemmas.{pending_within}
+use Rattle.contracts.proofs.RisingLemmas.{rising_last, rising_prefix}
 use Rattle.contracts.proofs.PartLemmas.{at_place}
-use Rattle.contracts.proofs.ListLemmas.{contains_either}
 use Rattle.contracts.proofs.Rings.{walk_on}
-
-pub written_length : {A : Type 0} (xs : List A) (vs : List ℕ) (x : A) → length (written xs vs x) ≡ length xs
-written_length xs [] x = refl
-written_length xs (v ∷ vs) x = written_length (set xs v x) vs x ∙ length-set xs v x
-
--- what is written at a place stays there
-written_stays : {A : Type 0} (xs : List A) (vs : List ℕ) (x d : A) (v : ℕ) → v < length xs → get_or xs v d ≡ x → get_or (written xs vs x) v d ≡ x
-written_stays xs [] x d v lt is = is
-written_stays xs (u ∷ us) x d v lt is = written_stays (set xs u x) us x d v (let e = length-set xs u x in omega (arith, lt, e))
-    (⊎_elim
-    (λ same. subst (λ k. get_or (set xs k x) v d ≡ x) same (get_or-set_same xs v x d lt))
-    (λ other. get_or-set_other xs u v x d other ∙ is)
-    (cases_eq v u))
-
-pub written_at : {A : Type 0} (xs : List A) (vs : List ℕ) (x d : A) (v : ℕ) → v < length xs → Contains vs v → get_or (written xs vs x) v d ≡ x
-written_at xs [] x d v lt c = let none = c.1 in absurd (omega (arith, none))
-written_at xs (u ∷ us) x d v lt c = contains_either (get_or (written (set xs u x) us x) v d ≡ x) u v us c
-    (λ same. written_stays (set xs u x) us x d v (let e = length-set xs u x in omega (arith, lt, e)) (subst (λ k. get_or (set xs k x) v d ≡ x) (sym same) (get_or-set_same xs v x d lt)))
-    (λ later. written_at (set xs u x) us x d v (let e = length-set xs u x in omega (arith, lt, e)) later)
-
-pub written_other : {A : Type 0} (xs : List A) (vs : List ℕ) (x d : A) (v : ℕ) → (Contains vs v → ⊥) → get_or (written xs vs x) v d ≡ get_or xs v d
-written_other xs [] x d v none = refl
-written_other xs (u ∷ us) x d v none =
-    written_other (set xs u x) us x d v (λ later. none (let lt = later.1 in (suc later.0, omega (arith, lt), later.2)))
-    ∙ get_or-set_other xs u v x d (λ same. none (0, omega arith, sym same))
-
--- a vector in which an item was written at each of the places
-pub vec_written : {A : Type 0} (v : Vec A) (now ws : List A) (places part : List ℕ) (x : A) → ws ≡ written now places x → now ≡ v.items → places ≡ part → (with_items v ws).items ≡ written v.items part x
-vec_written v now ws places part x is same parts =
-    with_items_is v ws (ap length is ∙ written_length now places x ∙ ap length same ∙ sym v.ok.0) ∙ is
-    ∙ ap (λ l. written l places x) same ∙ ap (λ l. written v.items l x) parts
-
--- as many vertices are new, if none was at these places
-pub written_new : (statuses : List Status) (vs : List ℕ) (x : Status) → is_new x ≡ false → ((v : ℕ) → Contains vs v → is_new (status_at statuses v) ≡ false) → count_by is_new (written statuses vs x) ≡ count_by is_new statuses
-written_new statuses [] x old met = refl
-written_new statuses (v ∷ vs) x old met = ⊎_elim
-    (λ lt. let e = sum_by-set f statuses v x New lt in
-    let none : f x ≡ 0 = ap (λ b. cond b 1 0) old in
-    let had : f (status_at statuses v) ≡ 0 = ap (λ b. cond b 1 0) (met v (0, omega arith, refl)) in
-    let rest = written_new (set statuses v x) vs x old (λ u c. ⊎_elim
-    (λ same. ap is_new (ap (status_at (set statuses v x)) same ∙ get_or-set_same statuses v x New lt) ∙ old)
-    (λ other. ap is_new (get_or-set_other statuses v u x New other) ∙ met u (let k = c.1 in (suc c.0, omega (arith, k), c.2)))
-    (cases_eq u v)) in
-    omega (arith, e, none, had, rest))
-    (λ past. let same = set_past statuses v x past in
-    ap (λ l. count_by is_new (written l vs x)) same ∙ written_new statuses vs x old (λ u c. met u (let k = c.1 in (suc c.0, omega (arith, k), c.2))))
-    (cases_lt v (length statuses))
-  where
-    f : Status → ℕ
-    f s = cond (is_new s) 1 0
-
--- no vertex is new
-pub none_new : (statuses : List Status) → ((v : ℕ) → v < length statuses → is_new (status_at statuses v) ≡ false) → count_by is_new statuses ≡ 0
-none_new [] all = refl
-none_new (x ∷ xs) all =
-    let f : Status → ℕ = λ s. cond (is_new s) 1 0 in
-    let e : count_by is_new (x ∷ xs) ≡ f x + count_by is_new xs = sum_by-cons f x xs in
-    let first : f x ≡ 0 = ap (λ b. cond b 1 0) (all 0 (omega arith)) in
-    let rest = none_new xs (λ v lt. all (suc v) (omega (arith, lt))) in
-    omega (arith, e, first, rest)
+use Rattle.contracts.proofs.WrittenLemmas.{written_length, written_at, written_other}
 
 pub contains_take : (xs ys : List ℕ) (x i : ℕ) → length xs ≤ i → i ≤ length (xs ++ ys) → Contains xs x → Contains (take i (xs ++ ys)) x
 contains_take xs ys x i le in_i (k, lt, e) =

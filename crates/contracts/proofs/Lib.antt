@@ -7,6 +7,7 @@ pub mod ComponentLemmas
 pub mod ConditionLemmas
 pub mod EndLemmas
 pub mod EndlessLemmas
+pub mod EntryLemmas
 pub mod FoundLemmas
 pub mod GraphLemmas
 pub mod GreatestLemmas
@@ -22,11 +23,14 @@ pub mod PartLemmas
 pub mod PeelLemmas
 pub mod PositionLemmas
 pub mod Rings
+pub mod RisingLemmas
 pub mod RoundLemmas
 pub mod SignLemmas
 pub mod SoundLemmas
 pub mod SourceLemmas
 pub mod SpanLemmas
+pub mod StatusLemmas
 pub mod StepLemmas
 pub mod WalkLemmas
 pub mod WholeLemmas
+pub mod WrittenLemmas

@@ -58,7 +58,7 @@ pub fn components_of(alloc: Global, graph: &Rows<usize>) -> Result<Components, A
     ensures rings { IfOk result (λ found. AreRings (rows graph.now) found.rings.items) }
     ensures order { IfOk result (λ found. IsFinishing (rows graph.now) found.order.items) }
 {
-    let mut search = Search::new(alloc, graph.len())?;
+    let mut search = Search::new(alloc, graph)?;
     for start in 0..graph.len() {
         if let Status::New = search.statuses[start] {
             search.enter(graph, start)?;
@@ -74,16 +74,18 @@ pub fn components_of(alloc: Global, graph: &Rows<usize>) -> Result<Components, A
 impl Search {
     ghost use Rattle.std.specs.Prelude.{List};
 
-    /// A search that has met no vertex of a graph with this number of vertices.
-    fn new(alloc: Global, count: usize) -> Result<Search, AllocError>
-        ensures kept { IfOk result (λ search. (graph : List (List ℕ)) → length graph ≡ count → IsKept graph search) }
+    /// A search that has met no vertex. No list grows beyond the room that it has from the start, and room that is not written to
+    /// costs nothing.
+    fn new(alloc: Global, graph: &Rows<usize>) -> Result<Search, AllocError>
+        ensures kept { IfOk result (IsKept (rows graph.now)) }
         ensures idle { IfOk result IsIdle }
     {
+        let count = graph.len();
         Ok(Search {
             statuses: vec![in alloc; Status::New; count]?,
-            pending: Vec::new(alloc),
-            bounds: Vec::new(alloc),
-            arcs: Vec::new(alloc),
+            pending: Vec::with_capacity(alloc, count)?,
+            bounds: Vec::with_capacity(alloc, count)?,
+            arcs: Vec::with_capacity(alloc, graph.items.len())?,
             rings: vec![in alloc; false; count]?,
             order: Vec::with_capacity(alloc, count)?,
         })

@@ -3,7 +3,7 @@ use Rattle.contracts.specs.declared.components.Status.TheVariants.{Complete}
 use Rattle.contracts.specs.Graphs.{rows}
 use Rattle.contracts.specs.Searches.{is_new, status_at}
 use Rattle.contracts.proofs.ComponentLemmas.{all_complete}
-use Rattle.contracts.proofs.CompletionLemmas.{none_new}
+use Rattle.contracts.proofs.StatusLemmas.{none_new}
 use Rattle.contracts.proofs.components.components_of.Goals as goal
 use Rattle.contracts.proofs.components.components_of.Goals.{After-drop-search-5}
 

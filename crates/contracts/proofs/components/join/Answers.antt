@@ -3,7 +3,7 @@ use Rattle.std.specs.Prelude.{Contains, slice_get}
 use Rattle.std.proofs.lemmas.List.{length_push}
 use Rattle.std.proofs.lemmas.List.Elements.{Contains-append_left, Contains-push_cases}
 use Rattle.contracts.specs.Searches.{AreRising}
-use Rattle.contracts.proofs.ComponentLemmas.{ends_in, push_back, rising_prefix}
+use Rattle.contracts.proofs.RisingLemmas.{ends_in, push_back, rising_prefix}
 use Rattle.contracts.proofs.components.join.Goals as goal
 
 pub bounds-preserved : goal.bounds-preserved

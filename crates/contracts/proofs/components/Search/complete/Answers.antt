@@ -4,7 +4,7 @@ use Rattle.std.proofs.lemmas.Bool.{cases_lt}
 use Rattle.std.proofs.lemmas.List.{nil_from_length}
 use Rattle.std.proofs.lemmas.List.Elements.{Contains-push}
 use Rattle.contracts.specs.Searches.{AreRising}
-use Rattle.contracts.proofs.ComponentLemmas.{ends_in, none_in_end, rising_last}
+use Rattle.contracts.proofs.RisingLemmas.{ends_in, none_in_end, rising_last}
 use Rattle.contracts.proofs.components.Search.complete.Goals as goal
 use Rattle.contracts.proofs.components.Search.complete.Goals.{In-Some}
 

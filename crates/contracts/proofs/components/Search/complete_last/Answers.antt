@@ -6,8 +6,10 @@ use Rattle.std.proofs.lemmas.List.Elements.{All-drop}
 use Rattle.contracts.specs.declared.components.Status.TheVariants.{Complete, New}
 use Rattle.contracts.specs.Graphs.{rows}
 use Rattle.contracts.specs.Searches.{IsSearch, TellsComponent, is_new, status_at, written}
-use Rattle.contracts.proofs.ComponentLemmas.{but_last, found_same, pending_within, room_same, search_same}
-use Rattle.contracts.proofs.CompletionLemmas.{completed_found, completed_met, completed_new, completed_room, completed_search, vec_written}
+use Rattle.contracts.proofs.RisingLemmas.{but_last}
+use Rattle.contracts.proofs.ComponentLemmas.{found_same, pending_within, room_same, search_same}
+use Rattle.contracts.proofs.CompletionLemmas.{completed_found, completed_met, completed_new, completed_room, completed_search}
+use Rattle.contracts.proofs.WrittenLemmas.{vec_written}
 use Rattle.contracts.proofs.StepLemmas.{complete_fewer}
 use Rattle.contracts.proofs.components.Search.complete_last.Goals as goal
 use Rattle.contracts.proofs.components.Search.complete_last.Goals.{After-deref, After-pop}

@@ -6,7 +6,8 @@ use Rattle.contracts.specs.declared.components.Status.TheVariants.{Pending}
 use Rattle.contracts.specs.Arcs.{arc}
 use Rattle.contracts.specs.Graphs.{rows, row_at}
 use Rattle.contracts.specs.Searches.{AreFound, is_new}
-use Rattle.contracts.proofs.ComponentLemmas.{entered, entered_found, fewer_new, search_same}
+use Rattle.contracts.proofs.EntryLemmas.{entered, entered_found, fewer_new}
+use Rattle.contracts.proofs.ComponentLemmas.{search_same}
 use Rattle.contracts.proofs.StepLemmas.{enter_fewer, row_short}
 use Rattle.contracts.proofs.components.Search.enter.Goals as goal
 use Rattle.contracts.proofs.components.Search.enter.Goals.{In_ok-add_arcs}

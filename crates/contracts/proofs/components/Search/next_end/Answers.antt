@@ -1,7 +1,7 @@
 use Rattle.std.proofs.Common.{◌≡◌, ◌++◌, ◌∷◌, [], ◌∙◌, ◌-◌, List, length, sym, ap, arith}
 use Rattle.std.specs.Prelude.{slice_get}
 use Rattle.contracts.specs.declared.arcs.Arc.{Arc}
-use Rattle.contracts.proofs.ComponentLemmas.{all_before, ends_in}
+use Rattle.contracts.proofs.RisingLemmas.{all_before, ends_in}
 use Rattle.contracts.proofs.components.Search.next_end.Goals as goal
 use Rattle.contracts.proofs.components.Search.next_end.Goals.{In-Some}
 
