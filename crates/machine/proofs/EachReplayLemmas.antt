@@ -8,10 +8,9 @@ use Rattle.std.proofs.lemmas.Option.{slice_get-get_or}
 use Rattle.source.specs.declared.place.Place.{Place}
 use Rattle.program.specs.Programs.{ProgramSeen}
 use Rattle.flow.specs.Graphs.{Instruction}
-use Rattle.machine.specs.Answers.{TellsStep}
 use Rattle.machine.specs.Frames.{instruction_at}
 use Rattle.machine.specs.Machine.{event_at, event_in, event_outcome}
-use Rattle.machine.specs.Outcomes.{Bounds, Outcome, Moved, Faulty, Waits, NoProcess, NoChoice}
+use Rattle.machine.specs.Outcomes.{Bounds, Outcome, Moved, Faulty, Waits, NoProcess, NoChoice, TellsStep}
 use Rattle.machine.specs.Places.{place_of, process_place, stack_place}
 use Rattle.machine.specs.Replays.{IsKnown, IsReplay, ReplaySeen}
 use Rattle.machine.specs.Runs.{Leads, moves, start_of, stays}

@@ -3,9 +3,8 @@ use Rattle.std.proofs.Common.{◌≡◌, ℕ, zero, suc, ◌<◌, ◌≤◌, Lis
 use Rattle.std.proofs.Common.{subst, arith, slice_get, ⊎_elim}
 use Rattle.std.proofs.lemmas.Bool.{cases_lt}
 use Rattle.program.specs.Programs.{ProgramSeen}
-use Rattle.machine.specs.Answers.{TellsStep}
 use Rattle.machine.specs.Machine.{event_outcome}
-use Rattle.machine.specs.Outcomes.{Bounds, Outcome, Moved, Faulty, Waits, NoProcess, NoChoice}
+use Rattle.machine.specs.Outcomes.{Bounds, Outcome, Moved, Faulty, Waits, NoProcess, NoChoice, TellsStep}
 use Rattle.machine.specs.Places.{process_place}
 use Rattle.machine.specs.Replays.{EndsWith, IsKnown, IsReplay, ReplaySeen}
 use Rattle.machine.specs.Runs.{Leads, moves, start_of, stays}

@@ -1,16 +1,14 @@
--- What the code answers, in words of the definitions.
-use Rattle.std.specs.Prelude.{◌≡◌, ℕ, ◌==◌, Bool, true, false, List, [], ◌∷◌, ◌++◌, set, slice_get, if◌then◌else◌}
+-- For proofs within the crate: what the code answers, in words of the definitions.
+use Rattle.std.specs.Prelude.{◌≡◌, ℕ, ◌==◌, Bool, true, false, List, [], ◌∷◌, ◌++◌, set, if◌then◌else◌}
 use Rattle.std.specs.Prelude.{Option, Result, Ok, Err, Some, None}
-use Rattle.std.specs.Option.{option_map_or}
 use Rattle.source.specs.declared.place.Place.{Place}
-use Rattle.program.specs.Methods.{MethodSeen, VariableSeen}
 use Rattle.program.specs.Programs.{ProgramSeen}
 use Rattle.flow.specs.Graphs.{Instruction, New, NewChannel, Delete, Send, Switch, Call, Start, Return, Stop}
 use Rattle.program.specs.declared.call.Argument.{Argument}
 use Rattle.program.specs.declared.statement.Mention.{Mention}
 use Rattle.machine.specs.Frames.{put}
 use Rattle.machine.specs.Machine.{event_of, returns}
-use Rattle.machine.specs.Outcomes.{Test, tested, Bounds, Outcome, Moved, Faulty, Waits, NoProcess, NoChoice}
+use Rattle.machine.specs.Outcomes.{Test, tested, Bounds, Outcome, Moved, Faulty, Waits, NoProcess}
 use Rattle.machine.specs.World.{Block, Frame, MessageHeld, World, let_go, read}
 use Rattle.machine.specs.declared.halts.Halt.{Halt}
 use Rattle.machine.specs.declared.halts.Halt.TheVariants as halt
@@ -23,15 +21,6 @@ Tells (Ok x) outcome after = outcome ≡ Moved after
 Tells (Err (refusal.Fault fault)) outcome after = outcome ≡ Faulty fault
 Tells (Err refusal.Waits) outcome after = outcome ≡ Waits
 Tells (Err refusal.Memory) outcome after = Unit {0}
-
--- An answer of a step tells the outcome, and the place of a fault; want of memory tells nothing.
-abbrev pub TellsStep : {X : Type 0} → Result X Halt → Outcome → Option Place → World → Type 0
-TellsStep (Ok x) outcome place after = outcome ≡ Moved after
-TellsStep (Err (halt.Fault fault at)) outcome place after = (outcome ≡ Faulty fault) × (place ≡ Some at)
-TellsStep (Err halt.Waits) outcome place after = outcome ≡ Waits
-TellsStep (Err halt.NoSuchProcess) outcome place after = outcome ≡ NoProcess
-TellsStep (Err halt.NoSuchChoice) outcome place after = outcome ≡ NoChoice
-TellsStep (Err halt.Memory) outcome place after = Unit {0}
 
 -- why no step was taken, where an instruction at a place was refused
 abbrev pub halt_of : Refusal → Place → Halt
@@ -46,10 +35,6 @@ on_top processes self rest f blocks = record { processes = set processes self (f
 -- a frame takes this into its variables
 abbrev pub with_variables : Frame → List (Option ℕ) → Frame
 with_variables f variables = record { method = f.method; point = f.point; variables = variables }
-
--- the variables of a method
-abbrev pub variables_in : List MethodSeen → ℕ → List VariableSeen
-variables_in methods m = option_map_or (λ x. x.variables) (slice_get methods m) []
 
 -- what an instruction comes to on a stack
 abbrev pub on_stack : ProgramSeen → Bounds → World → ℕ → Instruction → ℕ → List Frame → Outcome

@@ -1,9 +1,8 @@
 -- What a replay of events comes to.
 use Rattle.std.specs.Prelude.{◌≡◌, ℕ, List, length, take, Option, None, Some, Err, slice_get}
 use Rattle.program.specs.Programs.{ProgramSeen}
-use Rattle.machine.specs.Answers.{TellsStep}
 use Rattle.machine.specs.Machine.{event_outcome}
-use Rattle.machine.specs.Outcomes.{Bounds}
+use Rattle.machine.specs.Outcomes.{Bounds, TellsStep}
 use Rattle.machine.specs.Places.{process_place}
 use Rattle.machine.specs.Runs.{Leads, start_of}
 use Rattle.machine.specs.Views.{world_seen}

@@ -3,9 +3,8 @@
 ghost use Rattle.std.specs.Prelude.{◌≡◌, ◌<◌, ◌∷◌, [], IfNone, IfOk, IfSome, IsSome, OnErr, drop, get_or, length};
 ghost use Rattle.rules.specs.Programs.{seen_of};
 ghost use Rattle.machine.specs.Answers as answers;
-ghost use Rattle.machine.specs.Answers.{TellsStep};
 ghost use Rattle.machine.specs.Machine.{event_outcome};
-ghost use Rattle.machine.specs.Outcomes.{Bounds};
+ghost use Rattle.machine.specs.Outcomes.{Bounds, TellsStep};
 ghost use Rattle.machine.specs.Places.{process_place};
 ghost use Rattle.machine.specs.Runs.{AreBounds, start_of};
 ghost use Rattle.machine.specs.Views.{frame_seen, world_seen};

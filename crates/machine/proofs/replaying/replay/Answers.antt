@@ -3,8 +3,8 @@ use Rattle.std.specs.Prelude.{get_or}
 use Rattle.std.proofs.lemmas.List.{take_more}
 use Rattle.std.proofs.lemmas.Option.{slice_get-get_or}
 use Rattle.rules.specs.Programs.{seen_of}
-use Rattle.machine.specs.Answers.{TellsStep}
 use Rattle.machine.specs.Machine.{event_outcome}
+use Rattle.machine.specs.Outcomes.{TellsStep}
 use Rattle.machine.specs.Places.{process_place}
 use Rattle.machine.specs.Runs.{Leads, moves, start_of, stays}
 use Rattle.machine.specs.Views.{world_seen}
