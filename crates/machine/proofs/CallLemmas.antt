@@ -1,5 +1,5 @@
 -- Calls and starts: their tests, and the frame that begins.
-use Rattle.std.proofs.Common.{◌≡◌, ℕ, List, [], ◌∷◌, Some, Ok, Err, sym, ap, ◌∙◌, subst, map, reverse}
+use Rattle.std.proofs.Common.{◌≡◌, ℕ, List, [], ◌∷◌, Some, None, Ok, Err, sym, ap, ◌∙◌, subst, map, reverse}
 use Rattle.std.specs.Prelude.{Option, Result, IsErrAnd, IfErr, OnOk}
 use Rattle.std.proofs.lemmas.List.{append-nil}
 use Rattle.source.specs.declared.place.Place.{Place}
@@ -8,14 +8,15 @@ use Rattle.program.specs.declared.call.Argument.{Argument}
 use Rattle.program.specs.declared.number.MethodId.{MethodId}
 use Rattle.program.specs.declared.statement.Mention.{Mention}
 use Rattle.flow.specs.Graphs.{Call}
-use Rattle.machine.specs.Answers.{IsRefusal, Pass, Tells, entered_on, on_stack, with_stack, with_variables}
+use Rattle.machine.specs.Answers.{IsFirstFault, IsRefusal, Pass, Tells, entered_on, on_stack, with_stack, with_variables}
 use Rattle.machine.specs.Blocks.{argument_tests_in}
 use Rattle.machine.specs.Frames.{entered}
-use Rattle.machine.specs.Outcomes.{Bounds, Outcome, Moved, Test, tested}
+use Rattle.machine.specs.Outcomes.{Bounds, Outcome, Faulty, Moved, Test, tested}
 use Rattle.machine.specs.Views.{frame_seen, stack_of}
 use Rattle.machine.specs.World.{Block, Frame, World, let_go}
 use Rattle.machine.proofs.FrameLemmas.{given_for}
 use Rattle.machine.specs.declared.worlds as made
+use Rattle.machine.specs.declared.halts.Fault.{Fault}
 use Rattle.machine.specs.declared.halts.Refusal.{Refusal}
 use Rattle.machine.specs.declared.halts.Refusal.TheVariants as refusal
 
@@ -28,14 +29,23 @@ passed_on X (Err e) x is = ap (λ t. Err t) is
 pub pass_alone : (tests : List Test) (outcome : Outcome) → Pass tests → tested tests outcome ≡ outcome
 pass_alone tests outcome pass = ap (λ l. tested l outcome) (sym (append-nil tests)) ∙ pass [] outcome
 
+-- where no first fault is found, the tests pass
+pub none_passes : (tests : List Test) (r : Option Fault) → r ≡ None → IsFirstFault r tests → Pass tests
+none_passes tests None is pass = pass
+none_passes tests (Some fault) is pass = absurd (cc)
+
+-- an outcome that is one of these tests is their fault
+pub refused_alone : (tests : List Test) (fault : Fault) (outcome o : Outcome) → IsFirstFault (Some fault) tests → o ≡ tested tests outcome → o ≡ Faulty fault
+refused_alone tests fault outcome o h is = is ∙ (ap (λ l. tested l outcome) (sym (append-nil tests)) ∙ h [] outcome)
+
 -- an outcome that is one of these tests tells their refusal
 pub told_alone : (X : Type 0) (r : Result X Refusal) (x : Refusal) (tests : List Test) (outcome o : Outcome) (after : World) → r ≡ Err x → IsRefusal x tests → o ≡ tested tests outcome → Tells r o after
 told_alone X r x tests outcome o after e h is = subst (λ t. Tells t o after) (sym e) (at x h)
   where
     at : (y : Refusal) → IsRefusal y tests → Tells {X = X} (Err y) o after
-    at (refusal.Fault fault) h = is ∙ (ap (λ l. tested l outcome) (sym (append-nil tests)) ∙ h [] outcome)
+    at (refusal.Fault fault) h = refused_alone tests fault outcome o h is
     at refusal.Waits h = absurd h
-    at refusal.Memory h = tt
+    at refusal.Memory h = absurd h
 
 -- what a call comes to behind its tests
 abbrev pub called_to : ProgramSeen → World → ℕ → made.Frame.Frame → List made.Frame.Frame → MethodId → List Argument → Outcome
@@ -64,8 +74,12 @@ entered_is p w self method arguments b d top waiting f begun stack e same others
     ∙ ap (λ l. entered p method.0 (given_for (frame_seen f).variables arguments) ∷ with_variables (frame_seen f) (let_go (frame_seen f).variables l) ∷ rest) others)) in
     ap (λ s. Moved (with_stack w self s w.blocks)) (sym stands)
 
+-- want of memory, where the world would change
+pub memory_tells : (X : Type 0) (r : Result X Refusal) (x : Refusal) (o : Outcome) (v after : World) → r ≡ Err x → x ≡ refusal.Memory → o ≡ Moved v → Tells r o after
+memory_tells X r x o v after e is moves = subst (λ t. Tells t o after) (sym (e ∙ ap (λ y. Err y) is)) (v, moves)
+
 -- a call whose tests pass
-pub call_tells : (X : Type 0) (r : Result X Refusal) (o : Outcome) (w : World) (self : ℕ) (stack : List Frame) (bs : List Block) (Stands : Type 0)
-    → w.blocks ≡ bs → OnOk r Stands → IfErr r (λ x. x ≡ refusal.Memory) → (Stands → o ≡ Moved (with_stack w self stack w.blocks)) → Tells r o (with_stack w self stack bs)
-call_tells X (Ok y) o w self stack bs Stands is stands memory then_is = then_is stands ∙ ap (λ b. Moved (with_stack w self stack b)) is
-call_tells X (Err x) o w self stack bs Stands is stands memory then_is = subst (λ y. Tells {X = X} (Err y) o (with_stack w self stack bs)) (sym memory) tt
+pub call_tells : (X : Type 0) (r : Result X Refusal) (o : Outcome) (w v : World) (self : ℕ) (stack : List Frame) (bs : List Block) (Stands : Type 0)
+    → w.blocks ≡ bs → o ≡ Moved v → OnOk r Stands → IfErr r (λ x. x ≡ refusal.Memory) → (Stands → Moved v ≡ Moved (with_stack w self stack w.blocks)) → Tells r o (with_stack w self stack bs)
+call_tells X (Ok y) o w v self stack bs Stands is moves stands memory then_is = moves ∙ (then_is stands ∙ ap (λ b. Moved (with_stack w self stack b)) is)
+call_tells X (Err x) o w v self stack bs Stands is moves stands memory then_is = subst (λ y. Tells {X = X} (Err y) o (with_stack w self stack bs)) (sym memory) (v, moves)

@@ -9,6 +9,7 @@ pub mod HeapLemmas
 pub mod PassLemmas
 pub mod ReplayLemmas
 pub mod ScopeLemmas
+pub mod SendLemmas
 pub mod SmallRuns
 pub mod StandLemmas
 pub mod StartLemmas

@@ -7,7 +7,7 @@ use Rattle.program.specs.Programs.{ProgramSeen}
 use Rattle.program.specs.declared.call.Argument.{Argument}
 use Rattle.program.specs.declared.number.MethodId.{MethodId}
 use Rattle.flow.specs.Graphs.{Start}
-use Rattle.machine.specs.Answers.{on_stack, went_on}
+use Rattle.machine.specs.Answers.{Pass, on_stack, went_on}
 use Rattle.machine.specs.Blocks.{argument_tests_in, handed}
 use Rattle.machine.specs.Frames.{addresses, entered}
 use Rattle.machine.specs.Outcomes.{Bounds, Outcome, Moved, tested}
@@ -15,6 +15,7 @@ use Rattle.machine.specs.Views.{frame_seen, stack_of, stack_seen}
 use Rattle.machine.specs.World.{Block, Frame, World, changed, let_go}
 use Rattle.machine.specs.declared.worlds.Owner.TheVariants.{Process}
 use Rattle.machine.specs.declared.worlds as made
+use Rattle.machine.proofs.CallLemmas.{pass_alone}
 use Rattle.machine.proofs.FrameLemmas.{given_for}
 
 -- what a start comes to behind its tests
@@ -36,6 +37,14 @@ start_is p bound w self place method arguments given next stack s f bs here top 
     ∙ (ap (λ t. on_stack p bound w self (Start place method arguments next) 0 (stack_of t s.waiting.items)) top
     ∙ (ap (λ b. tested (argument_tests_in b self (frame_seen f).variables [] arguments) goes) (sym is)
     ∙ ap (λ l. tested (argument_tests_in bs self (frame_seen f).variables [] l) goes) (sym args)))
+
+-- a start whose tests pass
+pub start_goes : (p : ProgramSeen) (bound : Bounds) (w : World) (self : ℕ) (place : Place) (method : MethodId) (arguments given : List Argument) (next : ℕ) (stack : List Frame) (s : made.Process.Process) (f : made.Frame.Frame) (bs : List Block)
+    → stack_seen s ≡ stack → s.top ≡ Some f → bs ≡ w.blocks → given ≡ arguments → Pass (argument_tests_in bs self (frame_seen f).variables [] given)
+    → on_stack p bound w self (Start place method arguments next) 0 stack ≡ started_to p w self f (map frame_seen (reverse s.waiting.items)) method arguments next
+start_goes p bound w self place method arguments given next stack s f bs here top is args pass =
+    start_is p bound w self place method arguments given next stack s f bs here top is args
+    ∙ pass_alone (argument_tests_in bs self (frame_seen f).variables [] given) (started_to p w self f (map frame_seen (reverse s.waiting.items)) method arguments next) pass
 
 -- a process is as it was where another is pushed
 pushed_at : (ps : List made.Process.Process) (x : made.Process.Process) (q : ℕ) (u s : made.Process.Process) → q < length ps → u ≡ get_or (ps ++ x ∷ []) q u → s ≡ get_or ps q s → u ≡ s

@@ -6,21 +6,22 @@ use Rattle.program.specs.Programs.{ProgramSeen}
 use Rattle.flow.specs.Graphs.{Instruction, New, NewChannel, Delete, Send, Switch, Call, Start, Return, Stop}
 use Rattle.program.specs.declared.call.Argument.{Argument}
 use Rattle.program.specs.declared.statement.Mention.{Mention}
-use Rattle.machine.specs.Frames.{put}
+use Rattle.machine.specs.Frames.{address, put}
 use Rattle.machine.specs.Machine.{event_of, returns}
 use Rattle.machine.specs.Outcomes.{Test, tested, Bounds, Outcome, Moved, Faulty, Waits, NoProcess}
 use Rattle.machine.specs.World.{Block, Frame, MessageHeld, World, let_go, read}
+use Rattle.machine.specs.declared.halts.Fault.{Fault}
 use Rattle.machine.specs.declared.halts.Halt.{Halt}
 use Rattle.machine.specs.declared.halts.Halt.TheVariants as halt
 use Rattle.machine.specs.declared.halts.Refusal.{Refusal}
 use Rattle.machine.specs.declared.halts.Refusal.TheVariants as refusal
 
--- An answer of an instruction tells the outcome; want of memory tells nothing.
+-- An answer of an instruction tells the outcome. Memory comes only if the instruction would change the world.
 abbrev pub Tells : {X : Type 0} → Result X Refusal → Outcome → World → Type 0
 Tells (Ok x) outcome after = outcome ≡ Moved after
 Tells (Err (refusal.Fault fault)) outcome after = outcome ≡ Faulty fault
 Tells (Err refusal.Waits) outcome after = outcome ≡ Waits
-Tells (Err refusal.Memory) outcome after = Unit {0}
+Tells (Err refusal.Memory) outcome after = (v : World) × (outcome ≡ Moved v)
 
 -- why no step was taken, where an instruction at a place was refused
 abbrev pub halt_of : Refusal → Place → Halt
@@ -96,11 +97,22 @@ with_stack w self stack blocks = record { processes = set w.processes self stack
 abbrev pub Pass : List Test → Type 0
 Pass tests = (more : List Test) (outcome : Outcome) → tested (tests ++ more) outcome ≡ tested more outcome
 
--- the first of these tests that fails has this fault; want of memory tells nothing
+-- the fault of the first of these tests that fails, if one does
+abbrev pub IsFirstFault : Option Fault → List Test → Type 0
+IsFirstFault None tests = Pass tests
+IsFirstFault (Some fault) tests = (more : List Test) (outcome : Outcome) → tested (tests ++ more) outcome ≡ Faulty fault
+
+-- The first of these tests that fails has this fault. No test waits or takes memory.
 abbrev pub IsRefusal : Refusal → List Test → Type 0
-IsRefusal (refusal.Fault fault) tests = (more : List Test) (outcome : Outcome) → tested (tests ++ more) outcome ≡ Faulty fault
-IsRefusal refusal.Memory tests = Unit {0}
+IsRefusal (refusal.Fault fault) tests = IsFirstFault (Some fault) tests
+IsRefusal refusal.Memory tests = ⊥
 IsRefusal refusal.Waits tests = ⊥
+
+-- what arguments claim, the last first, in front of what was taken before them
+abbrev pub claimed_in : List (Option ℕ) → (taken : List ℕ) → List Argument → List ℕ
+claimed_in variables taken [] = taken
+claimed_in variables taken (a ∷ arguments) =
+    claimed_in variables (if a.claimed then address (read variables a.mention.variable.0) ∷ taken else taken) arguments
 
 -- the endpoint at an address goes on to a state
 abbrev pub in_state : (a state : ℕ) → ℕ → Block → Block

@@ -13,7 +13,7 @@ ghost use Rattle.machine.specs.Views.{blocks_seen, frame_seen, stack_seen};
 ghost use Rattle.machine.specs.World as seen;
 ghost use Rattle.machine.specs.World.{read};
 
-use crate::giving::given;
+use crate::giving::first_fault;
 use crate::halts::Refusal;
 use crate::variables::lets_go;
 use crate::worlds::{Block, Frame, Process};
@@ -99,7 +99,7 @@ fn push_frame(stack: &mut Process, begun: Frame, arguments: &[Argument]) -> Resu
     Ok(())
 }
 
-/// A method is called.
+/// A method is called. Its arguments are tested before the frame that begins takes memory.
 pub(crate) fn call(
     alloc: Global,
     program: &Program,
@@ -117,7 +117,9 @@ pub(crate) fn call(
     let Some(frame) = &stack.top else {
         unreachable!()
     };
-    given(alloc, frame, blocks, process, &calling.arguments)?;
+    if let Some(fault) = first_fault(alloc, frame, blocks, process, &calling.arguments) {
+        return Err(Refusal::Fault(fault));
+    }
     let begun = enter(alloc, program, frame, calling.method, &calling.arguments)?;
     push_frame(stack, begun, &calling.arguments)
 }

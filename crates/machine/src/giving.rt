@@ -1,13 +1,13 @@
-//! What is given with a message or a call.
+//! What is given with a call or a start.
 
 ghost use Rattle.std.specs.Prelude.{◌≡◌, ◌∷◌, [], IfErr, IfOk, IfSome, List, MatchOption, OnOk, Some, false, if◌then◌else◌, true, ℕ};
-ghost use Rattle.rules.specs.Arguments.{payload};
+ghost use Rattle.program.specs.Lists.{is_among};
 ghost use Rattle.rules.specs.Checks.{AreIn};
-ghost use Rattle.machine.specs.Answers.{IsRefusal, Pass};
+ghost use Rattle.machine.specs.Answers.{IsFirstFault, claimed_in};
 ghost use Rattle.machine.specs.Blocks.{argument_tests_in, is_own_still};
-ghost use Rattle.machine.specs.Frames.{addresses};
 ghost use Rattle.machine.specs.Frames as told;
 ghost use Rattle.machine.specs.Views.{blocks_seen, frame_seen};
+ghost use Rattle.machine.specs.World.{read};
 ghost use Rattle.machine.specs.declared.halts.Fault.TheVariants.{F1, F3};
 
 use crate::halts::{Fault, Refusal};
@@ -59,54 +59,113 @@ fn take(taken: &mut BTreeSet<usize>, argument: Argument, a: usize) -> Result<(),
     Ok(())
 }
 
-/// The addresses in the variables that are given, each the process's own and none claimed before.
-pub(crate) fn given(
+/// The fault of the first argument that fails its test, by a set of what is claimed. An error says only that the set could not grow.
+fn first_fault_by_set(
     alloc: Global,
     frame: &Frame,
     blocks: &[Block],
     process: usize,
     arguments: &[Argument],
-) -> Result<Vec<usize>, Refusal>
-    ensures pass { IfOk result (λ given. Pass (argument_tests_in (blocks_seen blocks.now) process (frame_seen frame.now).variables []
-        arguments.now)) }
-    ensures value { IfOk result (λ given. given.items ≡ addresses (frame_seen frame.now).variables arguments.now) }
-    ensures refusal { IfErr result (λ refusal. IsRefusal refusal (argument_tests_in (blocks_seen blocks.now) process
-        (frame_seen frame.now).variables [] arguments.now)) }
+) -> Result<Option<Fault>, Refusal>
+    ensures { IfOk result (λ first. IsFirstFault first
+        (argument_tests_in (blocks_seen blocks.now) process (frame_seen frame.now).variables [] arguments.now)) }
 {
     let mut taken = BTreeSet::new(alloc);
-    let mut given = Vec::new(alloc);
     for argument in arguments {
         let held = frame.has(argument.mention);
         let Some(a) = own_still(blocks, process, &taken, held) else {
-            return Err(Refusal::Fault(fault_of(*argument)));
+            return Ok(Some(fault_of(*argument)));
         };
-        given.push(a)?;
         take(&mut taken, *argument, a)?;
     }
-    Ok(given)
+    Ok(None)
 }
 
-/// A message claims what is given with it.
-fn payload(mention: Mention) -> Argument
-    ensures { result ≡ payload mention }
+/// Whether one of these arguments claims the block at an address.
+fn is_claimed(frame: &Frame, arguments: &[Argument], a: usize) -> bool
+    ensures { result ≡ is_among (claimed_in (frame_seen frame.now).variables [] arguments.now) a }
 {
-    Argument {
-        mention,
-        claimed: true,
+    for argument in arguments {
+        if argument.claimed && frame.address(argument.mention) == a {
+            return true;
+        }
+    }
+    false
+}
+
+/// Whether the process has the block in a variable, and none of the arguments before claims it.
+fn is_unclaimed(
+    frame: &Frame,
+    blocks: &[Block],
+    process: usize,
+    before: &[Argument],
+    v: Mention,
+) -> bool
+    ensures { result ≡ is_own_still (blocks_seen blocks.now) process
+        (claimed_in (frame_seen frame.now).variables [] before.now) (read (frame_seen frame.now).variables v.variable.0) }
+{
+    match own(blocks, process, frame.has(v)) {
+        Some(a) => !is_claimed(frame, before, a),
+        None => false,
     }
 }
 
-/// A message claims all that is given with it.
-pub(crate) fn payloads_claimed(
+/// The fault of the first argument that fails its test. Each is compared with all before it, so it takes no memory.
+fn first_fault_by_scan(
+    frame: &Frame,
+    blocks: &[Block],
+    process: usize,
+    arguments: &[Argument],
+) -> Option<Fault>
+    ensures { IsFirstFault result
+        (argument_tests_in (blocks_seen blocks.now) process (frame_seen frame.now).variables [] arguments.now) }
+{
+    for (number, argument) in arguments.iter().enumerate() {
+        if !is_unclaimed(
+            frame,
+            blocks,
+            process,
+            &arguments[..number],
+            argument.mention,
+        ) {
+            return Some(fault_of(*argument));
+        }
+    }
+    None
+}
+
+/// The fault of the first argument that is not the process's own, or whose block an argument before it claims.
+///
+/// A fault comes before want of memory, so the tests cannot end for want of it. A method may have a thousand parameters: the set keeps
+/// the time in step with them, and only where it cannot grow is each argument compared with all before it.
+pub(crate) fn first_fault(
     alloc: Global,
-    payloads: &[Mention],
-) -> Result<Vec<Argument>, Refusal>
-    ensures arguments { IfOk result (λ arguments. arguments.items ≡ told.payloads_claimed payloads.now) }
+    frame: &Frame,
+    blocks: &[Block],
+    process: usize,
+    arguments: &[Argument],
+) -> Option<Fault>
+    ensures { IsFirstFault result
+        (argument_tests_in (blocks_seen blocks.now) process (frame_seen frame.now).variables [] arguments.now) }
+{
+    match first_fault_by_set(alloc, frame, blocks, process, arguments) {
+        Ok(first) => first,
+        Err(_) => first_fault_by_scan(frame, blocks, process, arguments),
+    }
+}
+
+/// The addresses in the variables that are given.
+pub(crate) fn addresses(
+    alloc: Global,
+    frame: &Frame,
+    arguments: &[Argument],
+) -> Result<Vec<usize>, Refusal>
+    ensures value { IfOk result (λ given. given.items ≡ told.addresses (frame_seen frame.now).variables arguments.now) }
     ensures memory { IfErr result (λ refusal. refusal ≡ Refusal.Memory) }
 {
-    let mut arguments = Vec::new(alloc);
-    for mention in payloads {
-        arguments.push(payload(*mention))?;
+    let mut given = Vec::new(alloc);
+    for argument in arguments {
+        given.push(frame.address(argument.mention))?;
     }
-    Ok(arguments)
+    Ok(given)
 }

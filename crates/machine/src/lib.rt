@@ -10,6 +10,7 @@ mod heaps;
 mod instructing;
 pub mod laws;
 mod owning;
+mod payloads;
 mod placing;
 mod quiet;
 mod reading;

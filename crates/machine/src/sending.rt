@@ -12,9 +12,10 @@ ghost use Rattle.machine.specs.Views.{blocks_seen, frame_seen};
 ghost use Rattle.machine.specs.World as seen;
 
 use crate::edges::way_out;
-use crate::giving::{given, payloads_claimed};
+use crate::giving::addresses;
 use crate::halts::{Fault, Refusal};
 use crate::heaps::Heap;
+use crate::payloads::{are_unsent, payloads_claimed};
 use crate::reading::own;
 use crate::variables::lets_go;
 use crate::worlds::Frame;
@@ -22,7 +23,7 @@ use flow::Sending;
 use rules::Program;
 use std::alloc::Global;
 
-/// An endpoint sends a message, and what is given with it.
+/// An endpoint sends a message, and what is given with it. Every test comes before the first growth of memory.
 pub(crate) fn send(
     alloc: Global,
     program: &Program,
@@ -42,9 +43,12 @@ pub(crate) fn send(
     let Some(at) = own(heap.blocks(), process, frame.has(sending.endpoint)) else {
         return Err(Refusal::Fault(Fault::F1));
     };
-    let arguments = payloads_claimed(alloc, &sending.payloads)?;
-    let payload = given(alloc, frame, heap.blocks(), process, &arguments)?;
+    if !are_unsent(frame, heap.blocks(), process, &sending.payloads) {
+        return Err(Refusal::Fault(Fault::F3));
+    }
     let way = way_out(program, heap.blocks(), at, sending.message)?;
+    let arguments = payloads_claimed(alloc, &sending.payloads)?;
+    let payload = addresses(alloc, frame, &arguments)?;
     if !heap.send(alloc, way, sending.message, &payload) {
         return Err(Refusal::Memory);
     }

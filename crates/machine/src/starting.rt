@@ -11,7 +11,7 @@ ghost use Rattle.machine.specs.World.{stack_at};
 ghost use Rattle.machine.specs.declared.worlds.Process.{Process};
 
 use crate::calling::enter;
-use crate::giving::given;
+use crate::giving::{addresses, first_fault};
 use crate::halts::Refusal;
 use crate::variables::lets_go;
 use crate::worlds::{Process, World};
@@ -49,13 +49,16 @@ pub(crate) fn start(
     let Some(frame) = &world.processes[process].top else {
         unreachable!()
     };
-    let owned = given(
+    if let Some(fault) = first_fault(
         alloc,
         frame,
         world.heap.blocks(),
         process,
         &starting.arguments,
-    )?;
+    ) {
+        return Err(Refusal::Fault(fault));
+    }
+    let owned = addresses(alloc, frame, &starting.arguments)?;
     let begun = enter(alloc, program, frame, starting.method, &starting.arguments)?;
     let number = world.processes.len();
     world.heap.list(number)?;

@@ -79,7 +79,7 @@ impl World {
     /// One event: the instruction at which the process stands, done the way of the choice. An answer that is refused leaves the world
     /// as it was. It is, by the first of these that holds: `NoSuchProcess` where there is no such process or it has ended;
     /// `NoSuchChoice` where the instruction has no such choice; `Fault` where the process does something wrong; `Waits` where it waits
-    /// for a message and none is there; `Memory` where a growth was refused.
+    /// for a message and none is there; `Memory` where a growth was refused, and with memory the event would have been a step.
     pub fn step(&mut self, alloc: Global, program: &Program, event: Event) -> Result<(), Halt>
         ensures tells { (bound : Bounds) → AreBounds (seen_of program.now) bound →
             TellsStep result (event_outcome (seen_of program.now) bound (world_seen self.old) event)

@@ -154,7 +154,7 @@ pub(crate) fn switch(
     let endpoints = cases.endpoints();
     are_own(frame, heap.blocks(), process, endpoints)?;
     let endpoint = endpoints[choice];
-    let at = frame.has(endpoint).unwrap_or(0);
+    let at = frame.address(endpoint);
     let gate = Gate {
         variable: endpoint.variable,
         at,

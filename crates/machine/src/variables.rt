@@ -6,7 +6,7 @@ ghost use Rattle.program.specs.Scopes.{outer_of};
 ghost use Rattle.rules.specs.Programs.{seen_of};
 ghost use Rattle.rules.specs.Scopes.{declared_between, is_this};
 ghost use Rattle.machine.specs.Answers.{with_variables};
-ghost use Rattle.machine.specs.Frames.{bound_to, forgotten, kind_at, variables_of};
+ghost use Rattle.machine.specs.Frames.{address, bound_to, forgotten, kind_at, variables_of};
 ghost use Rattle.machine.specs.Frames as told;
 ghost use Rattle.machine.specs.Views.{frame_seen};
 ghost use Rattle.machine.specs.World.{let_go, read};
@@ -33,6 +33,13 @@ impl Frame {
             Some(x) => *x,
             None => None,
         }
+    }
+
+    /// The address in a variable; 0 where there is none, which a test has ruled out.
+    pub(crate) fn address(&self, v: Mention) -> usize
+        ensures { result ≡ address (read (frame_seen self.now).variables v.variable.0) }
+    {
+        self.has(v).unwrap_or(0)
     }
 
     /// Gives a variable this in place of what it has.

@@ -1,29 +1,40 @@
 use Rattle.std.proofs.Common.{◌≡◌, ◌<◌, [], sym, ap, ◌∙◌, subst, length}
-use Rattle.machine.specs.Answers.{Pass}
+use Rattle.rules.specs.Programs.{seen_of}
 use Rattle.machine.specs.BlockViews.{blocks_seen}
-use Rattle.machine.specs.Blocks.{argument_tests_in}
 use Rattle.machine.specs.Frames.{addresses, payloads_claimed}
 use Rattle.machine.specs.Heaps.{AreOnce, AreOwned}
 use Rattle.machine.proofs.PassLemmas.{pass_once, pass_owned}
+use Rattle.machine.proofs.SendLemmas.{send_moves}
 use Rattle.machine.proofs.sending.send.Goals as goal
+
+pub returns-then-not-send-clause-tells : goal.returns-then-not-send-clause-tells
+returns-then-not-send-clause-tells c = λ bound w rest are is.
+    let sending = c.args.sending.now in (
+      _,
+      send_moves (seen_of c.args.program.now) bound w.blocks (blocks_seen c.blocks-2.result.now) (blocks_seen c.blocks-3.result.now) (blocks_seen c.blocks-4.result.now) c.args.process c.args.frame.now.variables.items
+          sending.endpoint.variable.0 c.has.result c.in-Some.at sending.message.0 sending.payloads.items c.deref.result.now _
+          (is ∙ ap blocks_seen (sym c.blocks-2.ensures)) (is ∙ ap blocks_seen (sym c.blocks-3.ensures)) (is ∙ ap blocks_seen (sym c.blocks-4.ensures)) c.deref.ensures.value
+          c.has.ensures c.in-Some.ensures.some c.in-Some.ensures.own (c.are_unsent.ensures.pass c.if-not-are_unsent.false) (c.in_ok-way.ensures.pass bound are),
+    )
 
 pub send-requires-clause-owned : goal.send-requires-clause-owned
 send-requires-clause-owned c =
     let variables = c.args.frame.now.variables.items in
-    let arguments = c.deref-2.result.now in
-    let given : c.deref-3.result.now ≡ addresses variables arguments = c.deref-3.ensures.value ∙ c.in_ok-payload.ensures.value in
-    subst (λ l. AreOwned (blocks_seen l) c.deref-3.result.now) c.blocks-3.ensures
-    (subst (AreOwned (blocks_seen c.blocks-3.result.now)) (sym given) (pass_owned (blocks_seen c.blocks-3.result.now) c.args.process variables [] arguments c.in_ok-payload.ensures.pass))
+    let blocks = blocks_seen c.blocks-3.result.now in
+    let payloads = c.deref.result.now in
+    let claimed : c.deref-3.result.now ≡ payloads_claimed payloads = c.deref-3.ensures.value ∙ (c.in_ok-arguments.ensures.arguments ∙ ap payloads_claimed (c.deref-2.ensures.value ∙ sym c.deref.ensures.value)) in
+    let given : c.deref-4.result.now ≡ addresses variables (payloads_claimed payloads) = c.deref-4.ensures.value ∙ (c.in_ok-payload.ensures.value ∙ ap (addresses variables) claimed) in
+    subst (λ l. AreOwned (blocks_seen l) c.deref-4.result.now) c.blocks-3.ensures
+    (subst (AreOwned blocks) (sym given) (pass_owned blocks c.args.process variables [] (payloads_claimed payloads) (c.are_unsent.ensures.pass c.if-not-are_unsent.false)))
 
 pub send-requires-clause-once : goal.send-requires-clause-once
 send-requires-clause-once c =
     let variables = c.args.frame.now.variables.items in
     let blocks = blocks_seen c.blocks-3.result.now in
     let payloads = c.deref.result.now in
-    let claimed : c.deref-2.result.now ≡ payloads_claimed payloads = c.deref-2.ensures.value ∙ c.in_ok-arguments.ensures.arguments in
-    let given : c.deref-3.result.now ≡ addresses variables (payloads_claimed payloads) = c.deref-3.ensures.value ∙ (c.in_ok-payload.ensures.value ∙ ap (addresses variables) claimed) in
-    subst AreOnce (sym given) (pass_once blocks c.args.process variables payloads
-    (subst (λ l. Pass (argument_tests_in blocks c.args.process variables [] l)) claimed c.in_ok-payload.ensures.pass))
+    let claimed : c.deref-3.result.now ≡ payloads_claimed payloads = c.deref-3.ensures.value ∙ (c.in_ok-arguments.ensures.arguments ∙ ap payloads_claimed (c.deref-2.ensures.value ∙ sym c.deref.ensures.value)) in
+    let given : c.deref-4.result.now ≡ addresses variables (payloads_claimed payloads) = c.deref-4.ensures.value ∙ (c.in_ok-payload.ensures.value ∙ ap (addresses variables) claimed) in
+    subst AreOnce (sym given) (pass_once blocks c.args.process variables payloads (c.are_unsent.ensures.pass c.if-not-are_unsent.false))
 
 pub send-requires-clause-there : goal.send-requires-clause-there
 send-requires-clause-there c = λ here. subst (λ l. c.in_ok-way.way.peer < length (blocks_seen l)) c.blocks-4.ensures (c.in_ok-way.ensures.there here)

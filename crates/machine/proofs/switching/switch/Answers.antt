@@ -40,7 +40,7 @@ returns-clause-tells c = λ bound w rest place is.
     let there : slice_get es c.args.choice ≡ Some e = slice_get-get_or es c.args.choice no_mention (subst (λ l. c.args.choice < length l) (sym c.endpoints-endpoints.ensures) c.requires.there) in
     subst (λ o. Tells c.come.result o (on_top w.processes c.args.process rest (frame_seen c.come.new.frame) (blocks_seen c.come.new.heap.blocks.items)))
     (sym (switch_is p bound w c.args.process f rest place cs c.args.choice bs es is c.endpoints-endpoints.ensures
-    ∙ (passed ∙ switch_goes p bound w c.args.process f rest cs es c.args.choice e c.unwrap_or-at.result bs there (c.unwrap_or-at.ensures ∙ ap address c.has.ensures) is)))
+    ∙ (passed ∙ switch_goes p bound w c.args.process f rest cs es c.args.choice e c.address-at.result bs there c.address-at.ensures is)))
     (c.come.ensures.tells bound w rest is)
 
 pub come-requires : goal.come-requires
@@ -53,6 +53,6 @@ come-requires c =
     let own = pass_each (blocks_seen c.blocks-2.result.now) c.args.process f.variables es c.args.choice no_mention short c.in_ok-are_own.ensures.pass in
     let there = own_at (blocks_seen c.blocks-2.result.now) c.args.process (read f.variables e.variable.0) own in
     record {
-      owned = ap (owns bs c.args.process) (c.unwrap_or-at.ensures ∙ ap address c.has.ensures)
+      owned = ap (owns bs c.args.process) c.address-at.ensures
           ∙ (ap (λ l. owns (blocks_seen l) c.args.process (address (read f.variables e.variable.0))) (sym c.blocks-2.ensures) ∙ there);
     }

@@ -1,6 +1,0 @@
-use Rattle.machine.specs.Views.{blocks_seen, frame_seen}
-use Rattle.machine.proofs.GiveLemmas.{Given}
-use Rattle.machine.proofs.giving.given.Given as goal
-
-abbrev pub invariant-loop-argument : goal.invariant-loop-argument
-invariant-loop-argument l = Given (blocks_seen l.blocks) l.process (frame_seen l.frame).variables l.arguments l.argument-index l.taken l.given.items
