@@ -1,15 +1,17 @@
 //! Laws of words and tokens: they hold of every table.
 
-ghost use Rattle.std.specs.Prelude.{◌≡◌, ◌+◌, ◌*◌, ◌<◌, ℕ, List, length};
+ghost use Rattle.std.specs.Prelude.{◌≡◌, ◌+◌, ◌*◌, ◌<◌, ℕ, List, length, slice_index};
 ghost use Rattle.std.specs.Thread.{IsSync};
+ghost use Rattle.atomic_table.specs.Table.{State};
 ghost use Rattle.program.specs.declared.limits.TheConstants.{MOST_VARIABLES};
 ghost use Rattle.rules.specs.Leaves.{IsNumbered};
 ghost use Rattle.rules.specs.declared.row.Leaf.{Leaf};
 ghost use Rattle.intern.specs.Codes.{code};
 ghost use Rattle.intern.specs.Layout.{word};
-ghost use Rattle.intern.specs.Seats.{IsSeatOf, slots_of, view};
+ghost use Rattle.intern.specs.Rule.{Filled};
+ghost use Rattle.intern.specs.Seats.{IsOfEmptyTable, IsSeatOf, IsStateFor, slots_of, view};
 ghost use Rattle.intern.specs.Tokens.{HasNoRoom, IsFaithful, IsKnown, Names};
-ghost use Rattle.intern.specs.View.{Grows, IsInside, IsSound, IsWalk, View};
+ghost use Rattle.intern.specs.View.{Grows, IsInside, IsSound, IsWalk, Knowledge, View};
 ghost use Rattle.intern.specs.contracts.rows.Rows as rows;
 ghost use Rattle.intern.specs.declared.layout.TheConstants.{LEAVES, LENGTHS, MOST_LOOKS, MOST_SLOTS};
 ghost use Rattle.intern.specs.declared.rows.Rows.{Rows};
@@ -58,6 +60,13 @@ pub fn a_token_is_a_walk()
 pub fn a_full_table_stays_full()
     ensures { (rows : Rows) (v : View) (seat : Seat) → IsSeatOf rows seat → Grows v (view seat)
         → (row : List Leaf) → HasNoRoom (slots_of rows) v row → HasNoRoom (slots_of rows) (view seat) row }
+{}
+
+/// Where a seat is the only one of its table and knows no word, the table has none: each word is 0, whatever state that meets the rule
+/// the table is in.
+pub fn an_empty_table_has_no_word()
+    ensures { (slots : ℕ) (s : State (Unit {0}) Knowledge) (seat : Seat) → Filled slots s → IsStateFor seat s → IsOfEmptyTable seat
+        → (i : ℕ) → slice_index s.words i ≡ 0 }
 {}
 
 /// Threads may share a table of rows by reference.

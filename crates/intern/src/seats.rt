@@ -1,9 +1,9 @@
 //! A table with its first seat, and seats that are split and joined.
 
-ghost use Rattle.std.specs.Prelude.{◌≡◌, ◌↔◌, [], IfErr, IfOk, IsOkAnd};
+ghost use Rattle.std.specs.Prelude.{◌≡◌, ◌↔◌, IfErr, IfOk, IsOkAnd};
 ghost use Rattle.intern.specs.declared.fault.InternNew.TheVariants.{Slots};
 ghost use Rattle.intern.specs.Layout.{IsTableSize};
-ghost use Rattle.intern.specs.Seats.{IsSeatOf, slots_of, view};
+ghost use Rattle.intern.specs.Seats.{IsOfEmptyTable, IsSeatOf, slots_of, view};
 ghost use Rattle.intern.specs.Tokens.{IsFaithful};
 ghost use Rattle.intern.specs.View.{Grows};
 
@@ -22,7 +22,7 @@ impl Rows {
     /// `Slots` is answered where the slots are none, or more than `MOST_SLOTS`; `Memory` where a growth was refused.
     pub fn new(alloc: Global, slots: usize) -> Result<(Rows, Seat), InternNew>
         ensures seat { IfOk result (λ made. IsSeatOf made.0 made.1) }
-        ensures empty { IfOk result (λ made. view made.1 ≡ []) }
+        ensures empty { IfOk result (λ made. IsOfEmptyTable made.1) }
         ensures size { IfOk result (λ made. slots_of made.0 ≡ slots) }
         ensures range { IfOk result (λ made. IsTableSize slots) }
         ensures slots { IfErr result (λ fault. (fault ≡ Slots) ↔ (IsTableSize slots → ⊥)) }
