@@ -1,5 +1,6 @@
 -- Lists without doubles.
-use Rattle.std.proofs.Common.{◌≡◌, ◌≤◌, ◌⊎◌, inl, inr, List, [], ◌∷◌, ◌++◌, length, Contains, sym, ap, subst, arith, length-append}
+use Rattle.std.proofs.Common.{◌≡◌, ℕ, ◌<◌, ◌≤◌, ◌⊎◌, inl, inr, List, [], ◌∷◌, ◌++◌, length, map, get_or, Contains, sym, ap, subst, ◌∙◌, arith, length-append}
+use Rattle.std.proofs.lemmas.List.{get_or-map, length-map}
 use Rattle.std.proofs.lemmas.List.Elements.{Contains-append_left, Contains-append_right, Contains-push, Contains-push_cases, Contains-append_cases}
 use Rattle.analyse.specs.Reach.{Differ}
 
@@ -18,6 +19,9 @@ module _ {X : Type 0} where
     where
       one : Contains (y ∷ []) x → y ≡ x
       one k = elim (Contains-push_cases [] y x k) [ inl n ↦ absurd (none_in x n) | inr e ↦ e ]
+
+  pub has_mapped : {Y : Type 0} (f : X → Y) (xs : List X) (i : ℕ) (x : X) → i < length xs → get_or xs i x ≡ x → Contains (map f xs) (f x)
+  has_mapped f xs i x below is = let same = length-map xs f in (i, omega arith, get_or-map f xs i x (f x) below ∙ ap f is)
 
   pub only_one : (y x : X) → Contains (y ∷ []) x → y ≡ x
   only_one y x k = elim (Contains-push_cases [] y x k) [ inl n ↦ absurd (none_in x n) | inr e ↦ e ]

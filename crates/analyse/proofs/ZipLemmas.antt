@@ -1,6 +1,7 @@
 -- Two lists whose items belong together place by place.
-use Rattle.std.proofs.Common.{◌≡◌, ℕ, zero, suc, List, [], ◌∷◌, ◌++◌, length, Some, None, slice_get, refl, ap, subst}
+use Rattle.std.proofs.Common.{◌≡◌, ℕ, zero, suc, List, [], ◌∷◌, ◌++◌, length, Some, None, inl, inr, slice_get, Contains, refl, ap, subst}
 use Rattle.std.specs.List.{AllZip}
+use Rattle.analyse.proofs.ListLemmas.{has_cases, none_in}
 
 module _ {A B : Type 0} where
   pub zip_weaker : (R S : A → B → Type 0) → ((x : A) (y : B) → R x y → S x y) → (xs : List A) (ys : List B) → AllZip R xs ys → AllZip S xs ys
@@ -37,3 +38,10 @@ module _ {A B : Type 0} where
     zip_past (a ∷ xs) [] n h e = absurd h
     zip_past (a ∷ xs) (b ∷ ys) zero h e = cc
     zip_past (a ∷ xs) (b ∷ ys) (suc n) h e = zip_past xs ys n h.1 e
+
+    -- some item belongs to each
+    pub zip_has : (xs : List A) (ys : List B) (y : B) → AllZip R xs ys → Contains ys y → (x : A) × R x y
+    zip_has [] [] y h k = absurd (none_in y k)
+    zip_has [] (b ∷ ys) y h k = absurd h
+    zip_has (a ∷ xs) [] y h k = absurd h
+    zip_has (a ∷ xs) (b ∷ ys) y h k = elim (has_cases b ys y k) [ inl e ↦ (a, subst (R a) e h.0) | inr later ↦ zip_has xs ys y h.1 later ]

@@ -3,7 +3,7 @@
 ghost use Rattle.std.specs.Prelude.{◌≡◌};
 ghost use Rattle.intern.specs.Seats.{IsSeatOf};
 ghost use Rattle.intern.specs.declared.rows.Rows.{Rows};
-ghost use Rattle.analyse.specs.Workers.{IsWorkerOf, seat_of};
+ghost use Rattle.analyse.specs.Workers.{IsAtTable, IsWorkerOf, seat_of};
 
 use crate::own::OwnRows;
 use crate::remembered::Remembered;
@@ -17,6 +17,7 @@ impl Worker {
     /// A worker with this seat. It takes no memory before it analyses something.
     pub fn new(alloc: Global, seat: Seat) -> Worker
         ensures seat { seat_of result ≡ seat }
+        ensures table { IsAtTable result }
         ensures worker { (rows : Rows) → IsSeatOf rows seat → IsWorkerOf rows result }
     {
         Worker {
