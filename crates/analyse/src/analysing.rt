@@ -1,10 +1,10 @@
 //! The search over pairs of a point and a row.
 
-ghost use Rattle.std.specs.Prelude.{◌≡◌, ◌<◌, IfOk, IfErr, length, map};
+ghost use Rattle.std.specs.Prelude.{◌≡◌, IfOk, IfErr, map};
 ghost use Rattle.source.specs.Findings.{finding_parts};
 ghost use Rattle.intern.specs.View.{Grows};
 ghost use Rattle.rules.specs.Programs.{seen_of};
-ghost use Rattle.analyse.specs.Tasks.{findings_of, number_of, program_of, verdict_number};
+ghost use Rattle.analyse.specs.Tasks.{findings_of, number_of, program_of, task_program, verdict_number};
 ghost use Rattle.analyse.specs.Verdicts.{HasTooMany, IsMethodVerdict};
 ghost use Rattle.analyse.specs.Workers.{HasLeftTable, HasTokens, IsAtTable, IsWorkerOf, ReachesFar, view_of};
 
@@ -16,12 +16,11 @@ use intern::Rows;
 use rules::Program;
 use source::Memory;
 use std::alloc::Global;
-use std::snapshot::Snapshot;
 
 /// The most pairs of a point and a row that may be reached in a method.
 pub const MOST_PAIRS: usize = 20_000;
 
-/// The verdict of a task's method: what is found at the pairs that can be reached from its entry, or, where more than
+/// The verdict of a task's method, where the task is of this program: what is found at the pairs that can be reached from its entry, or, where more than
 /// `MOST_PAIRS` can, that alone. All pairs are looked at, and no two rows are joined. Rows are kept in the table of all. Once that has
 /// no place near for one, the worker keeps all rows of this method and of each later one itself; the verdict is the same.
 ///
@@ -33,7 +32,7 @@ pub fn analyse(
     rows: &Rows,
     worker: &mut Worker,
 ) -> Result<Verdict, (Task, Memory)>
-    requires there { number_of task < length (seen_of program.now).methods }
+    requires program { task_program task ≡ program.now }
     requires worker { IsWorkerOf rows.now worker.old }
     ensures worker { IsWorkerOf rows.now worker.new }
     ensures grows { Grows (view_of worker.old) (view_of worker.new) }
@@ -49,10 +48,10 @@ pub fn analyse(
 {
     match verdict_of(alloc, program, task.method, rows, worker) {
         Ok(findings) => {
-            let Task { method } = task;
+            let Task { method, program } = task;
             Ok(Verdict {
                 method,
-                program: Snapshot::of(program),
+                program,
                 findings,
             })
         }

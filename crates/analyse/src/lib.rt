@@ -1,6 +1,7 @@
 //! The verdict of a method: what is found at the pairs of a point and a row that can be reached.
 #![tactic(auto)]
 
+mod all_tasks;
 mod analysing;
 mod hand;
 mod keys;
@@ -19,7 +20,8 @@ mod task;
 mod verdict;
 mod worker;
 
+pub use all_tasks::{give_up_all, tasks};
 pub use analysing::{MOST_PAIRS, analyse};
-pub use task::{Task, give_up_all, tasks};
+pub use task::Task;
 pub use verdict::Verdict;
 pub use worker::Worker;
