@@ -20,9 +20,11 @@ use std::alloc::Global;
 /// The most pairs of a point and a row that may be reached in a method.
 pub const MOST_PAIRS: usize = 20_000;
 
-/// The verdict of a task's method, where the task is of this program: what is found at the pairs that can be reached from its entry, or, where more than
-/// `MOST_PAIRS` can, that alone. All pairs are looked at, and no two rows are joined. Rows are kept in the table of all. Once that has
-/// no place near for one, the worker keeps all rows of this method and of each later one itself; the verdict is the same.
+/// The verdict of the method of a task of this program: what is found at the pairs that can be reached from its entry, or, if more
+/// than `MOST_PAIRS` can, that alone. All pairs are looked at, and no two rows are joined.
+///
+/// Rows are kept in the table of all. Once that has no place near for a row, the worker leaves the table: it keeps all rows of this
+/// method and of each later one itself. The verdict is the same.
 ///
 /// `Memory` is answered where a growth was refused, and gives the task back. The worker's seat knows all that it had seen, also then.
 pub fn analyse(

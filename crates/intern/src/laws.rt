@@ -62,8 +62,8 @@ pub fn a_full_table_stays_full()
         → (row : List Leaf) → HasNoRoom (slots_of rows) v row → HasNoRoom (slots_of rows) (view seat) row }
 {}
 
-/// Where a seat is the only one of its table and knows no word, the table has none: each word is 0, whatever state that meets the rule
-/// the table is in.
+/// If no other seat of a table was ever made, and the one that was knows no word, the table has none: each word is 0 in every state
+/// that meets the rule.
 pub fn an_empty_table_has_no_word()
     ensures { (slots : ℕ) (s : State (Unit {0}) Knowledge) (seat : Seat) → Filled slots s → IsStateFor seat s → IsOfEmptyTable seat
         → (i : ℕ) → slice_index s.words i ≡ 0 }
