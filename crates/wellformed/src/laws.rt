@@ -1,0 +1,20 @@
+//! Laws of well formed methods: they hold of every program, whatever the code does.
+
+ghost use Rattle.std.specs.Prelude.{◌≡◌, []};
+ghost use Rattle.names.specs.Findings.{program_findings};
+ghost use Rattle.names.specs.Program.{Program};
+ghost use Rattle.names.specs.Resolution.{resolved_contracts};
+ghost use Rattle.program.specs.Lists.{Each};
+ghost use Rattle.program.specs.WellFormed.{AreWellFormed};
+ghost use Rattle.resolving.specs.Brought.{messages_told};
+ghost use Rattle.resolving.specs.Methods.{methods_told};
+ghost use Rattle.tree.specs.Trees.{contracts_of};
+ghost use Rattle.wellformed.specs.Bare.{IsBare};
+
+/// If nothing is wrong with the names of a program, its methods are well formed in numbers (`formed`). A method of any program that
+/// takes nothing has no parameter of the exchange heap (`bare`).
+pub fn clean_methods_are_well_formed()
+    ensures formed { (p : Program) → program_findings p ≡ []
+        → AreWellFormed (resolved_contracts p.text (contracts_of p.items)) (messages_told p) (methods_told p) }
+    ensures bare { (p : Program) → Each IsBare (methods_told p) }
+{}
