@@ -32,14 +32,14 @@ pub fn runs_are_bounded()
 
 /// A program of sound contracts in whose methods nothing is found is safe in every run: no event is a fault, each queue is a walk of
 /// its contract, a process holds just what it owns, what is cut off stays so, and a process that has ended owns nothing.
-pub fn clean_report_is_safe()
+pub fn empty_report_is_safe()
     ensures { (p : ProgramSeen) (bound : Bounds) → AreWellFormed p.contracts p.messages p.methods → AreSound p → AreBounds p bound
         → NothingIsFound p → (n : ℕ) (w : World) → IsEntry p n → Run p bound n w → IsSafe p bound w }
 {
     two_ends();
 }
 
-/// All that `clean_report_is_safe` asks can be met at once: it is refuted that no program, bounds and method meet it.
+/// All that `empty_report_is_safe` asks can be met at once: it is refuted that no program, bounds and method meet it.
 pub fn premises_can_be_met()
     ensures { ((p : ProgramSeen) (bound : Bounds) (n : ℕ) → AreWellFormed p.contracts p.messages p.methods → AreSound p
         → AreBounds p bound → NothingIsFound p → IsEntry p n → ⊥) → ⊥ }
@@ -54,5 +54,5 @@ pub fn clean_methods_are_safe(methods: &Methods, sounds: &[Sound])
         → IsSafe (program_seen methods.now) bound w }
 {
     methods.list();
-    clean_report_is_safe();
+    empty_report_is_safe();
 }

@@ -6,5 +6,5 @@ pub returns : goal.returns
 returns c =
     let p = program_seen c.args.methods.now in
     λ bound bounds nothing n w entry run.
-    c.clean_report_is_safe.ensures p bound c.list.ensures.well_formed (all_sound p c.args.sounds.now c.requires.sound) bounds nothing n w
+    c.empty_report_is_safe.ensures p bound c.list.ensures.well_formed (all_sound p c.args.sounds.now c.requires.sound) bounds nothing n w
     entry run

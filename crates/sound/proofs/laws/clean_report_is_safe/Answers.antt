@@ -1,5 +1,0 @@
-use Rattle.sound.proofs.Whole.{clean_report_is_safe as law}
-use Rattle.sound.proofs.laws.clean_report_is_safe.Goals as goal
-
-pub returns : goal.returns
-returns c = law c.two_ends.ensures.held c.two_ends.ensures.bounded
