@@ -1,6 +1,6 @@
 -- A replay, from what is read to what is written; and why it meets no fault where nothing is found.
-use Rattle.std.proofs.Common.{◌≡◌, ℕ, zero, suc, Bool, true, false, List, [], ◌∷◌, take, Option, Some, None, refl, subst}
-use Rattle.std.specs.Prelude.{◌&&◌, IfSome, IsSomeAnd, not, slice_get}
+use Rattle.std.proofs.Common.{◌≡◌, ℕ, zero, suc, Bool, true, false, List, [], ◌∷◌, take, Option, Some, None, inl, inr, refl, subst}
+use Rattle.std.specs.Prelude.{◌&&◌, ◌⊎◌, IfSome, IsSomeAnd, not, slice_get}
 use Rattle.std.specs.Io.KnownBytes.{Appends}
 use Rattle.source.specs.Findings.{FindingParts}
 use Rattle.source.specs.declared.lexer.TheConstants.{MAX_TEXT}
@@ -17,14 +17,17 @@ use Rattle.machine.specs.Runs.{AreBounds, Leads, Run, begins, goes_on, moves, st
 use Rattle.machine.specs.World.{World}
 use Rattle.machine.specs.declared.halts.Event.{Event}
 use Rattle.machine.specs.declared.halts.Fault.{Fault}
+use Rattle.machine.specs.declared.halts.Fault.TheVariants.{F6}
 use Rattle.machine.specs.declared.halts.Halt.TheVariants as halt
-use Rattle.sound.specs.Premises.{IsEntry, NothingIsFound}
+use Rattle.sound.specs.Premises.{AreSound, IsEntry, NothingIsFound}
+use Rattle.sound.specs.Queues.{IsBounded}
+use Rattle.sound.specs.Safe.{IsSafe}
 use Rattle.singcheck.specs.Checks.{HasProgram, IsWrong}
 use Rattle.singcheck.specs.Devices.{Begins}
-use Rattle.singcheck.specs.Entered.{AreReplaysSafe, Begins as BeginsWith}
-use Rattle.singcheck.specs.Replays.{IsRan, LacksEntry, LacksSchedule, OfFindings, OfRun, Replays}
+use Rattle.singcheck.specs.Entered.{Begins as BeginsWith}
+use Rattle.singcheck.specs.Replays.{HasSomeEntry, IsRan, LacksEntry, LacksSchedule, OfFindings, OfRun, Replays}
 use Rattle.singcheck.specs.Runs.{BeginsAnswer, Writes}
-use Rattle.singcheck.specs.Safety.{HasEmptyReport, RunsSafely}
+use Rattle.singcheck.specs.Safety.{HasEmptyReport, Kept, ReplaysWithinBounds, Reported, RunsSafely}
 use Rattle.singcheck.specs.declared.fault.Status.{Status}
 use Rattle.singcheck.specs.declared.fault.Status.TheVariants.{Found}
 use Rattle.singcheck.specs.declared.reading.TheConstants.{MAX_READ, MAX_SCHEDULE_READ}
@@ -61,6 +64,26 @@ replay_begun entry (Some x) None w v text bytes status is answers begun = tt
 replay_begun entry (Some x) (Some l) w v text bytes status is answers begun =
     begins_is (Replays entry l) (Some x) w v text bytes status MAX_READ (replays_of_front entry l) is answers begun
 
+bounded_long : (entry lines text other bytes : List ℕ) (status : Status) → AreLong text other
+    → ReplaysWithinBounds entry lines text bytes status → ReplaysWithinBounds entry lines other bytes status
+bounded_long entry lines text other bytes status long (Reported told is) = Reported (answers_long text other bytes Found long told) is
+bounded_long entry lines text other bytes status long (Kept kept) =
+    no_program text long.one kept.ran.entered.has.program.parsed.tokens kept.ran.entered.has.program.parsed.lexed
+
+bounded_of_front : (entry lines : List ℕ) → IsOfFront (ReplaysWithinBounds entry lines) MAX_READ
+bounded_of_front entry lines = record {
+  whole = λ text bytes status. of_front (λ t. ReplaysWithinBounds entry lines t bytes status) MAX_TEXT MAX_READ refl
+      (λ a b x y. bounded_long entry lines a b bytes status (record { one = x; two = y })) text;
+}
+
+pub replay_bounded : (entry : List ℕ) (a q w v : Option (List ℕ)) (text bytes : List ℕ) (status : Status)
+    → IfSome a (λ xs. text ≡ take MAX_READ xs) → IfSome q (λ lines. ReplaysWithinBounds entry lines text bytes status) → Appends w v bytes
+    → IfSome a (λ xs. IfSome q (λ lines. Writes (ReplaysWithinBounds entry lines) xs w v status))
+replay_bounded entry None q w v text bytes status is answers done = tt
+replay_bounded entry (Some x) None w v text bytes status is answers done = tt
+replay_bounded entry (Some x) (Some l) w v text bytes status is answers done =
+    writes_is (ReplaysWithinBounds entry l) (Some x) w v text bytes status MAX_READ (bounded_of_front entry l) is answers done
+
 -- a text that is too long has no empty report
 safely_front : (entry lines text bytes : List ℕ) (status : Status)
     → (HasEmptyReport (take MAX_READ text) → RunsSafely entry lines (take MAX_READ text) bytes status) → HasEmptyReport text
@@ -96,6 +119,26 @@ pub line_lacks : (entry : List ℕ) (n : ℕ) (a q : Option (List ℕ)) (text : 
 line_lacks entry n None q text is lacks = tt
 line_lacks entry n (Some x) None text is lacks = tt
 line_lacks entry n (Some x) (Some l) text is lacks = line_front entry l x n (subst (λ t. LacksSchedule t entry l n) is lacks)
+
+-- an entry of the bytes that are read is one of the text, and the other way round
+entry_front : (entry text : List ℕ) → HasSomeEntry (take MAX_READ text) entry → HasSomeEntry text entry
+entry_front entry text = of_front (λ t. HasSomeEntry t entry) MAX_TEXT MAX_READ refl
+    (λ a b y z front. no_program a y front.2.has.program.parsed.tokens front.2.has.program.parsed.lexed) text
+
+entry_back : {A : Type 0} (entry text : List ℕ) → (HasSomeEntry (take MAX_READ text) entry → A) → HasSomeEntry text entry → A
+entry_back {A} entry text = of_front (λ t. HasSomeEntry t entry → A) MAX_TEXT MAX_READ refl
+    (λ a b y z front has. no_program b z has.2.has.program.parsed.tokens has.2.has.program.parsed.lexed) text
+
+pub unless_entry : {A : Type 0} (entry : List ℕ) (a : Option (List ℕ)) (text : List ℕ) → IfSome a (λ xs. text ≡ take MAX_READ xs)
+    → A ⊎ HasSomeEntry text entry → IfSome a (λ xs. A ⊎ HasSomeEntry xs entry)
+unless_entry entry None text is known = tt
+unless_entry entry (Some x) text is (inl a) = inl a
+unless_entry entry (Some x) text is (inr has) = inr (entry_front entry x (subst (λ t. HasSomeEntry t entry) is has))
+
+pub where_entry : {A : Type 0} (entry : List ℕ) (a : Option (List ℕ)) (text : List ℕ) → IfSome a (λ xs. text ≡ take MAX_READ xs)
+    → (HasSomeEntry text entry → A) → IfSome a (λ xs. HasSomeEntry xs entry → A)
+where_entry entry None text is known = tt
+where_entry {A} entry (Some x) text is known = entry_back entry x (subst (λ t. HasSomeEntry t entry → A) is known)
 
 -- what is known of the bytes of a schedule that are read is known of the schedule
 pub of_read : (P : List ℕ → Type 0) (q : Option (List ℕ)) (bytes : List ℕ) → ((xs : List ℕ) → P (take MAX_SCHEDULE_READ xs) → P xs)
@@ -147,11 +190,24 @@ pub entry_is : (p : ProgramSeen) → AreWellFormed p.contracts p.messages p.meth
     → IsEntry p n
 entry_is p formed bare n is = entry_at p n (slice_get p.methods n) formed bare refl is
 
--- what is known of the program of a text
+-- the laws of runs: those of a program in which nothing is found, and those of every program
+abbrev pub AreSafeAlways : Type 0
+AreSafeAlways = (p : ProgramSeen) (bound : Bounds) → AreWellFormed p.contracts p.messages p.methods → AreSound p → AreBounds p bound
+    → NothingIsFound p → (n : ℕ) (w : World) → IsEntry p n → Run p bound n w → IsSafe p bound w
+
+abbrev pub AreBoundedAlways : Type 0
+AreBoundedAlways = (p : ProgramSeen) (bound : Bounds) → AreWellFormed p.contracts p.messages p.methods → AreSound p → AreBounds p bound
+    → (n : ℕ) (w : World) → Run p bound n w → IsBounded p bound w
+
+-- what is known of the program of a text, and of runs
 pub record KnownOf (text : List ℕ) : Type 0 where
-  pub safe : (p : ProgramSeen) → HasProgram text p → AreReplaysSafe p
+  pub formed : (p : ProgramSeen) → HasProgram text p → AreWellFormed p.contracts p.messages p.methods
+  pub sound : (p : ProgramSeen) → HasProgram text p → AreSound p
+  pub bare : (p : ProgramSeen) → HasProgram text p → Each IsBare p.methods
   pub bounds : (p : ProgramSeen) → HasProgram text p → ((bound : Bounds) → AreBounds p bound → ⊥) → ⊥
   pub one : (p q : ProgramSeen) → HasProgram text p → HasProgram text q → p ≡ q
+  pub safe : AreSafeAlways
+  pub bounded : AreBoundedAlways
 
 -- where a check finds nothing, nothing is found in the methods
 none_found : (text : List ℕ) (p : ProgramSeen) → KnownOf text → HasProgram text p → HasEmptyReport text → NothingIsFound p
@@ -160,21 +216,53 @@ none_found text p known has empty =
     (known.one empty.1.program p empty.1.has has) empty.1.none in
     λ n lt. empty_verdict p n (λ f w. none f (n, lt, w))
 
+-- a run of a program whose entry the text has keeps the bounds, also one that begins with so many events of a replay
+bounded_run : (entry lines text bytes : List ℕ) (status : Status) → KnownOf text → (ran : IsRan entry lines text bytes status)
+    → (bound : Bounds) → AreBounds ran.program bound → (k : ℕ) (w : World)
+    → Leads ran.program bound (start_of ran.program ran.n) (take k ran.events) w → IsBounded ran.program bound w
+bounded_run entry lines text bytes status known ran bound are k w led =
+    let p = ran.program in
+    let has = ran.entered.has in
+    known.bounded p bound (known.formed p has) (known.sound p has) are ran.n w (run_of p bound ran.n (take k ran.events) w led)
+
+-- what ends a replay is what an event comes to in its last world
+ends_at : (entry lines text bytes : List ℕ) (status : Status) (ran : IsRan entry lines text bytes status) (fault : Fault) (at : Place)
+    → ran.replayed.halt ≡ Some (halt.Fault fault at) → (bound : Bounds) → AreBounds ran.program bound
+    → EndsWith ran.program bound ran.replayed.world ran.events ran.replayed.steps (Some (halt.Fault fault at))
+ends_at entry lines text bytes status ran fault at e bound are =
+    subst (EndsWith ran.program bound ran.replayed.world ran.events ran.replayed.steps) e (ran.led bound are).ends
+
 meets_none : (entry lines text bytes : List ℕ) (status : Status) → KnownOf text → HasEmptyReport text
     → (ran : IsRan entry lines text bytes status) → (fault : Fault) (at : Place) → ran.replayed.halt ≡ Some (halt.Fault fault at) → ⊥
 meets_none entry lines text bytes status known empty ran fault at e =
     let p = ran.program in
-    let kept = known.safe p ran.entered.has in
+    let has = ran.entered.has in
     let world = ran.replayed.world in
-    known.bounds p ran.entered.has (λ bound are.
-    let is = ran.led bound are in
-    let run = run_of p bound ran.n (take ran.replayed.steps ran.events) world is.leads in
-    let safe = kept.safe bound are (none_found text p known ran.entered.has empty) ran.n world
-    (kept.begin ran.n ran.entered.at.begins) run in
-    let ends = subst (EndsWith p bound world ran.events ran.replayed.steps) e is.ends in
+    known.bounds p has (λ bound are.
+    let run = run_of p bound ran.n (take ran.replayed.steps ran.events) world (ran.led bound are).leads in
+    let starts = entry_is p (known.formed p has) (known.bare p has) ran.n ran.entered.at.begins in
+    let safe = known.safe p bound (known.formed p has) (known.sound p has) are (none_found text p known has empty) ran.n world starts run in
+    let ends = ends_at entry lines text bytes status ran fault at e bound are in
     safe.no_fault ends.event fault ends.tells.0)
+
+meets_no_overflow : (entry lines text bytes : List ℕ) (status : Status) → KnownOf text → (ran : IsRan entry lines text bytes status)
+    → (at : Place) → ran.replayed.halt ≡ Some (halt.Fault F6 at) → ⊥
+meets_no_overflow entry lines text bytes status known ran at e =
+    known.bounds ran.program ran.entered.has (λ bound are.
+    let led = (ran.led bound are).leads in
+    let kept = bounded_run entry lines text bytes status known ran bound are ran.replayed.steps ran.replayed.world led in
+    let ends = ends_at entry lines text bytes status ran F6 at e bound are in
+    kept.fits ends.event ends.tells.0)
 
 pub ran_safely : (entry lines text bytes : List ℕ) (status : Status) → KnownOf text → IsRan entry lines text bytes status
     → HasEmptyReport text → RunsSafely entry lines text bytes status
 ran_safely entry lines text bytes status known ran empty =
     record { ran = ran; no_fault = meets_none entry lines text bytes status known empty ran }
+
+pub ran_within_bounds : (entry lines text bytes : List ℕ) (status : Status) → KnownOf text → IsRan entry lines text bytes status
+    → ReplaysWithinBounds entry lines text bytes status
+ran_within_bounds entry lines text bytes status known ran = Kept (record {
+  ran = ran;
+  no_overflow = meets_no_overflow entry lines text bytes status known ran;
+  bounded = bounded_run entry lines text bytes status known ran;
+})

@@ -3,15 +3,13 @@ use Rattle.std.proofs.Common.{◌≡◌, ℕ, zero, suc, ◌+◌, ◌<◌, ◌==
 use Rattle.std.specs.Prelude.{Contains, Ok, Result}
 use Rattle.std.proofs.Math.Nat.{eq-or-lt_of_le}
 use Rattle.std.proofs.lemmas.Bool.{eqb-true, eqb-false}
-use Rattle.std.proofs.lemmas.List.{get_or-map, length-map}
-use Rattle.std.proofs.lemmas.List.Elements.{Contains-append_left, Contains-append_right, Contains-append_cases, Contains-get_or, Contains-push, Contains-push_cases}
+use Rattle.std.proofs.lemmas.List.Elements.{Contains-append_left, Contains-append_right, Contains-append_cases, Contains-push, Contains-push_cases}
 use Rattle.std.proofs.lemmas.List.Sums.{sum_by-cons}
 use Rattle.source.specs.Findings.{FindingParts, finding_parts}
 use Rattle.source.specs.declared.finding.Finding.{Finding}
 use Rattle.contracts.specs.Conditions.{AreExactly}
 use Rattle.program.specs.Programs.{ProgramSeen}
-use Rattle.analyse.specs.Tasks.{number_of, numbers_below}
-use Rattle.analyse.specs.declared.task.Task.{Task}
+use Rattle.analyse.specs.Tasks.{numbers_below}
 use Rattle.analyse.specs.Verdicts.{IsFoundIn, IsMethodVerdict}
 use Rattle.analyse.specs.declared.verdict.Verdict.{Verdict}
 use Rattle.pool.specs.Counts.{times}
@@ -100,14 +98,6 @@ of_all_methods p methods found each of = record {
       let same = each w.0 in
       of.all f (w.0, of_times w.0 methods (omega (arith, some, same)), w.2);
 }
-
--- a task is one of a method
-pub task_there : (p : ProgramSeen) (tasks : List Task) → map number_of tasks ≡ numbers_below (length p.methods) → (k : ℕ) (d : Task) → k < length tasks → number_of (get_or tasks k d) < length p.methods
-task_there p tasks e k d lt =
-    let size = length-map tasks number_of in
-    let here : Contains (map number_of tasks) (get_or (map number_of tasks) k (number_of d)) = Contains-get_or (map number_of tasks) k (number_of d) (omega (arith, size, lt)) in
-    subst (λ n. n < length p.methods) (get_or-map number_of tasks k d (number_of d) lt)
-    (below_of (length p.methods) _ (subst (λ l. Contains l (get_or (map number_of tasks) k (number_of d))) e here))
 
 -- what a receipt reads
 pub put_of : (p : Program) (shelf : Shelf) (n : ℕ) (out : Result Receipt Verdict) (receipt : Receipt) → HasVerdict p shelf n out → out ≡ Ok receipt → IsPut p shelf n receipt

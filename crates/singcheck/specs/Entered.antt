@@ -9,7 +9,6 @@ use Rattle.machine.specs.World.{World}
 use Rattle.sound.specs.Premises.{IsEntry, NothingIsFound}
 use Rattle.sound.specs.Safe.{IsSafe}
 use Rattle.singcheck.specs.Answers.{AreFindings}
-use Rattle.singcheck.specs.Checks.{HasProgram}
 use Rattle.singcheck.specs.Replays.{HasEntry, LacksEntry, struct_names}
 use Rattle.singcheck.specs.declared.entering.Begun.{Begun}
 use Rattle.singcheck.specs.declared.entering.Entered.{Entered}
@@ -27,11 +26,6 @@ abbrev pub AreCleanSafe : ProgramSeen → Type 0
 AreCleanSafe p =
     (bound : Bounds) → AreBounds p bound → NothingIsFound p → (n : ℕ) (w : World) → IsEntry p n → Run p bound n w → IsSafe p bound w
 
--- and so are those that `replay` begins
-pub record AreReplaysSafe (p : ProgramSeen) : Type 0 where
-  pub safe : AreCleanSafe p
-  pub begin : (n : ℕ) → Begins p n → IsEntry p n
-
 -- this is what the text comes to, and the entry is its method
 pub record IsBegun (text entry : List ℕ) (b : Begun) : Type 0 where
   pub entered : HasEntry text entry (seen_of b.program) b.method.0
@@ -41,11 +35,6 @@ abbrev pub IsEntered : List ℕ → List ℕ → Entered → Type 0
 IsEntered text entry (entered.Found findings) = AreFindings text (map finding_parts findings.items)
 IsEntered text entry entered.Lacking = LacksEntry text entry
 IsEntered text entry (entered.Begun b) = IsBegun text entry b
-
--- where a run may begin, it is one of a program of which this is known
-abbrev pub IsKeptSafe : List ℕ → Entered → Type 0
-IsKeptSafe text (entered.Begun b) = (p : ProgramSeen) → HasProgram text p → AreReplaysSafe p
-IsKeptSafe text _ = Unit {0}
 
 -- what a schedule comes to is not known where it cannot be read, where a line is malformed, or for want of memory
 abbrev pub IsScheduledFault : RunFault → Type 0

@@ -4,17 +4,14 @@ use Rattle.source.specs.Findings.{finding_parts}
 use Rattle.tree.specs.Trees.{ItemTree, contracts_of}
 use Rattle.names.specs.Findings.{program_findings}
 use Rattle.names.specs.Resolution.{resolved_contracts}
-use Rattle.program.specs.Lists.{Each}
 use Rattle.program.specs.Parts.{IsWhole}
 use Rattle.program.specs.Programs.{ProgramSeen, program_seen}
-use Rattle.program.specs.WellFormed.{AreWellFormed}
 use Rattle.program.specs.declared.limits.TheConstants.{MOST_METHODS}
 use Rattle.contracts.specs.Conditions.{IsSound}
 use Rattle.resolving.specs.Brought.{messages_told}
 use Rattle.resolving.specs.Methods.{methods_told}
 use Rattle.rules.specs.Programs.{seen_of}
 use Rattle.rules.specs.declared.lowered.Program.{Program}
-use Rattle.wellformed.specs.Bare.{IsBare}
 use Rattle.singcheck.specs.Answers.{AreFindings, IsProgram}
 use Rattle.singcheck.specs.Entered.{AreCleanSafe}
 use Rattle.singcheck.specs.Stages.{AreBroken}
@@ -36,7 +33,6 @@ pub record AreNamed (text : List ℕ) (items : List ItemTree) (p : ProgramSeen) 
   pub names : HasNames text items p
   pub whole : All (λ c. IsWhole c.parts) p.contracts
   pub room : length p.contracts < 2 ^ 32
-  pub bare : Each IsBare p.methods
   pub few : length p.methods ≤ MOST_METHODS
 
 -- the findings of the names, or the methods where there are none
@@ -48,7 +44,6 @@ IsNamed text items (named.Methods methods) = AreNamed text items (program_seen m
 pub record IsSoundOne (p : ProgramSeen) (program : Program) : Type 0 where
   pub same : seen_of program ≡ p
   pub sound : All (λ c. IsSound c.parts) (seen_of program).contracts
-  pub formed : AreWellFormed (seen_of program).contracts (seen_of program).messages (seen_of program).methods
   pub safe : AreCleanSafe (seen_of program)
 
 -- what is wrong with the contracts of a program, or the program where nothing is

@@ -60,6 +60,10 @@ pub record HasEntry (text entry : List ℕ) (p : ProgramSeen) (n : ℕ) : Type 0
   pub has : HasProgram text p
   pub at : IsEntryAt text entry has.items p n
 
+-- nothing is wrong with the text but in its methods, and a run may begin with one whose name the entry is
+abbrev pub HasSomeEntry : (text entry : List ℕ) → Type 0
+HasSomeEntry text entry = (p : ProgramSeen) × (n : ℕ) × HasEntry text entry p n
+
 -- nothing is wrong with the text but in its methods, and the entry is the name of none with which a run may begin
 pub record LacksEntry (text entry : List ℕ) : Type 0 where
   pub program : ProgramSeen

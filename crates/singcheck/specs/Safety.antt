@@ -1,18 +1,21 @@
--- What an empty report of a text promises of the program that the text comes to.
-use Rattle.std.specs.Prelude.{◌≢◌, ℕ, List, Some}
+-- What an empty report of a text promises of its program, and what holds of a replay whatever is found in the methods.
+use Rattle.std.specs.Prelude.{◌≡◌, ◌≢◌, ℕ, List, Some, take}
 use Rattle.source.specs.declared.place.Place.{Place}
 use Rattle.program.specs.Programs.{ProgramSeen}
 use Rattle.machine.specs.Outcomes.{Bounds}
-use Rattle.machine.specs.Runs.{AreBounds, Run}
+use Rattle.machine.specs.Runs.{AreBounds, Leads, Run, start_of}
 use Rattle.machine.specs.World.{World}
 use Rattle.machine.specs.declared.halts.Fault.{Fault}
+use Rattle.machine.specs.declared.halts.Fault.TheVariants.{F6}
 use Rattle.machine.specs.declared.halts.Halt.TheVariants as halt
 use Rattle.sound.specs.Premises.{IsEntry}
+use Rattle.sound.specs.Queues.{IsBounded}
 use Rattle.sound.specs.Safe.{IsSafe}
+use Rattle.singcheck.specs.Answers.{IsReported}
 use Rattle.singcheck.specs.Checks.{Checks, HasProgram}
 use Rattle.singcheck.specs.Replays.{IsRan}
 use Rattle.singcheck.specs.declared.fault.Status.{Status}
-use Rattle.singcheck.specs.declared.fault.Status.TheVariants.{Empty}
+use Rattle.singcheck.specs.declared.fault.Status.TheVariants.{Empty, Found}
 
 -- Every run of a program is safe, with whatever method it begins, and in whatever order its processes take turns. The queues have the
 -- bounds of their contracts.
@@ -31,3 +34,16 @@ HasEmptyReport text = (bytes : List ℕ) × Checks text bytes Empty
 pub record RunsSafely (entry schedule text bytes : List ℕ) (status : Status) : Type 0 where
   pub ran : IsRan entry schedule text bytes status
   pub no_fault : (fault : Fault) (at : Place) → ran.replayed.halt ≢ Some (halt.Fault fault at)
+
+-- What is printed of a replay that keeps the bounds of its contracts: it does not stop at a send past a bound, and in each world that a
+-- beginning of its events leads to, each queue is a walk of its contract and within its bound.
+pub record KeepsBounds (entry schedule text bytes : List ℕ) (status : Status) : Type 0 where
+  pub ran : IsRan entry schedule text bytes status
+  pub no_overflow : (at : Place) → ran.replayed.halt ≢ Some (halt.Fault F6 at)
+  pub bounded : (bound : Bounds) → AreBounds ran.program bound → (k : ℕ) (w : World)
+      → Leads ran.program bound (start_of ran.program ran.n) (take k ran.events) w → IsBounded ran.program bound w
+
+-- what `replay` answers, whatever `check` finds: the findings of the text before its methods, or a replay that keeps the bounds
+pub data ReplaysWithinBounds (entry schedule text bytes : List ℕ) (status : Status) : Type 0 where
+  Reported : IsReported text bytes → status ≡ Found → ReplaysWithinBounds entry schedule text bytes status
+  Kept : KeepsBounds entry schedule text bytes status → ReplaysWithinBounds entry schedule text bytes status

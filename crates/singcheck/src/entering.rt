@@ -5,12 +5,11 @@ ghost use Rattle.tree.specs.Trees.{program_tree};
 ghost use Rattle.contracts.specs.Conditions.{IsSound};
 ghost use Rattle.program.specs.declared.limits.TheConstants.{MOST_METHODS};
 ghost use Rattle.rules.specs.Programs.{seen_of};
-ghost use Rattle.singcheck.specs.Entered.{AreReplaysSafe, Begins, IsEntered, IsKeptSafe};
+ghost use Rattle.singcheck.specs.Entered.{Begins, IsEntered};
 ghost use Rattle.singcheck.specs.Named.{HasNames};
 ghost use Rattle.singcheck.specs.Stages.{IsProgramOf};
 
 use crate::entries::{entry_place, struct_names};
-use crate::laws::one_program;
 use crate::programs::{Built, Named, judged_program, named_methods};
 use crate::stages::{Parsed, parse_text};
 use program::MethodId;
@@ -40,8 +39,7 @@ pub(crate) enum Entered {
 
 /// The text, up to its methods, and then the entry.
 pub(crate) fn enter(alloc: Global, text: &[u8], entry: &[u8]) -> Result<Entered, Memory>
-    ensures entered { IfOk result (IsEntered text.now entry.now) }
-    ensures safe { IfOk result (IsKeptSafe text.now) }
+    ensures { IfOk result (IsEntered text.now entry.now) }
 {
     match parse_text(alloc, text)? {
         Parsed::Found(findings) => Ok(Entered::Found(findings)),
@@ -52,8 +50,7 @@ pub(crate) fn enter(alloc: Global, text: &[u8], entry: &[u8]) -> Result<Entered,
 /// The names and the contracts of a program, and then the entry.
 fn enter_program(alloc: Global, text: &[u8], tree: &Tree, entry: &[u8]) -> Result<Entered, Memory>
     requires program { IsProgramOf text.now tree.now }
-    ensures entered { IfOk result (IsEntered text.now entry.now) }
-    ensures safe { IfOk result (IsKeptSafe text.now) }
+    ensures { IfOk result (IsEntered text.now entry.now) }
 {
     let methods = match named_methods(alloc, tree, text)? {
         Named::Found(findings) => return Ok(Entered::Found(findings)),
@@ -76,11 +73,8 @@ fn enter_method(
     requires program { HasNames text.now (program_tree tree.now) (seen_of program) }
     requires sound { All (λ c. IsSound c.parts) (seen_of program).contracts }
     requires few { length (seen_of program).methods ≤ MOST_METHODS }
-    requires safe { AreReplaysSafe (seen_of program) }
-    ensures entered { IfOk result (IsEntered text.now entry.now) }
-    ensures safe { IfOk result (IsKeptSafe text.now) }
+    ensures { IfOk result (IsEntered text.now entry.now) }
 {
-    one_program();
     let Some(method) = entry_of(&program, entry_place(text, tree, entry)) else {
         return Ok(Entered::Lacking);
     };

@@ -1,8 +1,7 @@
 //! What a worker does with a method.
 
-ghost use Rattle.std.specs.Prelude.{◌<◌, length};
-ghost use Rattle.rules.specs.Programs.{seen_of};
-ghost use Rattle.analyse.specs.Tasks.{number_of};
+ghost use Rattle.std.specs.Prelude.{◌≡◌};
+ghost use Rattle.analyse.specs.Tasks.{task_program};
 ghost use Rattle.analyse.specs.Workers.{IsWorkerOf};
 ghost use Rattle.singcheck.specs.Verdicts.{HasVerdict};
 
@@ -31,7 +30,7 @@ impl<'a, R: Wait + Sync> Job for Judging<'a, R> {
 
     type Out = Result<Receipt, Verdict>;
 
-    ghost takes = { λ job task. number_of task < length (seen_of job.program.now).methods };
+    ghost takes = { λ job task. task_program task ≡ job.program.now };
 
     ghost seats = { λ job worker. IsWorkerOf job.rows.now worker };
 

@@ -7,7 +7,11 @@ ghost use Rattle.machine.specs.declared.halts.Event.{Event};
 ghost use Rattle.replays.specs.Schedules.{IsSchedule};
 ghost use Rattle.source.specs.Findings.{FindingParts};
 ghost use Rattle.singcheck.specs.Answers.{Answers, AreFindings};
+ghost use Rattle.program.specs.Lists.{Each};
 ghost use Rattle.program.specs.Programs.{ProgramSeen};
+ghost use Rattle.program.specs.WellFormed.{AreWellFormed};
+ghost use Rattle.sound.specs.Premises.{AreSound};
+ghost use Rattle.wellformed.specs.Bare.{IsBare};
 ghost use Rattle.singcheck.specs.Checks.{Checks, HasProgram};
 ghost use Rattle.singcheck.specs.Replays.{ComesTo, HasEntry, IsRan, LacksEntry, LacksSchedule, Replays};
 ghost use Rattle.singcheck.specs.declared.fault.Status.{Status};
@@ -20,6 +24,7 @@ use names::laws::clean_contracts_are_whole;
 use replays::laws::{each_schedule_is_read, one_reading};
 use source::laws::{each_text_is_cut, one_cutting, one_fault};
 use syntax::{one_tree_a_spelling, tokens_are_parsed};
+use wellformed::laws::clean_methods_are_well_formed;
 
 /// A text has one answer of `bounds`, and one status.
 pub fn one_answer()
@@ -81,6 +86,18 @@ pub fn findings_or_program()
     one_cutting();
     one_fault();
     one_tree_a_spelling();
+}
+
+/// The program of a text is well formed (`formed`), each of its contracts is sound (`sound`), and a method of it that takes nothing has
+/// no parameter of the exchange heap (`bare`), whatever is found in its methods.
+pub fn each_program_is_well_formed()
+    ensures formed { (text : List ℕ) (p : ProgramSeen) → HasProgram text p
+        → AreWellFormed p.contracts p.messages p.methods }
+    ensures sound { (text : List ℕ) (p : ProgramSeen) → HasProgram text p → AreSound p }
+    ensures bare { (text : List ℕ) (p : ProgramSeen) → HasProgram text p → Each IsBare p.methods }
+{
+    clean_contracts_are_whole();
+    clean_methods_are_well_formed();
 }
 
 /// The contracts of what a text comes to have bounds: it is refuted that no bounds are theirs.

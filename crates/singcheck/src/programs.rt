@@ -57,7 +57,6 @@ pub(crate) fn judged_program(alloc: Global, methods: Methods) -> Result<Built, M
         Judgement::Found(findings) => Ok(Built::Found(findings)),
         Judgement::Sounds(sounds) => {
             clean_methods_are_safe(&methods, &sounds);
-            methods.list();
             Ok(Built::Program(Program::new(alloc, methods, sounds)?))
         }
     }

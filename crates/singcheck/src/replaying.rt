@@ -1,25 +1,28 @@
 //! A run that replays a schedule.
 
-ghost use Rattle.std.specs.Prelude.{◌≡◌, ◌≢◌, ◌<◌, ℕ, List, IfErr, IfOk, IfSome, IsErrOf, OnOk, OnErr, length};
+ghost use Rattle.std.specs.Prelude.{◌≡◌, ◌≢◌, ◌<◌, ◌⊎◌, ℕ, List, IfErr, IfOk, IfSome, IsErrOf, OnOk, OnErr, length};
 ghost use Rattle.std.specs.Io.KnownBytes.{Keeps};
 ghost use Rattle.rules.specs.Programs.{seen_of};
 ghost use Rattle.replays.specs.Schedules.{IsFirstMalformed, IsSchedule};
 ghost use Rattle.singcheck.specs.Entered.{IsAnswerFault, IsBegun, IsScheduledFault};
-ghost use Rattle.singcheck.specs.Replays.{IsRan, LacksEntry, LacksSchedule, Replays, stop_status};
+ghost use Rattle.singcheck.specs.Replays.{HasSomeEntry, IsRan, LacksEntry, LacksSchedule, Replays, stop_status};
 ghost use Rattle.singcheck.specs.RunFaults.{IsReplayFault};
 ghost use Rattle.singcheck.specs.Runs.{BeginsAnswer, LeavesRest, TakesAtMost, Writes};
-ghost use Rattle.singcheck.specs.Safety.{HasEmptyReport, RunsSafely};
+ghost use Rattle.singcheck.specs.Safety.{HasEmptyReport, ReplaysWithinBounds, RunsSafely};
 
 use crate::device::{Sink, Source};
 use crate::entering::{Begun, Entered, enter};
 use crate::fault::{Input, RunFault, Status};
-use crate::laws::{each_program_has_bounds, findings_or_program, one_program};
+use crate::laws::{
+    each_program_has_bounds, each_program_is_well_formed, findings_or_program, one_program,
+};
 use crate::reading::{MAX_READ, MAX_SCHEDULE_READ, read_text, read_up_to};
 use crate::reports::{Report, report_of};
 use crate::writing::write_all;
 use machine::{Event, Halt, replay};
 use replays::laws::a_front_tells_all;
 use replays::{ScheduleFault, lines_of, read_schedule};
+use sound::laws::{empty_report_is_safe, runs_are_bounded};
 use source::Memory;
 use std::alloc::Global;
 
@@ -32,11 +35,13 @@ use std::alloc::Global;
 /// from the beginning of the method, until one is no step. How many were steps, why it stopped and the world behind them are
 /// written, with status `Empty` where each event was a step, and `Found` where one was not.
 ///
-/// At most `MAX_READ` bytes of the text and `MAX_SCHEDULE_READ` of the schedule are read. `Read` and `Write` are answered only where that
+/// At most `MAX_READ` bytes of the text and `MAX_SCHEDULE_READ` of the schedule are read. The schedule is not touched unless the text has
+/// the entry, so a schedule that cannot be read takes the place of no report. `Read` and `Write` are answered only where that
 /// device failed, and `Memory` only where a growth was refused; nothing is written before the answer is known whole, and after `Write` a
 /// beginning of it went out.
 ///
-/// Where `check` finds nothing in the text, no schedule ends with a fault.
+/// If `check` finds nothing in the text, no schedule ends with a fault. Whatever it finds in methods, no schedule ends with a send past a
+/// bound, and each queue is a walk of its contract.
 pub fn run_replay<R: Source, Q: Source, W: Sink>(
     alloc: Global,
     reader: &mut R,
@@ -48,6 +53,8 @@ pub fn run_replay<R: Source, Q: Source, W: Sink>(
         Writes (Replays entry.now lines) text (W.contents writer.old) (W.contents writer.new) status))) }
     ensures safe { IfOk result (λ status. IfSome (R.remaining reader.old) (λ text. IfSome (Q.remaining schedule.old) (λ lines.
         HasEmptyReport text → Writes (RunsSafely entry.now lines) text (W.contents writer.old) (W.contents writer.new) status))) }
+    ensures bounded { IfOk result (λ status. IfSome (R.remaining reader.old) (λ text. IfSome (Q.remaining schedule.old) (λ lines.
+        Writes (ReplaysWithinBounds entry.now lines) text (W.contents writer.old) (W.contents writer.new) status))) }
     ensures begun { IsErrOf result RunFault.Write → IfSome (R.remaining reader.old) (λ text. IfSome (Q.remaining schedule.old) (λ lines.
         BeginsAnswer (Replays entry.now lines) text (W.contents writer.old) (W.contents writer.new))) }
     ensures entry { IsErrOf result RunFault.Entry → IfSome (R.remaining reader.old) (λ text. LacksEntry text entry.now) }
@@ -55,8 +62,11 @@ pub fn run_replay<R: Source, Q: Source, W: Sink>(
         IfSome (Q.remaining schedule.old) (λ lines. LacksSchedule text entry.now lines n)) }
     ensures rest { OnOk result (LeavesRest MAX_READ (R.remaining reader.old) (R.remaining reader.new)) }
     ensures most { TakesAtMost MAX_READ (R.remaining reader.old) (R.remaining reader.new) }
+    ensures rest_of_schedule { OnOk result (IfSome (R.remaining reader.old) (λ text. HasSomeEntry text entry.now
+        → LeavesRest MAX_SCHEDULE_READ (Q.remaining schedule.old) (Q.remaining schedule.new))) }
     ensures most_of_schedule { TakesAtMost MAX_SCHEDULE_READ (Q.remaining schedule.old) (Q.remaining schedule.new) }
-    ensures unread { IsErrOf result RunFault.Entry → Q.remaining schedule.new ≡ Q.remaining schedule.old }
+    ensures unread { IsErrOf result RunFault.Entry → schedule.new ≡ schedule.old }
+    ensures untouched { IfSome (R.remaining reader.old) (λ text. (schedule.new ≡ schedule.old) ⊎ HasSomeEntry text entry.now) }
     ensures read { IsErrOf result (RunFault.Read Input.Text) → R.failed reader.new ≢ R.failed reader.old }
     ensures read_schedule { IsErrOf result (RunFault.Read Input.Schedule) → Q.failed schedule.new ≢ Q.failed schedule.old }
     ensures write { IsErrOf result RunFault.Write → W.failed writer.new ≢ W.failed writer.old }
@@ -80,17 +90,25 @@ fn answer_to<Q: Source>(
         Replays entry.now lines text.now answer.bytes.items answer.status)) }
     ensures safe { IfOk result (λ answer. IfSome (Q.remaining schedule.old) (λ lines.
         HasEmptyReport text.now → RunsSafely entry.now lines text.now answer.bytes.items answer.status)) }
+    ensures bounded { IfOk result (λ answer. IfSome (Q.remaining schedule.old) (λ lines.
+        ReplaysWithinBounds entry.now lines text.now answer.bytes.items answer.status)) }
     ensures entry { IsErrOf result RunFault.Entry → LacksEntry text.now entry.now }
     ensures line { (n : ℕ) → IsErrOf result (RunFault.Schedule n) → IfSome (Q.remaining schedule.old) (λ lines.
         LacksSchedule text.now entry.now lines n) }
+    ensures rest { OnOk result (HasSomeEntry text.now entry.now
+        → LeavesRest MAX_SCHEDULE_READ (Q.remaining schedule.old) (Q.remaining schedule.new)) }
     ensures most { TakesAtMost MAX_SCHEDULE_READ (Q.remaining schedule.old) (Q.remaining schedule.new) }
-    ensures unread { IsErrOf result RunFault.Entry → Q.remaining schedule.new ≡ Q.remaining schedule.old }
+    ensures unread { IsErrOf result RunFault.Entry → schedule.new ≡ schedule.old }
+    ensures untouched { (schedule.new ≡ schedule.old) ⊎ HasSomeEntry text.now entry.now }
     ensures read { IsErrOf result (RunFault.Read Input.Schedule) → Q.failed schedule.new ≢ Q.failed schedule.old }
     ensures fault { IfErr result IsAnswerFault }
 {
     one_program();
     each_program_has_bounds();
+    each_program_is_well_formed();
     findings_or_program();
+    empty_report_is_safe();
+    runs_are_bounded();
     match enter(alloc, text, entry)? {
         Entered::Found(findings) => Ok(Report {
             bytes: report_of(alloc, findings)?,
@@ -107,6 +125,7 @@ fn scheduled<Q: Source>(alloc: Global, begun: &Begun, schedule: &mut Q) -> Resul
     ensures ran { IfOk result (λ answer. IfSome (Q.remaining schedule.old) (λ lines. (text entry : List ℕ)
         → IsBegun text entry begun.now → IsRan entry lines text answer.bytes.items answer.status)) }
     ensures line { (n : ℕ) → IsErrOf result (RunFault.Schedule n) → IfSome (Q.remaining schedule.old) (λ lines. IsFirstMalformed lines n) }
+    ensures rest { OnOk result (LeavesRest MAX_SCHEDULE_READ (Q.remaining schedule.old) (Q.remaining schedule.new)) }
     ensures most { TakesAtMost MAX_SCHEDULE_READ (Q.remaining schedule.old) (Q.remaining schedule.new) }
     ensures read { IsErrOf result (RunFault.Read Input.Schedule) → Q.failed schedule.new ≢ Q.failed schedule.old }
     ensures fault { IfErr result IsScheduledFault }

@@ -1,8 +1,7 @@
-use Rattle.std.proofs.Common.{ap, arith, length, subst}
+use Rattle.std.proofs.Common.{ap, arith, length}
 use Rattle.tree.specs.Trees.{program_tree}
 use Rattle.names.specs.Program.{program_of}
 use Rattle.rules.specs.Programs.{seen_of}
-use Rattle.singcheck.specs.Entered.{AreReplaysSafe}
 use Rattle.singcheck.specs.Replays.{method_names}
 use Rattle.singcheck.proofs.CheckLemmas.{has_program}
 use Rattle.singcheck.proofs.EntryLemmas.{IsLooked, all_named, looked_at, looked_only}
@@ -19,24 +18,24 @@ entry_place-requires c = record {
 looked : (c : After-entry_place) → IsLooked (method_names c.args.text.now (program_tree c.args.tree.now)) c.args.entry.now c.entry_place.result
 looked c = record { some = c.entry_place.ensures.some; none = c.entry_place.ensures.none }
 
-pub returns-in_default-clause-entered : goal.returns-in_default-clause-entered
-returns-in_default-clause-entered c =
+pub returns-in_default : goal.returns-in_default
+returns-in_default c =
     let text = c.args.text.now in
     let items = program_tree c.args.tree.now in
     let names = method_names text items in
-    let look = looked (goal.at.returns-in_default-clause-entered c).After-entry_place in
+    let look = looked (goal.at.returns-in_default c).After-entry_place in
     record {
       program = seen_of c.args.program;
       has = has_program text items (seen_of c.args.program) c.requires.program c.requires.sound;
       none = λ n at. c.in_default.ensures.none n (looked_only names c.args.entry.now c.entry_place.result n look at.named) at.begins;
     }
 
-pub returns-clause-entered : goal.returns-clause-entered
-returns-clause-entered c =
+pub returns : goal.returns
+returns c =
     let text = c.args.text.now in
     let items = program_tree c.args.tree.now in
     let names = method_names text items in
-    let look = looked (goal.at.returns-clause-entered c).After-entry_place in
+    let look = looked (goal.at.returns c).After-entry_place in
     record {
       entered = record {
         has = has_program text items (seen_of c.args.program) c.requires.program c.requires.sound;
@@ -44,10 +43,3 @@ returns-clause-entered c =
       };
       structs = c.in_ok-structs.ensures;
     }
-
-pub returns-clause-safe : goal.returns-clause-safe
-returns-clause-safe c = λ q has.
-    let text = c.args.text.now in
-    let p = seen_of c.args.program in
-    let mine = has_program text (program_tree c.args.tree.now) p c.requires.program c.requires.sound in
-    subst AreReplaysSafe (c.one_program.ensures text p q mine has) c.requires.safe

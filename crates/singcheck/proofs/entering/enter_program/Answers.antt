@@ -2,10 +2,8 @@ use Rattle.std.proofs.Common.{subst, sym, map}
 use Rattle.source.specs.Findings.{finding_parts}
 use Rattle.tree.specs.Trees.{program_tree}
 use Rattle.program.specs.Programs.{program_seen}
-use Rattle.rules.specs.Programs.{seen_of}
 use Rattle.singcheck.specs.Named.{AreNamed, IsBuilt, IsNamed}
 use Rattle.singcheck.proofs.CheckLemmas.{unsound_named}
-use Rattle.singcheck.proofs.ReplayLemmas.{entry_is}
 use Rattle.singcheck.proofs.entering.enter_program.Goals as goal
 
 pub judged_program-requires : goal.judged_program-requires
@@ -17,21 +15,19 @@ pub enter_method-requires : goal.enter_method-requires
 enter_method-requires c =
     let text = c.args.text.now in
     let items = program_tree c.args.tree.now in
-    let p = seen_of c.in-Program.program in
     let built = subst (IsBuilt (program_seen c.in-Methods.methods)) c.in-Program.is c.in_ok-findings-2.ensures in
     let named = subst (AreNamed text items) (sym built.same) (subst (IsNamed text items) c.in-Methods.is c.in_ok-findings.ensures) in
     record {
       program = named.names;
       sound = built.sound;
       few = named.few;
-      safe = record { safe = built.safe; begin = entry_is p built.formed named.bare };
     }
 
-pub returns-in-Found-clause-entered : goal.returns-in-Found-clause-entered
-returns-in-Found-clause-entered c = subst (IsNamed c.args.text.now (program_tree c.args.tree.now)) c.in-Found.is c.in_ok-findings.ensures
+pub returns-in-Found : goal.returns-in-Found
+returns-in-Found c = subst (IsNamed c.args.text.now (program_tree c.args.tree.now)) c.in-Found.is c.in_ok-findings.ensures
 
-pub returns-in-Found-2-clause-entered : goal.returns-in-Found-2-clause-entered
-returns-in-Found-2-clause-entered c =
+pub returns-in-Found-2 : goal.returns-in-Found-2
+returns-in-Found-2 c =
     let text = c.args.text.now in
     let items = program_tree c.args.tree.now in
     let p = program_seen c.in-Methods.methods in

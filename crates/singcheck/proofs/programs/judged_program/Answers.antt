@@ -5,7 +5,6 @@ use Rattle.std.proofs.lemmas.List.Elements.{All-same}
 use Rattle.source.specs.Findings.{finding_parts}
 use Rattle.program.specs.Parts.{ContractSeen, IsWhole, contract_seen}
 use Rattle.program.specs.Programs.{ProgramSeen, contracts_seen}
-use Rattle.program.specs.WellFormed.{AreWellFormed}
 use Rattle.contracts.specs.Conditions.{IsSound}
 use Rattle.contracts.specs.Sounds.{sound_parts}
 use Rattle.singcheck.specs.Entered.{AreCleanSafe}
@@ -46,6 +45,5 @@ returns-in_ok-new-in-Sounds c =
       same = same;
       sound = subst (λ (p : ProgramSeen). All (λ (s : ContractSeen). IsSound s.parts) p.contracts) (sym same)
           (All-same (λ (s : ContractSeen). IsSound s.parts) (contracts_seen c.args.methods) contracts (sym c.contracts.ensures) sounds.sound);
-      formed = subst (λ (p : ProgramSeen). AreWellFormed p.contracts p.messages p.methods) (sym same) c.list.ensures.well_formed;
       safe = subst AreCleanSafe (sym same) c.clean_methods_are_safe.ensures;
     }

@@ -40,7 +40,6 @@ returns-in_ok-well_formed_methods-in-Ok c =
       };
       whole = All-same (λ s. IsWhole s.parts) _ _ told.contracts (All-map (λ s. IsWhole s.parts) contract_seen resolved c.in-Ok.ensures.whole);
       room = omega (arith, few, size, same, c.requires.few);
-      bare = told.bare;
       few = told.few;
     }
 

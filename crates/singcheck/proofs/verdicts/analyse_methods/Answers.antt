@@ -9,7 +9,7 @@ use Rattle.rules.specs.contracts.lowered.Program as program
 use Rattle.intern.specs.contracts.rows.Rows as rows
 use Rattle.shelf.specs.contracts.shelf.Shelf as shelf
 use Rattle.pool.specs.Counts.{method_of, times}
-use Rattle.singcheck.proofs.VerdictLemmas.{of_all_methods, task_there}
+use Rattle.singcheck.proofs.VerdictLemmas.{of_all_methods}
 use Rattle.singcheck.proofs.verdicts.analyse_methods.Goals as goal
 
 pub share_out-requires-sync-J : goal.share_out-requires-sync-J
@@ -20,14 +20,11 @@ share_out-requires-sync-J g c κs within =
     let t = c.type_bounds.sync-R in
     search (crosses, sendable) depth 20
 
-pub share_out-requires-clause-tasks : goal.share_out-requires-clause-tasks
-share_out-requires-clause-tasks g c κs within = λ k d lt. task_there (seen_of c.args.program.now) c.in_ok-all.all.items c.in_ok-all.ensures k d lt
-
 pub returns-in-Ok : goal.returns-in-Ok
 returns-in-Ok g c =
     let p = seen_of c.args.program.now in
     let done = c.deref.result.now in
     IfOk-weaker c.found_in.result _ _
     (λ found of. of_all_methods p (map method_of done) (map finding_parts found.items)
-    (λ n. ap (λ l. times n (map method_of l)) c.deref.ensures.value ∙ c.in-Ok.ensures.each n ∙ ap (times n) c.in_ok-all.ensures) of)
+    (λ n. ap (λ l. times n (map method_of l)) c.deref.ensures.value ∙ c.in-Ok.ensures.each n ∙ ap (times n) c.in_ok-all.ensures.each) of)
     c.found_in.ensures

@@ -1,0 +1,57 @@
+-- The program of a text is well formed, and its contracts are sound.
+use Rattle.std.proofs.Common.{◌≡◌, ℕ, zero, suc, List, [], ◌∷◌, Some, sym, subst}
+use Rattle.std.specs.Prelude.{All, slice_get}
+use Rattle.std.proofs.lemmas.List.Elements.{All-head, All-tail}
+use Rattle.tree.specs.Trees.{contracts_of}
+use Rattle.names.specs.Findings.{program_findings}
+use Rattle.names.specs.Program.{Program}
+use Rattle.names.specs.Resolution.{resolved_contracts}
+use Rattle.program.specs.Lists.{Each}
+use Rattle.program.specs.Methods.{MethodSeen}
+use Rattle.program.specs.Parts.{ContractSeen, IsWhole}
+use Rattle.program.specs.Programs.{ProgramSeen}
+use Rattle.program.specs.WellFormed.{AreWellFormed}
+use Rattle.program.specs.declared.kind.Kind.{Kind}
+use Rattle.contracts.specs.Conditions.{IsSound}
+use Rattle.resolving.specs.Brought.{messages_told}
+use Rattle.resolving.specs.Methods.{methods_told}
+use Rattle.sound.specs.Premises.{AreSound}
+use Rattle.wellformed.specs.Bare.{IsBare}
+use Rattle.singcheck.specs.Checks.{HasProgram}
+
+-- what the crates below say of programs with nothing wrong in their names
+pub record CleanPrograms : Type 0 where
+  pub whole : (p : Program) → program_findings p ≡ [] → All (λ (c : ContractSeen). IsWhole c.parts) (resolved_contracts p.text (contracts_of p.items))
+  pub formed : (p : Program) → program_findings p ≡ [] → AreWellFormed (resolved_contracts p.text (contracts_of p.items)) (messages_told p) (methods_told p)
+  pub bare : (p : Program) → Each IsBare (methods_told p)
+
+-- the items of a text whose program this is, with the text
+abbrev of_items : (text : List ℕ) (p : ProgramSeen) → HasProgram text p → Program
+of_items text p has = record { text = text; items = has.items }
+
+pub formed_of : CleanPrograms → (text : List ℕ) (p : ProgramSeen) → HasProgram text p → AreWellFormed p.contracts p.messages p.methods
+formed_of laws text p has =
+    let q = of_items text p has in
+    let told = resolved_contracts text (contracts_of has.items) in
+    subst (λ (cs : List ContractSeen). AreWellFormed cs p.messages p.methods) (sym has.program.are)
+    (subst (λ (ms : List (List Kind)). AreWellFormed told ms p.methods) (sym has.messages)
+    (subst (λ (ms : List MethodSeen). AreWellFormed told (messages_told q) ms) (sym has.methods) (laws.formed q has.program.clean)))
+
+pub bare_of : CleanPrograms → (text : List ℕ) (p : ProgramSeen) → HasProgram text p → Each IsBare p.methods
+bare_of laws text p has = subst (Each IsBare) (sym has.methods) (laws.bare (of_items text p has))
+
+-- what holds of all elements holds of the one at a place
+all_there : {A : Type 0} (P : A → Type 0) (xs : List A) (n : ℕ) (x : A) → All P xs → slice_get xs n ≡ Some x → P x
+all_there P [] n x all at = absurd (cc)
+all_there P (y ∷ xs) zero x all at = let same : y ≡ x = cc in subst P same (All-head P y xs all)
+all_there P (y ∷ xs) (suc n) x all at = all_there P xs n x (All-tail P y xs all) at
+
+pub sound_of : CleanPrograms → (text : List ℕ) (p : ProgramSeen) → HasProgram text p → AreSound p
+sound_of laws text p has =
+    let are_whole = λ (c : ContractSeen). IsWhole c.parts in
+    let are_sound = λ (c : ContractSeen). IsSound c.parts in
+    let whole = subst (All are_whole) (sym has.program.are) (laws.whole (of_items text p has) has.program.clean) in
+    record {
+      whole = λ n c there. ∣ all_there are_whole p.contracts n c whole there ∣₁;
+      sound = λ n c there. all_there are_sound p.contracts n c has.program.sound there;
+    }
