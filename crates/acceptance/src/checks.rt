@@ -2,11 +2,8 @@
 
 use crate::devices::{Card, Page, Text};
 use singcheck::laws::one_check;
-use singcheck::{
-    Counted, Gate, Input, MOST_SLOTS, MOST_WORKERS, Open, RunFault, Status, check, run_check,
-};
+use singcheck::{Counted, Input, Open, RunFault, Status, run_check};
 use std::sync::Wait;
-use std::sync::atomic::{AtomicU64, Ordering};
 use std::test::Fail;
 use std::thread::Threads;
 
@@ -49,18 +46,6 @@ const CLAIMED_TWICE: &str =
 /// A method ends without giving what it owes, and its caller frees what it got.
 const NOTHING_GIVEN: &str =
     "rep struct D { int n; }\nclass K {\nstatic D* in ExHeap H() { }\nstatic void F() {\nD* in ExHeap p = H();\ndelete p;\n}\n}";
-
-/// A gate that counts how often it was entered.
-#[derive(Drop)]
-struct Count {
-    entered: AtomicU64,
-}
-
-impl Gate for Count {
-    fn enter(&self, _task: u32) {
-        self.entered.fetch_add(1, Ordering::SeqCst);
-    }
-}
 
 /// What a check of this text answers, and what it writes.
 fn answer_to<R: Threads + Wait + AllocGlobal + Sync>(
@@ -150,24 +135,6 @@ fn looks_at_the_heads_of_methods(rt: HostRuntime) -> Result<(), Fail> {
         (NOTHING_GIVEN, Status::Found, nothing),
     ];
     assert!(rt; all_answered(&rt, &rows)?);
-    Ok(())
-}
-
-#[test]
-fn enters_the_gate_once_for_each_method(rt: HostRuntime) -> Result<(), Fail> {
-    for workers in [1, 2, MOST_WORKERS] {
-        let gate = Count {
-            entered: AtomicU64::new(0),
-        };
-        let report = check(&rt, HANDED_ON.as_bytes(), workers, MOST_SLOTS, &gate)?;
-        assert!(rt; report.status == Status::Empty);
-        assert!(rt; report.bytes.as_slice() == HANDED_ON_ANSWER.as_bytes());
-        assert!(rt; gate.entered.load(Ordering::SeqCst) == 2);
-        let unknown = b"class K { static void F() { k = 1; } }".as_slice();
-        let none = check(&rt, unknown, workers, 1, &gate)?;
-        assert!(rt; none.status == Status::Found);
-        assert!(rt; gate.entered.load(Ordering::SeqCst) == 2);
-    }
     Ok(())
 }
 

@@ -136,13 +136,25 @@ fn is_each_once(done: &[Done<u32>]) -> bool {
     seen == [true; 7]
 }
 
-/// How many tasks were run in these seats.
-fn run_in(seats: &[u64]) -> u64 {
-    let mut count = 0u64;
-    for seat in seats {
-        count = count.wrapping_add(*seat);
+/// Seats that tell their places: they count from a thousand times their place on.
+fn numbered_seats(alloc: Global, count: u64) -> Result<Vec<u64>, Fail> {
+    let mut seats = Vec::new(alloc);
+    for place in 0..count {
+        seats.push(place.wrapping_mul(1000))?;
     }
-    count
+    Ok(seats)
+}
+
+/// How many tasks were run in such seats. There is no number if one of them is not in its place.
+fn run_in(seats: &[u64]) -> Option<u64> {
+    let mut count = 0u64;
+    for (place, seat) in seats.iter().enumerate() {
+        if seat / 1000 != place as u64 {
+            return None;
+        }
+        count = count.wrapping_add(seat % 1000);
+    }
+    Some(count)
 }
 
 #[test]
@@ -152,13 +164,13 @@ fn each_task_is_run_once(rt: HostRuntime) -> Result<(), Fail> {
             entered: AtomicU64::new(0),
         };
         let job = Numbers { refused: NONE };
-        let begun = vec![in rt.alloc(); 0u64; count]?;
+        let begun = numbered_seats(rt.alloc(), count as u64)?;
         let tasks = seven(rt.alloc())?;
         let Ok((seats, done)) = share_out(&rt, rt.alloc(), tasks, begun, &job, &gate) else {
             return Err(Fail::from("not shared out"));
         };
         assert_eq!(rt; seats.len(), count);
-        assert_eq!(rt; run_in(&seats), 7);
+        assert_eq!(rt; run_in(&seats), Some(7));
         assert_eq!(rt; gate.entered.load(Ordering::SeqCst), 7);
         assert!(rt; is_each_once(&done), "{count} workers");
     }

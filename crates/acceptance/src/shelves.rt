@@ -2,6 +2,7 @@
 
 ghost use Rattle.std.specs.Prelude.{◌≡◌, IfOk, length};
 ghost use Rattle.rules.specs.Programs.{seen_of};
+ghost use Rattle.analyse.specs.Tasks.{task_program};
 ghost use Rattle.analyse.specs.Workers.{IsWorkerOf};
 
 use analyse::{Task, Verdict, Worker, analyse, give_up_all, tasks};
@@ -61,14 +62,10 @@ fn add(
     worker: &mut Worker,
     verdicts: &mut Vec<Verdict>,
 ) -> Result<(), Fail>
-    requires three { length (seen_of program.now).methods ≡ 3 }
+    requires program { task_program task ≡ program.now }
     requires worker { IsWorkerOf rows.now worker.old }
     ensures { IsWorkerOf rows.now worker.new }
 {
-    if task.method().0 >= 3 {
-        task.give_up();
-        return Err(Fail::from("no such method"));
-    }
     match analyse(alloc, task, program, rows, worker) {
         Ok(verdict) => {
             verdicts.push(verdict)?;
@@ -91,15 +88,13 @@ fn verdicts_of(alloc: Global, program: &Program) -> Result<Vec<Verdict>, Fail>
     };
     let mut worker = Worker::new(alloc, seat);
     let mut left = tasks(alloc, program)?.into_iter();
-    for _ in 0..3 {
-        if let Some(task) = left.next()
-            && let Err(fault) = add(alloc, program, task, &rows, &mut worker, &mut verdicts)
-        {
+    while let Some(task) = left.next() {
+        if let Err(fault) = add(alloc, program, task, &rows, &mut worker, &mut verdicts) {
             give_up_all(left);
             return Err(fault);
         }
     }
-    give_up_all(left);
+    left.destroy_empty();
     Ok(verdicts)
 }
 

@@ -1,8 +1,8 @@
 //! Tasks that come back where a growth was refused, and are analysed again.
 
-ghost use Rattle.std.specs.Prelude.{◌≡◌, ◌<◌, length};
+ghost use Rattle.std.specs.Prelude.{◌≡◌, length};
 ghost use Rattle.rules.specs.Programs.{seen_of};
-ghost use Rattle.analyse.specs.Tasks.{number_of};
+ghost use Rattle.analyse.specs.Tasks.{task_program};
 ghost use Rattle.analyse.specs.Workers.{IsWorkerOf};
 
 use crate::steps::{FREED_AND_READ, only};
@@ -32,7 +32,7 @@ fn analysed(
     rows: &Rows,
     worker: &mut Worker,
 ) -> Result<Verdict, Fail>
-    requires there { number_of task < length (seen_of program.now).methods }
+    requires program { task_program task ≡ program.now }
     requires worker { IsWorkerOf rows.now worker.old }
     ensures { IsWorkerOf rows.now worker.new }
 {

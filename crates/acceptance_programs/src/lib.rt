@@ -4,6 +4,8 @@
 #[cfg(test)]
 mod conditions;
 #[cfg(test)]
+mod faults;
+#[cfg(test)]
 mod lookups;
 #[cfg(test)]
 mod numbers;
