@@ -1,5 +1,6 @@
 //! Codes and texts of findings, and their order.
 
+use reports::in_report_order;
 use source::{Finding, Memory, Place, TextFault, compare, finding_of, texts};
 use std::alloc::Global;
 use std::cmp::Ordering;
@@ -98,5 +99,23 @@ fn order_of_findings(rt: HostRuntime) -> Result<(), Fail> {
         }
     }
     assert_eq!(rt; compare(&sorted[0], &sorted[0]), Ordering::Equal);
+    Ok(())
+}
+
+#[test]
+fn findings_listed_in_order_each_once(rt: HostRuntime) -> Result<(), Fail> {
+    let alloc = rt.alloc();
+    let mut found = Vec::new(alloc);
+    found.push(texts::unknown(alloc, Place { line: 10, col: 1 }, b"b")?)?;
+    found.push(texts::unknown(alloc, Place { line: 10, col: 1 }, b"a")?)?;
+    found.push(texts::unknown(alloc, Place { line: 9, col: 2 }, b"b")?)?;
+    found.push(texts::unknown(alloc, Place { line: 10, col: 1 }, b"b")?)?;
+    let listed = in_report_order(found)?;
+    let said = [(9, "b unknown"), (10, "a unknown"), (10, "b unknown")];
+    assert_eq!(rt; listed.len(), said.len());
+    for (finding, (line, text)) in listed.iter().zip(&said) {
+        assert_eq!(rt; finding.place.line, *line);
+        assert_eq!(rt; finding.text.as_str(), *text);
+    }
     Ok(())
 }

@@ -1,0 +1,49 @@
+-- The order of a report is total, and tells any two findings apart.
+use Rattle.std.proofs.Common.{◌≡◌, ℕ, ◌<◌, List, refl, sym, ap, ◌∙◌}
+use Rattle.std.specs.Cmp.{IsTotalOrder}
+use Rattle.std.specs.Cmp.Lexicographic.{slice_cmp}
+use Rattle.std.specs.Ordering.{nat_cmp, ordering_then, is_eq}
+use Rattle.std.specs.declared.cmp.Ordering.{Ordering}
+use Rattle.std.specs.declared.cmp.Ordering.TheVariants.{Less, Equal, Greater}
+use Rattle.std.proofs.lemmas.Cmp.{ranked, by_ranked, then_total, on_total, nat_cmp_total, nat_list_cmp_total}
+use Rattle.std.proofs.lemmas.Map.Text.{is_eq-slice_cmp}
+use Rattle.std.proofs.lemmas.Slice.Eq.{bytes_eq-Decides}
+use Rattle.source.specs.Findings.{FindingParts, finding_parts, finding_cmp, code_name}
+use Rattle.source.specs.declared.finding.Code.{Code}
+use Rattle.reports.specs.Orders.{report_cmp}
+use Rattle.reports.proofs.CodeLemmas.{one_code}
+
+pub report_total : IsTotalOrder report_cmp
+report_total = then_total (on_total (λ f. f.place.line) nat_cmp_total)
+    (then_total (on_total (λ f. f.place.col) nat_cmp_total)
+    (then_total (on_total (λ f. code_name f.code) nat_list_cmp_total)
+    (on_total (λ f. f.text) nat_list_cmp_total)))
+
+pub finding_total : IsTotalOrder finding_cmp
+finding_total = on_total finding_parts report_total
+
+then_equal : (a b : Ordering) → ordering_then a b ≡ Equal → (a ≡ Equal) × (b ≡ Equal)
+then_equal Less b e = absurd (cc)
+then_equal Equal b e = (refl, e)
+then_equal Greater b e = absurd (cc)
+
+same_number : (x y : ℕ) → nat_cmp x y ≡ Equal → x ≡ y
+same_number x y e = by_ranked (x < y) (x ≡ y) (y < x) (nat_cmp x y) (ranked x y (nat_cmp x y) refl) (λ l p. absurd (cc (e, l))) (λ _ p. p) (λ g p. absurd (cc (e, g)))
+
+same_bytes : (xs ys : List ℕ) → slice_cmp nat_cmp xs ys ≡ Equal → xs ≡ ys
+same_bytes xs ys e = (bytes_eq-Decides xs ys).0 (sym (is_eq-slice_cmp xs ys) ∙ ap is_eq e)
+
+told : ℕ → ℕ → Code → List ℕ → FindingParts
+told line col code text = record { place = record { line = line; col = col }; code = code; text = text }
+
+same_parts : (a b : FindingParts) → a.place.line ≡ b.place.line → a.place.col ≡ b.place.col → a.code ≡ b.code → a.text ≡ b.text → a ≡ b
+unfolding told
+same_parts a b line col code text =
+    let e : told a.place.line a.place.col a.code a.text ≡ told b.place.line b.place.col b.code b.text = cc in e
+
+pub equal_is_same : (a b : FindingParts) → report_cmp a b ≡ Equal → a ≡ b
+equal_is_same a b e =
+    let line = then_equal _ _ e in
+    let col = then_equal _ _ line.1 in
+    let code = then_equal _ _ col.1 in
+    same_parts a b (same_number _ _ line.0) (same_number _ _ col.0) (one_code a.code b.code (same_bytes _ _ code.0)) (same_bytes _ _ code.1)

@@ -1,0 +1,22 @@
+//! The order in which a report has findings.
+
+ghost use Rattle.std.specs.Prelude.{◌↔◌, Contains, IfOk, map};
+ghost use Rattle.std.specs.List.Sorted.{IsStrictlySortedBy};
+ghost use Rattle.source.specs.Findings.{FindingParts, finding_parts};
+ghost use Rattle.reports.specs.Orders.{report_cmp};
+
+use source::{Finding, Memory, compare};
+
+/// The same findings in the order of a report, by line, column, code and text, each once.
+///
+/// `Memory` is answered where a growth was refused.
+pub fn in_report_order(findings: Vec<Finding>) -> Result<Vec<Finding>, Memory>
+    ensures same { IfOk result (λ listed. (f : FindingParts)
+        → Contains (map finding_parts listed.items) f ↔ Contains (map finding_parts findings.items) f) }
+    ensures ordered { IfOk result (λ listed. IsStrictlySortedBy report_cmp (map finding_parts listed.items)) }
+{
+    let mut listed = findings;
+    listed.sort_by(|a, b| compare(a, b))?;
+    listed.dedup_by(|later, earlier| compare(later, earlier).is_eq());
+    Ok(listed)
+}
