@@ -22,7 +22,7 @@ use Rattle.program.specs.declared.statement.Awaited.{Awaited}
 use Rattle.program.specs.declared.statement.Awaited.TheVariants.{Message, Closed}
 use Rattle.program.specs.declared.statement.Channel.{Channel}
 use Rattle.program.specs.declared.statement.Mention.{Mention}
-use Rattle.program.specs.declared.limits.TheConstants.{MOST_VARIABLES}
+use Rattle.program.specs.declared.limits.TheConstants.{MOST_FIELDS, MOST_VARIABLES}
 use Rattle.program.specs.Lists.{Each, is_among}
 use Rattle.program.specs.Scopes.{AreNested, GoesBack, Grows, InTurn, IsInScope}
 
@@ -82,11 +82,13 @@ abbrev pub is_end : Kind → Bool
 is_end (Endpoint contract side state) = true
 is_end _ = false
 
--- Where a statement stands: the contracts of the program, what its messages bring, and its methods; the variables of its own
--- method, and what that gives; the last variable in scope, and the last that stays at a `break` and at a `continue`.
+-- Where a statement stands: the contracts of the program, what its messages bring, what its structs have in fields that own, and its
+-- methods; the variables of its own method, and what that gives; the last variable in scope, and the last that stays at a `break` and at
+-- a `continue`.
 pub record Setting : Type 0 where
   pub contracts : List ContractSeen
   pub messages : List (List Kind)
+  pub structs : List (List Kind)
   pub methods : List MethodSeen
   pub variables : List VariableSeen
   pub result : Option Kind
@@ -99,6 +101,7 @@ abbrev pub reached : Setting → Option VarId → Setting
 reached s scope = record {
   contracts = s.contracts;
   messages = s.messages;
+  structs = s.structs;
   methods = s.methods;
   variables = s.variables;
   result = s.result;
@@ -112,6 +115,7 @@ abbrev pub in_switch : Setting → Setting
 in_switch s = record {
   contracts = s.contracts;
   messages = s.messages;
+  structs = s.structs;
   methods = s.methods;
   variables = s.variables;
   result = s.result;
@@ -125,6 +129,7 @@ abbrev pub in_loop : Setting → Setting
 in_loop s = record {
   contracts = s.contracts;
   messages = s.messages;
+  structs = s.structs;
   methods = s.methods;
   variables = s.variables;
   result = s.result;
@@ -278,10 +283,12 @@ abbrev mutual
   AreCases s (MoreCases c cases) = IsCase s c × AreCases s cases
 
 -- where the statements of a method begin, if these parameters are in scope there; a `break` and a `continue` leave them in scope
-abbrev pub setting : List ContractSeen → List (List Kind) → List MethodSeen → MethodSeen → (begins : Option VarId) → Setting
-setting contracts messages methods m begins = record {
+abbrev pub setting : List ContractSeen → (messages structs : List (List Kind)) → List MethodSeen → MethodSeen → (begins : Option VarId)
+    → Setting
+setting contracts messages structs methods m begins = record {
   contracts = contracts;
   messages = messages;
+  structs = structs;
   methods = methods;
   variables = m.variables;
   result = m.result;
@@ -290,8 +297,8 @@ setting contracts messages methods m begins = record {
   at_continue = begins;
 }
 
--- a method among those of a program of these contracts, whose messages bring this
-pub record IsWellFormed (contracts : List ContractSeen) (messages : List (List Kind)) (methods : List MethodSeen)
+-- a method among those of a program of these contracts, whose messages bring this, and whose structs have this
+pub record IsWellFormed (contracts : List ContractSeen) (messages structs : List (List Kind)) (methods : List MethodSeen)
     (m : MethodSeen) : Type 0 where
   pub result : IfSome m.result (IsKind contracts)
   pub void : m.gives ≡ false → m.result ≡ None
@@ -303,9 +310,15 @@ pub record IsWellFormed (contracts : List ContractSeen) (messages : List (List K
   pub begins_with : IfSome begins (λ v. v.0 < length m.variables)
   pub parameters : (n : VarId) (v : VariableSeen) → slice_get m.variables n.0 ≡ Some v → is_parameter v.role ≡ true
       → IsInScope m.variables begins n
-  pub statements : AreStatements (setting contracts messages methods m begins) m.statements m.scope
+  pub statements : AreStatements (setting contracts messages structs methods m begins) m.statements m.scope
 
--- a program: what its messages bring, and its methods
-pub record AreWellFormed (contracts : List ContractSeen) (messages : List (List Kind)) (methods : List MethodSeen) : Type 0 where
+-- what a struct has in its fields that own, in order: kinds as they are declared, no more than may be
+pub record AreFields (contracts : List ContractSeen) (kinds : List Kind) : Type 0 where
+  pub few : length kinds ≤ MOST_FIELDS
+  pub kinds_are : Each (IsKind contracts) kinds
+
+-- a program: what its messages bring, what its structs have in fields that own, and its methods
+pub record AreWellFormed (contracts : List ContractSeen) (messages structs : List (List Kind)) (methods : List MethodSeen) : Type 0 where
   pub messages_are : Each (Each (IsKind contracts)) messages
-  pub methods_are : Each (IsWellFormed contracts messages methods) methods
+  pub structs_are : Each (AreFields contracts) structs
+  pub methods_are : Each (IsWellFormed contracts messages structs methods) methods

@@ -14,7 +14,9 @@ mod statement;
 pub use call::{Argument, Call, Send};
 pub use contract::{Contract, Direction, Edge, Message, Part, Resolved, Sign, State};
 pub use kind::{Kind, Scalar, Side};
-pub use limits::{MOST_CONTRACTS, MOST_METHODS, MOST_PARAMETERS, MOST_STATES, MOST_VARIABLES};
+pub use limits::{
+    MOST_CONTRACTS, MOST_FIELDS, MOST_METHODS, MOST_PARAMETERS, MOST_STATES, MOST_VARIABLES,
+};
 pub use method::{Method, Role, Variable};
 pub use methods::Methods;
 pub use number::{ContractId, MessageId, MethodId, StateId, StructId, VarId};

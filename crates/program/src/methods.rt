@@ -3,9 +3,9 @@
 ghost use Rattle.std.specs.Prelude.{◌≡◌, ◌<◌, Some, length, map, slice_get};
 ghost use Rattle.program.specs.Parts.{contract_seen};
 ghost use Rattle.program.specs.Methods.{method_seen};
-ghost use Rattle.program.specs.Programs.{contracts_seen, messages_seen, methods_seen, rows};
+ghost use Rattle.program.specs.Programs.{contracts_seen, messages_seen, methods_seen, rows, structs_seen};
 ghost use Rattle.program.specs.Lists.{Each};
-ghost use Rattle.program.specs.WellFormed.{AreWellFormed, IsKind, IsWellFormed};
+ghost use Rattle.program.specs.WellFormed.{AreFields, AreWellFormed, IsKind, IsWellFormed};
 
 use crate::contract::Resolved;
 use crate::kind::Kind;
@@ -13,16 +13,17 @@ use crate::method::Method;
 use crate::number::MethodId;
 use std::marker::Model;
 
-/// The methods of a program in order of the text, with its contracts and what its messages bring, all names in them resolved, and
-/// well formed: each number stands for something, and a method has at most `MOST_VARIABLES` variables; a call and a send give for
-/// each parameter of the exchange heap a variable of its type, and a call has a target exactly where the callee gives a block; what
-/// is assigned is in scope; a started method gives nothing and claims its parameters; a switch has a case for the close of each of
-/// its endpoints; what a case binds takes what its message brings, and comes into scope there. What goes out of scope is just what
-/// came into it.
+/// The methods of a program in order of the text, with its contracts, what its messages bring and what its structs have in fields that
+/// own, all names in them resolved, and well formed: each number stands for something, a method has at most `MOST_VARIABLES` variables,
+/// and a struct at most `MOST_FIELDS` fields that own; a call and a send give for each parameter of the exchange heap a variable of its
+/// type, and a call has a target exactly where the callee gives a block; what is assigned is in scope; a started method gives nothing and
+/// claims its parameters; a switch has a case for the close of each of its endpoints; what a case binds takes what its message brings,
+/// and comes into scope there. What goes out of scope is just what came into it.
 #[derive(Drop)]
 pub struct Methods {
     contracts: Resolved,
     messages: Vec<Vec<Kind>>,
+    structs: Vec<Vec<Kind>>,
     list: Vec<Method>,
 }
 
@@ -38,28 +39,35 @@ impl Model for Methods {
     ghost use Rattle.program.specs.declared.kind.Kind.{Kind};
     ghost use Rattle.program.specs.declared.method.Method.{Method};
 
-    ghost Value = { List Contract × List (List Kind) × List Method };
+    ghost Value = { List Contract × List (List Kind) × List (List Kind) × List Method };
 
     ghost coded = { Prim.hlevel (codes, statement.the_row.coded) };
 
-    ghost view = { λ m. (m.contracts.contracts.items, rows m.messages.items, m.list.items) };
+    ghost view = { λ m. (m.contracts.contracts.items, rows m.messages.items, rows m.structs.items, m.list.items) };
 
     ghost invariant = { λ m. AreWellFormed (map contract_seen m.contracts.contracts.items) (rows m.messages.items)
-        (map method_seen m.list.items) };
+        (rows m.structs.items) (map method_seen m.list.items) };
 }
 
 impl Methods {
     /// The methods of a program with these contracts, whose messages bring this for their parameters of the exchange heap.
-    pub fn new(contracts: Resolved, messages: Vec<Vec<Kind>>, list: Vec<Method>) -> Methods
+    pub fn new(
+        contracts: Resolved,
+        messages: Vec<Vec<Kind>>,
+        structs: Vec<Vec<Kind>>,
+        list: Vec<Method>,
+    ) -> Methods
         requires well_formed { AreWellFormed (map contract_seen contracts.contracts.items) (rows messages.items)
-            (map method_seen list.items) }
+            (rows structs.items) (map method_seen list.items) }
         ensures contracts { contracts_seen result ≡ map contract_seen contracts.contracts.items }
         ensures messages { messages_seen result ≡ rows messages.items }
+        ensures structs { structs_seen result ≡ rows structs.items }
         ensures methods { methods_seen result ≡ map method_seen list.items }
     {
         Methods {
             contracts,
             messages,
+            structs,
             list,
         }
     }
@@ -79,10 +87,19 @@ impl Methods {
         &self.messages
     }
 
+    /// What each struct has in its fields that own, in order; a struct has its place here as its number.
+    pub fn structs(&self) -> &[Vec<Kind>]
+        ensures structs { rows result.now ≡ structs_seen self.now }
+        ensures kinds { Each (AreFields (contracts_seen self.now)) (structs_seen self.now) }
+    {
+        &self.structs
+    }
+
     /// The methods, in order of the text.
     pub fn list(&self) -> &[Method]
         ensures list { map method_seen result.now ≡ methods_seen self.now }
-        ensures well_formed { AreWellFormed (contracts_seen self.now) (messages_seen self.now) (methods_seen self.now) }
+        ensures well_formed { AreWellFormed (contracts_seen self.now) (messages_seen self.now) (structs_seen self.now)
+            (methods_seen self.now) }
     {
         self.list.as_slice()
     }
@@ -91,8 +108,8 @@ impl Methods {
     pub fn method(&self, id: MethodId) -> &Method
         requires there { id.0 < length (methods_seen self.now) }
         ensures method { slice_get (methods_seen self.now) id.0 ≡ Some (method_seen result.now) }
-        ensures well_formed { IsWellFormed (contracts_seen self.now) (messages_seen self.now) (methods_seen self.now)
-            (method_seen result.now) }
+        ensures well_formed { IsWellFormed (contracts_seen self.now) (messages_seen self.now) (structs_seen self.now)
+            (methods_seen self.now) (method_seen result.now) }
     {
         &self.list[id.0 as usize]
     }
