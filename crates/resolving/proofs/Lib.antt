@@ -2,6 +2,7 @@ pub mod ExpressionTwins
 pub mod AloneLemmas
 pub mod ReadLemmas
 pub mod FactorLemmas
+pub mod FieldLemmas
 pub mod ScopeLemmas
 pub mod LocalLemmas
 pub mod StatementTwins

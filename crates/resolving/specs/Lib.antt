@@ -11,5 +11,6 @@ pub mod Told
 pub mod Around
 pub mod Brought
 pub mod Methods
+pub mod Fields
 pub mod Frames
 pub mod Steps

@@ -7,6 +7,7 @@ mod brought;
 mod calls;
 mod cases;
 mod counts;
+mod fields;
 mod kinds;
 mod locals;
 mod messages;

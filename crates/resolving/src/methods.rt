@@ -15,6 +15,7 @@ ghost use Rattle.resolving.specs.Around.{IsAround, program_in};
 ghost use Rattle.resolving.specs.Brought.{brought, messages_told};
 ghost use Rattle.program.specs.Programs.{rows};
 ghost use Rattle.resolving.specs.Callees.{all_methods};
+ghost use Rattle.resolving.specs.Fields.{structs_told};
 ghost use Rattle.resolving.specs.Frames.{IsFrame};
 ghost use Rattle.resolving.specs.Locals.{Frame};
 ghost use Rattle.resolving.specs.Methods.{methods_told, role_of, parameter_declaration, parameters_frame, method_told, takes_some};
@@ -22,6 +23,7 @@ ghost use Rattle.resolving.specs.Methods.{methods_told, role_of, parameter_decla
 use crate::around::Around;
 use crate::brought::add_brought;
 use crate::counts::count_items;
+use crate::fields::structs_told;
 use crate::kinds::{result_held, type_held};
 use crate::locals::{Declaration, Locals};
 use crate::statements::tell_statements;
@@ -139,15 +141,16 @@ fn add_methods(
     Ok(())
 }
 
-/// The messages and the methods of a program in order of the text: what a message brings for each of its parameters of the
-/// exchange heap, and the method with its names resolved.
+/// The messages, structs and methods of a program in order of the text: what a message brings for each of its parameters of the
+/// exchange heap, what a struct has in its fields that own, and the method with its names resolved.
 #[derive(Drop)]
 pub struct Program {
     pub messages: Vec<Vec<Kind>>,
+    pub structs: Vec<Vec<Kind>>,
     pub methods: Vec<Method>,
 }
 
-/// The messages and the methods of these items, in order of the text.
+/// The messages, the structs and the methods of these items, in order of the text.
 fn resolve_items<'a>(
     alloc: Global,
     text: &[u8],
@@ -162,10 +165,13 @@ fn resolve_items<'a>(
     requires few { length (all_methods (map item_tree items.now)) ≤ MOST_METHODS }
     ensures messages { IfOk result (λ program. rows program.messages.items
         ≡ messages_told (program_in text.now (map item_tree items.now))) }
+    ensures structs { IfOk result (λ program. rows program.structs.items
+        ≡ structs_told (program_in text.now (map item_tree items.now))) }
     ensures methods { IfOk result (λ program. map method_seen program.methods.items
         ≡ methods_told (program_in text.now (map item_tree items.now))) }
 {
     let before = count_items(alloc, items)?;
+    let structs = structs_told(alloc, items)?;
     let mut messages = Vec::new(alloc);
     let mut resolved = Vec::new(alloc);
     for (class, item) in items.iter().enumerate() {
@@ -182,11 +188,12 @@ fn resolve_items<'a>(
     }
     Ok(Program {
         messages,
+        structs,
         methods: resolved,
     })
 }
 
-/// The messages and the methods of a program in order of the text, in which each variable of the exchange heap is a number and
+/// The messages, structs and methods of a program in order of the text, in which each variable of the exchange heap is a number and
 /// each scalar is forgotten. A use means the variable in scope of its name; nothing is wrong with the names and kinds of the
 /// program, and these are its contracts, with their names resolved.
 ///
@@ -202,6 +209,7 @@ pub fn resolve_methods(
     requires room { length contracts.now.contracts.items < 2 ^ 32 }
     requires clean { program_findings (program_of text.now tree.now) ≡ [] }
     ensures messages { IfOk result (λ program. rows program.messages.items ≡ messages_told (program_of text.now tree.now)) }
+    ensures structs { IfOk result (λ program. rows program.structs.items ≡ structs_told (program_of text.now tree.now)) }
     ensures resolved { IfOk result (λ program. map method_seen program.methods.items
         ≡ methods_told (program_of text.now tree.now)) }
     ensures few { IfOk result (λ program. length program.methods.items ≤ MOST_METHODS) }

@@ -18,6 +18,7 @@ pub mod SendLemmas
 pub mod CallLemmas
 pub mod BindLemmas
 pub mod BroughtLemmas
+pub mod FieldLemmas
 pub mod CaseLemmas
 pub mod ValueLemmas
 pub mod HeadLemmas

@@ -20,6 +20,7 @@ use Rattle.program.specs.Methods.{VariableSeen}
 use Rattle.program.specs.declared.kind.Kind.{Kind}
 use Rattle.program.specs.declared.method.Role.{Role}
 use Rattle.resolving.specs.Brought.{messages_told}
+use Rattle.resolving.specs.Fields.{structs_told}
 use Rattle.resolving.specs.Kinds.{kind_held, result_held, state_in, type_held}
 use Rattle.resolving.specs.Locals.{Frame, declared, declared_as, number_of}
 use Rattle.resolving.specs.Methods.{body_told, method_told, methods_told, no_variables, parameter_declaration, parameters_frame, role_of, takes_some}
@@ -30,6 +31,7 @@ use Rattle.program.specs.Scopes.{IsInScope}
 use Rattle.program.specs.declared.limits.TheConstants.{MOST_VARIABLES}
 use Rattle.program.specs.declared.method.Role.TheVariants as role
 use Rattle.wellformed.specs.Bare.{IsBare}
+use Rattle.wellformed.proofs.FieldLemmas.{fields_kinds}
 use Rattle.wellformed.proofs.BroughtLemmas.{brought_kinds}
 use Rattle.wellformed.proofs.GrowthLemmas.{Nests, declared_nests, declared_within, statements_grow, statements_nest, within_before}
 use Rattle.wellformed.proofs.KindLemmas.{heap_block, held_as, held_kind, type_known}
@@ -167,13 +169,13 @@ result_kind p (Some t) (Some held) is = held_kind p (type_kind p t) held (record
 
 -- a method of a class
 method_fits : (p : Program) (class : ℕ) (c : ClassTree) (m : MethodTree) (place : ℕ) → program_findings p ≡ [] → item_at as_class p class ≡ Some (class, c) → slice_get c.methods place ≡ Some m
-    → IsWellFormed (contracts p) (messages_told p) (methods_told p) (method_told p class m)
+    → IsWellFormed (contracts p) (messages_told p) (structs_told p) (methods_told p) (method_told p class m)
 method_fits p class c m place clean there at =
     let seen = method_told p class m in
     let vs = seen.variables in
     let opened = parameters_frame p m.params no_variables in
     let begins = last_of opened in
-    let s = setting (contracts p) (messages_told p) (methods_told p) seen begins in
+    let s = setting (contracts p) (messages_told p) (structs_told p) (methods_told p) seen begins in
     let after = (body_told p class m.body opened).frame in
     let start : names.Frame = record { variables = []; heap = 0 } in
     let turns = method_clean p class c m place clean there at in
@@ -188,7 +190,7 @@ method_fits p class c m place clean there at =
     let nests = body_nests p class m.body opened opens in
     let none_stands : AreStanding p vs no_variables start = record { same = refl; locals = tt; last = tt; ends = leads_here vs None; counted = refl; few = omega arith } in
     let standing = params_stand p m.params vs no_variables start none_stands within halves.0 in
-    let around : Around p c class m.result s = record { clean = clean; class_is = there; contracts_are = refl; messages_are = refl; methods_are = refl; result_is = refl; result_known = both.0; nested = nests.nested } in
+    let around : Around p c class m.result s = record { clean = clean; class_is = there; contracts_are = refl; messages_are = refl; structs_are = refl; methods_are = refl; result_is = refl; result_known = both.0; nested = nests.nested } in
     let staying : AreStaying s opened (stays_here opened) = record { scope = refl; break_is = refl; continue_is = refl; at_break = leads_here vs begins; at_continue = leads_here vs begins } in
     let fits = body_fits p c class m.result s m.body opened next.frame around staying standing all halves.1 in
     let kinds = each_append (λ v. IsKind (contracts p) v.kind) opened.variables grows.more (params_kinds p m.params no_variables tt) (local_kinds p grows.more grows.local) in
@@ -205,8 +207,9 @@ method_fits p class c m place clean there at =
       statements = fits.statements;
     }
 
-pub well_formed : (p : Program) → program_findings p ≡ [] → AreWellFormed (resolved_contracts p.text (contracts_of p.items)) (messages_told p) (methods_told p)
+pub well_formed : (p : Program) → program_findings p ≡ [] → AreWellFormed (resolved_contracts p.text (contracts_of p.items)) (messages_told p) (structs_told p) (methods_told p)
 well_formed p clean = record {
   messages_are = brought_kinds p;
-  methods_are = every_method (IsWellFormed (contracts p) (messages_told p) (methods_told p)) p (λ class c m place there at. method_fits p class c m place clean there at);
+  structs_are = fields_kinds p;
+  methods_are = every_method (IsWellFormed (contracts p) (messages_told p) (structs_told p) (methods_told p)) p (λ class c m place there at. method_fits p class c m place clean there at);
 }

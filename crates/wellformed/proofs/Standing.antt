@@ -21,6 +21,7 @@ use Rattle.program.specs.declared.method.Role.{Role}
 use Rattle.program.specs.declared.method.Role.TheVariants as role
 use Rattle.program.specs.declared.number.VarId.{VarId}
 use Rattle.resolving.specs.Brought.{messages_told}
+use Rattle.resolving.specs.Fields.{structs_told}
 use Rattle.resolving.specs.Kinds.{kind_held, result_held, type_held}
 use Rattle.resolving.specs.Locals as locals
 use Rattle.resolving.specs.Locals.{Local, Frame, number_of}
@@ -117,6 +118,7 @@ pub record Around (p : Program) (c : ClassTree) (class : ℕ) (result : Option t
   pub class_is : item_at as_class p class ≡ Some (class, c)
   pub contracts_are : s.contracts ≡ resolved_contracts p.text (contracts_of p.items)
   pub messages_are : s.messages ≡ messages_told p
+  pub structs_are : s.structs ≡ structs_told p
   pub methods_are : s.methods ≡ methods_told p
   pub result_is : s.result ≡ result_held p result
   pub result_known : result_unknown p result ≡ []

@@ -50,6 +50,7 @@ abbrev placed : Setting → (scope at_break at_continue : Option VarId) → Sett
 placed s scope at_break at_continue = record {
   contracts = s.contracts;
   messages = s.messages;
+  structs = s.structs;
   methods = s.methods;
   variables = s.variables;
   result = s.result;
@@ -64,6 +65,7 @@ around_at m class s scope at_break at_continue a = record {
   class_is = a.class_is;
   contracts_are = a.contracts_are;
   messages_are = a.messages_are;
+  structs_are = a.structs_are;
   methods_are = a.methods_are;
   result_is = a.result_is;
   result_known = a.result_known;

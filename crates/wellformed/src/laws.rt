@@ -7,6 +7,7 @@ ghost use Rattle.names.specs.Resolution.{resolved_contracts};
 ghost use Rattle.program.specs.Lists.{Each};
 ghost use Rattle.program.specs.WellFormed.{AreWellFormed};
 ghost use Rattle.resolving.specs.Brought.{messages_told};
+ghost use Rattle.resolving.specs.Fields.{structs_told};
 ghost use Rattle.resolving.specs.Methods.{methods_told};
 ghost use Rattle.tree.specs.Trees.{contracts_of};
 ghost use Rattle.wellformed.specs.Bare.{IsBare};
@@ -15,6 +16,6 @@ ghost use Rattle.wellformed.specs.Bare.{IsBare};
 /// takes nothing has no parameter of the exchange heap (`bare`).
 pub fn clean_methods_are_well_formed()
     ensures formed { (p : Program) → program_findings p ≡ []
-        → AreWellFormed (resolved_contracts p.text (contracts_of p.items)) (messages_told p) (methods_told p) }
+        → AreWellFormed (resolved_contracts p.text (contracts_of p.items)) (messages_told p) (structs_told p) (methods_told p) }
     ensures bare { (p : Program) → Each IsBare (methods_told p) }
 {}

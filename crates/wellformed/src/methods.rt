@@ -2,13 +2,14 @@
 
 ghost use Rattle.std.specs.Prelude.{◌≡◌, ◌≤◌, ◌<◌, ◌^◌, [], IfOk, length, map};
 ghost use Rattle.program.specs.Parts.{contract_seen};
-ghost use Rattle.program.specs.Programs.{contracts_seen, messages_seen, methods_seen};
+ghost use Rattle.program.specs.Programs.{contracts_seen, messages_seen, methods_seen, structs_seen};
 ghost use Rattle.tree.specs.Trees.{contracts_of, program_tree};
 ghost use Rattle.names.specs.Findings.{program_findings};
 ghost use Rattle.names.specs.Program.{program_of};
 ghost use Rattle.names.specs.Resolution.{resolved_contracts};
 ghost use Rattle.program.specs.declared.limits.TheConstants.{MOST_METHODS};
 ghost use Rattle.resolving.specs.Brought.{messages_told};
+ghost use Rattle.resolving.specs.Fields.{structs_told};
 ghost use Rattle.resolving.specs.Methods.{methods_told};
 ghost use Rattle.program.specs.Lists.{Each};
 ghost use Rattle.wellformed.specs.Bare.{IsBare};
@@ -35,10 +36,15 @@ pub fn well_formed_methods(
     requires clean { program_findings (program_of text.now tree.now) ≡ [] }
     ensures contracts { IfOk result (λ m. contracts_seen m ≡ map contract_seen contracts.contracts.items) }
     ensures messages { IfOk result (λ m. messages_seen m ≡ messages_told (program_of text.now tree.now)) }
+    ensures structs { IfOk result (λ m. structs_seen m ≡ structs_told (program_of text.now tree.now)) }
     ensures methods { IfOk result (λ m. methods_seen m ≡ methods_told (program_of text.now tree.now)) }
     ensures bare { IfOk result (λ m. Each IsBare (methods_seen m)) }
     ensures few { IfOk result (λ m. length (methods_seen m) ≤ MOST_METHODS) }
 {
-    let Program { messages, methods } = resolve_methods(alloc, tree, text, &contracts)?;
-    Ok(Methods::new(contracts, messages, methods))
+    let Program {
+        messages,
+        structs,
+        methods,
+    } = resolve_methods(alloc, tree, text, &contracts)?;
+    Ok(Methods::new(contracts, messages, structs, methods))
 }

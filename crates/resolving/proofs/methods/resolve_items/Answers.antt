@@ -34,5 +34,6 @@ returns c =
     let p = program_in c.args.text.now (map item_tree items) in
     record {
       messages = c.loop-class.invariant.messages ∙ brought_all p items c.loop-class.class c.loop-class-test.false;
+      structs = c.in_ok-structs.ensures c.args.text.now;
       methods = c.loop-class.invariant.methods ∙ items_all p items c.loop-class.class c.loop-class-test.false;
     }
