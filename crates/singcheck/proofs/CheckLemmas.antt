@@ -14,7 +14,7 @@ use Rattle.singcheck.specs.Named.{HasNames}
 use Rattle.singcheck.specs.Reports.{IsReport}
 use Rattle.singcheck.specs.Stages.{AreBroken}
 use Rattle.singcheck.specs.declared.fault.Status.{Status}
-use Rattle.singcheck.specs.declared.reports.Report.{Report}
+use Rattle.singcheck.specs.declared.report.Report.{Report}
 use Rattle.singcheck.specs.declared.fault.Status.TheVariants.{Empty, Found}
 use Rattle.singcheck.proofs.JudgeLemmas.{none_of}
 use Rattle.singcheck.proofs.StageLemmas.{unsound}

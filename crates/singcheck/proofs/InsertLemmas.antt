@@ -9,8 +9,9 @@ use Rattle.std.specs.declared.cmp.Ordering.TheVariants.{Less, Equal, Greater}
 use Rattle.std.proofs.lemmas.List.Elements.{All-nil, All-cons, All-head, All-tail, All-weaker, All-contains, All-contains_itself, All-from_recursion, recursion_from_All}
 use Rattle.std.proofs.lemmas.Map.Views.{All-insert_key}
 use Rattle.source.specs.Findings.{FindingParts}
-use Rattle.singcheck.specs.Reports.{IsReport, report_bytes, report_cmp}
-use Rattle.singcheck.proofs.OrderLemmas.{equal_is_same, report_total}
+use Rattle.reports.specs.Orders.{report_cmp}
+use Rattle.singcheck.specs.Reports.{IsReport, report_bytes}
+use Rattle.reports.proofs.OrderLemmas.{equal_is_same, report_total}
 use Rattle.singcheck.proofs.SameLemmas.{at_front, behind_front}
 
 abbrev put : List FindingParts → FindingParts → List FindingParts

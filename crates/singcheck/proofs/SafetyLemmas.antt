@@ -15,7 +15,7 @@ use Rattle.singcheck.specs.Safety.{IsSafeText, RunsAreSafe}
 use Rattle.singcheck.specs.declared.fault.Status.{Status}
 use Rattle.singcheck.specs.declared.fault.Status.TheVariants.{Empty, Found}
 use Rattle.singcheck.specs.declared.reading.TheConstants.{MAX_READ}
-use Rattle.singcheck.specs.declared.reports.Report.{Report}
+use Rattle.singcheck.specs.declared.report.Report.{Report}
 use Rattle.singcheck.proofs.JudgeLemmas.{none_of}
 use Rattle.singcheck.proofs.LongLemmas.{no_program, of_front}
 

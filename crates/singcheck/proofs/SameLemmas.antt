@@ -7,8 +7,9 @@ use Rattle.std.specs.Ordering.{ordering_reverse}
 use Rattle.std.specs.declared.cmp.Ordering.TheVariants.{Less, Greater}
 use Rattle.source.specs.Findings.{FindingParts}
 use Rattle.contracts.specs.Conditions.{AreExactly}
-use Rattle.singcheck.specs.Reports.{IsReport, report_bytes, report_cmp}
-use Rattle.singcheck.proofs.OrderLemmas.{report_total}
+use Rattle.reports.specs.Orders.{report_cmp}
+use Rattle.singcheck.specs.Reports.{IsReport, report_bytes}
+use Rattle.reports.proofs.OrderLemmas.{report_total}
 
 -- these have the same findings
 pub record AreAlike (xs ys : List FindingParts) : Type 0 where

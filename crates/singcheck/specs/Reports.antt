@@ -1,21 +1,11 @@
 -- The report of findings.
 use Rattle.std.specs.Prelude.{◌≡◌, ℕ, List, ◌++◌, length, Contains}
-use Rattle.std.specs.Cmp.Lexicographic.{slice_cmp}
 use Rattle.std.specs.List.{flat_map}
 use Rattle.std.specs.List.Sorted.{IsStrictlySortedBy}
-use Rattle.std.specs.Ordering.{nat_cmp, on, then_cmp}
-use Rattle.std.specs.declared.cmp.Ordering.{Ordering}
-use Rattle.source.specs.Findings.{FindingParts, code_name}
+use Rattle.source.specs.Findings.{FindingParts}
 use Rattle.contracts.specs.Conditions.{AreExactly}
+use Rattle.reports.specs.Orders.{report_cmp}
 use Rattle.singcheck.specs.Lines.{finding_line, count_line}
-
--- the order of a report: by line, by column, by the name of the code, by the bytes of the text
-abbrev pub report_cmp : FindingParts → FindingParts → Ordering
-report_cmp =
-    then_cmp (on (λ f. f.place.line) nat_cmp)
-    (then_cmp (on (λ f. f.place.col) nat_cmp)
-    (then_cmp (on (λ f. code_name f.code) (slice_cmp nat_cmp))
-    (on (λ f. f.text) (slice_cmp nat_cmp))))
 
 -- a line a finding, and then their number
 abbrev pub report_bytes : List FindingParts → List ℕ

@@ -12,7 +12,7 @@ use crate::device::{Sink, Source};
 use crate::fault::{Input, RunFault, Status};
 use crate::lines::{add_bounds, add_contracts};
 use crate::reading::{MAX_READ, read_text};
-use crate::reports::{Report, report_of};
+use crate::report::{Report, report_of};
 use crate::stages::{Clean, Staged, run_stages};
 use crate::writing::write_all;
 use contracts::Sound;

@@ -15,7 +15,7 @@ use crate::laws::one_program;
 use crate::limits::{MOST_SLOTS, MOST_WORKERS};
 use crate::lines::add_clear;
 use crate::programs::{Built, Named, judged_program, named_methods};
-use crate::reports::{Report, report_of};
+use crate::report::{Report, report_of};
 use crate::stages::{Parsed, parse_text};
 use crate::tools::Tools;
 use crate::verdicts::analyse_methods;

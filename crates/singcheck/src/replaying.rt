@@ -17,7 +17,7 @@ use crate::laws::{
     each_program_has_bounds, each_program_is_well_formed, findings_or_program, one_program,
 };
 use crate::reading::{MAX_READ, MAX_SCHEDULE_READ, read_text, read_up_to};
-use crate::reports::{Report, report_of};
+use crate::report::{Report, report_of};
 use crate::writing::write_all;
 use machine::{Event, Halt, replay};
 use replays::laws::a_front_tells_all;

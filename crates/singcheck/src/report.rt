@@ -6,7 +6,8 @@ ghost use Rattle.singcheck.specs.Reports.{IsReport, report_bytes};
 
 use crate::fault::Status;
 use crate::lines::{add_count, add_finding};
-use source::{Finding, Memory, compare};
+use reports::in_report_order;
+use source::{Finding, Memory};
 use std::alloc::Global;
 
 /// What is answered for a text: the bytes of the report, and whether it has findings.
@@ -20,10 +21,8 @@ pub struct Report {
 pub(crate) fn report_of(alloc: Global, findings: Vec<Finding>) -> Result<Vec<u8>, Memory>
     ensures { IfOk result (λ bytes. IsReport (map finding_parts findings.items) bytes.items) }
 {
-    let mut findings = findings;
-    findings.sort_by(|a, b| compare(a, b))?;
-    findings.dedup_by(|later, earlier| compare(later, earlier).is_eq());
-    written(alloc, &findings)
+    let listed = in_report_order(findings)?;
+    written(alloc, &listed)
 }
 
 /// A line a finding, as they stand, and then their number.
