@@ -66,6 +66,7 @@ abbrev opens : List StatementSeen → ProgramSeen
 opens statements = record {
   contracts = once ∷ [];
   messages = (Struct record { 0 = 0 } ∷ []) ∷ [];
+  structs = [];
   methods = method (MoreStatements (Simple [] (does.NewChannel record { place = at; contract = record { 0 = 0 }; first = mention 0; second = mention 1 })) (row statements)) ∷ [];
 }
 

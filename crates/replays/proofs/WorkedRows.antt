@@ -133,7 +133,7 @@ abbrev printed : ProgramSeen → List Event → List ℕ
 printed p events = let r = ran p events 0 (start_of p 0) in replay_lines (record { program = p; structs = codes "D" ∷ [] }) events r.steps r.why r.world
 
 abbrev program : ContractSeen → List (List Kind) → List MethodSeen → ProgramSeen
-program c messages methods = record { contracts = c ∷ []; messages = messages; methods = methods }
+program c messages methods = record { contracts = c ∷ []; messages = messages; structs = []; methods = methods }
 
 -- a block is read that was sent
 abbrev put : ContractSeen

@@ -116,8 +116,8 @@ impl Program {
         requires there { method.0 < length (seen_of self.now).methods }
         ensures method { slice_get (seen_of self.now).methods method.0 ≡ Some (method_seen result.now) }
         ensures few { length result.now.variables.items ≤ MOST_VARIABLES }
-        ensures well_formed { IsWellFormed (seen_of self.now).contracts (seen_of self.now).messages (seen_of self.now).methods
-            (method_seen result.now) }
+        ensures well_formed { IsWellFormed (seen_of self.now).contracts (seen_of self.now).messages (seen_of self.now).structs
+            (seen_of self.now).methods (method_seen result.now) }
     {
         self.methods.method(method)
     }

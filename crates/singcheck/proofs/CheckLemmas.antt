@@ -39,6 +39,7 @@ has_program text items p names sound = record {
   items = items;
   program = record { parsed = names.parsed; clean = names.clean; are = names.contracts; sound = sound };
   messages = names.messages;
+  structs = names.structs;
   methods = names.methods;
 }
 

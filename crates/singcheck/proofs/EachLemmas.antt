@@ -23,6 +23,7 @@ use Rattle.contracts.specs.Bounds.{IsBound, sign_to}
 use Rattle.contracts.specs.Conditions as conditions
 use Rattle.contracts.specs.Conditions.{AreExactly, IsSound}
 use Rattle.resolving.specs.Brought.{messages_told}
+use Rattle.resolving.specs.Fields.{structs_told}
 use Rattle.resolving.specs.Methods.{methods_told}
 use Rattle.analyse.specs.Verdicts.{IsMethodVerdict}
 use Rattle.singcheck.specs.Answers.{Answers, AreFindings, IsBoundsLine, IsBroken, IsProgram, IsResolved, OfText, OfSyntax, OfNames, OfContracts, fault_findings, wrong_token}
@@ -124,5 +125,5 @@ check_some laws text none = sound_some laws text
     (λ found are. let report = report_there found in none report.0 Found (record { found = found; are = Before are; told = report.1 }))
     (λ items contracts program.
     let named : Program = record { text = text; items = items } in
-    methods_some laws text (record { contracts = contracts; messages = messages_told named; methods = methods_told named })
-    (record { items = items; program = program; messages = refl; methods = refl }) none)
+    methods_some laws text (record { contracts = contracts; messages = messages_told named; structs = structs_told named; methods = methods_told named })
+    (record { items = items; program = program; messages = refl; structs = refl; methods = refl }) none)

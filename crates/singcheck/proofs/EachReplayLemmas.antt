@@ -7,6 +7,7 @@ use Rattle.program.specs.Programs.{ProgramSeen}
 use Rattle.program.specs.declared.kind.Side.{Side}
 use Rattle.names.specs.Program.{Program}
 use Rattle.resolving.specs.Brought.{messages_told}
+use Rattle.resolving.specs.Fields.{structs_told}
 use Rattle.resolving.specs.Methods.{methods_told}
 use Rattle.machine.specs.Outcomes.{Bounds}
 use Rattle.machine.specs.Replays.{IsReplay, ReplaySeen}
@@ -83,5 +84,5 @@ replay_some stages laws entry lines text none = sound_some stages text
     none (answered report.0 Found (OfFindings (record { found = found; are = are; told = report.1 }) refl)))
     (λ items contracts program.
     let named : Program = record { text = text; items = items } in
-    entered_some laws entry lines text (record { contracts = contracts; messages = messages_told named; methods = methods_told named })
-    (record { items = items; program = program; messages = refl; methods = refl }) none)
+    entered_some laws entry lines text (record { contracts = contracts; messages = messages_told named; structs = structs_told named; methods = methods_told named })
+    (record { items = items; program = program; messages = refl; structs = refl; methods = refl }) none)

@@ -14,6 +14,7 @@ use Rattle.program.specs.WellFormed.{AreWellFormed}
 use Rattle.program.specs.declared.kind.Kind.{Kind}
 use Rattle.contracts.specs.Conditions.{IsSound}
 use Rattle.resolving.specs.Brought.{messages_told}
+use Rattle.resolving.specs.Fields.{structs_told}
 use Rattle.resolving.specs.Methods.{methods_told}
 use Rattle.sound.specs.Premises.{AreSound}
 use Rattle.wellformed.specs.Bare.{IsBare}
@@ -22,20 +23,22 @@ use Rattle.singcheck.specs.Checks.{HasProgram}
 -- what the crates below say of programs with nothing wrong in their names
 pub record CleanPrograms : Type 0 where
   pub whole : (p : Program) → program_findings p ≡ [] → All (λ (c : ContractSeen). IsWhole c.parts) (resolved_contracts p.text (contracts_of p.items))
-  pub formed : (p : Program) → program_findings p ≡ [] → AreWellFormed (resolved_contracts p.text (contracts_of p.items)) (messages_told p) (methods_told p)
+  pub formed : (p : Program) → program_findings p ≡ [] → AreWellFormed (resolved_contracts p.text (contracts_of p.items)) (messages_told p) (structs_told p) (methods_told p)
   pub bare : (p : Program) → Each IsBare (methods_told p)
 
 -- the items of a text whose program this is, with the text
 abbrev of_items : (text : List ℕ) (p : ProgramSeen) → HasProgram text p → Program
 of_items text p has = record { text = text; items = has.items }
 
-pub formed_of : CleanPrograms → (text : List ℕ) (p : ProgramSeen) → HasProgram text p → AreWellFormed p.contracts p.messages p.methods
+pub formed_of : CleanPrograms → (text : List ℕ) (p : ProgramSeen) → HasProgram text p → AreWellFormed p.contracts p.messages p.structs p.methods
 formed_of laws text p has =
     let q = of_items text p has in
     let told = resolved_contracts text (contracts_of has.items) in
-    subst (λ (cs : List ContractSeen). AreWellFormed cs p.messages p.methods) (sym has.program.are)
-    (subst (λ (ms : List (List Kind)). AreWellFormed told ms p.methods) (sym has.messages)
-    (subst (λ (ms : List MethodSeen). AreWellFormed told (messages_told q) ms) (sym has.methods) (laws.formed q has.program.clean)))
+    subst (λ (cs : List ContractSeen). AreWellFormed cs p.messages p.structs p.methods) (sym has.program.are)
+    (subst (λ (ms : List (List Kind)). AreWellFormed told ms p.structs p.methods) (sym has.messages)
+    (subst (λ (ss : List (List Kind)). AreWellFormed told (messages_told q) ss p.methods) (sym has.structs)
+    (subst (λ (ms : List MethodSeen). AreWellFormed told (messages_told q) (structs_told q) ms) (sym has.methods)
+    (laws.formed q has.program.clean))))
 
 pub bare_of : CleanPrograms → (text : List ℕ) (p : ProgramSeen) → HasProgram text p → Each IsBare p.methods
 bare_of laws text p has = subst (Each IsBare) (sym has.methods) (laws.bare (of_items text p has))

@@ -6,6 +6,7 @@ use Rattle.names.specs.Resolution.{resolved_contracts}
 use Rattle.contracts.specs.Conditions.{AreExactly}
 use Rattle.program.specs.Programs.{ProgramSeen}
 use Rattle.resolving.specs.Brought.{messages_told}
+use Rattle.resolving.specs.Fields.{structs_told}
 use Rattle.resolving.specs.Methods.{methods_told}
 use Rattle.singcheck.specs.Answers.{AreFindings}
 use Rattle.singcheck.specs.Checks.{AreCheckFindings, Before, OfMethods, Checks, HasProgram, IsClear, IsWrong}
@@ -24,6 +25,9 @@ one_contracts laws text p q one other = one.program.are ∙ ap (λ l. resolved_c
 one_messages : Laws → (text : List ℕ) (p q : ProgramSeen) → HasProgram text p → HasProgram text q → p.messages ≡ q.messages
 one_messages laws text p q one other = one.messages ∙ ap (λ items. messages_told (record { text = text; items = items })) (one_items laws text p q one other) ∙ sym other.messages
 
+one_structs : Laws → (text : List ℕ) (p q : ProgramSeen) → HasProgram text p → HasProgram text q → p.structs ≡ q.structs
+one_structs laws text p q one other = one.structs ∙ ap (λ items. structs_told (record { text = text; items = items })) (one_items laws text p q one other) ∙ sym other.structs
+
 one_methods : Laws → (text : List ℕ) (p q : ProgramSeen) → HasProgram text p → HasProgram text q → p.methods ≡ q.methods
 one_methods laws text p q one other = one.methods ∙ ap (λ items. methods_told (record { text = text; items = items })) (one_items laws text p q one other) ∙ sym other.methods
 
@@ -31,8 +35,9 @@ pub one_seen : Laws → (text : List ℕ) (p q : ProgramSeen) → HasProgram tex
 one_seen laws text p q one other =
     let contracts = one_contracts laws text p q one other in
     let messages = one_messages laws text p q one other in
+    let structs = one_structs laws text p q one other in
     let methods = one_methods laws text p q one other in
-    λ i. record { contracts = contracts i; messages = messages i; methods = methods i }
+    λ i. record { contracts = contracts i; messages = messages i; structs = structs i; methods = methods i }
 
 -- what an earlier stage found is not found in a program with which nothing is wrong so far
 pub before_or_methods : Laws → (text : List ℕ) (found : List FindingParts) (p : ProgramSeen) → AreFindings text found → HasProgram text p → ⊥

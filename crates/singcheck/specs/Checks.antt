@@ -9,6 +9,7 @@ use Rattle.names.specs.Resolution.{resolved_contracts}
 use Rattle.contracts.specs.Conditions.{AreExactly, IsSound}
 use Rattle.program.specs.Programs.{ProgramSeen}
 use Rattle.resolving.specs.Brought.{messages_told}
+use Rattle.resolving.specs.Fields.{structs_told}
 use Rattle.resolving.specs.Methods.{methods_told}
 use Rattle.analyse.specs.Verdicts.{IsFoundIn}
 use Rattle.singcheck.specs.Answers.{AreFindings, IsProgram}
@@ -29,6 +30,7 @@ pub record HasProgram (text : List ℕ) (p : ProgramSeen) : Type 0 where
   pub items : List ItemTree
   pub program : IsSoundProgram text items p.contracts
   pub messages : p.messages ≡ messages_told (record { text = text; items = items })
+  pub structs : p.structs ≡ structs_told (record { text = text; items = items })
   pub methods : p.methods ≡ methods_told (record { text = text; items = items })
 
 -- this is found in one of the methods

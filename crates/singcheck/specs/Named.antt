@@ -9,6 +9,7 @@ use Rattle.program.specs.Programs.{ProgramSeen, program_seen}
 use Rattle.program.specs.declared.limits.TheConstants.{MOST_METHODS}
 use Rattle.contracts.specs.Conditions.{IsSound}
 use Rattle.resolving.specs.Brought.{messages_told}
+use Rattle.resolving.specs.Fields.{structs_told}
 use Rattle.resolving.specs.Methods.{methods_told}
 use Rattle.rules.specs.Programs.{seen_of}
 use Rattle.rules.specs.declared.lowered.Program.{Program}
@@ -26,6 +27,7 @@ pub record HasNames (text : List ℕ) (items : List ItemTree) (p : ProgramSeen) 
   pub clean : program_findings (record { text = text; items = items }) ≡ []
   pub contracts : p.contracts ≡ resolved_contracts text (contracts_of items)
   pub messages : p.messages ≡ messages_told (record { text = text; items = items })
+  pub structs : p.structs ≡ structs_told (record { text = text; items = items })
   pub methods : p.methods ≡ methods_told (record { text = text; items = items })
 
 -- and this is known of it

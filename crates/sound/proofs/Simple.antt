@@ -26,12 +26,13 @@ use Rattle.sound.proofs.Lists.{each_at, some_more, some_there}
 use Rattle.sound.proofs.Operands.{all_claim, contract_at, end_variable, found_kinds, given_fit, is_taken, of_kind, payloads_of_kinds}
 use Rattle.sound.proofs.Scopes.{Grown, in_scope, own_gone, scope_parted}
 
-module _ (p : ProgramSeen) (m : MethodSeen) (well : IsWellFormed p.contracts p.messages p.methods m) where
+module _ (p : ProgramSeen) (m : MethodSeen) (well : IsWellFormed p.contracts p.messages p.structs p.methods m) where
   -- a statement of the method, where these variables are the last in scope
   abbrev pub around : (exit again here : Option VarId) → Setting
   around exit again here = record {
     contracts = p.contracts;
     messages = p.messages;
+    structs = p.structs;
     methods = p.methods;
     variables = m.variables;
     result = m.result;

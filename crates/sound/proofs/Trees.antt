@@ -33,7 +33,7 @@ use Rattle.sound.proofs.Scopes.{Grown, grown, grows_more, grows_none, grows_with
 use Rattle.sound.proofs.Simple.{Out, acts_fit, around, both_here, called_fit, forgets_fit, here_fits, keeps_here, reads_fit, sent_fit}
 use Rattle.sound.proofs.Simple.{started_fit}
 
-module _ (p : ProgramSeen) (m : MethodSeen) (well : IsWellFormed p.contracts p.messages p.methods m) where
+module _ (p : ProgramSeen) (m : MethodSeen) (well : IsWellFormed p.contracts p.messages p.structs p.methods m) where
   -- ---- cases
   bound_are : (scope : Scope) (point to : ℕ) (here inner : Option VarId) (bound : List VarId) → Grown m here inner
       → scope point ≡ in_scope m here → Within (in_scope m inner) (scope to)
@@ -253,10 +253,10 @@ module _ (p : ProgramSeen) (m : MethodSeen) (well : IsWellFormed p.contracts p.m
           }
 
 -- the graph of each method of a well formed program is fit
-pub graphs_fit : (p : ProgramSeen) → AreWellFormed p.contracts p.messages p.methods → AreGraphsFit p
+pub graphs_fit : (p : ProgramSeen) → AreWellFormed p.contracts p.messages p.structs p.methods → AreGraphsFit p
 graphs_fit p well = record {
   each = λ n m at.
-      method_fits p m (each_at (IsWellFormed p.contracts p.messages p.methods) p.methods n m well.methods_are at)
-      (λ k callee there void. (each_at (IsWellFormed p.contracts p.messages p.methods) p.methods k callee well.methods_are there).void
+      method_fits p m (each_at (IsWellFormed p.contracts p.messages p.structs p.methods) p.methods n m well.methods_are at)
+      (λ k callee there void. (each_at (IsWellFormed p.contracts p.messages p.structs p.methods) p.methods k callee well.methods_are there).void
       void);
 }

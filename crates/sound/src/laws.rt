@@ -18,13 +18,13 @@ use program::Methods;
 /// The graphs of well formed methods fit: the operands of each instruction are there and of the right kind, each point has a scope,
 /// and what leaves the scope is in the Forget of the instruction.
 pub fn graphs_fit()
-    ensures { (p : ProgramSeen) → AreWellFormed p.contracts p.messages p.methods → AreGraphsFit p }
+    ensures { (p : ProgramSeen) → AreWellFormed p.contracts p.messages p.structs p.methods → AreGraphsFit p }
 {}
 
 /// In every run of a program of sound contracts, whatever is found in its methods, each queue is a walk of its contract and keeps
 /// within its bound, and no send passes a bound.
 pub fn runs_are_bounded()
-    ensures { (p : ProgramSeen) (bound : Bounds) → AreWellFormed p.contracts p.messages p.methods → AreSound p → AreBounds p bound
+    ensures { (p : ProgramSeen) (bound : Bounds) → AreWellFormed p.contracts p.messages p.structs p.methods → AreSound p → AreBounds p bound
         → (n : ℕ) (w : World) → Run p bound n w → IsBounded p bound w }
 {
     two_ends();
@@ -33,7 +33,7 @@ pub fn runs_are_bounded()
 /// A program of sound contracts in whose methods nothing is found is safe in every run: no event is a fault, each queue is a walk of
 /// its contract, a process holds just what it owns, what is cut off stays so, and a process that has ended owns nothing.
 pub fn empty_report_is_safe()
-    ensures { (p : ProgramSeen) (bound : Bounds) → AreWellFormed p.contracts p.messages p.methods → AreSound p → AreBounds p bound
+    ensures { (p : ProgramSeen) (bound : Bounds) → AreWellFormed p.contracts p.messages p.structs p.methods → AreSound p → AreBounds p bound
         → NothingIsFound p → (n : ℕ) (w : World) → IsEntry p n → Run p bound n w → IsSafe p bound w }
 {
     two_ends();
@@ -41,7 +41,7 @@ pub fn empty_report_is_safe()
 
 /// All that `empty_report_is_safe` asks can be met at once: it is refuted that no program, bounds and method meet it.
 pub fn premises_can_be_met()
-    ensures { ((p : ProgramSeen) (bound : Bounds) (n : ℕ) → AreWellFormed p.contracts p.messages p.methods → AreSound p
+    ensures { ((p : ProgramSeen) (bound : Bounds) (n : ℕ) → AreWellFormed p.contracts p.messages p.structs p.methods → AreSound p
         → AreBounds p bound → NothingIsFound p → IsEntry p n → ⊥) → ⊥ }
 {}
 

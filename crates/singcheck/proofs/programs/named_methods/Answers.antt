@@ -36,6 +36,7 @@ returns-in_ok-well_formed_methods-in-Ok c =
         clean = c.in-Ok.ensures.clean;
         contracts = told.contracts ∙ c.in-Ok.ensures.resolved;
         messages = told.messages;
+        structs = told.structs;
         methods = told.methods;
       };
       whole = All-same (λ s. IsWhole s.parts) _ _ told.contracts (All-map (λ s. IsWhole s.parts) contract_seen resolved c.in-Ok.ensures.whole);
