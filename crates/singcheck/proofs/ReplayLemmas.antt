@@ -120,20 +120,10 @@ line_lacks entry n None q text is lacks = tt
 line_lacks entry n (Some x) None text is lacks = tt
 line_lacks entry n (Some x) (Some l) text is lacks = line_front entry l x n (subst (λ t. LacksSchedule t entry l n) is lacks)
 
--- an entry of the bytes that are read is one of the text, and the other way round
-entry_front : (entry text : List ℕ) → HasSomeEntry (take MAX_READ text) entry → HasSomeEntry text entry
-entry_front entry text = of_front (λ t. HasSomeEntry t entry) MAX_TEXT MAX_READ refl
-    (λ a b y z front. no_program a y front.2.has.program.parsed.tokens front.2.has.program.parsed.lexed) text
-
+-- an entry of the text is one of the bytes that are read
 entry_back : {A : Type 0} (entry text : List ℕ) → (HasSomeEntry (take MAX_READ text) entry → A) → HasSomeEntry text entry → A
 entry_back {A} entry text = of_front (λ t. HasSomeEntry t entry → A) MAX_TEXT MAX_READ refl
     (λ a b y z front has. no_program b z has.2.has.program.parsed.tokens has.2.has.program.parsed.lexed) text
-
-pub unless_entry : {A : Type 0} (entry : List ℕ) (a : Option (List ℕ)) (text : List ℕ) → IfSome a (λ xs. text ≡ take MAX_READ xs)
-    → A ⊎ HasSomeEntry text entry → IfSome a (λ xs. A ⊎ HasSomeEntry xs entry)
-unless_entry entry None text is known = tt
-unless_entry entry (Some x) text is (inl a) = inl a
-unless_entry entry (Some x) text is (inr has) = inr (entry_front entry x (subst (λ t. HasSomeEntry t entry) is has))
 
 pub where_entry : {A : Type 0} (entry : List ℕ) (a : Option (List ℕ)) (text : List ℕ) → IfSome a (λ xs. text ≡ take MAX_READ xs)
     → (HasSomeEntry text entry → A) → IfSome a (λ xs. HasSomeEntry xs entry → A)
