@@ -18,6 +18,9 @@ eqb_same a b e = ⊎_elim (λ h. h.0) (λ h. absurd (h.1 e)) (eqb_tells a b)
 pub eqb_apart : (a b : ℕ) → a ≢ b → (a == b) ≡ false
 eqb_apart a b n = ⊎_elim (λ h. absurd (n h.1)) (λ h. h.0) (eqb_tells a b)
 
+pub true≢false : {b : Bool} → b ≡ true → b ≡ false → ⊥
+true≢false t f = cc
+
 pub ltb_true_of : (m n : ℕ) → m < n → nat_lt m n ≡ true
 ltb_true_of m n h = ⊎_elim (λ e. e) (λ e. absurd (let k = ltb-false m n e in omega arith)) (cases_Bool (nat_lt m n))
 
@@ -182,7 +185,7 @@ or_owner false true to was = refl
 or_owner false false to was = refl
 
 with_owner : Block → Owner → Block
-with_owner b o = record { kind = b.kind; owner = o; peer = b.peer; state = b.state; queue = b.queue }
+with_owner b o = record { kind = b.kind; owner = o; peer = b.peer; state = b.state; queue = b.queue; fields = b.fields }
 
 both : (to : Owner) (given : List ℕ) (a j : ℕ) (b : Block) → handed to (a ∷ []) j (handed to given j b) ≡ handed to (given ++ a ∷ []) j b
 unfolding with_owner
@@ -209,7 +212,7 @@ changed_length f (b ∷ bs) = ap suc (changed_length (λ a. f (suc a)) bs)
 pub same_length : (f : ℕ → Block → Block) (now old : List made.Block.Block) → blocks_seen now ≡ changed f (blocks_seen old) → length now ≡ length old
 same_length f now old e = sym (seen_length now) ∙ (ap length e ∙ (changed_length f (blocks_seen old) ∙ seen_length old))
 
-pub handed_at : (to : Owner) (a : ℕ) (b : Block) → handed to (a ∷ []) a b ≡ record { kind = b.kind; owner = to; peer = b.peer; state = b.state; queue = b.queue }
+pub handed_at : (to : Owner) (a : ℕ) (b : Block) → handed to (a ∷ []) a b ≡ record { kind = b.kind; owner = to; peer = b.peer; state = b.state; queue = b.queue; fields = b.fields }
 handed_at to a b = rw (eqb_same a a refl) refl
 
 -- ---- a message that is sent
@@ -222,7 +225,7 @@ gone_none true = refl
 gone_none false = refl
 
 abbrev pub the_sent : Block → Owner → ℕ → List MessageHeld → Block
-the_sent b owner state queue = record { kind = b.kind; owner = owner; peer = b.peer; state = state; queue = queue }
+the_sent b owner state queue = record { kind = b.kind; owner = owner; peer = b.peer; state = state; queue = queue; fields = b.fields }
 
 sent_one : (a state to : ℕ) (m : MessageHeld) (j : ℕ) (b : Block) → in_state a state j (handed (Queue to) m.payload j (queued to m j b)) ≡ sent_block a state to false m j b
 sent_one a state to m j b = ap (λ t. the_sent b (if is_among m.payload j then Queue to else b.owner) (if j == a then state else b.state) (if t then b.queue ++ m ∷ [] else b.queue)) (sym (not_gone (j == to)))

@@ -5,33 +5,35 @@ use Rattle.std.proofs.lemmas.Bool.{cases_Bool, cases_lt}
 use Rattle.std.proofs.lemmas.Bool.Decides.{eqb_tells}
 use Rattle.std.proofs.lemmas.List.{append-nil, get_or_past}
 use Rattle.program.specs.Lists.{is_among}
-use Rattle.machine.specs.Answers.{left_in}
-use Rattle.machine.specs.Blocks.{freed_block, handed, received_block, sent_block}
+use Rattle.machine.specs.Blocks.{handed, received_block, sent_block}
 use Rattle.machine.specs.Heaps.{AreOnce, AreOwned, IsBrought, brings, occurs, of_process, one_if}
 use Rattle.machine.specs.World.{Block, MessageHeld, block_at, changed, is_process, is_queue, no_block}
 use Rattle.machine.specs.declared.worlds.Owner.{Owner}
-use Rattle.machine.specs.declared.worlds.Owner.TheVariants.{Process, Queue, Channel, Freed}
-use Rattle.machine.proofs.ChangeLemmas.{changed_length, changed_twice, eqb_apart, eqb_same, or_false, the_sent}
+use Rattle.machine.specs.declared.worlds.Owner.TheVariants.{Process, Queue, Inside, Channel, Freed}
+use Rattle.machine.proofs.ChangeLemmas.{changed_length, eqb_apart, eqb_same}
 
 -- ---- owners
 pub no_queue : (o : Owner) (a : ℕ) → of_process o ≡ true → is_queue o a ≡ false
 no_queue (Process q) a own = refl
 no_queue (Queue b) a own = absurd (cc)
+no_queue (Inside b) a own = absurd (cc)
 no_queue Channel a own = refl
 no_queue Freed a own = refl
 
 pub of_some : (o : Owner) (q : ℕ) → is_process o q ≡ true → of_process o ≡ true
 of_some (Process p) q own = refl
 of_some (Queue b) q own = absurd (cc)
+of_some (Inside b) q own = absurd (cc)
 of_some Channel q own = absurd (cc)
 of_some Freed q own = absurd (cc)
 
 pub eqb_swap : (a b : ℕ) → (a == b) ≡ (b == a)
 eqb_swap a b = ⊎_elim (λ h. h.0 ∙ sym (eqb_same b a (sym h.1))) (λ h. h.0 ∙ sym (eqb_apart b a (λ e. h.1 (sym e)))) (eqb_tells a b)
 
-other_queue : (o : Owner) (a b : ℕ) → is_queue o a ≡ true → (b == a) ≡ false → is_queue o b ≡ false
+pub other_queue : (o : Owner) (a b : ℕ) → is_queue o a ≡ true → (b == a) ≡ false → is_queue o b ≡ false
 other_queue (Process q) a b here apart = refl
 other_queue (Queue x) a b here apart = ⊎_elim (λ h. ap (λ n. n == b) h.1 ∙ (eqb_swap a b ∙ apart)) (λ h. absurd (let bad : false ≡ true = sym h.0 ∙ here in cc)) (eqb_tells x a)
+other_queue (Inside x) a b here apart = refl
 other_queue Channel a b here apart = refl
 other_queue Freed a b here apart = refl
 
@@ -70,11 +72,17 @@ at_changed f [] j short = absurd (omega arith)
 at_changed f (b ∷ bs) zero short = refl
 at_changed f (b ∷ bs) (suc j) short = let less : j < length bs = omega arith in at_changed (λ a. f (suc a)) bs j less
 
-past : (bs : List Block) (j : ℕ) → length bs ≤ j → block_at bs j ≡ no_block
+pub past : (bs : List Block) (j : ℕ) → length bs ≤ j → block_at bs j ≡ no_block
 past bs j long = get_or_past bs j no_block long
 
-at_past : (f : ℕ → Block → Block) (bs : List Block) (j : ℕ) → length bs ≤ j → block_at (changed f bs) j ≡ no_block
+pub at_past : (f : ℕ → Block → Block) (bs : List Block) (j : ℕ) → length bs ≤ j → block_at (changed f bs) j ≡ no_block
 at_past f bs j long = let same : length (changed f bs) ≡ length bs = changed_length f bs in past (changed f bs) j (omega arith)
+
+pub changed_all : (f : ℕ → Block → Block) (bs : List Block) (j : ℕ) → (length bs ≤ j → f j no_block ≡ no_block)
+    → block_at (changed f bs) j ≡ f j (block_at bs j)
+changed_all f bs j none =
+    ⊎_elim (λ h. at_changed f bs j h)
+    (λ h. at_past f bs j h ∙ (sym (none h) ∙ ap (f j) (sym (past bs j h)))) (cases_lt j (length bs))
 
 owner_at : (f : ℕ → Block → Block) (bs : List Block) (j : ℕ) → (length bs ≤ j → (f j no_block).owner ≡ Channel) → (block_at (changed f bs) j).owner ≡ (f j (block_at bs j)).owner
 owner_at f bs j none =
@@ -98,7 +106,7 @@ queue_there : (bs : List Block) (a : ℕ) (m : MessageHeld) (ms : List MessageHe
 queue_there bs a m ms is = ⊎_elim (λ h. h) (λ h. absurd (let bad : [] ≡ m ∷ ms = ap (λ (b : Block). b.queue) (sym (past bs a h)) ∙ is in cc)) (cases_lt a (length bs))
 
 -- ---- what stays true
-brought_by : (f : ℕ → Block → Block) (bs : List Block) → ((j : ℕ) → length bs ≤ j → (f j no_block).owner ≡ Channel) → ((a : ℕ) → length bs ≤ a → (f a no_block).queue ≡ [])
+pub brought_by : (f : ℕ → Block → Block) (bs : List Block) → ((j : ℕ) → length bs ≤ j → (f j no_block).owner ≡ Channel) → ((a : ℕ) → length bs ≤ a → (f a no_block).queue ≡ [])
     → ((a j : ℕ) → occurs (brings (f a (block_at bs a)).queue) j ≡ one_if (is_queue (f j (block_at bs j)).owner a)) → IsBrought (changed f bs)
 brought_by f bs none empty is = record {
   brings_are = λ a j. ap (λ l. occurs (brings l) j) (queue_at f bs a (empty a)) ∙ (is a j ∙ ap (λ o. one_if (is_queue o a)) (sym (owner_at f bs j (none j))));
@@ -144,11 +152,11 @@ brought_sent bs at state to m owned once short is =
     (λ a j. sent_at (a == to) (is_among m.payload j) to a j m (block_at bs a).queue (block_at bs j).owner (owned.own j) (once.once j) (is.brings_are a j) (eqb_swap to a))
 
 -- a block that the front of a queue brings is the queue's
-front_is : (bs : List Block) (at j : ℕ) (m : MessageHeld) (ms : List MessageHeld) → (block_at bs at).queue ≡ m ∷ ms → IsBrought bs
+pub front_is : (bs : List Block) (at j : ℕ) (m : MessageHeld) (ms : List MessageHeld) → (block_at bs at).queue ≡ m ∷ ms → IsBrought bs
     → occurs m.payload j + occurs (brings ms) j ≡ one_if (is_queue (block_at bs j).owner at)
 front_is bs at j m ms here is = sym (occurs_both m.payload (brings ms) j) ∙ (ap (λ l. occurs (brings l) j) (sym here) ∙ is.brings_are at j)
 
-queue_of_some : (t : Bool) (k : ℕ) → 0 < k → k ≡ one_if t → t ≡ true
+pub queue_of_some : (t : Bool) (k : ℕ) → 0 < k → k ≡ one_if t → t ≡ true
 queue_of_some true k some is = refl
 queue_of_some false k some is = absurd (let none : k ≡ 0 = is in omega arith)
 
@@ -185,29 +193,6 @@ brought_received bs self at state m ms here is =
     (λ a h. ap (λ t. if t then ms else []) (eqb_apart a at (λ e. omega arith)))
     (λ a j. received_at (a == at) (is_among m.payload j) self at a j m ms (block_at bs a).queue (block_at bs j).owner refl refl (front_is bs at j m ms here is) (is.brings_are a j))
 
-same_both : (t : Bool) (q : List MessageHeld) → (if t then q else q) ≡ q
-same_both true q = refl
-same_both false q = refl
-
-freed_at : (here gone theirs : Bool) (a b j : ℕ) (q : List MessageHeld) (o : Owner) → (b == a) ≡ here → (gone ≡ true → of_process o ≡ true) → is_queue o a ≡ theirs → occurs (brings q) j ≡ one_if (is_queue o b)
-    → occurs (brings (if here then [] else q)) j ≡ one_if (is_queue (if gone then Freed else (if theirs then Channel else o)) b)
-freed_at true true theirs a b j q o e own queue is = refl
-freed_at false true theirs a b j q o e own queue is = is ∙ ap one_if (no_queue o b (own refl))
-freed_at true false true a b j q o e own queue is = refl
-freed_at false false true a b j q o e own queue is = is ∙ ap one_if (other_queue o a b queue e)
-freed_at true false false a b j q o e own queue is =
-    let same : b ≡ a = ⊎_elim (λ h. h.1) (λ h. absurd (let bad : false ≡ true = sym h.0 ∙ e in cc)) (eqb_tells b a) in
-    sym (ap (λ n. one_if (is_queue o n)) same ∙ ap one_if queue)
-freed_at false false false a b j q o e own queue is = is
-
--- a block is freed
-pub brought_freed : (bs : List Block) (a : ℕ) → of_process (block_at bs a).owner ≡ true → IsBrought bs → IsBrought (changed (freed_block a) bs)
-brought_freed bs a own is =
-    let short : a < length bs = own_there bs a own in
-    brought_by (freed_block a) bs (λ j h. ap (λ t. if t then Freed else Channel) (eqb_apart j a (λ e. omega arith))) (λ b h. same_both (b == a) [])
-    (λ b j. freed_at (b == a) (j == a) (is_queue (block_at bs j).owner a) a b j (block_at bs b).queue (block_at bs j).owner refl
-    (λ t. ⊎_elim (λ h. ap (λ n. of_process (block_at bs n).owner) h.1 ∙ own) (λ h. absurd (let bad : false ≡ true = sym h.0 ∙ t in cc)) (eqb_tells j a)) refl (is.brings_are b j))
-
 queue_added : (bs : List Block) (b : Block) (a : ℕ) → b.queue ≡ [] → (block_at (bs ++ b ∷ []) a).queue ≡ (block_at bs a).queue
 queue_added [] b zero e = e
 queue_added [] b (suc a) e = refl
@@ -225,35 +210,6 @@ pub brought_added : (bs : List Block) (b : Block) → of_process b.owner ≡ tru
 brought_added bs b own empty is = record {
   brings_are = λ a j. ap (λ l. occurs (brings l) j) (queue_added bs b a empty) ∙ (is.brings_are a j ∙ ap one_if (sym (owner_added bs b j a own)));
 }
-
--- ---- what a freed block's queue brought
-changed_at : (f g : ℕ → Block → Block) (bs : List Block) → ((j : ℕ) → j < length bs → f j (block_at bs j) ≡ g j (block_at bs j)) → changed f bs ≡ changed g bs
-changed_at f g [] same = refl
-changed_at f g (b ∷ bs) same =
-    let one : f 0 b ≡ g 0 b = same 0 (omega arith) in
-    let more : changed (λ a. f (suc a)) bs ≡ changed (λ a. g (suc a)) bs = changed_at (λ a. f (suc a)) (λ a. g (suc a)) bs (λ j short. same (suc j) (omega arith)) in
-    cc
-
-among_queue : (bs : List Block) (a j : ℕ) → IsBrought bs → is_among (brings (block_at bs a).queue) j ≡ is_queue (block_at bs j).owner a
-among_queue bs a j is =
-    ⊎_elim (λ t. t ∙ sym (queue_of_some (is_queue (block_at bs j).owner a) (occurs (brings (block_at bs a).queue) j) (some_occurs (brings (block_at bs a).queue) j t) (is.brings_are a j)))
-    (λ f. f ∙ sym (none_of (is_queue (block_at bs j).owner a) (sym (none_occurs (brings (block_at bs a).queue) j f) ∙ is.brings_are a j))) (cases_Bool (is_among (brings (block_at bs a).queue) j))
-  where
-    none_of : (t : Bool) → 0 ≡ one_if t → t ≡ false
-    none_of true e = absurd (omega arith)
-    none_of false e = refl
-
-abbrev the_freed : Block → Owner → List MessageHeld → Block
-the_freed b owner queue = the_sent b owner b.state queue
-
--- its queue is taken, what that brought goes to the channel, and it is nobody's
-pub freed_is : (bs : List Block) (a : ℕ) → IsBrought bs → changed (handed Freed (a ∷ [])) (changed (handed Channel (brings (block_at bs a).queue)) (changed (left_in a []) bs)) ≡ changed (freed_block a) bs
-freed_is bs a is =
-    ap (changed (handed Freed (a ∷ []))) (changed_twice (left_in a []) (handed Channel (brings (block_at bs a).queue)) bs)
-    ∙ (changed_twice (λ j b. handed Channel (brings (block_at bs a).queue) j (left_in a [] j b)) (handed Freed (a ∷ [])) bs
-    ∙ changed_at (λ j b. handed Freed (a ∷ []) j (handed Channel (brings (block_at bs a).queue) j (left_in a [] j b))) (freed_block a) bs
-    (λ j short. ap (λ t. the_freed (block_at bs j) (if (a == j) || false then Freed else (if t then Channel else (block_at bs j).owner)) (if j == a then [] else (block_at bs j).queue)) (among_queue bs a j is)
-    ∙ ap (λ t. the_freed (block_at bs j) (if t then Freed else (if is_queue (block_at bs j).owner a then Channel else (block_at bs j).owner)) (if j == a then [] else (block_at bs j).queue)) (or_false (a == j) ∙ eqb_swap a j)))
 
 -- a queue with a message
 pub cons_of : (q : List MessageHeld) → 0 < length q → (m : MessageHeld) × (ms : List MessageHeld) × (q ≡ m ∷ ms)

@@ -1,11 +1,16 @@
 pub mod BoundLemmas
 pub mod CallLemmas
+pub mod Chains
 pub mod ChangeLemmas
 pub mod CountLemmas
 pub mod EachReplayLemmas
 pub mod FrameLemmas
+pub mod FreeLemmas
+pub mod FreedQueues
 pub mod GiveLemmas
 pub mod HeapLemmas
+pub mod HeldLemmas
+pub mod Holding
 pub mod PassLemmas
 pub mod ReplayLemmas
 pub mod ScopeLemmas
@@ -15,3 +20,6 @@ pub mod StandLemmas
 pub mod StartLemmas
 pub mod StepLemmas
 pub mod SwitchLemmas
+pub mod WayDown
+pub mod WayKept
+pub mod WayUp

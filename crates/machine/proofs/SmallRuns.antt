@@ -1,5 +1,5 @@
 -- Small runs, computed by the definitions.
-use Rattle.std.proofs.Common.{◌≡◌, ℕ, false, List, [], ◌∷◌, Some, None, refl}
+use Rattle.std.proofs.Common.{◌≡◌, ℕ, false, true, List, [], ◌∷◌, Some, None, refl}
 use Rattle.std.specs.Prelude.{Option}
 use Rattle.source.specs.declared.place.Place.{Place}
 use Rattle.program.specs.Methods.{MethodSeen, VariableSeen}
@@ -9,18 +9,20 @@ use Rattle.program.specs.Statements.{StatementSeen, StatementsSeen, Simple, Send
 use Rattle.program.specs.declared.contract.Sign.TheVariants as sign
 use Rattle.program.specs.declared.kind.Kind.{Kind}
 use Rattle.program.specs.declared.kind.Kind.TheVariants.{Struct, Endpoint}
+use Rattle.program.specs.declared.kind.Side.{Side}
 use Rattle.program.specs.declared.kind.Side.TheVariants.{Imp, Exp}
 use Rattle.program.specs.declared.method.Role.TheVariants.{Local}
 use Rattle.program.specs.declared.statement.Action.TheVariants as does
 use Rattle.program.specs.declared.statement.Mention.{Mention}
+use Rattle.machine.specs.Frames.{entered}
 use Rattle.machine.specs.Machine.{event_outcome}
 use Rattle.machine.specs.Outcomes.{Bounds, Outcome, Moved, Faulty}
 use Rattle.machine.specs.Runs.{start_of}
-use Rattle.machine.specs.World.{Block}
+use Rattle.machine.specs.World.{Block, MessageHeld, cut_off}
 use Rattle.machine.specs.declared.halts.Event.{Event}
 use Rattle.machine.specs.declared.halts.Fault.TheVariants.{F1, F4, F7}
 use Rattle.machine.specs.declared.worlds.Owner.{Owner}
-use Rattle.machine.specs.declared.worlds.Owner.TheVariants.{Process, Queue, Channel, Freed}
+use Rattle.machine.specs.declared.worlds.Owner.TheVariants.{Process, Queue, Inside, Channel, Freed}
 
 abbrev at : Place
 at = record { line = 1; col = 1 }
@@ -103,9 +105,9 @@ abbrev reads_what_it_sent : ProgramSeen
 reads_what_it_sent = opens (Simple [] (does.New (mention 2)) ∷ sends 2 ∷ Simple (mention 2 ∷ []) does.Nothing ∷ [])
 
 pub sent_then : blocks_of (three reads_what_it_sent) ≡
-    record { kind = Endpoint record { 0 = 0 } Imp record { 0 = 0 }; owner = Process 0; peer = 1; state = 0; queue = record { message = 0; payload = 2 ∷ [] } ∷ [] }
-    ∷ record { kind = Endpoint record { 0 = 0 } Exp record { 0 = 0 }; owner = Process 0; peer = 0; state = 1; queue = [] }
-    ∷ record { kind = Struct record { 0 = 0 }; owner = Queue 0; peer = 0; state = 0; queue = [] } ∷ []
+    record { kind = Endpoint record { 0 = 0 } Imp record { 0 = 0 }; owner = Process 0; peer = 1; state = 0; queue = record { message = 0; payload = 2 ∷ [] } ∷ []; fields = [] }
+    ∷ record { kind = Endpoint record { 0 = 0 } Exp record { 0 = 0 }; owner = Process 0; peer = 0; state = 1; queue = []; fields = [] }
+    ∷ record { kind = Struct record { 0 = 0 }; owner = Queue 0; peer = 0; state = 0; queue = []; fields = [] } ∷ []
 sent_then = refl
 
 pub read_then : four reads_what_it_sent ≡ Faulty F1
@@ -138,3 +140,64 @@ keeps = opens []
 
 pub kept_then : next keeps (next keeps (next keeps (Moved (start_of keeps 0)))) ≡ Faulty F7
 kept_then = refl
+
+-- ---- blocks inside blocks
+abbrev struct_of : Owner → List ℕ → Block
+struct_of owner fields = record { kind = Struct record { 0 = 0 }; owner = owner; peer = 0; state = 0; queue = []; fields = fields }
+
+abbrev end_of : Side → Owner → ℕ → List MessageHeld → Block
+end_of side owner peer queue =
+    record { kind = Endpoint record { 0 = 0 } side record { 0 = 0 }; owner = owner; peer = peer; state = 0; queue = queue; fields = [] }
+
+abbrev deletes : ProgramSeen
+deletes = record {
+  contracts = once ∷ [];
+  messages = (Struct record { 0 = 0 } ∷ []) ∷ [];
+  structs = [];
+  methods = method (row (Simple [] (does.Delete (mention 2)) ∷ [])) ∷ [];
+}
+
+-- A struct holds a struct, which holds one more, and an end. In the queue of that is a struct, which holds one itself.
+abbrev nested : List Block
+nested =
+    struct_of (Process 0) (1 ∷ 3 ∷ [])
+    ∷ struct_of (Inside 0) (2 ∷ [])
+    ∷ struct_of (Inside 1) []
+    ∷ end_of Imp (Inside 0) 4 (record { message = 0; payload = 5 ∷ [] } ∷ [])
+    ∷ end_of Exp (Process 0) 3 []
+    ∷ struct_of (Queue 3) (6 ∷ [])
+    ∷ struct_of (Inside 5) []
+    ∷ []
+
+abbrev deleted : List Block
+deleted = blocks_of (next deletes (Moved record {
+  processes = (record { method = 0; point = (entered deletes 0 []).point; variables = None ∷ Some 4 ∷ Some 0 ∷ [] } ∷ []) ∷ [];
+  blocks = nested;
+}))
+
+-- all that is inside the deleted struct is freed, and what the queue owned goes to the channel with what is inside it
+pub nested_deleted : deleted ≡
+    struct_of Freed []
+    ∷ struct_of Freed []
+    ∷ struct_of Freed []
+    ∷ end_of Imp Freed 4 []
+    ∷ end_of Exp (Process 0) 3 []
+    ∷ struct_of Channel (6 ∷ [])
+    ∷ struct_of (Inside 5) []
+    ∷ []
+nested_deleted = refl
+
+pub peer_cut_off : cut_off deleted 4 ≡ true
+peer_cut_off = refl
+
+-- both ends of a channel are inside the deleted struct
+pub two_ends_deleted : blocks_of (next deletes (Moved record {
+  processes = (record { method = 0; point = (entered deletes 0 []).point; variables = None ∷ None ∷ Some 0 ∷ [] } ∷ []) ∷ [];
+  blocks =
+      struct_of (Process 0) (2 ∷ 1 ∷ [])
+      ∷ end_of Imp (Inside 0) 2 (record { message = 0; payload = 3 ∷ [] } ∷ [])
+      ∷ end_of Exp (Inside 0) 1 []
+      ∷ struct_of (Queue 1) []
+      ∷ [];
+})) ≡ struct_of Freed [] ∷ end_of Imp Freed 2 [] ∷ end_of Exp Freed 1 [] ∷ struct_of Channel [] ∷ []
+two_ends_deleted = refl

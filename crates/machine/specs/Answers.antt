@@ -116,7 +116,14 @@ claimed_in variables taken (a ∷ arguments) =
 
 -- the endpoint at an address goes on to a state
 abbrev pub in_state : (a state : ℕ) → ℕ → Block → Block
-in_state a state j b = record { kind = b.kind; owner = b.owner; peer = b.peer; state = if j == a then state else b.state; queue = b.queue }
+in_state a state j b = record {
+  kind = b.kind;
+  owner = b.owner;
+  peer = b.peer;
+  state = if j == a then state else b.state;
+  queue = b.queue;
+  fields = b.fields;
+}
 
 -- a message goes to the queue of the endpoint at an address
 abbrev pub queued : ℕ → MessageHeld → ℕ → Block → Block
@@ -126,6 +133,7 @@ queued to m j b = record {
   peer = b.peer;
   state = b.state;
   queue = if j == to then b.queue ++ m ∷ [] else b.queue;
+  fields = b.fields;
 }
 
 -- the endpoint at an address has these messages left in its queue
@@ -136,6 +144,7 @@ left_in a messages j b = record {
   peer = b.peer;
   state = b.state;
   queue = if j == a then messages else b.queue;
+  fields = b.fields;
 }
 
 -- the message at the front of a queue

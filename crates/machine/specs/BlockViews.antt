@@ -10,7 +10,14 @@ held_seen h = record { message = h.message.0; payload = h.payload.items }
 
 -- a block
 abbrev pub block_seen : made_block.Block → Block
-block_seen b = record { kind = b.kind; owner = b.owner; peer = b.peer; state = b.state.0; queue = map held_seen b.queue.items }
+block_seen b = record {
+  kind = b.kind;
+  owner = b.owner;
+  peer = b.peer;
+  state = b.state.0;
+  queue = map held_seen b.queue.items;
+  fields = b.fields.items;
+}
 
 -- all blocks, by their addresses
 abbrev pub blocks_seen : List made_block.Block → List Block

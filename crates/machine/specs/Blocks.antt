@@ -1,5 +1,5 @@
 -- What becomes of blocks, each by its address, and what is asked of them.
-use Rattle.std.specs.Prelude.{ℕ, ◌==◌, nat_lt, Bool, true, false, not, ◌&&◌, ◌||◌, if◌then◌else◌}
+use Rattle.std.specs.Prelude.{ℕ, zero, suc, ◌==◌, nat_lt, Bool, true, false, not, ◌&&◌, ◌||◌, if◌then◌else◌}
 use Rattle.std.specs.Prelude.{List, [], ◌∷◌, ◌++◌, length, Option, Some, None, is_some}
 use Rattle.program.specs.Lists.{is_among}
 use Rattle.program.specs.Programs.{ProgramSeen}
@@ -13,10 +13,10 @@ use Rattle.contracts.specs.Leaving.{end_on}
 use Rattle.rules.specs.Endpoints.{edges_in, edges_out}
 use Rattle.machine.specs.Frames.{address}
 use Rattle.machine.specs.Outcomes.{Bounds, Test, test}
-use Rattle.machine.specs.World.{MessageHeld, Block, block_at, cut_off, freed, is_process, is_queue, owns, read}
+use Rattle.machine.specs.World.{MessageHeld, Block, block_at, cut_off, freed, is_process, owns, read}
 use Rattle.machine.specs.declared.halts.Fault.TheVariants.{F1, F3, F4, F6}
 use Rattle.machine.specs.declared.worlds.Owner.{Owner}
-use Rattle.machine.specs.declared.worlds.Owner.TheVariants.{Process, Queue, Channel, Freed}
+use Rattle.machine.specs.declared.worlds.Owner.TheVariants.{Process, Queue, Inside, Channel, Freed}
 
 -- these blocks go to an owner
 abbrev pub handed : Owner → List ℕ → ℕ → Block → Block
@@ -26,16 +26,38 @@ handed to given j b = record {
   peer = b.peer;
   state = b.state;
   queue = b.queue;
+  fields = b.fields;
 }
 
--- A block is freed. Its queue is emptied, and what that had goes to the channel.
-abbrev pub freed_block : ℕ → ℕ → Block → Block
-freed_block a j b = record {
+-- whether the owner is a block that meets the condition
+abbrev pub in_block_of : Owner → (ℕ → Bool) → Bool
+in_block_of (Inside b) P = P b
+in_block_of _ P = false
+
+-- Whether the block at j is the block at a, or is inside it through at most so many blocks.
+abbrev pub lies_in : List Block → (most : ℕ) → (a j : ℕ) → Bool
+lies_in blocks zero a j = j == a
+lies_in blocks (suc most) a j = (j == a) || in_block_of (block_at blocks j).owner (lies_in blocks most a)
+
+-- Whether the block at j goes with the block at a: it is that block, or is inside it through any number of blocks. No block is inside
+-- itself, so the owners lead up through no more blocks than there are.
+abbrev pub goes_with : List Block → (a j : ℕ) → Bool
+goes_with blocks a j = lies_in blocks (length blocks) a j
+
+-- whether the owner is the queue of an endpoint that meets the condition
+abbrev pub in_queue_of : Owner → (ℕ → Bool) → Bool
+in_queue_of (Queue b) P = P b
+in_queue_of _ P = false
+
+-- The blocks that go are freed. Their queues are emptied, and what these owned goes to the channel. Their fields hold nothing any more.
+abbrev pub freed_block : (goes : ℕ → Bool) → ℕ → Block → Block
+freed_block goes j b = record {
   kind = b.kind;
-  owner = if j == a then Freed else (if is_queue b.owner a then Channel else b.owner);
+  owner = if goes j then Freed else (if in_queue_of b.owner goes then Channel else b.owner);
   peer = b.peer;
   state = b.state;
-  queue = if j == a then [] else b.queue;
+  queue = if goes j then [] else b.queue;
+  fields = if goes j then [] else b.fields;
 }
 
 -- The endpoint at a sends: it goes on to a state, what is given goes to an owner, and the message goes to the queue of the endpoint
@@ -47,6 +69,7 @@ sent_block a state to gone m j b = record {
   peer = b.peer;
   state = if j == a then state else b.state;
   queue = if (j == to) && not gone then b.queue ++ m ∷ [] else b.queue;
+  fields = b.fields;
 }
 
 -- the endpoint at a receives the front of its queue for a process
@@ -57,11 +80,19 @@ received_block self a state m rest j b = record {
   peer = b.peer;
   state = if j == a then state else b.state;
   queue = if j == a then rest else b.queue;
+  fields = b.fields;
 }
 
--- a new block of a process
-abbrev pub new_block : Kind → ℕ → ℕ → ℕ → Block
-new_block kind self peer state = record { kind = kind; owner = Process self; peer = peer; state = state; queue = [] }
+-- a new block of a process, with these addresses in its fields
+abbrev pub new_block : Kind → ℕ → ℕ → ℕ → List ℕ → Block
+new_block kind self peer state fields = record {
+  kind = kind;
+  owner = Process self;
+  peer = peer;
+  state = state;
+  queue = [];
+  fields = fields;
+}
 
 -- whether it is an importing end
 abbrev pub is_imp : Kind → Bool

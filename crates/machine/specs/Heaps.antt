@@ -1,9 +1,9 @@
 -- What a heap keeps true of its blocks, so that no step has to go over all of them.
-use Rattle.std.specs.Prelude.{◌≡◌, ℕ, ◌+◌, ◌<◌, ◌==◌, Bool, true, false, List, [], ◌∷◌, ◌++◌, get_or, length}
+use Rattle.std.specs.Prelude.{◌≡◌, ◌⊎◌, ℕ, ◌+◌, ◌<◌, ◌==◌, Bool, true, false, List, [], ◌∷◌, ◌++◌, get_or, length}
 use Rattle.program.specs.Lists.{is_among}
-use Rattle.machine.specs.World.{Block, MessageHeld, block_at, is_process, is_queue}
+use Rattle.machine.specs.World.{Block, MessageHeld, block_at, is_inside, is_process, is_queue}
 use Rattle.machine.specs.declared.worlds.Owner.{Owner}
-use Rattle.machine.specs.declared.worlds.Owner.TheVariants.{Process}
+use Rattle.machine.specs.declared.worlds.Owner.TheVariants.{Process, Inside}
 
 -- 1 where it is so, and else 0
 abbrev pub one_if : Bool → ℕ
@@ -33,10 +33,28 @@ pub record IsCounted (blocks : List Block) (counts : List ℕ) : Type 0 where
 pub record IsBrought (blocks : List Block) : Type 0 where
   pub brings_are : (a j : ℕ) → occurs (brings (block_at blocks a).queue) j ≡ one_if (is_queue (block_at blocks j).owner a)
 
+-- The owners lead from an address, in finitely many steps, to a block that is inside no other. So no block is inside itself.
+pub data Rooted (blocks : List Block) : ℕ → Type 0 where
+  top : (a : ℕ) → ((b : ℕ) → is_inside (block_at blocks a).owner b ≡ false) → Rooted blocks a
+  below : (a b : ℕ) → (block_at blocks a).owner ≡ Inside b → Rooted blocks b → Rooted blocks a
+
+-- The fields of a block hold each block that is directly inside it once, and no other, and the owners lead up from each address in
+-- finitely many steps.
+pub record IsHeld (blocks : List Block) : Type 0 where
+  pub holds_are : (a j : ℕ) → occurs (block_at blocks a).fields j ≡ one_if (is_inside (block_at blocks j).owner a)
+  pub rooted : (j : ℕ) → Rooted blocks j
+
+-- These blocks are the one at a and all that is inside it, through any number of blocks.
+pub record AreAllInside (blocks : List Block) (a : ℕ) (these : ℕ → Bool) : Type 0 where
+  pub itself : these a ≡ true
+  pub down : (x b : ℕ) → (block_at blocks x).owner ≡ Inside b → these b ≡ true → these x ≡ true
+  pub up : (x : ℕ) → these x ≡ true → (x ≡ a) ⊎ ((b : ℕ) × ((block_at blocks x).owner ≡ Inside b) × (these b ≡ true))
+
 -- what a heap keeps true
 pub record IsHeap (blocks : List Block) (counts : List ℕ) : Type 0 where
   pub counted : IsCounted blocks counts
   pub brought : IsBrought blocks
+  pub held : IsHeld blocks
 
 -- an owner that may be given a block: a process needs a count
 abbrev pub IsListed : List ℕ → Owner → Type 0

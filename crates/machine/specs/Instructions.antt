@@ -11,7 +11,7 @@ use Rattle.flow.specs.declared.graph.Branches.{Branches}
 use Rattle.flow.specs.declared.graph.Branches.TheVariants.{Either, Only}
 use Rattle.rules.specs.Endpoints.{first_state}
 use Rattle.machine.specs.Blocks.{argument_tests_in, edge_in_in, edge_out_in, has_room_in, owns_none, send_tests_in}
-use Rattle.machine.specs.Blocks.{end_kind, freed_block, handed, is_imp, new_block, received_block, sent_block}
+use Rattle.machine.specs.Blocks.{end_kind, freed_block, goes_with, handed, is_imp, new_block, received_block, sent_block}
 use Rattle.machine.specs.Frames.{call_next, call_target, entered, instruction_at, kind_at, method_at, variables_of}
 use Rattle.machine.specs.Frames.{address, addresses, bound_to, forgotten, gone_with, payloads_claimed, put}
 use Rattle.machine.specs.Outcomes.{Bounds, Outcome, Moved, Faulty, Waits, NoChoice, Test, test, tested}
@@ -108,7 +108,7 @@ module _ (p : ProgramSeen) (bound : Bounds) (w : World) (self : ℕ) (f : Frame)
   event_of (Use v next) choice = tested (test (is_own (has v)) F1 ∷ []) (on next f.variables w.blocks)
   event_of (New v arguments next) choice =
       on next (set f.variables v.variable.0 (Some (length w.blocks)))
-      (w.blocks ++ new_block (kind_at (variables_of p f.method) v.variable.0) self 0 0 ∷ [])
+      (w.blocks ++ new_block (kind_at (variables_of p f.method) v.variable.0) self 0 0 [] ∷ [])
   event_of (NewChannel c next) choice =
       let first_is_imp = is_imp (kind_at (variables_of p f.method) c.first.variable.0) in
       let a = length w.blocks in
@@ -116,12 +116,12 @@ module _ (p : ProgramSeen) (bound : Bounds) (w : World) (self : ℕ) (f : Frame)
       on next
       (set (set f.variables c.first.variable.0 (Some (if first_is_imp then a else a + 1))) c.second.variable.0
       (Some (if first_is_imp then a + 1 else a)))
-      (w.blocks ++ new_block (end_kind c Imp) self (a + 1) begins ∷ new_block (end_kind c Exp) self a begins ∷ [])
+      (w.blocks ++ new_block (end_kind c Imp) self (a + 1) begins [] ∷ new_block (end_kind c Exp) self a begins [] ∷ [])
   event_of (Move v u next) choice =
       tested (test (is_own (has u)) F1 ∷ []) (on next (set (set f.variables v.variable.0 (has u)) u.variable.0 None) w.blocks)
   event_of (Delete v next) choice =
       tested (test (is_own (has v)) F2 ∷ [])
-      (on next (set f.variables v.variable.0 None) (changed (freed_block (address (has v))) w.blocks))
+      (on next (set f.variables v.variable.0 None) (changed (freed_block (goes_with w.blocks (address (has v)))) w.blocks))
   event_of (Send place e message payloads next) choice =
       let at = address (has e) in
       let given = payloads_claimed payloads in

@@ -1,6 +1,7 @@
 pub mod World
 pub mod BlockViews
 pub mod Heaps
+pub mod Once
 pub mod Views
 pub mod Outcomes
 pub mod Frames
@@ -10,4 +11,5 @@ pub mod Machine
 pub mod Runs
 pub mod Places
 pub mod Answers
+pub mod Freeing
 pub mod Replays

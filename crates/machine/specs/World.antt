@@ -4,20 +4,22 @@ use Rattle.program.specs.declared.call.Argument.{Argument}
 use Rattle.program.specs.declared.kind.Kind.{Kind}
 use Rattle.program.specs.declared.kind.Kind.TheVariants.{Struct}
 use Rattle.machine.specs.declared.worlds.Owner.{Owner}
-use Rattle.machine.specs.declared.worlds.Owner.TheVariants.{Process, Queue, Channel, Freed}
+use Rattle.machine.specs.declared.worlds.Owner.TheVariants.{Process, Queue, Inside, Channel, Freed}
 
 -- a message in a queue: its number, and the addresses that it brings
 pub record MessageHeld : Type 0 where
   pub message : ℕ
   pub payload : List ℕ
 
--- a block; its peer, state and queue mean something where it is an endpoint
+-- A block. Its peer, state and queue mean something where it is an endpoint. Its fields are the addresses that the owning fields of a
+-- struct hold, in order; a freed block has none.
 pub record Block : Type 0 where
   pub kind : Kind
   pub owner : Owner
   pub peer : ℕ
   pub state : ℕ
   pub queue : List MessageHeld
+  pub fields : List ℕ
 
 -- a method at a point, and what each of its variables has
 pub record Frame : Type 0 where
@@ -36,7 +38,7 @@ no_kind = Struct record { 0 = 0 }
 
 -- Where no block is, nobody has one.
 abbrev pub no_block : Block
-no_block = record { kind = no_kind; owner = Channel; peer = 0; state = 0; queue = [] }
+no_block = record { kind = no_kind; owner = Channel; peer = 0; state = 0; queue = []; fields = [] }
 
 -- the block at an address
 abbrev pub block_at : List Block → ℕ → Block
@@ -59,6 +61,11 @@ is_process _ p = false
 abbrev pub is_queue : Owner → ℕ → Bool
 is_queue (Queue b) a = b == a
 is_queue _ a = false
+
+-- whether it is the block at this address
+abbrev pub is_inside : Owner → ℕ → Bool
+is_inside (Inside b) a = b == a
+is_inside _ a = false
 
 -- whether nobody has it any more
 abbrev pub is_freed : Owner → Bool

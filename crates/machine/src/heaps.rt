@@ -2,14 +2,14 @@
 
 ghost use Rattle.std.specs.Prelude.{◌≡◌, ◌<◌, ◌++◌, ◌∷◌, [], IfErr, IsFalse, IsTrue, List, OnErr, OnOk, false, length, true};
 ghost use Rattle.machine.specs.BlockViews.{block_seen, blocks_seen};
-ghost use Rattle.machine.specs.Blocks.{freed_block, handed, owns_none, received_block, sent_block};
+ghost use Rattle.machine.specs.Blocks.{freed_block, goes_with, handed, owns_none, received_block, sent_block};
 ghost use Rattle.machine.specs.Heaps.{AreOnce, AreOwned, IsHeap, of_process};
+ghost use Rattle.machine.specs.Once.{heap_once};
 ghost use Rattle.machine.specs.World.{MessageHeld, block_at, changed, owns};
 
-use crate::changing::{
-    count_more, enqueue, hand, hand_one, lose, set_state, take_front, take_queue,
-};
+use crate::changing::{count_more, enqueue, hand, set_state, take_front};
 use crate::edges::Way;
+use crate::freeing::free;
 use crate::halts::Refusal;
 use crate::worlds::{Block, Held, Owner};
 use program::{MessageId, StateId};
@@ -20,7 +20,7 @@ use std::alloc::Global;
 pub(crate) struct Heap {
     blocks: Vec<Block>,
     counts: Vec<usize>,
-    ghost kept: { IsHeap (blocks_seen blocks.items) counts.items },
+    ghost kept: { IsHeap (blocks_seen blocks.items) counts.items } by { heap_once _ _ },
 }
 
 impl Heap {
@@ -60,10 +60,11 @@ impl Heap {
         Ok(())
     }
 
-    /// A process has a new block, of which the queue is empty.
+    /// A process has a new block, whose queue and fields are empty.
     pub(crate) fn add(&mut self, process: usize, block: Block) -> Result<(), Refusal>
         requires owner { block.owner ≡ Owner.Process process }
         requires empty { block.queue.items ≡ [] }
+        requires holds_none { block.fields.items ≡ [] }
         ensures added { OnOk result (blocks_seen self.new.blocks.items ≡ blocks_seen self.old.blocks.items ++ block_seen block ∷ []) }
         ensures same { OnErr result (blocks_seen self.new.blocks.items ≡ blocks_seen self.old.blocks.items) }
         ensures memory { IfErr result (λ refusal. refusal ≡ Refusal.Memory) }
@@ -74,7 +75,7 @@ impl Heap {
         Ok(())
     }
 
-    /// A process has two new blocks, of which the queues are empty.
+    /// A process has two new blocks, whose queues and fields are empty.
     pub(crate) fn add_two(
         &mut self,
         process: usize,
@@ -85,6 +86,8 @@ impl Heap {
         requires owner_too { second.owner ≡ Owner.Process process }
         requires empty { first.queue.items ≡ [] }
         requires empty_too { second.queue.items ≡ [] }
+        requires holds_none { first.fields.items ≡ [] }
+        requires holds_none_too { second.fields.items ≡ [] }
         ensures added { OnOk result (blocks_seen self.new.blocks.items
             ≡ blocks_seen self.old.blocks.items ++ block_seen first ∷ block_seen second ∷ []) }
         ensures same { OnErr result (blocks_seen self.new.blocks.items ≡ blocks_seen self.old.blocks.items) }
@@ -99,14 +102,14 @@ impl Heap {
         Ok(())
     }
 
-    /// Frees a block of a process. Its queue is emptied, and what that had goes to the channel.
+    /// Frees a block of a process and all that is inside it. The queues of what is freed are emptied, and what they owned goes to the
+    /// channel.
     pub(crate) fn free(&mut self, alloc: Global, a: usize)
         requires owned { of_process (block_at (blocks_seen self.old.blocks.items) a).owner ≡ true }
-        ensures { blocks_seen self.new.blocks.items ≡ changed (freed_block a) (blocks_seen self.old.blocks.items) }
+        ensures { blocks_seen self.new.blocks.items
+            ≡ changed (freed_block (goes_with (blocks_seen self.old.blocks.items) a)) (blocks_seen self.old.blocks.items) }
     {
-        let queue = take_queue(alloc, &mut self.blocks, a);
-        lose(&mut self.blocks, &mut self.counts, &queue);
-        hand_one(&mut self.blocks, &mut self.counts, a, Owner::Freed);
+        free(alloc, &mut self.blocks, &mut self.counts, a);
     }
 
     /// What processes have goes to a process.

@@ -1,9 +1,12 @@
-//! Laws of replays.
+//! Laws of replays, and of blocks inside blocks.
 
-ghost use Rattle.std.specs.Prelude.{◌≡◌, List, ℕ};
+ghost use Rattle.std.specs.Prelude.{◌≡◌, Bool, List, ℕ};
 ghost use Rattle.program.specs.Programs.{ProgramSeen};
+ghost use Rattle.machine.specs.Blocks.{goes_with};
+ghost use Rattle.machine.specs.Heaps.{AreAllInside, IsHeld};
 ghost use Rattle.machine.specs.Outcomes.{Bounds};
 ghost use Rattle.machine.specs.Replays.{IsReplay, ReplaySeen};
+ghost use Rattle.machine.specs.World.{Block};
 ghost use Rattle.machine.specs.declared.halts.Event.{Event};
 
 /// Of one program, one method and one list of events there is one replay: two have the same steps, the same end and the same world.
@@ -16,4 +19,11 @@ pub fn one_replay()
 pub fn events_have_a_replay()
     ensures { (p : ProgramSeen) (bound : Bounds) (m : ℕ) (events : List Event) →
         ((r : ReplaySeen) → ¬ IsReplay p bound m events r) → ⊥ }
+{}
+
+/// In each world, what goes with a block is that block and all that is inside it, through any number of blocks. Nothing else is that.
+pub fn all_inside_goes()
+    ensures all { (blocks : List Block) (a : ℕ) → IsHeld blocks → AreAllInside blocks a (goes_with blocks a) }
+    ensures alone { (blocks : List Block) (a : ℕ) (inside : ℕ → Bool) → IsHeld blocks → AreAllInside blocks a inside →
+        (j : ℕ) → inside j ≡ goes_with blocks a j }
 {}

@@ -55,6 +55,7 @@ pub(crate) fn new(
         peer: 0,
         state: StateId(0),
         queue: VecDeque::new(alloc),
+        fields: Vec::new(alloc),
     };
     heap.add(turn.process, block)?;
     frame.put(target, Some(address));
@@ -102,7 +103,7 @@ fn is_imp(kind: Kind) -> bool
 
 /// An end of a new channel.
 fn new_end(alloc: Global, process: usize, kind: Kind, peer: usize, state: StateId) -> Block
-    ensures { block_seen result ≡ new_block kind process peer state.0 }
+    ensures { block_seen result ≡ new_block kind process peer state.0 [] }
 {
     Block {
         kind,
@@ -110,6 +111,7 @@ fn new_end(alloc: Global, process: usize, kind: Kind, peer: usize, state: StateI
         peer,
         state,
         queue: VecDeque::new(alloc),
+        fields: Vec::new(alloc),
     }
 }
 
@@ -133,8 +135,8 @@ fn open(
     state: StateId,
 ) -> Result<(), Refusal>
     ensures opened { OnOk result (blocks_seen heap.new.blocks.items ≡ blocks_seen heap.old.blocks.items
-        ++ new_block (end_kind channel Imp) process (length (blocks_seen heap.old.blocks.items) + 1) state.0
-        ∷ new_block (end_kind channel Exp) process (length (blocks_seen heap.old.blocks.items)) state.0 ∷ []) }
+        ++ new_block (end_kind channel Imp) process (length (blocks_seen heap.old.blocks.items) + 1) state.0 []
+        ∷ new_block (end_kind channel Exp) process (length (blocks_seen heap.old.blocks.items)) state.0 [] ∷ []) }
     ensures same { OnErr result (blocks_seen heap.new.blocks.items ≡ blocks_seen heap.old.blocks.items) }
     ensures memory { IfErr result (λ refusal. refusal ≡ Refusal.Memory) }
 {

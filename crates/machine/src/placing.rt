@@ -3,6 +3,7 @@
 ghost use Rattle.std.specs.Prelude.{◌≡◌, length, map, option_map, slice_get};
 ghost use Rattle.flow.specs.Graphs.{instruction_seen};
 ghost use Rattle.rules.specs.Programs.{seen_of};
+ghost use Rattle.machine.specs.Heaps.{IsHeld};
 ghost use Rattle.machine.specs.Places as told;
 ghost use Rattle.machine.specs.Places.{stack_place};
 ghost use Rattle.machine.specs.Views.{blocks_seen, frame_seen, stack_seen, world_seen};
@@ -69,9 +70,10 @@ impl World {
         &self.processes
     }
 
-    /// Its blocks, by their addresses.
+    /// Its blocks, by their addresses. Their fields hold just what is inside them, and the owners lead up in finitely many steps.
     pub fn blocks(&self) -> &[Block]
-        ensures { blocks_seen result.now ≡ (world_seen self.now).blocks }
+        ensures seen { blocks_seen result.now ≡ (world_seen self.now).blocks }
+        ensures held { IsHeld (blocks_seen result.now) }
     {
         self.heap.blocks()
     }

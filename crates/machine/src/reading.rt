@@ -15,7 +15,7 @@ impl Owner {
     {
         match self {
             Owner::Process(of) => of == process,
-            Owner::Queue(_) | Owner::Channel | Owner::Freed => false,
+            Owner::Queue(_) | Owner::Inside(_) | Owner::Channel | Owner::Freed => false,
         }
     }
 
@@ -25,7 +25,7 @@ impl Owner {
     {
         match self {
             Owner::Queue(of) => of == end,
-            Owner::Process(_) | Owner::Channel | Owner::Freed => false,
+            Owner::Process(_) | Owner::Inside(_) | Owner::Channel | Owner::Freed => false,
         }
     }
 
@@ -35,7 +35,7 @@ impl Owner {
     {
         match self {
             Owner::Freed => true,
-            Owner::Process(_) | Owner::Queue(_) | Owner::Channel => false,
+            Owner::Process(_) | Owner::Queue(_) | Owner::Inside(_) | Owner::Channel => false,
         }
     }
 }

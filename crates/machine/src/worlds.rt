@@ -11,6 +11,8 @@ pub enum Owner {
     Process(usize),
     /// The queue of the endpoint at this address.
     Queue(usize),
+    /// The block at this address: one of its owning fields holds it.
+    Inside(usize),
     /// The channel: it was sent to an endpoint that is gone, or was left in the queue of one.
     Channel,
     /// Nobody any more.
@@ -24,7 +26,8 @@ pub struct Held {
     pub payload: Vec<usize>,
 }
 
-/// A block. Its peer, its state and its queue mean something where it is an endpoint. The front of the queue comes first.
+/// A block. Its peer, its state and its queue mean something where it is an endpoint. The front of the queue comes first. Its fields are
+/// the addresses that the owning fields of a struct hold, in order.
 #[derive(Drop)]
 pub struct Block {
     pub kind: Kind,
@@ -32,6 +35,7 @@ pub struct Block {
     pub peer: usize,
     pub state: StateId,
     pub queue: VecDeque<Held>,
+    pub fields: Vec<usize>,
 }
 
 /// A method at a point, and for each of its variables of the exchange heap the address of the block that it has, if it has one.

@@ -2,10 +2,11 @@ use Rattle.std.proofs.Common.{◌≡◌, ◌+◌, [], ◌∷◌, ◌∙◌, ◌+
 use Rattle.std.specs.Prelude.{get_or}
 use Rattle.std.proofs.lemmas.List.{map-append}
 use Rattle.machine.specs.BlockViews.{block_seen, blocks_seen, held_seen}
-use Rattle.machine.specs.Heaps.{IsBrought, IsCounted, of_process, one_if}
+use Rattle.machine.specs.Heaps.{IsBrought, IsCounted, IsHeld, of_process, one_if}
 use Rattle.machine.specs.World.{is_process}
 use Rattle.machine.proofs.CountLemmas.{counted_added, room_for}
 use Rattle.machine.proofs.HeapLemmas.{brought_added}
+use Rattle.machine.proofs.HeldLemmas.{held_added}
 use Rattle.machine.proofs.heaps.Heap.add.Goals as goal
 
 pub count_more-requires-clause-room : goal.count_more-requires-clause-room
@@ -24,5 +25,6 @@ invariant_of-self-2 c =
             (λ q. c.count_more.ensures.more q ∙ ap (λ o. get_or counts q 0 + one_if (is_process o q)) (sym c.requires.owner)));
         brought = subst IsBrought (sym pushed)
             (brought_added old b (ap of_process c.requires.owner) (ap (map held_seen) c.requires.empty) c.list.new.self.kept.brought);
+        held = subst IsHeld (sym pushed) (held_added old b (ap of_process c.requires.owner) c.requires.holds_none c.list.new.self.kept.held);
       };
     }

@@ -2,11 +2,12 @@ use Rattle.std.proofs.Common.{◌≡◌, ◌<◌, ◌≤◌, ◌^◌, ◌+◌, [
 use Rattle.std.specs.Prelude.{get_or}
 use Rattle.std.proofs.lemmas.List.{length_push, map-append}
 use Rattle.machine.specs.BlockViews.{block_seen, blocks_seen, held_seen}
-use Rattle.machine.specs.Heaps.{IsBrought, IsCounted, of_process, one_if}
+use Rattle.machine.specs.Heaps.{IsBrought, IsCounted, IsHeld, of_process, one_if}
 use Rattle.machine.specs.World.{is_process}
 use Rattle.machine.specs.declared.worlds.Owner.TheVariants.{Process}
 use Rattle.machine.proofs.CountLemmas.{counted_added, counted_most, one_or_none, room_for}
 use Rattle.machine.proofs.HeapLemmas.{brought_added}
+use Rattle.machine.proofs.HeldLemmas.{held_added}
 use Rattle.machine.proofs.heaps.Heap.add_two.Goals as goal
 
 pub count_more-requires-clause-room : goal.count_more-requires-clause-room
@@ -46,5 +47,8 @@ invariant_of-self-2 c =
         brought = subst IsBrought (sym two)
             (brought_added (old ++ b ∷ []) d (ap of_process c.requires.owner_too) (ap (map held_seen) c.requires.empty_too)
             (brought_added old b (ap of_process c.requires.owner) (ap (map held_seen) c.requires.empty) c.list.new.self.kept.brought));
+        held = subst IsHeld (sym two)
+            (held_added (old ++ b ∷ []) d (ap of_process c.requires.owner_too) c.requires.holds_none_too
+            (held_added old b (ap of_process c.requires.owner) c.requires.holds_none c.list.new.self.kept.held));
       };
     }

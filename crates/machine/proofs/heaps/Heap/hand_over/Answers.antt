@@ -1,8 +1,9 @@
 use Rattle.std.proofs.Common.{refl, sym, subst}
 use Rattle.machine.specs.BlockViews.{blocks_seen}
-use Rattle.machine.specs.Heaps.{IsBrought}
+use Rattle.machine.specs.Heaps.{IsBrought, IsHeld}
 use Rattle.machine.specs.declared.worlds.Owner.TheVariants.{Process}
 use Rattle.machine.proofs.HeapLemmas.{brought_handed}
+use Rattle.machine.proofs.HeldLemmas.{held_handed}
 use Rattle.machine.proofs.heaps.Heap.hand_over.Goals as goal
 
 pub invariant_of-self : goal.invariant_of-self
@@ -11,5 +12,7 @@ invariant_of-self c = record {
     counted = c.hand.ensures.counted;
     brought = subst IsBrought (sym c.hand.ensures.handed)
         (brought_handed (Process c.args.process) (blocks_seen c.args.self.now.blocks.items) c.args.given.now (λ a. refl) c.requires.owned c.args.self.now.kept.brought);
+    held = subst IsHeld (sym c.hand.ensures.handed)
+        (held_handed (Process c.args.process) (blocks_seen c.args.self.now.blocks.items) c.args.given.now (λ a. refl) c.requires.owned c.args.self.now.kept.held);
   };
 }

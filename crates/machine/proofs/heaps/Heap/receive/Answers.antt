@@ -4,12 +4,13 @@ use Rattle.std.specs.Option.{option_map_or}
 use Rattle.machine.specs.Answers.{in_state, left_in}
 use Rattle.machine.specs.BlockViews.{blocks_seen, held_seen}
 use Rattle.machine.specs.Blocks.{handed, received_block}
-use Rattle.machine.specs.Heaps.{IsBrought, IsCounted}
+use Rattle.machine.specs.Heaps.{IsBrought, IsCounted, IsHeld}
 use Rattle.machine.specs.World.{MessageHeld, block_at, changed}
 use Rattle.machine.specs.declared.worlds.Owner.TheVariants.{Process}
 use Rattle.machine.proofs.ChangeLemmas.{received_is}
 use Rattle.machine.proofs.CountLemmas.{counted_kept, listed_own}
 use Rattle.machine.proofs.HeapLemmas.{brought_received, cons_of}
+use Rattle.machine.proofs.HeldLemmas.{held_received}
 use Rattle.machine.proofs.heaps.Heap.receive.Goals as goal
 
 pub unreachable-requires : goal.unreachable-requires
@@ -59,5 +60,7 @@ invariant_of-self c =
         counted = subst (λ bs. IsCounted bs c.hand.new.counts.items) (sym c.set_state.ensures)
             (counted_kept state (blocks_seen c.hand.new.blocks.items) c.hand.new.counts.items (λ j b. refl) c.hand.ensures.counted);
         brought = subst IsBrought (sym received) (brought_received old c.args.process c.args.at c.args.state.0 m ms front.2 c.args.self.now.kept.brought);
+        held = subst IsHeld (sym received)
+            (held_received old c.args.process c.args.at c.args.state.0 m ms front.2 c.args.self.now.kept.brought c.args.self.now.kept.held);
       };
     }

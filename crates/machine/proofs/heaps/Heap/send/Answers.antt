@@ -2,12 +2,13 @@ use Rattle.std.proofs.Common.{◌≡◌, ◌∙◌, refl, sym, ap, subst, false}
 use Rattle.machine.specs.Answers.{in_state, queued}
 use Rattle.machine.specs.BlockViews.{blocks_seen}
 use Rattle.machine.specs.Blocks.{handed, sent_block}
-use Rattle.machine.specs.Heaps.{IsBrought, IsCounted}
+use Rattle.machine.specs.Heaps.{IsBrought, IsCounted, IsHeld}
 use Rattle.machine.specs.World.{MessageHeld, changed}
 use Rattle.machine.specs.declared.worlds.Owner.TheVariants.{Queue, Channel}
 use Rattle.machine.proofs.ChangeLemmas.{lost_is, sent_is}
 use Rattle.machine.proofs.CountLemmas.{counted_kept}
 use Rattle.machine.proofs.HeapLemmas.{brought_handed, brought_kept, brought_sent}
+use Rattle.machine.proofs.HeldLemmas.{held_handed, held_kept, held_sent}
 use Rattle.machine.proofs.heaps.Heap.send.Goals as goal
 
 pub invariant_of-self : goal.invariant_of-self
@@ -21,6 +22,8 @@ invariant_of-self c =
         counted = subst (λ bs. IsCounted bs c.hand.new.counts.items) (sym c.set_state.ensures)
             (counted_kept state (blocks_seen c.hand.new.blocks.items) c.hand.new.counts.items (λ j b. refl) c.hand.ensures.counted);
         brought = subst IsBrought (sym c.set_state.ensures) (brought_kept state (blocks_seen c.hand.new.blocks.items) (λ j b. refl) (λ j b. refl) handed_all);
+        held = subst IsHeld (sym c.set_state.ensures) (held_kept state (blocks_seen c.hand.new.blocks.items) (λ j b. refl) (λ j b. refl)
+            (subst IsHeld (sym c.hand.ensures.handed) (held_handed Channel old c.args.given.now (λ a. refl) c.requires.owned c.args.self.now.kept.held)));
       };
     }
 
@@ -67,5 +70,6 @@ invariant_of-self-2 c =
             (counted_kept state (blocks_seen c.hand-2.new.blocks.items) c.hand-2.new.counts.items (λ j b. refl) c.hand-2.ensures.counted);
         brought = subst IsBrought (sym sent)
             (brought_sent old c.args.way.at c.args.way.state.0 c.args.way.peer m c.requires.owned c.requires.once (c.requires.there c.if-way.false) c.args.self.now.kept.brought);
+        held = subst IsHeld (sym sent) (held_sent old c.args.way.at c.args.way.state.0 c.args.way.peer m c.requires.owned c.args.self.now.kept.held);
       };
     }

@@ -1,0 +1,77 @@
+//! A block is freed with all that is inside it, through any number of blocks. No memory is taken, and no call is as deep as the blocks.
+
+ghost use Rattle.std.specs.Prelude.{◌≡◌, ◌<◌, IfNone, IfSome, [], length, true};
+ghost use Rattle.machine.specs.BlockViews.{blocks_seen};
+ghost use Rattle.machine.specs.Blocks.{freed_block, goes_with};
+ghost use Rattle.machine.specs.Freeing.{IsPopped, IsStep, freed_one};
+ghost use Rattle.machine.specs.Heaps.{IsBrought, IsCounted, IsHeld, of_process};
+ghost use Rattle.machine.specs.World.{block_at, changed};
+
+use crate::changing::{hand_one, lose, take_queue};
+use crate::worlds::{Block, Owner};
+use std::alloc::Global;
+
+/// Takes the last address out of the fields of a block.
+fn pop_field(blocks: &mut Vec<Block>, x: usize) -> Option<usize>
+    requires there { x < length blocks.old.items }
+    ensures some { IfSome result (IsPopped (blocks_seen blocks.old.items) (blocks_seen blocks.new.items) x) }
+    ensures none { IfNone result ((block_at (blocks_seen blocks.old.items) x).fields ≡ []) }
+    ensures same { IfNone result (blocks_seen blocks.new.items ≡ blocks_seen blocks.old.items) }
+{
+    blocks[x].fields.pop()
+}
+
+/// Frees one block, whose fields hold nothing. Its queue is emptied, and what that owned goes to the channel.
+fn free_one(alloc: Global, blocks: &mut Vec<Block>, counts: &mut Vec<usize>, x: usize)
+    requires counted { IsCounted (blocks_seen blocks.old.items) counts.old.items }
+    requires brought { IsBrought (blocks_seen blocks.old.items) }
+    requires empty { (block_at (blocks_seen blocks.old.items) x).fields ≡ [] }
+    ensures freed { blocks_seen blocks.new.items ≡ changed (freed_one x) (blocks_seen blocks.old.items) }
+    ensures counted { IsCounted (blocks_seen blocks.new.items) counts.new.items }
+{
+    let queue = take_queue(alloc, blocks, x);
+    lose(blocks, counts, &queue);
+    hand_one(blocks, counts, x, Owner::Freed);
+}
+
+/// Goes down to what the last field of a block held, or, if its fields hold nothing, frees the block and goes up to the one that it was
+/// inside. None if it was inside no block.
+fn free_step(
+    alloc: Global,
+    blocks: &mut Vec<Block>,
+    counts: &mut Vec<usize>,
+    x: usize,
+) -> Option<usize>
+    requires there { x < length blocks.old.items }
+    requires counted { IsCounted (blocks_seen blocks.old.items) counts.old.items }
+    requires brought { IsBrought (blocks_seen blocks.old.items) }
+    ensures steps { IsStep (blocks_seen blocks.old.items) (blocks_seen blocks.new.items) x result }
+    ensures counted { IsCounted (blocks_seen blocks.new.items) counts.new.items }
+{
+    if let Some(inner) = pop_field(blocks, x) {
+        return Some(inner);
+    }
+    let owner = blocks[x].owner;
+    free_one(alloc, blocks, counts, x);
+    match owner {
+        Owner::Inside(outer) => Some(outer),
+        Owner::Process(_) | Owner::Queue(_) | Owner::Channel | Owner::Freed => None,
+    }
+}
+
+/// Frees a block of a process and all that is inside it.
+pub(crate) fn free(alloc: Global, blocks: &mut Vec<Block>, counts: &mut Vec<usize>, a: usize)
+    requires counted { IsCounted (blocks_seen blocks.old.items) counts.old.items }
+    requires brought { IsBrought (blocks_seen blocks.old.items) }
+    requires held { IsHeld (blocks_seen blocks.old.items) }
+    requires owned { of_process (block_at (blocks_seen blocks.old.items) a).owner ≡ true }
+    ensures freed { blocks_seen blocks.new.items
+        ≡ changed (freed_block (goes_with (blocks_seen blocks.old.items) a)) (blocks_seen blocks.old.items) }
+    ensures counted { IsCounted (blocks_seen blocks.new.items) counts.new.items }
+    ensures brought { IsBrought (blocks_seen blocks.new.items) }
+{
+    let mut at = Some(a);
+    'way: while let Some(x) = at {
+        at = free_step(alloc, blocks, counts, x);
+    }
+}
