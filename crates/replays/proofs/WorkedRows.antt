@@ -28,11 +28,13 @@ use Rattle.machine.specs.Machine.{event_outcome}
 use Rattle.machine.specs.Outcomes.{Bounds, Outcome, Moved, Faulty, Waits, NoProcess, NoChoice}
 use Rattle.machine.specs.Places.{process_place}
 use Rattle.machine.specs.Runs.{start_of}
-use Rattle.machine.specs.World.{World}
+use Rattle.machine.specs.World.{Block, World}
 use Rattle.machine.specs.declared.halts.Event.{Event}
 use Rattle.machine.specs.declared.halts.Halt.{Halt}
 use Rattle.machine.specs.declared.halts.Halt.TheVariants as halts
-use Rattle.replays.specs.WorldLines.{replay_lines}
+use Rattle.machine.specs.declared.worlds.Owner.{Owner}
+use Rattle.machine.specs.declared.worlds.Owner.TheVariants.{Process, Inside, Freed}
+use Rattle.replays.specs.WorldLines.{replay_lines, world_lines}
 
 -- numbers of one digit, and two of two
 digit : (n : ℕ) → n < 10 → decimal n ≡ (48 + n) ∷ []
@@ -212,3 +214,23 @@ sends_an_end = program itself ((importing ∷ []) ∷ []) (main (opens 5 ∷ sen
 pub end_sent : printed sends_an_end (replicate 4 (event 0))
     ≡ codes "steps 4\nstop: end of schedule\nprocess 0 ended\nblock 0 W.Imp S owner queue 0 queue [M(0)]\nblock 1 W.Exp freed\n"
 end_sent = simp (digit 0 (omega arith), digit 1 (omega arith), digit 4 (omega arith)) refl
+
+-- blocks inside blocks, and an end among them
+abbrev struct_of : ℕ → Owner → List ℕ → Block
+struct_of n owner fields = record { kind = Struct record { 0 = n }; owner = owner; peer = 0; state = 0; queue = []; fields = fields }
+
+abbrev nested : World
+nested = record {
+  processes = [] ∷ [];
+  blocks =
+      struct_of 0 (Process 0) (2 ∷ 1 ∷ [])
+      ∷ record { kind = importing; owner = Inside 0; peer = 3; state = 0; queue = []; fields = [] }
+      ∷ struct_of 0 (Inside 0) []
+      ∷ struct_of 0 Freed []
+      ∷ [];
+}
+
+pub nested_lines : world_lines (record { program = sends_an_end; structs = codes "D" ∷ [] }) nested
+    ≡ codes "process 0 ended\nblock 0 D owner process 0 holds [2,1]\nblock 1 W.Imp S owner block 0 queue []\n"
+    ++ codes "block 2 D owner block 0\nblock 3 D freed\n"
+nested_lines = simp (digit 0 (omega arith), digit 1 (omega arith), digit 2 (omega arith), digit 3 (omega arith)) refl

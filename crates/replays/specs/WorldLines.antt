@@ -1,5 +1,5 @@
 -- The lines in which a replay is printed, each with its end.
-use Rattle.std.specs.Prelude.{ℕ, List, [], ◌++◌, Option, Some, None, length, map, slice_get, codes}
+use Rattle.std.specs.Prelude.{ℕ, List, [], ◌∷◌, ◌++◌, Option, Some, None, length, map, slice_get, codes}
 use Rattle.std.specs.Fmt.{decimal}
 use Rattle.std.specs.List.{enumerate_from, flat_map, join_with_byte}
 use Rattle.source.specs.declared.place.Place.{Place}
@@ -14,7 +14,7 @@ use Rattle.machine.specs.declared.halts.Fault.TheVariants as faults
 use Rattle.machine.specs.declared.halts.Halt.{Halt}
 use Rattle.machine.specs.declared.halts.Halt.TheVariants as halts
 use Rattle.machine.specs.declared.worlds.Owner.{Owner}
-use Rattle.machine.specs.declared.worlds.Owner.TheVariants.{Process, Queue, Channel, Freed}
+use Rattle.machine.specs.declared.worlds.Owner.TheVariants.{Process, Queue, Inside, Channel, Freed}
 use Rattle.replays.specs.Names.{Words, kind_name, message_name, state_name}
 
 -- `steps N`
@@ -64,8 +64,14 @@ process_line p number stack = codes "process " ++ (decimal number ++ (standing (
 abbrev pub owner_text : Owner → List ℕ
 owner_text (Process q) = codes "process " ++ decimal q
 owner_text (Queue a) = codes "queue " ++ decimal a
+owner_text (Inside a) = codes "block " ++ decimal a
 owner_text Channel = codes "channel"
 owner_text Freed = codes "nobody"
+
+-- the addresses that owning fields hold, if there are any, as ` holds [2,3]`
+abbrev pub holds_text : List ℕ → List ℕ
+holds_text [] = []
+holds_text (a ∷ fields) = codes " holds [" ++ (join_with_byte 44 (map decimal (a ∷ fields)) ++ codes "]")
 
 module _ (w : Words) where
   -- a message of a contract with what it brings, as `M(2,3)`
@@ -83,12 +89,13 @@ module _ (w : Words) where
       codes " queue [" ++ (join_with_byte 32 (map (message_text contract.0) queue) ++ codes "]")
   queue_text _ queue = []
 
-  -- what is told of a block: that it is freed, or who owns it, and of an endpoint its state and its queue too
+  -- what is told of a block: that it is freed, or who owns it and what its fields hold, and of an endpoint its state and its queue too
   abbrev pub block_text : Block → Owner → List ℕ
   block_text b Freed = codes " freed"
-  block_text b owner = state_text b.kind b.state ++ (codes " owner " ++ (owner_text owner ++ queue_text b.kind b.queue))
+  block_text b owner =
+      state_text b.kind b.state ++ (codes " owner " ++ (owner_text owner ++ (holds_text b.fields ++ queue_text b.kind b.queue)))
 
-  -- `block A TYPE freed`, `block A TYPE owner OWNER`, or `block A C.Imp STATE owner OWNER queue [..]`
+  -- `block A TYPE freed`, `block A TYPE owner OWNER`, perhaps with ` holds [..]`, or `block A C.Imp STATE owner OWNER queue [..]`
   abbrev pub block_line : ℕ → Block → List ℕ
   block_line address b = codes "block " ++ (decimal address ++ (codes " " ++ (kind_name w b.kind ++ (block_text b b.owner ++ codes "\n"))))
 

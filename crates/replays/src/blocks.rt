@@ -5,7 +5,7 @@ ghost use Rattle.std.specs.Fmt.{decimal};
 ghost use Rattle.std.specs.List.{enumerate_from, flat_map, join_with_byte};
 ghost use Rattle.machine.specs.Views.{block_seen, blocks_seen, held_seen};
 ghost use Rattle.replays.specs.Naming.{words_of};
-ghost use Rattle.replays.specs.WorldLines.{block_line, block_text, message_text, owner_text, queue_text, state_text};
+ghost use Rattle.replays.specs.WorldLines.{block_line, block_text, holds_text, message_text, owner_text, queue_text, state_text};
 
 use crate::naming::Naming;
 use crate::texts::{add, add_number, separate};
@@ -28,6 +28,10 @@ fn add_owner(alloc: Global, answer: &mut Vec<u8>, owner: Owner) -> Result<(), Me
             add(answer, b"queue ")?;
             add_number(alloc, answer, address as u64)
         }
+        Owner::Inside(address) => {
+            add(answer, b"block ")?;
+            add_number(alloc, answer, address as u64)
+        }
         Owner::Channel => add(answer, b"channel"),
         Owner::Freed => add(answer, b"nobody"),
     }
@@ -42,6 +46,18 @@ fn add_addresses(alloc: Global, answer: &mut Vec<u8>, addresses: &[usize]) -> Re
         add_number(alloc, answer, *address as u64)?;
     }
     Ok(())
+}
+
+/// Adds the addresses that the owning fields of a block hold, if there are any, as ` holds [2,3]`.
+fn add_fields(alloc: Global, answer: &mut Vec<u8>, fields: &[usize]) -> Result<(), Memory>
+    ensures { OnOk result (answer.new.items ≡ answer.old.items ++ holds_text fields.now) }
+{
+    if fields.is_empty() {
+        return Ok(());
+    }
+    add(answer, b" holds [")?;
+    add_addresses(alloc, answer, fields)?;
+    add(answer, b"]")
 }
 
 /// Adds a message of a contract with what it brings, as `M(2,3)`.
@@ -116,6 +132,20 @@ fn add_queue(
     }
 }
 
+/// Adds what the fields of a block hold, and the queue of an endpoint.
+fn add_held(
+    alloc: Global,
+    answer: &mut Vec<u8>,
+    naming: &Naming<'_>,
+    block: &Block,
+) -> Result<(), Memory>
+    ensures { OnOk result (answer.new.items ≡ answer.old.items ++ (holds_text block.now.fields.items
+        ++ queue_text (words_of naming.now) block.now.kind (map held_seen block.now.queue.items))) }
+{
+    add_fields(alloc, answer, &block.fields)?;
+    add_queue(alloc, answer, naming, block)
+}
+
 /// Adds what is told of a block: that it is freed, or who owns it.
 fn add_told(
     alloc: Global,
@@ -132,7 +162,7 @@ fn add_told(
             add_state(answer, naming, block.kind, block.state)?;
             add(answer, b" owner ")?;
             add_owner(alloc, answer, owner)?;
-            add_queue(alloc, answer, naming, block)
+            add_held(alloc, answer, naming, block)
         }
     }
 }

@@ -36,4 +36,4 @@ returns c =
     (c.in_ok-add_stop.ensures ∙ ap (λ (e : Option Event). c.add_steps.new.answer.items ++ stop_line e replayed.halt) event)
     (c.in_ok-add_processes.ensures ∙ ap (λ (l : List (List Frame)). c.add_stop.new.answer.items ++ processes_told p l) c.processes.ensures)
     c.add_blocks.new.answer.items
-    (c.in_ok-add_blocks.ensures ∙ ap₂ (λ (u : Words) (l : List Block). c.add_processes.new.answer.items ++ blocks_told u l) c.in_ok-naming.ensures c.blocks-2.ensures)
+    (c.in_ok-add_blocks.ensures ∙ ap₂ (λ (u : Words) (l : List Block). c.add_processes.new.answer.items ++ blocks_told u l) c.in_ok-naming.ensures c.blocks-2.ensures.seen)
