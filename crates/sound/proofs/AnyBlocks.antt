@@ -1,7 +1,7 @@
 -- What an event of any run does to blocks, whatever is found: what it gives is its own, and it is given once.
 use Rattle.std.proofs.Common.{◌≡◌, ◌==◌, ◌&&◌, ℕ, ◌<◌, ◌≤◌, Bool, true, false, not, List, [], ◌∷◌, ◌++◌, Some, None, length, refl, sym}
 use Rattle.std.proofs.Common.{ap, ◌∙◌, subst, arith, ⊎_elim}
-use Rattle.std.proofs.lemmas.Bool.{cases_Bool, cases_eq, cases_lt, eqb-true}
+use Rattle.std.proofs.lemmas.Bool.{cases_Bool, cases_lt, eqb-true}
 use Rattle.std.specs.Prelude.{Option, ◌||◌, if◌then◌else◌, is_some}
 use Rattle.program.specs.Lists.{Each, is_among}
 use Rattle.program.specs.Programs.{ProgramSeen}
@@ -12,10 +12,11 @@ use Rattle.program.specs.declared.kind.Kind.{Kind}
 use Rattle.program.specs.declared.kind.Side.{Side}
 use Rattle.contracts.specs.Leaving.{end_on}
 use Rattle.rules.specs.Endpoints.{edges_out}
-use Rattle.machine.specs.Blocks.{is_own_still, handed, sent_block, freed_block}
+use Rattle.machine.specs.Blocks.{is_own_still, goes_with, handed, sent_block, freed_block}
 use Rattle.machine.specs.Frames.{address, addresses}
 use Rattle.machine.specs.Outcomes.{Outcome, Moved, Faulty, Bounds, Test, test, tested}
-use Rattle.machine.specs.World.{no_kind, MessageHeld, Block, Frame, World, block_at, read, owns, is_queue, is_freed, changed, no_block}
+use Rattle.machine.specs.World.{no_kind, MessageHeld, Block, Frame, World, block_at, read, owns}
+use Rattle.machine.specs.World.{is_inside, is_queue, is_freed, changed, no_block}
 use Rattle.machine.specs.declared.halts.Fault.TheVariants.{F1, F3, F6}
 use Rattle.machine.specs.declared.halts.Fault.{Fault}
 use Rattle.machine.specs.declared.worlds.Owner.TheVariants.{Process, Channel}
@@ -158,27 +159,25 @@ module _ (p : ProgramSeen) (bound : Bounds) (w : World) (self : ℕ) (f : Frame)
       )
 
   -- ---- Delete
-  pub delete_fits : (a : ℕ) → owns w.blocks self a ≡ true → RunFits p (changed (freed_block a) w.blocks)
-  delete_fits a owned =
-      let within = owns_there w.blocks self a owned in
-      record {
-        fits = record {
-          channels = deleting.channels p w self h.fits a owned within;
-          queues =
-              deleting.queues p w self h.fits a owned within;
-        };
-        plain = λ j no_end. ⊎_elim (λ e. deleting.queue_it p w self h.fits a owned within j e)
-            (λ n. deleting.queue_other p w self h.fits a owned within j n
-            ∙ h.plain j (sym (ap (λ (b : Block). is_end b.kind) (deleting.at p w self h.fits a owned within j)) ∙ no_end))
-            (cases_eq j a);
-      }
+  pub delete_fits : (a : ℕ) → owns w.blocks self a ≡ true → RunFits p (changed (freed_block (goes_with w.blocks a)) w.blocks)
+  delete_fits a owned = record {
+    fits = record {
+      channels = deleting.channels p w self h.fits a owned;
+      queues = deleting.queues p w self h.fits a owned;
+      held = deleting.held_now p w self h.fits a owned;
+    };
+    plain = λ j no_end. ⊎_elim (λ e. deleting.queue_it p w self h.fits a owned j e)
+        (λ n. deleting.queue_other p w self h.fits a owned j n
+        ∙ h.plain j (sym (ap (λ (b : Block). is_end b.kind) (deleting.at p w self h.fits a owned j)) ∙ no_end))
+        (cases_Bool (goes_with w.blocks a j));
+  }
 
   -- ---- blocks that are handed on
   pub handed_run : (bs' : List Block) (given : List ℕ) (to : Owner) → ((x : ℕ) → is_among given x ≡ true → owns w.blocks self x ≡ true)
-      → is_freed to ≡ false → ((a : ℕ) → is_queue to a ≡ false) → length bs' ≡ length w.blocks
+      → is_freed to ≡ false → ((a : ℕ) → is_queue to a ≡ false) → ((a : ℕ) → is_inside to a ≡ false) → length bs' ≡ length w.blocks
       → ((j : ℕ) → block_at bs' j ≡ handed to given j (block_at w.blocks j)) → RunFits p bs'
-  handed_run bs' given to mine lives no_queue long at = record {
-    fits = handed_fits p w.blocks bs' self given to h.fits mine lives no_queue long at;
+  handed_run bs' given to mine lives no_queue no_block_more long at = record {
+    fits = handed_fits p w.blocks bs' self given to h.fits mine lives no_queue long at no_block_more;
     plain = λ j no_end. ap (λ (b : Block). b.queue) (at j) ∙ h.plain j (sym (ap (λ (b : Block). is_end b.kind) (at j)) ∙ no_end);
   }
 
@@ -186,9 +185,9 @@ module _ (p : ProgramSeen) (bound : Bounds) (w : World) (self : ℕ) (f : Frame)
       → RunFits p (changed (handed (Process (length w.processes)) given) w.blocks)
   start_fits given mine =
       let to = Process (length w.processes) in
-      handed_run (changed (handed to given) w.blocks) given to mine refl (λ a. refl) (changed_length (handed to given) w.blocks)
+      handed_run (changed (handed to given) w.blocks) given to mine refl (λ a. refl) (λ a. refl) (changed_length (handed to given) w.blocks)
       (λ j. changed_all (handed to given) w.blocks j (λ past.
-      ap (λ (b : Bool). record { kind = no_kind; owner = if b then to else Channel; peer = 0; state = 0; queue = [] })
+      ap (λ (b : Bool). record { kind = no_kind; owner = if b then to else Channel; peer = 0; state = 0; queue = []; fields = [] })
       (⊎_elim (λ t. absurd (let k = owns_there w.blocks self j (mine j t) in omega arith)) (λ e. e) (cases_Bool (is_among given j)))))
 
   -- a message whose sender's peer is gone
@@ -203,6 +202,7 @@ module _ (p : ProgramSeen) (bound : Bounds) (w : World) (self : ℕ) (f : Frame)
             b.peer;
         state = if j == a then state' else b.state;
         queue = q;
+        fields = b.fields;
       }) (no_more (j == to))
       ∙ ap (λ (n : ℕ). record {
         kind = b.kind;
@@ -211,6 +211,7 @@ module _ (p : ProgramSeen) (bound : Bounds) (w : World) (self : ℕ) (f : Frame)
         state =
             n;
         queue = b.queue;
+        fields = b.fields;
       }) (state_same (j == a) refl))
     where
       no_more : (x : Bool) → (if x && false then b.queue ++ m ∷ [] else b.queue) ≡ b.queue
@@ -224,11 +225,12 @@ module _ (p : ProgramSeen) (bound : Bounds) (w : World) (self : ℕ) (f : Frame)
   pub lost_fits : (a state' to : ℕ) (g : Bool) (m : MessageHeld) → g ≡ true → state' ≡ (block_at w.blocks a).state → a < length w.blocks
       → ((x : ℕ) → is_among m.payload x ≡ true → owns w.blocks self x ≡ true) → RunFits p (changed (sent_block a state' to g m) w.blocks)
   lost_fits a state' to g m gone same within mine =
-      handed_run (changed (sent_block a state' to g m) w.blocks) m.payload Channel mine refl (λ a. refl)
+      handed_run (changed (sent_block a state' to g m) w.blocks) m.payload Channel mine refl (λ a. refl) (λ a. refl)
       (changed_length (sent_block a state' to g m) w.blocks)
       (λ j. changed_all (sent_block a state' to g m) w.blocks j
       (λ past. sent_lost a state' to g m j no_block gone (λ e. absurd (omega arith))
-      ∙ ap (λ (o : Owner). record { kind = no_kind; owner = o; peer = 0; state = 0; queue = [] }) (always_channel (is_among m.payload j)))
+      ∙ ap (λ (o : Owner). record { kind = no_kind; owner = o; peer = 0; state = 0; queue = []; fields = [] })
+      (always_channel (is_among m.payload j)))
       ∙ sent_lost a state' to g m j (block_at w.blocks j) gone (λ e. same ∙ ap (λ (n : ℕ). (block_at w.blocks n).state) (sym e)))
     where
       always_channel : (x : Bool) → (if x then Channel else Channel) ≡ Channel

@@ -32,7 +32,8 @@ use Rattle.sound.specs.GraphFit.{AreGraphsFit, IsFit, Scope}
 use Rattle.sound.specs.Operands.{stateless}
 use Rattle.sound.specs.Queues.{IsBounded, IsLiveEnd}
 use Rattle.sound.proofs.Contracts.{sound_program}
-use Rattle.sound.proofs.Blocks.{fresh_one, queues_append, channels_new}
+use Rattle.machine.specs.Heaps.{top}
+use Rattle.sound.proofs.Blocks.{bare_one, fresh_one, held_append, queues_append, channels_new}
 use Rattle.sound.proofs.Giving.{given_counts, payloads_claim}
 use Rattle.sound.proofs.Invariant.{one_if, standing_in, ChannelsFit, IsSoundProgram}
 use Rattle.sound.proofs.NewEnds as opened
@@ -79,32 +80,34 @@ module _ (p : ProgramSeen) (bound : Bounds) (w : World) (self : ℕ) (f : Frame)
       (given_once p bound w self f rest h [] (payloads_claimed payloads) (payloads_claim payloads) given x).1
 
   new_fits : (m : MethodSeen) (v : Mention) → method_at p f.method ≡ Some m → is_end (kind_at m.variables v.variable.0) ≡ false
-      → RunFits p (w.blocks ++ new_block (kind_at (variables_of p f.method) v.variable.0) self 0 0 ∷ [])
+      → RunFits p (w.blocks ++ new_block (kind_at (variables_of p f.method) v.variable.0) self 0 0 [] ∷ [])
   new_fits m v there plain =
       let k = kind_at (variables_of p f.method) v.variable.0 in
-      let b = new_block k self 0 0 in
-      let fresh = fresh_one self k in
+      let b = new_block k self 0 0 [] in
+      let fresh = fresh_one self k [] in
       record {
         fits = record {
           channels = channels_new p w.blocks b (ap (λ (o : Option MethodSeen). is_end
               (kind_at (option_map_or (λ x. x.variables) o []) v.variable.0)) there ∙ plain) h.fits.channels;
           queues = queues_append self w.blocks (b ∷ []) fresh h.fits.queues;
+          held = held_append w.blocks (b ∷ []) (bare_one self k) h.fits.held;
         };
         plain = plain_append self w.blocks (b ∷ []) fresh h.plain;
       }
 
   channel_fits : (c : made.Channel) (held : ContractSeen) → slice_get p.contracts c.contract.0 ≡ Some held
-      → RunFits p (w.blocks ++ new_block (end_kind c Imp) self (length w.blocks + 1) (first_state p c.contract.0)
-      ∷ new_block (end_kind c Exp) self (length w.blocks) (first_state p c.contract.0) ∷ [])
+      → RunFits p (w.blocks ++ new_block (end_kind c Imp) self (length w.blocks + 1) (first_state p c.contract.0) []
+      ∷ new_block (end_kind c Exp) self (length w.blocks) (first_state p c.contract.0) [] ∷ [])
   channel_fits c held there =
-      let more = new_block (end_kind c Imp) self (length w.blocks + 1) (first_state p c.contract.0)
-      ∷ new_block (end_kind c Exp) self (length w.blocks) (first_state p c.contract.0) ∷ [] in
+      let more = new_block (end_kind c Imp) self (length w.blocks + 1) (first_state p c.contract.0) []
+      ∷ new_block (end_kind c Exp) self (length w.blocks) (first_state p c.contract.0) [] ∷ [] in
       let fresh = opened.fresh p w.blocks self c held there h.fits.channels in
       record {
         fits = record {
           channels = opened.channels_now p w.blocks self c held there h.fits.channels;
           queues =
               queues_append self w.blocks more fresh h.fits.queues;
+          held = opened.held_now p w.blocks self c held there h.fits.channels h.fits.held;
         };
         plain = plain_append self w.blocks more fresh h.plain;
       }
@@ -174,6 +177,7 @@ module _ (always : HeldAlways) (longer : NeverLonger) (p : ProgramSeen) (bound :
       channels =
           record { imp = λ a c within is. absurd (omega arith); exp = λ a c within is. absurd (omega arith) };
       queues = λ a x. refl;
+      held = record { holds_are = λ a j. refl; rooted = λ x. top x (λ b. refl) };
     };
     plain = λ a no_end. refl;
   }

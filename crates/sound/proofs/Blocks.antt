@@ -22,16 +22,20 @@ use Rattle.rules.specs.declared.row.Leaf.TheVariants as leaf
 use Rattle.machine.specs.Blocks.{new_block}
 use Rattle.machine.specs.Frames.{method_at, kind_at, variables_of}
 use Rattle.machine.specs.Outcomes.{Bounds}
-use Rattle.machine.specs.World.{no_kind, MessageHeld, Block, Frame, World, block_at, read, owns, freed, is_process, is_queue, is_freed}
+use Rattle.machine.specs.Heaps.{IsHeld}
+use Rattle.machine.specs.World.{no_kind, MessageHeld, Block, Frame, World, block_at, read, owns, freed}
+use Rattle.machine.specs.World.{is_inside, is_process, is_queue, is_freed}
+use Rattle.machine.proofs.Holding.{held_same}
 use Rattle.machine.specs.World.{is_empty}
 use Rattle.machine.specs.declared.worlds.Owner.TheVariants.{Process}
 use Rattle.machine.specs.declared.worlds.Owner.{Owner}
 use Rattle.sound.specs.GraphFit.{IsGraphFit, IsNewFit}
 use Rattle.sound.specs.Operands.{stateless}
-use Rattle.sound.proofs.Basics.{standing_set, block_append, block_appended}
+use Rattle.sound.proofs.Basics.{block_past, standing_set, block_append, block_appended}
 use Rattle.sound.proofs.Checks.{all_pass, passed_goes, not_refused, something_is}
-use Rattle.sound.proofs.Invariant.{one_if, one_at, standing, StaysCutOff, in_queue, AreBrought, IsEndOf, ChannelFits, IsPeer, ChannelsFit}
-use Rattle.sound.proofs.Kept.{lent_stays_set, goes_on, AreKept, row_kept, brought_kept, some_same}
+use Rattle.sound.proofs.Invariant.{AreDeclared, one_if, one_at, standing, StaysCutOff, in_queue, AreBrought, IsEndOf, ChannelFits}
+use Rattle.sound.proofs.Invariant.{IsPeer, ChannelsFit}
+use Rattle.sound.proofs.Kept.{AreKept, LiesInside, SameFields, brought_kept, fields_kept, goes_on, lent_stays_set, row_kept, some_same}
 use Rattle.sound.proofs.Lists.{true≢false, eqb_same, eqb_apart, eqb_suc, add_zero, and_true, both_true}
 use Rattle.sound.proofs.Quiet.{contains_first, end_stateless}
 use Rattle.sound.proofs.Here.{IsGood, row_set, nothing_none, Here}
@@ -114,6 +118,26 @@ pub record AreFresh (self : ℕ) (more : List Block) : Type 0 where
   pub no_queue : (k a : ℕ) → is_queue (block_at more k).owner a ≡ false
   pub theirs : (k q : ℕ) → q ≢ self → is_process (block_at more k).owner q ≡ false
 
+-- blocks that hold nothing and lie in none
+pub record AreBare (more : List Block) : Type 0 where
+  pub fields : (k : ℕ) → (block_at more k).fields ≡ []
+  pub outside : (k a : ℕ) → is_inside (block_at more k).owner a ≡ false
+
+pub fields_append : (bs more : List Block) (a : ℕ) → AreBare more → (block_at (bs ++ more) a).fields ≡ (block_at bs a).fields
+fields_append [] more a bare = bare.fields a
+fields_append (b ∷ bs) more zero bare = refl
+fields_append (b ∷ bs) more (suc a) bare = fields_append bs more a bare
+
+pub inside_append : (bs more : List Block) (x a : ℕ) → AreBare more
+    → is_inside (block_at (bs ++ more) x).owner a ≡ is_inside (block_at bs x).owner a
+inside_append [] more x a bare = bare.outside x a
+inside_append (b ∷ bs) more zero a bare = refl
+inside_append (b ∷ bs) more (suc x) a bare = inside_append bs more x a bare
+
+pub held_append : (bs more : List Block) → AreBare more → IsHeld bs → IsHeld (bs ++ more)
+held_append bs more bare h =
+    held_same bs (bs ++ more) (λ a. fields_append bs more a bare) (λ j a. inside_append bs more j a bare) h
+
 pub queue_append : (self : ℕ) (bs more : List Block) (a : ℕ) → AreFresh self more → (block_at (bs ++ more) a).queue ≡ (block_at bs a).queue
 queue_append self [] more a fresh = fresh.queue a
 queue_append self (b ∷ bs) more zero fresh = refl
@@ -159,6 +183,16 @@ kept_append bs more P a some within = record {
   state = inl (ap (λ (b : Block). b.state) (block_append bs more a within));
 }
 
+-- fields stay where blocks are added
+pub same_append : (p : ProgramSeen) (bs more : List Block) → SameFields p bs (bs ++ more)
+same_append p bs more = record {
+  cut = cut_append bs more;
+  kept = kept_append bs more (LiesInside bs);
+  kinds = λ a short. ap (λ (b : Block). b.kind) (block_append bs more a short);
+  lives = λ a short l. sym (ap (λ (b : Block). is_freed b.owner) (block_append bs more a short)) ∙ l;
+  fields = λ a short l. ap (λ (b : Block). b.fields) (block_append bs more a short);
+}
+
 pub brought_append : (p : ProgramSeen) (self : ℕ) (bs more : List Block) (a : ℕ) → AreFresh self more
     → AreBrought p bs (block_at bs a).queue → AreBrought p (bs ++ more) (block_at (bs ++ more) a).queue
 brought_append p self bs more a fresh h =
@@ -185,18 +219,18 @@ new_counts self (x ∷ bs) b (suc a) own =
     let k = new_counts self bs b a own in
     omega arith
 
-pub fresh_one : (self : ℕ) (k : Kind) → AreFresh self (new_block k self 0 0 ∷ [])
-fresh_one self k = record { queue = queue; no_queue = no_queue; theirs = theirs }
+pub fresh_one : (self : ℕ) (k : Kind) (fields : List ℕ) → AreFresh self (new_block k self 0 0 fields ∷ [])
+fresh_one self k fields = record { queue = queue; no_queue = no_queue; theirs = theirs }
   where
-    queue : (n : ℕ) → (block_at (new_block k self 0 0 ∷ []) n).queue ≡ []
+    queue : (n : ℕ) → (block_at (new_block k self 0 0 fields ∷ []) n).queue ≡ []
     queue zero = refl
     queue (suc n) = refl
 
-    no_queue : (n a : ℕ) → is_queue (block_at (new_block k self 0 0 ∷ []) n).owner a ≡ false
+    no_queue : (n a : ℕ) → is_queue (block_at (new_block k self 0 0 fields ∷ []) n).owner a ≡ false
     no_queue zero a = refl
     no_queue (suc n) a = refl
 
-    theirs : (n q : ℕ) → q ≢ self → is_process (block_at (new_block k self 0 0 ∷ []) n).owner q ≡ false
+    theirs : (n q : ℕ) → q ≢ self → is_process (block_at (new_block k self 0 0 fields ∷ []) n).owner q ≡ false
     theirs zero q n = eqb_apart self q (λ e. n (sym e))
     theirs (suc m) q n = refl
 
@@ -219,6 +253,18 @@ kind_of_variable p n m v x there at =
     ap (λ (o : Option MethodSeen). kind_at (option_map_or (λ y. y.variables) o []) v) there
     ∙ ap (λ (o : Option VariableSeen). option_map_or (λ y. y.kind) o no_kind) at
 
+-- a new block that holds nothing
+pub bare_one : (self : ℕ) (k : Kind) → AreBare (new_block k self 0 0 [] ∷ [])
+bare_one self k = record { fields = fields; outside = outside }
+  where
+    fields : (n : ℕ) → (block_at (new_block k self 0 0 [] ∷ []) n).fields ≡ []
+    fields zero = refl
+    fields (suc n) = refl
+
+    outside : (n a : ℕ) → is_inside (block_at (new_block k self 0 0 [] ∷ []) n).owner a ≡ false
+    outside zero a = refl
+    outside (suc n) a = refl
+
 pub good_new : (p : ProgramSeen) (bound : Bounds) (w : World) (self choice : ℕ) (f : Frame) (rest : List Frame) (m : MethodSeen)
     (v : Mention) (arguments : List Mention) (next : ℕ)
     → Here p w self f rest m (New v arguments next) → ((h : IsGraphFit p m) → IsNewFit p m h.scope f.point v.variable.0 next)
@@ -226,7 +272,7 @@ pub good_new : (p : ProgramSeen) (bound : Bounds) (w : World) (self choice : ℕ
 good_new p bound w self choice f rest m v arguments next h fit =
     let n = length w.blocks in
     let k = kind_at (variables_of p f.method) v.variable.0 in
-    let b = new_block k self 0 0 in
+    let b = new_block k self 0 0 [] in
     let bs' = w.blocks ++ b ∷ [] in
     let vs' = set f.variables v.variable.0 (Some n) in
     let row' = set h.row v.variable.0 leaf.Block in
@@ -236,7 +282,7 @@ good_new p bound w self choice f rest m v arguments next h fit =
     let none = nothing_none w.blocks m.variables f.variables h.row v.variable.0 h.fits
     (something_is (leaf_at h.row v.variable.0) (not_refused (is_owned h.row v.variable.0) _ passed.1.0)) in
     let g = fit h.graph in
-    let fresh = fresh_one self k in
+    let fresh = fresh_one self k [] in
     let is_kind : k ≡ g.variable.kind = kind_of_variable p f.method m v.variable.0 g.variable h.there g.there in
     let last : block_at bs' n ≡ b = ap (block_at bs') (sym (add_zero n)) ∙ block_appended w.blocks (b ∷ []) 0 in
     let reached = h.onward ((next, row') ∷ []) (next, row') (passed_goes checks ((next, row') ∷ []) passed)
@@ -265,6 +311,12 @@ good_new p bound w self choice f rest m v arguments next h fit =
         channels = channels_new p w.blocks b (ap is_end is_kind ∙ g.block) h.holds.channels;
         queues = queues_append self w.blocks (b ∷ []) fresh h.holds.queues;
         brought = λ a. brought_append p self w.blocks (b ∷ []) a fresh (h.holds.brought a);
+        held = held_append w.blocks (b ∷ []) (bare_one self k) h.holds.held;
+        declared = λ j within lives. ⊎_elim
+            (λ short. fields_kept p w.blocks bs' j h.holds.held (same_append p w.blocks (b ∷ [])) h.holds.declared short lives)
+            (λ past. subst (λ (xs : List ℕ). AreDeclared bs' [] xs)
+            (sym (fields_append w.blocks (b ∷ []) j (bare_one self k) ∙ ap (λ (x : Block). x.fields) (block_past w.blocks j past))) tt)
+            (cases_lt j (length w.blocks));
       }),
       cut_append w.blocks (b ∷ []),
     )

@@ -1,5 +1,5 @@
 -- The invariant of every run.
-use Rattle.std.proofs.Common.{◌≡◌, ◌==◌, ℕ, ◌+◌, ◌<◌, ◌≤◌, Bool, true, false, List, [], ◌∷◌, Some, None, length, map}
+use Rattle.std.proofs.Common.{◌≡◌, ◌==◌, ℕ, ◌+◌, ◌<◌, ◌≤◌, true, false, List, [], ◌∷◌, Some, None, length, map}
 use Rattle.std.specs.Prelude.{Option, ◌⊎◌, slice_get}
 use Rattle.source.specs.declared.place.Place.{Place}
 use Rattle.program.specs.Lists.{Each}
@@ -21,6 +21,8 @@ use Rattle.contracts.specs.Leaving.{sign_from}
 use Rattle.contracts.specs.Bounds.{IsBound}
 use Rattle.contracts.specs.Conditions.{IsSound}
 use Rattle.program.specs.Parts.{IsWhole}
+pub use Rattle.machine.specs.Heaps.{one_if}
+use Rattle.machine.specs.Heaps.{IsHeld}
 use Rattle.machine.specs.Outcomes.{Bounds}
 use Rattle.contracts.specs.TwoEnds.{Ends, Moves, begun}
 use Rattle.rules.specs.Arguments.{claimed}
@@ -58,10 +60,6 @@ pub record RowFits (bs : List Block) (variables : List VariableSeen) (vs : List 
   pub each : (v : ℕ) (x : VariableSeen) → slice_get variables v ≡ Some x → LeafFits bs x.kind (read vs v) (leaf_at row v)
 
 -- ---- who has what; an address that is lent counts where it was lent to
-abbrev pub one_if : Bool → ℕ
-one_if true = 1
-one_if false = 0
-
 abbrev pub one_at : ℕ → Option ℕ → ℕ
 one_at a None = 0
 one_at a (Some b) = one_if (b == a)
@@ -176,6 +174,16 @@ AreDeclared bs _ _ = ⊥
 abbrev pub AreBrought : ProgramSeen → List Block → List MessageHeld → Type 0
 AreBrought p bs queue = Each (λ m. AreDeclared bs (brought p m.message) m.payload) queue
 
+-- ---- fields
+-- how the owning fields of a kind are declared: no program has any
+abbrev pub fields_of : ProgramSeen → Kind → List Kind
+fields_of p kind = []
+
+-- the fields of each block that is not freed hold what they are declared with
+abbrev pub FieldsDeclared : ProgramSeen → List Block → Type 0
+FieldsDeclared p bs = (a : ℕ) → a < length bs → freed bs a ≡ false
+    → AreDeclared bs (fields_of p (block_at bs a).kind) (block_at bs a).fields
+
 -- ---- channels
 -- an end that lives is as two ends say
 pub record IsEndOf (ends : Ends) (side : Side) (b : Block) : Type 0 where
@@ -214,6 +222,7 @@ pub record ChannelsFit (p : ProgramSeen) (bs : List Block) : Type 0 where
 pub record BlocksFit (p : ProgramSeen) (bs : List Block) : Type 0 where
   pub channels : ChannelsFit p bs
   pub queues : (a x : ℕ) → in_queue x (block_at bs a).queue ≡ one_if (is_queue (block_at bs x).owner a)
+  pub held : IsHeld bs
 
 -- ---- what is asked of contracts
 -- contracts that are sound, and bounds that no walk passes
@@ -230,9 +239,11 @@ pub record Holds (p : ProgramSeen) (w : World) : Type 0 where
   pub own : (q a : ℕ) → held p a (stack_at w.processes q) ≡ one_if (owns w.blocks q a)
   pub queues : (a x : ℕ) → in_queue x (block_at w.blocks a).queue ≡ one_if (is_queue (block_at w.blocks x).owner a)
   pub brought : (a : ℕ) → AreBrought p w.blocks (block_at w.blocks a).queue
+  pub held : IsHeld w.blocks
+  pub declared : FieldsDeclared p w.blocks
 
 pub blocks_fit : (p : ProgramSeen) (w : World) → Holds p w → BlocksFit p w.blocks
-blocks_fit p w h = record { channels = h.channels; queues = h.queues }
+blocks_fit p w h = record { channels = h.channels; queues = h.queues; held = h.held }
 
 -- what is cut off stays so
 pub record StaysCutOff (bs bs' : List Block) : Type 0 where

@@ -21,12 +21,14 @@ use Rattle.rules.specs.declared.row.Leaf.TheVariants as leaf
 use Rattle.rules.specs.declared.row.Leaf.{Leaf}
 use Rattle.analyse.specs.Reach.{Reached}
 use Rattle.machine.specs.Frames.{method_at, instruction_at}
-use Rattle.machine.specs.World.{MessageHeld, Block, Frame, World, block_at, stack_at, read, is_queue, owns, cut_off}
+use Rattle.machine.specs.Heaps.{IsHeld, occurs}
+use Rattle.machine.specs.World.{MessageHeld, Block, Frame, World, block_at, stack_at, read, is_inside, is_queue, owns, cut_off, freed}
 use Rattle.sound.specs.Operands.{stateless}
 use Rattle.sound.proofs.Basics.{one_if_most, one_true, standing_read, process_apart, stack_there}
-use Rattle.sound.proofs.Invariant.{IsOn, HasLeaf, LeafFits, RowFits, one_if, standing, kept_back, waiting, held, IsLent, with_first}
+use Rattle.sound.proofs.Invariant.{fields_of, IsOn, HasLeaf, LeafFits, RowFits, one_if, standing, kept_back, waiting, held, IsLent}
+use Rattle.sound.proofs.Invariant.{with_first}
 use Rattle.sound.proofs.Invariant.{by_role, as_claimed, standing_in, AreLent, WaitsFor, RestFits, StackFits, in_queue, AreDeclared}
-use Rattle.sound.proofs.Invariant.{AreBrought, ChannelsFit, Holds, StaysCutOff}
+use Rattle.sound.proofs.Invariant.{AreBrought, ChannelsFit, FieldsDeclared, Holds, StaysCutOff}
 use Rattle.sound.proofs.Lists.{true≢false, eqb_same}
 
 -- the block stays what it is, but for an endpoint that is cut off then
@@ -227,7 +229,7 @@ rest_above p bs above above' m (g ∷ rest) there same stays h = (
 )
 
 -- ---- queues
-declared_kept : (bs bs' : List Block) (kinds : List Kind) (given : List ℕ) → StaysCutOff bs bs'
+pub declared_kept : (bs bs' : List Block) (kinds : List Kind) (given : List ℕ) → StaysCutOff bs bs'
     → AreKept bs bs' (λ a. 0 < standing_in a given) → AreDeclared bs kinds given → AreDeclared bs' kinds given
 declared_kept bs bs' [] [] cut kept h = h
 declared_kept bs bs' [] (a ∷ given) cut kept h = h
@@ -248,6 +250,42 @@ brought_kept p bs bs' (m ∷ ms) cut kept h = (
   brought_kept p bs bs' ms cut (λ a some within. kept a (omega arith) within) h.1,
 )
 
+-- ---- fields
+pub occurs_standing : (xs : List ℕ) (x : ℕ) → occurs xs x ≡ standing_in x xs
+occurs_standing [] x = refl
+occurs_standing (y ∷ xs) x = ap (λ (n : ℕ). one_if (y == x) + n) (occurs_standing xs x)
+
+-- a block that is inside another, as what a field holds
+abbrev pub LiesInside : List Block → ℕ → Type 0
+LiesInside bs x = (b : ℕ) × (is_inside (block_at bs x).owner b ≡ true)
+
+-- blocks of which those inside others are kept, and fields stay
+pub record SameFields (p : ProgramSeen) (bs bs' : List Block) : Type 0 where
+  pub cut : StaysCutOff bs bs'
+  pub kept : AreKept bs bs' (LiesInside bs)
+  pub kinds : (a : ℕ) → a < length bs → (block_at bs' a).kind ≡ (block_at bs a).kind
+  pub lives : (a : ℕ) → a < length bs → freed bs' a ≡ false → freed bs a ≡ false
+  pub fields : (a : ℕ) → a < length bs → freed bs' a ≡ false → (block_at bs' a).fields ≡ (block_at bs a).fields
+
+-- the fields of a block that was there are still as they are declared
+pub fields_kept : (p : ProgramSeen) (bs bs' : List Block) (a : ℕ) → IsHeld bs → SameFields p bs bs' → FieldsDeclared p bs → a < length bs
+    → freed bs' a ≡ false → AreDeclared bs' (fields_of p (block_at bs' a).kind) (block_at bs' a).fields
+fields_kept p bs bs' a held same h within lives =
+    subst (λ (k : Kind). AreDeclared bs' (fields_of p k) (block_at bs' a).fields) (sym (same.kinds a within))
+    (subst (λ (xs : List ℕ). AreDeclared bs' (fields_of p (block_at bs a).kind) xs) (sym (same.fields a within lives))
+    (declared_kept bs bs' (fields_of p (block_at bs a).kind) (block_at bs a).fields same.cut
+    (λ x some short. same.kept x (
+      a,
+      one_true (is_inside (block_at bs x).owner a)
+          (subst (λ (n : ℕ). 0 < n) (sym (occurs_standing (block_at bs a).fields x) ∙ held.holds_are a x) some),
+    ) short)
+    (h a within (same.lives a within lives))))
+
+-- all of them, where there is no block more
+pub all_fields_kept : (p : ProgramSeen) (bs bs' : List Block) → IsHeld bs → SameFields p bs bs' → length bs' ≡ length bs
+    → FieldsDeclared p bs → FieldsDeclared p bs'
+all_fields_kept p bs bs' held same long h a within lives = fields_kept p bs bs' a held same h (omega arith) lives
+
 -- ---- one frame goes on
 -- what a frame leaves behind, by its new variables and the new blocks: what it did not have is kept, and what it has is counted
 pub record GoesOn (p : ProgramSeen) (w : World) (self : ℕ) (f : Frame) (m : MethodSeen) (vs' : List (Option ℕ))
@@ -260,6 +298,8 @@ pub record GoesOn (p : ProgramSeen) (w : World) (self : ℕ) (f : Frame) (m : Me
   pub channels : ChannelsFit p bs'
   pub queues : (a x : ℕ) → in_queue x (block_at bs' a).queue ≡ one_if (is_queue (block_at bs' x).owner a)
   pub brought : (a : ℕ) → AreBrought p bs' (block_at bs' a).queue
+  pub held : IsHeld bs'
+  pub declared : FieldsDeclared p bs'
 
 -- the frame at its next point
 abbrev pub went : Frame → ℕ → List (Option ℕ) → Frame
@@ -280,6 +320,8 @@ goes_on p w self f rest m next vs' row' bs' h is there below reached fits g = re
   own = λ q a. ⊎_elim (λ e. own_mine q a e) (λ n. own_theirs q a n) (cases_eq q self);
   queues = g.queues;
   brought = g.brought;
+  held = g.held;
+  declared = g.declared;
 }
   where
     here : stack_at (set w.processes self (went f next vs' ∷ rest)) self ≡ (went f next vs') ∷ rest

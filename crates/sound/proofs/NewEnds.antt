@@ -13,11 +13,14 @@ use Rattle.program.specs.declared.statement.Channel as made
 use Rattle.contracts.specs.TwoEnds.{begun}
 use Rattle.rules.specs.Endpoints.{first_state}
 use Rattle.machine.specs.Blocks.{new_block, end_kind}
-use Rattle.machine.specs.World.{Block, block_at, is_process, is_queue, is_freed}
+use Rattle.program.specs.declared.kind.Kind.{Kind}
+use Rattle.machine.specs.Heaps.{IsHeld}
+use Rattle.machine.specs.World.{Block, block_at, is_inside, is_process, is_queue, is_freed}
 use Rattle.sound.specs.Operands.{stateless}
 use Rattle.sound.proofs.Basics.{block_append, block_appended}
-use Rattle.sound.proofs.Blocks.{AreFresh}
-use Rattle.sound.proofs.Invariant.{IsEndOf, ChannelFits, IsPeer, ChannelsFit}
+use Rattle.sound.proofs.Blocks.{AreBare, AreFresh, held_append, same_append}
+use Rattle.sound.proofs.Kept.{fields_kept}
+use Rattle.sound.proofs.Invariant.{fields_of, IsEndOf, ChannelFits, IsPeer, ChannelsFit, AreDeclared, FieldsDeclared}
 use Rattle.sound.proofs.Lists.{eqb_apart, add_zero}
 use Rattle.sound.proofs.Moving.{kind_apart, same_contract}
 
@@ -67,10 +70,10 @@ module _ (p : ProgramSeen) (bs : List Block) (self : ℕ) (c : made.Channel) (he
   start = first_state p c.contract.0
 
   abbrev pub b1 : Block
-  b1 = new_block (end_kind c Imp) self (n + 1) start
+  b1 = new_block (end_kind c Imp) self (n + 1) start []
 
   abbrev pub b2 : Block
-  b2 = new_block (end_kind c Exp) self n start
+  b2 = new_block (end_kind c Exp) self n start []
 
   abbrev pub bs' : List Block
   bs' = bs ++ b1 ∷ b2 ∷ []
@@ -92,6 +95,22 @@ module _ (p : ProgramSeen) (bs : List Block) (self : ℕ) (c : made.Channel) (he
       theirs zero q n = eqb_apart self q (λ e. n (sym e))
       theirs (suc zero) q n = eqb_apart self q (λ e. n (sym e))
       theirs (suc (suc k)) q n = refl
+
+  bare : AreBare (b1 ∷ b2 ∷ [])
+  bare = record { fields = fields; outside = outside }
+    where
+      fields : (k : ℕ) → (block_at (b1 ∷ b2 ∷ []) k).fields ≡ []
+      fields zero = refl
+      fields (suc zero) = refl
+      fields (suc (suc k)) = refl
+
+      outside : (k a : ℕ) → is_inside (block_at (b1 ∷ b2 ∷ []) k).owner a ≡ false
+      outside zero a = refl
+      outside (suc zero) a = refl
+      outside (suc (suc k)) a = refl
+
+  pub held_now : IsHeld bs → IsHeld bs'
+  held_now h = held_append bs (b1 ∷ b2 ∷ []) bare h
 
   pub long_now : length bs' ≡ n + 2
   long_now = length-append bs (b1 ∷ b2 ∷ [])
@@ -165,3 +184,19 @@ module _ (p : ProgramSeen) (bs : List Block) (self : ℕ) (c : made.Channel) (he
         (same_contract c.contract.0 d Exp (sym kind2 ∙ (ap (λ (i : ℕ). stateless (block_at bs' i).kind) (sym e) ∙ is))) second_fits))
         (places j past within)) (cases_lt j n);
   }
+
+  -- an end holds nothing
+  empty_end : (j : ℕ) (b : Block) → block_at bs' j ≡ b → fields_of p b.kind ≡ [] → b.fields ≡ []
+      → AreDeclared bs' (fields_of p (block_at bs' j).kind) (block_at bs' j).fields
+  empty_end j b is kinds fields =
+      subst (λ (x : Block). AreDeclared bs' (fields_of p x.kind) x.fields) (sym is)
+      (subst (λ (ks : List Kind). AreDeclared bs' ks b.fields) (sym kinds)
+      (subst (λ (xs : List ℕ). AreDeclared bs' [] xs) (sym fields) tt))
+
+  pub declared_now : IsHeld bs → FieldsDeclared p bs → FieldsDeclared p bs'
+  declared_now h were j within lives = ⊎_elim
+      (λ short. fields_kept p bs bs' j h (same_append p bs (b1 ∷ b2 ∷ [])) were short lives)
+      (λ past. ⊎_elim
+      (λ e. empty_end j b1 (ap (block_at bs') e ∙ at1) refl refl)
+      (λ e. empty_end j b2 (ap (block_at bs') e ∙ at2) refl refl)
+      (places j past within)) (cases_lt j n)

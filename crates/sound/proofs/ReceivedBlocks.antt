@@ -12,16 +12,19 @@ use Rattle.contracts.specs.Bounds.{sign_to}
 use Rattle.contracts.specs.TwoEnds.{Leads}
 use Rattle.rules.specs.Endpoints.{brought}
 use Rattle.machine.specs.Blocks.{received_block}
-use Rattle.machine.specs.World.{no_kind, MessageHeld, Block, World, block_at, owns, freed, is_process, is_queue, is_freed, is_empty}
+use Rattle.machine.specs.Heaps.{IsHeld}
+use Rattle.machine.specs.World.{no_kind, MessageHeld, Block, World, block_at, owns, freed, is_inside, is_process, is_queue, is_freed}
+use Rattle.machine.specs.World.{is_empty}
+use Rattle.machine.proofs.Holding.{held_same, process_no_queue, process_not_inside, queue_not_inside}
 use Rattle.machine.specs.World.{changed}
-use Rattle.machine.specs.declared.worlds.Owner.TheVariants.{Process, Queue, Channel, Freed}
+use Rattle.machine.specs.declared.worlds.Owner.TheVariants.{Process, Queue, Inside, Channel, Freed}
 use Rattle.machine.specs.declared.worlds.Owner.{Owner}
 use Rattle.sound.specs.Operands.{stateless}
 use Rattle.sound.proofs.Basics.{block_past, changed_length, queue_no_process, one_if_most, one_true, changed_all}
-use Rattle.sound.proofs.Deleting.{process_no_queue}
 use Rattle.sound.proofs.Giving.{in_given, not_in_given}
 use Rattle.sound.proofs.Invariant.{one_if, BlocksFit, StaysCutOff, in_queue, AreBrought, ChannelsFit, standing_in, AreDeclared}
-use Rattle.sound.proofs.Kept.{AreKept, brought_kept}
+use Rattle.sound.proofs.Invariant.{FieldsDeclared}
+use Rattle.sound.proofs.Kept.{AreKept, LiesInside, SameFields, all_fields_kept, brought_kept}
 use Rattle.sound.proofs.Lists.{true≢false, eqb_same, eqb_apart, and_true, both_true}
 use Rattle.sound.proofs.Moving.{is_alive, ends_take, channels_move}
 use Rattle.sound.proofs.SentBlocks.{PeerIs, peer_is, process_not_freed}
@@ -29,12 +32,14 @@ use Rattle.sound.proofs.SentBlocks.{PeerIs, peer_is, process_not_freed}
 queue_not_freed : (o : Owner) (a : ℕ) → is_queue o a ≡ true → is_freed o ≡ false
 queue_not_freed (Process n) a e = absurd (cc)
 queue_not_freed (Queue n) a e = refl
+queue_not_freed (Inside n) a e = refl
 queue_not_freed Channel a e = refl
 queue_not_freed Freed a e = absurd (cc)
 
 queue_apart : (o : Owner) (a j : ℕ) → is_queue o a ≡ true → j ≢ a → is_queue o j ≡ false
 queue_apart (Process n) a j e n2 = absurd (cc)
 queue_apart (Queue n) a j e n2 = eqb_apart n j (λ s. n2 (sym s ∙ eqb-true n a e))
+queue_apart (Inside n) a j e n2 = absurd (cc)
 queue_apart Channel a j e n2 = absurd (cc)
 queue_apart Freed a j e n2 = absurd (cc)
 
@@ -81,6 +86,7 @@ module _ (p : ProgramSeen) (w : World) (self : ℕ) (h : BlocksFit p w.blocks) (
           state =
               if j == a then state' else 0;
           queue = if j == a then ms else [];
+          fields = [];
         }) e1
         ∙ ap (λ (b : Bool). record {
           kind = no_kind;
@@ -89,6 +95,7 @@ module _ (p : ProgramSeen) (w : World) (self : ℕ) (h : BlocksFit p w.blocks) (
           state = if b then state' else 0;
           queue =
               if b then ms else [];
+          fields = [];
         }) e2)
 
     owner_now : (j : ℕ) → (block_at got j).owner ≡ (if is_among m.payload j then Process self else (block_at w.blocks j).owner)
@@ -186,6 +193,31 @@ module _ (p : ProgramSeen) (w : World) (self : ℕ) (h : BlocksFit p w.blocks) (
     not_me : (j x : ℕ) → is_queue (block_at w.blocks x).owner j ≡ true → x ≢ a
     not_me j x q e = true≢false q (ap (λ (n : ℕ). is_queue (block_at w.blocks n).owner j) e
         ∙ process_no_queue (block_at w.blocks a).owner self j owned)
+
+    -- what lies in a block, and in which, stays so
+    inside_now : (j b : ℕ) → is_inside (block_at got j).owner b ≡ is_inside (block_at w.blocks j).owner b
+    inside_now j b = ap (λ (o : Owner). is_inside o b) (owner_now j) ∙ by (is_among m.payload j) refl
+      where
+        by : (t : Bool) → is_among m.payload j ≡ t
+            → is_inside (if t then Process self else (block_at w.blocks j).owner) b ≡ is_inside (block_at w.blocks j).owner b
+        by true e = sym (queue_not_inside (block_at w.blocks j).owner a b (queued j e))
+        by false e = refl
+
+    pub held_now : IsHeld got
+    held_now = held_same w.blocks got (λ j. ap (λ (b : Block). b.fields) (at j)) inside_now h.held
+
+    pub fields_now : SameFields p w.blocks got
+    fields_now = record {
+      cut = cut_now;
+      kept = kept_now (LiesInside w.blocks) (λ j k e. true≢false k.1 (ap (λ (n : ℕ). is_inside (block_at w.blocks n).owner k.0) e
+          ∙ process_not_inside (block_at w.blocks a).owner self k.0 owned));
+      kinds = λ j short. ap (λ (b : Block). b.kind) (at j);
+      lives = λ j short l. sym (freed_now j) ∙ l;
+      fields = λ j short l. ap (λ (b : Block). b.fields) (at j);
+    }
+
+    pub declared_now : FieldsDeclared p w.blocks → FieldsDeclared p got
+    declared_now were = all_fields_kept p w.blocks got h.held fields_now long_now were
 
     queued_apart : (j x : ℕ) → 0 < in_queue x (block_at w.blocks j).queue → x ≢ a
     queued_apart j x some = not_me j x (one_true (is_queue (block_at w.blocks x).owner j) (subst (λ (n : ℕ). 0 < n) (h.queues j x) some))

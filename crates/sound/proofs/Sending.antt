@@ -52,8 +52,7 @@ use Rattle.sound.proofs.Lists.{true≢false, eqb_same, not_false, each_append, l
 use Rattle.sound.proofs.Edges.{end_leads}
 use Rattle.sound.proofs.Moving.{EndsAre, is_alive, ends_send, alive_false}
 use Rattle.sound.proofs.Quiet.{contains_first, own_holds}
-use Rattle.sound.proofs.SentBlocks.{peer_is, process_not_freed, sent, at, cut_now, kept_now, state_mine, counted_now, others_now}
-use Rattle.sound.proofs.SentBlocks.{channels_now, queues_now, brought_now}
+use Rattle.sound.proofs.SentBlocks.{peer_is, process_not_freed, sent, at, cut_now, kept_now, state_mine, counted_now, others_now, channels_now, queues_now, brought_now, held_now, declared_now}
 use Rattle.sound.proofs.Here.{IsGood, tested_good, test_holds, Here, owned_is}
 use Rattle.sound.specs.Queues.{other}
 use Rattle.machine.specs.Instructions.{event_of, argument_tests, send_tests, send_from, edge_out, has_room, is_own}
@@ -178,14 +177,14 @@ room_for : NeverLonger → (p : ProgramSeen) (bound : Bounds) → IsSoundProgram
     → Leads x.parts.edges record { 0 = b.state } record { 0 = m.message } (sign_from side) record { 0 = q' }
     → length peer.queue < bound c (other side)
 room_for longer p bound sound x side c there b peer m q' e leads =
-    let b' : Block = record { kind = b.kind; owner = b.owner; peer = b.peer; state = q'; queue = b.queue } in
+    let b' : Block = record { kind = b.kind; owner = b.owner; peer = b.peer; state = q'; queue = b.queue; fields = b.fields } in
     let peer' : Block = record {
       kind = peer.kind;
       owner = peer.owner;
       peer = peer.peer;
       state = peer.state;
-      queue =
-          peer.queue ++ m ∷ [];
+      queue = peer.queue ++ m ∷ [];
+      fields = peer.fields;
     } in
     let f = ends_send p x side b peer b' peer' true m q' e leads refl refl refl (λ l. refl) in
     let most = longer x.parts f.n f.ends (sign_to (other side)) (bound c (other side)) (sound.whole c x there) (sound.sound c x there)
@@ -394,6 +393,8 @@ good_send p bound w self choice f rest m longer sound place e message payloads n
         channels = channels_now p w self hb a state' msg end_k.c end_k.side o.owned o.leaf.there kind_a mine once moves;
         queues = queues_now p w self hb a state' msg end_k.c end_k.side o.owned o.leaf.there kind_a mine once moves;
         brought = brought_now p w self hb a state' msg end_k.c end_k.side o.owned o.leaf.there kind_a mine once moves h.holds.brought typed;
+        held = held_now p w self hb a state' msg end_k.c end_k.side o.owned o.leaf.there kind_a mine once moves;
+        declared = declared_now p w self hb a state' msg end_k.c end_k.side o.owned o.leaf.there kind_a mine once moves h.holds.declared;
       }),
       cut',
     ))

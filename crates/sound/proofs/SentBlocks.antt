@@ -13,15 +13,18 @@ use Rattle.contracts.specs.Leaving.{sign_from}
 use Rattle.contracts.specs.TwoEnds.{Leads}
 use Rattle.rules.specs.Endpoints.{brought}
 use Rattle.machine.specs.Blocks.{sent_block}
-use Rattle.machine.specs.World.{no_kind, MessageHeld, Block, World, block_at, owns, freed, cut_off, is_process, is_queue, is_freed}
+use Rattle.machine.specs.Heaps.{IsHeld}
+use Rattle.machine.specs.World.{no_kind, MessageHeld, Block, World, block_at, owns, freed, cut_off, is_inside, is_process, is_queue}
+use Rattle.machine.specs.World.{is_freed}
+use Rattle.machine.proofs.Holding.{held_same, process_no_queue, process_not_inside}
 use Rattle.machine.specs.World.{is_empty, changed}
-use Rattle.machine.specs.declared.worlds.Owner.TheVariants.{Process, Queue, Channel, Freed}
+use Rattle.machine.specs.declared.worlds.Owner.TheVariants.{Process, Queue, Inside, Channel, Freed}
 use Rattle.machine.specs.declared.worlds.Owner.{Owner}
 use Rattle.sound.specs.Operands.{stateless}
 use Rattle.sound.proofs.Basics.{changed_length, process_apart, owns_there, one_true, changed_all}
-use Rattle.sound.proofs.Deleting.{process_no_queue}
 use Rattle.sound.proofs.Invariant.{one_if, BlocksFit, StaysCutOff, in_queue, AreBrought, ChannelsFit, standing_in, AreDeclared}
-use Rattle.sound.proofs.Kept.{AreKept, brought_kept}
+use Rattle.sound.proofs.Invariant.{FieldsDeclared}
+use Rattle.sound.proofs.Kept.{AreKept, LiesInside, SameFields, all_fields_kept, brought_kept}
 use Rattle.sound.proofs.Lists.{true≢false, eqb_same, eqb_apart, and_true, both_true, each_append}
 use Rattle.sound.proofs.Moving.{EndsAre, is_alive, ends_send, channels_move, kind_apart, end_at, alive_false}
 use Rattle.sound.specs.Queues.{other}
@@ -57,6 +60,7 @@ peer_is p bs a c Exp h within kind =
 pub process_not_freed : (o : Owner) (q : ℕ) → is_process o q ≡ true → is_freed o ≡ false
 process_not_freed (Process n) q e = refl
 process_not_freed (Queue n) q e = refl
+process_not_freed (Inside n) q e = refl
 process_not_freed Channel q e = refl
 process_not_freed Freed q e = absurd (cc)
 
@@ -71,6 +75,10 @@ handed_process : (has gone : Bool) (to q : ℕ) (o : Owner) → is_process (if h
 handed_process true true to q o = refl
 handed_process true false to q o = refl
 handed_process false gone to q o = refl
+
+handed_inside : (gone : Bool) (to b : ℕ) → is_inside (handed_to gone to) b ≡ false
+handed_inside true to b = refl
+handed_inside false to b = refl
 
 handed_freed : (has gone : Bool) (to : ℕ) (o : Owner) → is_freed (if has then handed_to gone to else o) ≡ not has && is_freed o
 handed_freed true true to o = refl
@@ -112,6 +120,7 @@ module _ (p : ProgramSeen) (w : World) (self : ℕ) (h : BlocksFit p w.blocks) (
           state =
               if j == a then state' else 0;
           queue = if (j == to) && not gone then [] ++ m ∷ [] else [];
+          fields = [];
         }) e1
         ∙ (ap (λ (b : Bool). record {
           kind = no_kind;
@@ -120,6 +129,7 @@ module _ (p : ProgramSeen) (w : World) (self : ℕ) (h : BlocksFit p w.blocks) (
           state = if b then state' else 0;
           queue =
               if (j == to) && not gone then [] ++ m ∷ [] else [];
+          fields = [];
         }) e2
         ∙ ap (λ (b : Bool). record {
           kind = no_kind;
@@ -128,6 +138,7 @@ module _ (p : ProgramSeen) (w : World) (self : ℕ) (h : BlocksFit p w.blocks) (
           state = 0;
           queue =
               if b && not gone then [] ++ m ∷ [] else [];
+          fields = [];
         }) e3))
 
     owner_now : (j : ℕ) → (block_at sent j).owner ≡ (if is_among m.payload j then handed_to gone to else (block_at w.blocks j).owner)
@@ -268,6 +279,31 @@ module _ (p : ProgramSeen) (w : World) (self : ℕ) (h : BlocksFit p w.blocks) (
             other_queue n true f =
                 ap one_if (given_no_queue x j f ∙ (sym (eqb_apart to j (λ s. n (sym s))) ∙ sym (owner_is false true e f)))
             other_queue n false f = sym (ap one_if (owner_is false false e f))
+
+    -- what lies in a block, and in which, stays so
+    inside_now : (j b : ℕ) → is_inside (block_at sent j).owner b ≡ is_inside (block_at w.blocks j).owner b
+    inside_now j b = ap (λ (o : Owner). is_inside o b) (owner_now j) ∙ by (is_among m.payload j) refl
+      where
+        by : (t : Bool) → is_among m.payload j ≡ t
+            → is_inside (if t then handed_to gone to else (block_at w.blocks j).owner) b ≡ is_inside (block_at w.blocks j).owner b
+        by true e = handed_inside gone to b ∙ sym (process_not_inside (block_at w.blocks j).owner self b (mine j e))
+        by false e = refl
+
+    pub held_now : IsHeld sent
+    held_now = held_same w.blocks sent (λ j. ap (λ (b : Block). b.fields) (at j)) inside_now h.held
+
+    pub fields_now : SameFields p w.blocks sent
+    fields_now = record {
+      cut = cut_now;
+      kept = kept_now (LiesInside w.blocks) (λ j k e. true≢false k.1 (ap (λ (n : ℕ). is_inside (block_at w.blocks n).owner k.0) e
+          ∙ process_not_inside (block_at w.blocks a).owner self k.0 owned));
+      kinds = λ j short. ap (λ (b : Block). b.kind) (at j);
+      lives = λ j short l. sym (freed_now j) ∙ l;
+      fields = λ j short l. ap (λ (b : Block). b.fields) (at j);
+    }
+
+    pub declared_now : FieldsDeclared p w.blocks → FieldsDeclared p sent
+    declared_now were = all_fields_kept p w.blocks sent h.held fields_now long_now were
 
     queued_apart : (j x : ℕ) → 0 < in_queue x (block_at w.blocks j).queue → x ≢ a
     queued_apart j x some e =

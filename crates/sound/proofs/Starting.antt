@@ -1,6 +1,6 @@
 -- Start: a new process takes what it is given.
 use Rattle.std.proofs.Common.{◌≡◌, ◌≢◌, ◌==◌, ℕ, zero, suc, ◌+◌, ◌<◌, Bool, true, false, List, [], ◌∷◌, ◌++◌, Some, length, map, refl}
-use Rattle.std.proofs.Common.{sym, ap, ◌∙◌, subst, arith, inl, ⊎_elim, set}
+use Rattle.std.proofs.Common.{sym, ap, ◌∙◌, subst, arith, ⊎_elim, set}
 use Rattle.std.proofs.lemmas.Bool.{cases_Bool, cases_eq}
 use Rattle.std.proofs.lemmas.List.{get_or-set_same, get_or-set_other, length-set}
 use Rattle.std.specs.Option.{option_map_or}
@@ -28,7 +28,7 @@ use Rattle.analyse.specs.Reach.{Reached}
 use Rattle.machine.specs.Blocks.{handed}
 use Rattle.machine.specs.Frames.{method_at, filled, entered_at, addresses}
 use Rattle.machine.specs.Outcomes.{Moved, Bounds}
-use Rattle.machine.specs.World.{no_kind, MessageHeld, Block, Frame, World, block_at, stack_at, read, owns, freed, is_process, is_empty}
+use Rattle.machine.specs.World.{no_kind, Block, Frame, World, block_at, stack_at, read, owns, is_process}
 use Rattle.machine.specs.World.{changed, let_go}
 use Rattle.machine.specs.declared.worlds.Owner.TheVariants.{Process, Channel}
 use Rattle.machine.specs.declared.worlds.Owner.{Owner}
@@ -39,12 +39,13 @@ use Rattle.sound.proofs.Basics.{changed_length, process_apart, stack_there, chan
 use Rattle.sound.proofs.Calling.{arguments_hold, none_taken, top_once, top_owned, go_stays, claims_own, entry_reached}
 use Rattle.sound.proofs.Checks.{Passed, all_pass, passed_goes, passed_left, passed_right, number}
 use Rattle.sound.proofs.Entering.{args_fit, entered_all, given_of}
-use Rattle.sound.proofs.HandedBlocks.{freed_handed, handed_fits}
+use Rattle.sound.proofs.HandedBlocks.{cut_handed, handed_brought, handed_fits, handed_same, kept_handed}
 use Rattle.sound.proofs.Giving.{given_leaves, given_own, given_some}
-use Rattle.sound.proofs.Invariant.{RowFits, one_if, standing, waiting, held, RestFits, Holds, StaysCutOff, in_queue, AreBrought, TopFits}
-use Rattle.sound.proofs.Invariant.{StackFits, IsLast, BlocksFit, blocks_fit}
-use Rattle.sound.proofs.Kept.{LentStays, AreKept, row_kept, brought_kept, some_same, rest_above, rest_kept, stack_kept, went}
-use Rattle.sound.proofs.Lists.{true≢false, eqb_same, eqb_apart, each_map, and_true, both_true}
+use Rattle.sound.proofs.Invariant.{RowFits, one_if, standing, waiting, held, RestFits, Holds, StaysCutOff, AreBrought, TopFits}
+use Rattle.sound.proofs.Invariant.{StackFits, IsLast, BlocksFit, FieldsDeclared, blocks_fit}
+use Rattle.sound.proofs.Kept.{LentStays, AreKept, all_fields_kept, row_kept, some_same, rest_above, rest_kept, stack_kept}
+use Rattle.sound.proofs.Kept.{went}
+use Rattle.sound.proofs.Lists.{true≢false, eqb_same, eqb_apart, each_map}
 use Rattle.sound.proofs.Quiet.{contains_first}
 use Rattle.sound.proofs.Here.{IsGood, tested_good, Here}
 use Rattle.machine.specs.Instructions.{event_of, argument_tests}
@@ -74,7 +75,14 @@ module _ (p : ProgramSeen) (w : World) (self : ℕ) (h : Holds p w) (given : Lis
 
   at : (j : ℕ) → block_at taken j ≡ handed (Process fresh) given j (block_at w.blocks j)
   at j = changed_all (handed (Process fresh) given) w.blocks j (λ past.
-      ap (λ (b : Bool). record { kind = no_kind; owner = if b then Process fresh else Channel; peer = 0; state = 0; queue = [] })
+      ap (λ (b : Bool). record {
+        kind = no_kind;
+        owner = if b then Process fresh else Channel;
+        peer = 0;
+        state = 0;
+        queue = [];
+        fields = [];
+      })
       (⊎_elim (λ t. absurd (let k = owns_there w.blocks self j (mine j t) in omega arith)) (λ e. e) (cases_Bool (is_among given j))))
 
   owner_now : (j : ℕ) → (block_at taken j).owner ≡ (if is_among given j then Process fresh else (block_at w.blocks j).owner)
@@ -83,35 +91,23 @@ module _ (p : ProgramSeen) (w : World) (self : ℕ) (h : Holds p w) (given : Lis
   long_now : length taken ≡ length w.blocks
   long_now = changed_length (handed (Process fresh) given) w.blocks
 
-  freed_now : (j : ℕ) → freed taken j ≡ freed w.blocks j
-  freed_now = freed_handed p w.blocks taken self given (Process fresh) (blocks_fit p w h) mine refl (λ a. refl) long_now at
-
   pub kept_now : (P : ℕ → Type 0) → AreKept w.blocks taken P
-  kept_now P j some short =
-      record {
-        there = let e = changed_length (handed (Process fresh) given) w.blocks in omega arith;
-        kind = ap (λ (b : Block). b.kind)
-            (at j);
-        state = inl (ap (λ (b : Block). b.state) (at j));
-      }
+  kept_now = kept_handed p w.blocks taken self given (Process fresh) (blocks_fit p w h) mine refl (λ a. refl) long_now at
 
   pub cut_now : StaysCutOff w.blocks taken
-  cut_now = record {
-    long = let e = changed_length (handed (Process fresh) given) w.blocks in omega arith;
-    each = λ j short x.
-        let k = and_true (freed w.blocks (block_at w.blocks j).peer) (is_empty (block_at w.blocks j).queue) x in
-        both_true (freed taken (block_at taken j).peer) (is_empty (block_at taken j).queue)
-        (ap (freed taken) (ap (λ (b : Block). b.peer) (at j)) ∙ (freed_now (block_at w.blocks j).peer ∙ k.0))
-        (ap (λ (b : Block). is_empty b.queue) (at j) ∙ k.1);
-  }
+  cut_now = cut_handed p w.blocks taken self given (Process fresh) (blocks_fit p w h) mine refl (λ a. refl) long_now at
 
   fits_now : BlocksFit p taken
   fits_now = handed_fits p w.blocks taken self given (Process fresh) (blocks_fit p w h) mine refl (λ a. refl) long_now at
+      (λ b. refl)
+
+  declared_now : FieldsDeclared p taken
+  declared_now = all_fields_kept p w.blocks taken h.held
+      (handed_same p w.blocks taken self given (Process fresh) (blocks_fit p w h) mine refl (λ a. refl) long_now at)
+      long_now h.declared
 
   brought_now : (j : ℕ) → AreBrought p taken (block_at taken j).queue
-  brought_now j = subst (λ (q : List MessageHeld). AreBrought p taken q) (sym (ap (λ (b : Block). b.queue) (at j)))
-      (brought_kept p w.blocks taken (block_at w.blocks j).queue cut_now (kept_now (λ x. 0 < in_queue x (block_at w.blocks j).queue))
-      (h.brought j))
+  brought_now = handed_brought p w.blocks taken self given (Process fresh) (blocks_fit p w h) mine refl (λ a. refl) long_now at h.brought
 
   owns_now : (q j : ℕ) → owns taken q j ≡ (if is_among given j then fresh == q else owns w.blocks q j)
   owns_now q j = ap (λ (o : Owner). is_process o q) (owner_now j) ∙ by (is_among given j)
@@ -140,6 +136,8 @@ module _ (p : ProgramSeen) (w : World) (self : ℕ) (h : Holds p w) (given : Lis
     channels = fits_now.channels;
     queues = fits_now.queues;
     brought = brought_now;
+    held = fits_now.held;
+    declared = declared_now;
     stacks = λ q. ⊎_elim (λ e. subst (λ (s : List Frame). StackFits p taken s) (sym (at_mine q e)) (
       record { m = m; there = there; row = row'; reached = reached; fits = fits },
       rest_above p taken f

@@ -46,7 +46,8 @@ use Rattle.sound.proofs.Invariant.{HasLeaf, standing, BlocksFit, blocks_fit, Sta
 use Rattle.sound.proofs.Kept.{lent_stays_same, on_world, goes_on, AreKept, some_same}
 use Rattle.sound.proofs.Lists.{true≢false, each_map, both_true, each_contains}
 use Rattle.sound.proofs.Quiet.{contains_first, stays_same, same_blocks}
-use Rattle.sound.proofs.ReceivedBlocks.{got, at, cut_now, kept_now, state_mine, channels_now, queues_now, brought_now, others_now}
+use Rattle.sound.proofs.ReceivedBlocks.{got, at, cut_now, kept_now, state_mine, channels_now, queues_now, brought_now, held_now}
+use Rattle.sound.proofs.ReceivedBlocks.{declared_now, others_now}
 use Rattle.sound.proofs.ReceivedBlocks.{counted_now, typed}
 use Rattle.sound.proofs.SentBlocks.{process_not_freed}
 use Rattle.sound.proofs.Sending.{EndIs, end_is, sent_fits}
@@ -263,6 +264,9 @@ module _ (p : ProgramSeen) (bound : Bounds) (w : World) (self choice : ℕ) (f :
                   queues = queues_now p w self hb own.at state' y ys end_k.c end_k.side own.owned own.leaf.there kind_a was leads;
                   brought = brought_now p w self hb own.at state' y ys end_k.c end_k.side own.owned own.leaf.there kind_a was leads
                       h.holds.brought;
+                  held = held_now p w self hb own.at state' y ys end_k.c end_k.side own.owned own.leaf.there kind_a was leads;
+                  declared = declared_now p w self hb own.at state' y ys end_k.c end_k.side own.owned own.leaf.there kind_a was leads
+                      h.holds.declared;
                 }),
             cut',
           )
