@@ -91,14 +91,7 @@ fn a_switch_goes_the_same_ways_with_rows_to_spare(rt: HostRuntime) -> Result<(),
     let (point, mut row) = entry(rt.alloc(), &program, MethodId(0))?;
     let mut spare = Spare::new(rt.alloc());
     for _ in 0..2 {
-        let onward = step_in_place(
-            rt.alloc(),
-            &program,
-            MethodId(0),
-            point,
-            &mut row,
-            &mut spare,
-        )?;
+        let onward = step_in_place(&program, MethodId(0), point, &mut row, &mut spare)?;
         match onward {
             Onward::Ways(ways) => {
                 assert!(rt; are_ways(&ways));

@@ -3,7 +3,8 @@
 use crate::steps::{FREED_AND_READ, only};
 use intern::{code_of, leaf_at};
 use program::{MethodId, VarId};
-use rules::{Leaf, Onward, Row, Spare, Transfer, entry, step_in_place, transfer_at};
+use rules::{Leaf, Onward, Outcome, Row, Spare, Transfer, entry, step, step_in_place, transfer_at};
+use source::{Code, Place};
 use std::alloc::Global;
 use std::test::Fail;
 
@@ -71,18 +72,30 @@ fn a_step_in_place_changes_its_row(rt: HostRuntime) -> Result<(), Fail> {
     let program = only(rt.alloc(), FREED_AND_READ)?;
     let (point, mut row) = entry(rt.alloc(), &program, MethodId(0))?;
     let mut spare = Spare::new(rt.alloc());
-    match step_in_place(
-        rt.alloc(),
-        &program,
-        MethodId(0),
-        point,
-        &mut row,
-        &mut spare,
-    )? {
+    match step_in_place(&program, MethodId(0), point, &mut row, &mut spare)? {
         Onward::Changed(behind) => assert!(rt; behind == 2),
         _ => assert!(rt; false),
     }
     assert!(rt; row.leaves() == [Leaf::Nothing, Leaf::Block].as_slice());
+    Ok(())
+}
+
+#[test]
+fn a_breach_has_a_finding(rt: HostRuntime) -> Result<(), Fail> {
+    let program = only(rt.alloc(), FREED_AND_READ)?;
+    let leaves = [Leaf::Nothing, Leaf::Nothing];
+    let Some(row) = Row::of(Vec::from_slice(rt.alloc(), leaves.as_slice())?) else {
+        return Err(Fail::from("no row"));
+    };
+    match step(rt.alloc(), &program, MethodId(0), 1, &row)? {
+        Outcome::Found(breach) => {
+            let finding = program.finding(rt.alloc(), MethodId(0), breach)?;
+            assert!(rt; finding.place == Place { line: 3, col: 22 });
+            assert!(rt; finding.code == Code::A01);
+            assert!(rt; finding.text.as_str() == "q not owned");
+        }
+        Outcome::Next(_) => assert!(rt; false),
+    }
     Ok(())
 }
 

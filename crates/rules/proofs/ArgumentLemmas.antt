@@ -7,7 +7,7 @@ use Rattle.std.specs.Ordering.{nat_cmp}
 use Rattle.std.proofs.lemmas.Bool.{cases_lt}
 use Rattle.std.proofs.lemmas.Bool.Decides.{nat_tests}
 use Rattle.std.proofs.lemmas.List.{at_drop_all, at_drop_more, drop_all}
-use Rattle.source.specs.declared.finding.Finding.{Finding}
+use Rattle.source.specs.Findings.{FindingParts}
 use Rattle.program.specs.Lists.{is_among}
 use Rattle.program.specs.Methods.{MethodSeen}
 use Rattle.program.specs.declared.call.Argument.{Argument}
@@ -18,6 +18,7 @@ use Rattle.rules.specs.Mentions.{name_of}
 use Rattle.rules.specs.Outcomes.{Check, Pair, checked, refused}
 use Rattle.rules.specs.Repeats.{first_again, told_again}
 use Rattle.rules.specs.Texts.{twice}
+use Rattle.rules.specs.declared.breach.Breach.{Breach}
 use Rattle.rules.specs.declared.row.Leaf.{Leaf}
 
 -- so many arguments were looked at, the variables of these are in the set, and none of them was given before
@@ -91,8 +92,8 @@ again_is m earlier (a ∷ arguments) more after =
     one m (is_among earlier x.variable.0) x (given_before m (x.variable.0 ∷ earlier) arguments) more (first_again (x.variable.0 ∷ earlier) arguments) after (again_is m (x.variable.0 ∷ earlier) arguments more after)
 
 -- what was found stands for the checks that none was given before
-pub again_stands : (m : MethodSeen) (earlier : List ℕ) (arguments : List Argument) (again : Option Mention) (found : Option Finding) → again ≡ first_again earlier arguments → check_seen found ≡ told_again m again → StandsFor found (given_before m earlier arguments)
-again_stands m earlier arguments again found is told =
+pub again_stands : (m : MethodSeen) (earlier : List ℕ) (arguments : List Argument) (again : Option Mention) (says : Breach → FindingParts) (found : Option Breach) → again ≡ first_again earlier arguments → check_seen says found ≡ told_again m again → StandsFor says found (given_before m earlier arguments)
+again_stands m earlier arguments again says found is told =
     record { all = λ more after. again_is m earlier arguments more after ∙ ap (λ a. checked (told_again m a ∷ more) after) (sym is) ∙ ap (λ f. checked (f ∷ more) after) (sym told) }
 
 -- of these checks only those are left
@@ -103,24 +104,25 @@ pub record Left (checks left : List Check) : Type 0 where
 pub left_all : (checks : List Check) → Left checks checks
 left_all checks = record { all = λ more after. refl }
 
-left_behind : (checks before left rest : List Check) (found : Option Finding) → left ≡ before ++ rest → StandsFor found before → Left checks left
-    → (more : List Check) (after : List Pair) → checked (checks ++ more) after ≡ checked (check_seen found ∷ (rest ++ more)) after
-left_behind checks before left rest found is stands h more after =
-    h.all more after ∙ ap (λ l. checked (l ++ more) after) is ∙ ap (λ l. checked l after) (append_assoc before rest more) ∙ stands.all (rest ++ more) after
+module _ (says : Breach → FindingParts) where
+  left_behind : (checks before left rest : List Check) (found : Option Breach) → left ≡ before ++ rest → StandsFor says found before → Left checks left
+      → (more : List Check) (after : List Pair) → checked (checks ++ more) after ≡ checked (check_seen says found ∷ (rest ++ more)) after
+  left_behind checks before left rest found is stands h more after =
+      h.all more after ∙ ap (λ l. checked (l ++ more) after) is ∙ ap (λ l. checked l after) (append_assoc before rest more) ∙ stands.all (rest ++ more) after
 
--- the first of those that are left went well
-pub left_less : (checks before left rest : List Check) (found : Option Finding) → left ≡ before ++ rest → found ≡ None → StandsFor found before → Left checks left → Left checks rest
-left_less checks before left rest found is none stands h =
-    record { all = λ more after. left_behind checks before left rest found is stands h more after ∙ ap (λ f. checked (check_seen f ∷ (rest ++ more)) after) none }
+  -- the first of those that are left went well
+  pub left_less : (checks before left rest : List Check) (found : Option Breach) → left ≡ before ++ rest → found ≡ None → StandsFor says found before → Left checks left → Left checks rest
+  left_less checks before left rest found is none stands h =
+      record { all = λ more after. left_behind checks before left rest found is stands h more after ∙ ap (λ f. checked (check_seen says f ∷ (rest ++ more)) after) none }
 
--- the first of those that are left failed
-pub left_found : (checks before left rest : List Check) (found : Option Finding) (finding : Finding) → left ≡ before ++ rest → found ≡ Some finding → StandsFor found before → Left checks left → StandsFor (Some finding) checks
-left_found checks before left rest found finding is some stands h =
-    record { all = λ more after. left_behind checks before left rest found is stands h more after ∙ ap (λ f. checked (check_seen f ∷ (rest ++ more)) after) some }
+  -- the first of those that are left failed
+  pub left_found : (checks before left rest : List Check) (found : Option Breach) (breach : Breach) → left ≡ before ++ rest → found ≡ Some breach → StandsFor says found before → Left checks left → StandsFor says (Some breach) checks
+  left_found checks before left rest found breach is some stands h =
+      record { all = λ more after. left_behind checks before left rest found is stands h more after ∙ ap (λ f. checked (check_seen says f ∷ (rest ++ more)) after) some }
 
--- none is left
-pub left_none : (checks left : List Check) → left ≡ [] → Left checks left → StandsFor None checks
-left_none checks left is h = record { all = λ more after. h.all more after ∙ ap (λ l. checked (l ++ more) after) is }
+  -- none is left
+  pub left_none : (checks left : List Check) → left ≡ [] → Left checks left → StandsFor says None checks
+  left_none checks left is h = record { all = λ more after. h.all more after ∙ ap (λ l. checked (l ++ more) after) is }
 
 -- what is claimed of one argument more is gone
 pub claimed_more : (row less : List Leaf) (arguments : List Argument) (done : ℕ) (d : Argument) → done < length arguments → less ≡ claimed row (slice_index_or arguments done d ∷ []) → claimed less (drop (done + 1) arguments) ≡ claimed row (drop done arguments)

@@ -9,6 +9,7 @@ pub mod PayloadLemmas
 pub mod CallLemmas
 pub mod SwitchLemmas
 pub mod BackLemmas
+pub mod BreachLemmas
 pub mod RepeatLemmas
 pub mod EndLemmas
 pub mod KindLemmas

@@ -1,6 +1,6 @@
 -- Methods and their graphs, by number.
 use Rattle.std.proofs.Common.{◌≡◌, ℕ, zero, suc, ◌<◌, List, [], ◌∷◌, length, map, get_or, refl, sym, ap, ◌∙◌, arith, Option, Some, None, IfSome, IsSomeAnd, slice_get}
-use Rattle.std.specs.Option.{option_map}
+use Rattle.std.specs.Option.{option_map, option_map_or}
 use Rattle.std.proofs.lemmas.Option.{slice_get-map}
 use Rattle.std.proofs.lemmas.Simd.{map-map}
 use Rattle.flow.specs.declared.graph.Graph.{Graph}
@@ -13,9 +13,11 @@ use Rattle.program.specs.declared.method.Method.{Method}
 use Rattle.program.specs.Methods.{MethodSeen, method_seen, variable_seen}
 use Rattle.program.specs.Programs.{ProgramSeen}
 use Rattle.rules.specs.declared.row.Leaf.{Leaf}
+use Rattle.rules.specs.Breaches.{breach_in, breach_seen}
 use Rattle.rules.specs.Onwards.{condition_at}
 use Rattle.rules.specs.Outcomes.{Goes, Pair}
 use Rattle.rules.specs.RuleTable.{ways}
+use Rattle.rules.specs.Texts.{no_result}
 use Rattle.rules.specs.Steps.{entry_leaf, method_entry, method_outcome, outcome, point_outcome}
 
 -- what stands at one place in two rows that are the same
@@ -28,6 +30,10 @@ same_at f g (a ∷ xs) (y ∷ ys) (suc n) x e h is = same_at f g xs ys n x (cc) 
 
 pub one_method : (a b : MethodSeen) → Path (Option MethodSeen) (Some a) (Some b) → a ≡ b
 one_method a b e = cc
+
+-- what breaches say in the method of a number
+pub said_in : (p : ProgramSeen) (n : ℕ) (m : MethodSeen) → slice_get p.methods n ≡ Some m → breach_in p n ≡ breach_seen p m
+said_in p n m is = ap (λ o breach. option_map_or (λ m. breach_seen p m breach) o (no_result breach.place)) is
 
 -- the pair with which a method begins
 pub entry_is : (o : Option MethodSeen) (m : Method) (g : Graph) (leaves : List Leaf) → o ≡ Some (method_seen m) → IsSomeAnd o (λ s. graph_seen g ≡ graph_of s) → leaves ≡ map (λ v. entry_leaf v.role v.kind) m.variables.items → (g.first, leaves) ≡ method_entry o

@@ -3,8 +3,7 @@ use Rattle.std.specs.Prelude.{◌≡◌, ◌<◌, ◌≤◌, ℕ, true, false, l
 use Rattle.std.specs.BTreeSet.{BTreeSet, contains}
 use Rattle.std.specs.Option.{option_map}
 use Rattle.std.specs.Ordering.{nat_cmp}
-use Rattle.source.specs.Findings.{finding_parts}
-use Rattle.source.specs.declared.finding.Finding.{Finding}
+use Rattle.source.specs.Findings.{FindingParts}
 use Rattle.program.specs.Lists.{is_among}
 use Rattle.program.specs.Methods.{MethodSeen, VariableSeen}
 use Rattle.program.specs.Scopes.{outer_of}
@@ -12,10 +11,12 @@ use Rattle.program.specs.declared.number.VarId.{VarId}
 use Rattle.program.specs.declared.statement.Mention.{Mention}
 use Rattle.rules.specs.Mentions.{is_kept}
 use Rattle.rules.specs.Outcomes.{Check, Pair, checked}
+use Rattle.rules.specs.declared.breach.Breach.{Breach}
 use Rattle.rules.specs.declared.row.Leaf.{Leaf}
 
-abbrev pub check_seen : Option Finding → Check
-check_seen found = option_map finding_parts found
+-- the check that found this, by what breaches say
+abbrev pub check_seen : (Breach → FindingParts) → Option Breach → Check
+check_seen says found = option_map says found
 
 -- the first of these variables that still has something, but for the one that is given
 abbrev pub first_kept : MethodSeen → List Leaf → Option Mention → List ℕ → Option ℕ
@@ -57,5 +58,5 @@ abbrev pub AreIn : List ℕ → BTreeSet ℕ → Type 0
 AreIn listed set = (q : ℕ) → contains nat_cmp set q ≡ is_among listed q
 
 -- What was found stands for these checks, whatever checks come behind them.
-pub record StandsFor (found : Option Finding) (checks : List Check) : Type 0 where
-  pub all : (more : List Check) (after : List Pair) → checked (checks ++ more) after ≡ checked (check_seen found ∷ more) after
+pub record StandsFor (says : Breach → FindingParts) (found : Option Breach) (checks : List Check) : Type 0 where
+  pub all : (more : List Check) (after : List Pair) → checked (checks ++ more) after ≡ checked (check_seen says found ∷ more) after

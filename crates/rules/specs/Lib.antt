@@ -1,4 +1,5 @@
 pub mod Arguments
+pub mod Breaches
 pub mod Checks
 pub mod Endpoints
 pub mod Ends
@@ -7,6 +8,7 @@ pub mod Mentions
 pub mod Onwards
 pub mod Outcomes
 pub mod Programs
+pub mod Reasons
 pub mod Repeats
 pub mod RuleTable
 pub mod Rows

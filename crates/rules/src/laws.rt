@@ -1,7 +1,8 @@
 //! Laws of the rule table: they hold of every program.
 
-ghost use Rattle.std.specs.Prelude.{◌≡◌, ℕ, List, All, Some, slice_get};
+ghost use Rattle.std.specs.Prelude.{◌≡◌, ◌↔◌, ℕ, List, All, Some, slice_get};
 ghost use Rattle.std.specs.Thread.{IsSync};
+ghost use Rattle.std.specs.declared.cmp.Ordering.TheVariants.{Equal};
 ghost use Rattle.program.specs.Methods.{MethodSeen};
 ghost use Rattle.program.specs.Programs.{ProgramSeen};
 ghost use Rattle.rules.specs.Outcomes.{Goes, Pair};
@@ -9,7 +10,9 @@ ghost use Rattle.rules.specs.Rows.{IsRowOf};
 ghost use Rattle.rules.specs.Steps.{entry_of, outcome};
 ghost use Rattle.rules.specs.contracts.lowered.Program as program;
 ghost use Rattle.rules.specs.contracts.repeats.Repeats as repeats;
+ghost use Rattle.rules.specs.declared.breach.Breach.{Breach as BreachSeen};
 
+use crate::breach::Breach;
 use crate::repeats::Repeats;
 use contracts::laws::threads_share_a_contract;
 use flow::laws::threads_share_a_graph;
@@ -21,6 +24,11 @@ pub fn a_leaf_for_each_variable()
         → slice_get p.methods n ≡ Some m → IsRowOf m (entry_of p n).1 }
     ensures step { (p : ProgramSeen) (n : ℕ) (m : MethodSeen) (pair : Pair) (to : List Pair)
         → slice_get p.methods n ≡ Some m → IsRowOf m pair.1 → outcome p n pair ≡ Goes to → All (λ to. IsRowOf m to.1) to }
+{}
+
+/// Two breaches compare as equal exactly if they are the same.
+pub fn equal_breaches_are_one()
+    ensures { (a b : BreachSeen) → (⟦<Breach as Ord>⟧.cmp a b ≡ Equal) ↔ (a ≡ b) }
 {}
 
 /// Threads may share a program by reference.

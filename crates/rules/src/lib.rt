@@ -1,9 +1,11 @@
-//! Rows, and the rule table: what an instruction does to a row, or the finding that it is.
+//! Rows, and the rule table: what an instruction does to a row, or what is wrong there.
 #![tactic(auto)]
 
 mod arguments;
+mod breach;
 mod checks;
 mod endpoints;
+mod findings;
 mod here;
 pub mod laws;
 mod lowered;
@@ -21,6 +23,7 @@ mod switching;
 mod table;
 mod transfer;
 
+pub use breach::{Breach, Reason};
 pub use lowered::Program;
 pub use onward::Onward;
 pub use outcome::Outcome;

@@ -1,7 +1,7 @@
 //! What a step in place comes to.
 
+use crate::breach::Breach;
 use crate::row::Row;
-use source::Finding;
 
 /// What a step in place comes to. It works on the row that it is given, which is then the row of `Changed`.
 #[derive(Drop)]
@@ -17,5 +17,5 @@ pub enum Onward {
     /// It goes on at one of these points, with that row there.
     Ways(Vec<(usize, Row)>),
     /// What is wrong there. The method does not go on.
-    Found(Finding),
+    Found(Breach),
 }

@@ -1,7 +1,7 @@
 //! What a step comes to.
 
+use crate::breach::Breach;
 use crate::row::Row;
-use source::Finding;
 
 /// What a step comes to.
 #[derive(Drop)]
@@ -9,5 +9,5 @@ pub enum Outcome {
     /// The method goes on at one of these points, with that row there; where there is none, it ends.
     Next(Vec<(usize, Row)>),
     /// What is wrong there. The method does not go on.
-    Found(Finding),
+    Found(Breach),
 }

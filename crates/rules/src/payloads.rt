@@ -1,26 +1,26 @@
 //! The checks of what is sent with a message, and what it leaves behind. A message has few parameters, so each payload is compared
 //! with those before it.
 
-ghost use Rattle.std.specs.Prelude.{◌≡◌, ◌==◌, ◌||◌, ◌∷◌, [], IfOk, map};
+ghost use Rattle.std.specs.Prelude.{◌≡◌, ◌==◌, ◌||◌, ◌∷◌, [], map};
 ghost use Rattle.std.specs.List.{list_any};
 ghost use Rattle.program.specs.Methods.{method_seen};
 ghost use Rattle.rules.specs.Arguments.{all_payloads, claimed, payload, payload_checks};
+ghost use Rattle.rules.specs.Breaches.{breach_seen, name_along};
 ghost use Rattle.rules.specs.Checks.{StandsFor, check_seen};
 ghost use Rattle.rules.specs.Endpoints.{is_wrong};
 ghost use Rattle.rules.specs.Mentions.{name_of};
 ghost use Rattle.rules.specs.Outcomes.{refused};
+ghost use Rattle.rules.specs.Programs.{seen_of};
 ghost use Rattle.rules.specs.Repeats.{first_again};
 ghost use Rattle.rules.specs.Rows.{leaf_at, leaves_of};
 ghost use Rattle.rules.specs.Texts.{wrong_for};
 
-use crate::checks::{gives_none_again, has_something, is_not_lent, name_of};
+use crate::breach::{Breach, Reason};
+use crate::checks::{gives_none_again, has_something, is_not_lent};
 use crate::endpoints::is_wrong;
 use crate::here::Here;
 use crate::row::{Leaf, Row};
-use program::{Kind, Mention, VarId};
-use source::texts::in_a_wrong_state_for;
-use source::{Finding, Memory};
-use std::alloc::Global;
+use program::{Kind, Mention, MessageId, VarId};
 
 /// Whether one of these payloads is this variable.
 fn is_among(payloads: &[Mention], variable: VarId) -> bool
@@ -48,71 +48,76 @@ fn first_again(endpoint: Mention, payloads: &[Mention]) -> Option<Mention>
     None
 }
 
-/// That what is sent with a message for a parameter of this kind is in its state.
+/// That what is sent with a message along an endpoint, for a parameter of this kind, is in its state.
 fn is_in_state_for(
-    alloc: Global,
     here: &Here<'_>,
-    message: &[u8],
+    endpoint: VarId,
+    message: MessageId,
     kind: Kind,
     mention: Mention,
-) -> Result<Option<Finding>, Memory>
-    ensures { IfOk result (λ found. check_seen found ≡ refused
+) -> Option<Breach>
+    ensures { check_seen (breach_seen (seen_of here.now.program.now) (method_seen here.now.method.now)) result ≡ refused
         (is_wrong kind (leaf_at (leaves_of here.now.row.now) mention.variable.0))
-        (wrong_for (name_of (method_seen here.now.method.now) mention.variable.0) message.now mention.place)) }
+        (wrong_for (name_of (method_seen here.now.method.now) mention.variable.0)
+        (name_along (seen_of here.now.program.now) (method_seen here.now.method.now) endpoint message) mention.place) }
 {
     if !is_wrong(kind, here.row.leaf(mention.variable)) {
-        return Ok(None);
+        return None;
     }
-    let name = name_of(here.method, mention.variable);
-    let finding = in_a_wrong_state_for(alloc, mention.place, name, message)?;
-    Ok(Some(finding))
+    let variable = mention.variable;
+    let reason = Reason::WrongFor {
+        variable,
+        endpoint,
+        message,
+    };
+    Some(Breach::at(mention.place, reason))
 }
 
-/// That what a message takes with it is not lent, there, and in the state that the message asks.
+/// That what a message takes with it along an endpoint is not lent, there, and in the state that the message asks.
 fn can_send(
-    alloc: Global,
     here: &Here<'_>,
-    message: &[u8],
+    endpoint: VarId,
+    message: MessageId,
     kind: Kind,
     mention: Mention,
-) -> Result<Option<Finding>, Memory>
-    ensures { IfOk result
-        (λ found. StandsFor found (payload_checks (method_seen here.now.method.now) (leaves_of here.now.row.now)
-        message.now kind (payload mention))) }
+) -> Option<Breach>
+    ensures { StandsFor (breach_seen (seen_of here.now.program.now) (method_seen here.now.method.now)) result
+        (payload_checks (method_seen here.now.method.now) (leaves_of here.now.row.now)
+        (name_along (seen_of here.now.program.now) (method_seen here.now.method.now) endpoint message) kind (payload mention)) }
 {
-    if let Some(finding) = is_not_lent(alloc, here.method, mention)? {
-        return Ok(Some(finding));
+    if let Some(breach) = is_not_lent(here, mention) {
+        return Some(breach);
     }
-    if let Some(finding) = has_something(alloc, here, mention)? {
-        return Ok(Some(finding));
+    if let Some(breach) = has_something(here, mention) {
+        return Some(breach);
     }
-    is_in_state_for(alloc, here, message, kind, mention)
+    is_in_state_for(here, endpoint, message, kind, mention)
 }
 
 /// The checks of what is sent along an endpoint with a message that brings these kinds.
 pub(crate) fn can_send_all(
-    alloc: Global,
     here: &Here<'_>,
     endpoint: Mention,
-    message: &[u8],
+    message: MessageId,
     kinds: &[Kind],
     payloads: &[Mention],
-) -> Result<Option<Finding>, Memory>
-    ensures { IfOk result
-        (λ found. StandsFor found
-        (all_payloads (method_seen here.now.method.now) (leaves_of here.now.row.now) endpoint message.now kinds.now
-        (map payload payloads.now))) }
+) -> Option<Breach>
+    ensures { StandsFor (breach_seen (seen_of here.now.program.now) (method_seen here.now.method.now)) result
+        (all_payloads (method_seen here.now.method.now) (leaves_of here.now.row.now) endpoint
+        (name_along (seen_of here.now.program.now) (method_seen here.now.method.now) endpoint.variable message) kinds.now
+        (map payload payloads.now)) }
 {
     let again = first_again(endpoint, payloads);
-    if let Some(finding) = gives_none_again(alloc, here.method, again)? {
-        return Ok(Some(finding));
+    if let Some(breach) = gives_none_again(here, again) {
+        return Some(breach);
     }
     for number in 0..kinds.len().min(payloads.len()) {
-        if let Some(finding) = can_send(alloc, here, message, kinds[number], payloads[number])? {
-            return Ok(Some(finding));
+        let (kind, given) = (kinds[number], payloads[number]);
+        if let Some(breach) = can_send(here, endpoint.variable, message, kind, given) {
+            return Some(breach);
         }
     }
-    Ok(None)
+    None
 }
 
 /// Takes away what is sent.

@@ -1,23 +1,22 @@
 //! The check of variables that go out of scope: they have nothing, but for the one that is given.
 
-ghost use Rattle.std.specs.Prelude.{◌≡◌, ◌<◌, ℕ, IfOk, IfSome, None, false, option_map, true};
-ghost use Rattle.source.specs.Findings.{finding_parts};
+ghost use Rattle.std.specs.Prelude.{◌≡◌, ◌<◌, ℕ, IfSome, None, false, option_map, true};
 ghost use Rattle.program.specs.Methods.{method_seen};
 ghost use Rattle.program.specs.Scopes.{outer_of};
+ghost use Rattle.rules.specs.Breaches.{breach_seen};
 ghost use Rattle.rules.specs.Checks as checks;
 ghost use Rattle.rules.specs.Checks.{AllLeadTo, IsFirst, IsPlain, LeadsTo, StandsFor};
 ghost use Rattle.rules.specs.Mentions as table;
 ghost use Rattle.rules.specs.Mentions.{given_back};
+ghost use Rattle.rules.specs.Programs.{seen_of};
 ghost use Rattle.rules.specs.Rows.{leaves_of};
 ghost use Rattle.rules.specs.Scopes.{declared_between, is_this};
-ghost use Rattle.rules.specs.Texts as texts;
 
-use crate::checks::{lends, name_of};
+use crate::breach::{Breach, Reason};
+use crate::checks::lends;
 use crate::here::Here;
 use program::{Mention, Method, VarId};
-use source::texts::still_owned;
-use source::{Finding, Memory, Place};
-use std::alloc::Global;
+use source::Place;
 
 /// Whether the mention is there and names this variable.
 fn is_named(mention: Option<Mention>, variable: VarId) -> bool
@@ -179,38 +178,19 @@ fn first_outwards(
     first
 }
 
-/// That a variable still has something at this place.
-fn told_owned(
-    alloc: Global,
-    method: &Method,
-    place: Place,
-    variable: VarId,
-) -> Result<Finding, Memory>
-    ensures { IfOk result (λ finding. finding_parts finding ≡ texts.still_owned (table.name_of (method_seen method.now) variable.0) place) }
-{
-    still_owned(alloc, place, name_of(method, variable))
-}
-
 /// That the variables which go out of scope at this place have nothing, but for the one that is given: those in scope where
 /// `last` is the last one, without those in scope where `outer` is.
 pub(crate) fn is_given_back(
-    alloc: Global,
     here: &Here<'_>,
     place: Place,
     given: Option<Mention>,
     outer: Option<VarId>,
     last: Option<VarId>,
-) -> Result<Option<Finding>, Memory>
-    ensures { IfOk result
-        (λ found. StandsFor found
+) -> Option<Breach>
+    ensures { StandsFor (breach_seen (seen_of here.now.program.now) (method_seen here.now.method.now)) result
         (given_back (method_seen here.now.method.now) (leaves_of here.now.row.now) place given
-        (declared_between (method_seen here.now.method.now) outer last))) }
+        (declared_between (method_seen here.now.method.now) outer last)) }
 {
-    match first_kept(here, given, outer, last) {
-        Some(variable) => {
-            let finding = told_owned(alloc, here.method, place, variable)?;
-            Ok(Some(finding))
-        }
-        None => Ok(None),
-    }
+    let variable = first_kept(here, given, outer, last)?;
+    Some(Breach::at(place, Reason::StillOwned(variable)))
 }

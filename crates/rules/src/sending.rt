@@ -1,21 +1,19 @@
 //! The rule table's line of a send.
 
-ghost use Rattle.std.specs.Prelude.{◌≡◌, IfOk, IfSome, MatchOption, true, false};
+ghost use Rattle.std.specs.Prelude.{◌≡◌, IfSome, MatchOption, true, false};
 ghost use Rattle.flow.specs.Graphs.{instruction_seen};
 ghost use Rattle.flow.specs.declared.graph.Instr.{Instr};
 ghost use Rattle.program.specs.Methods.{method_seen};
 ghost use Rattle.rules.specs.Arguments as table;
 ghost use Rattle.rules.specs.Arguments.{lacks_edge};
-ghost use Rattle.rules.specs.Checks.{check_seen};
-ghost use Rattle.rules.specs.Endpoints.{message_name};
+ghost use Rattle.rules.specs.Breaches.{breach_seen};
 ghost use Rattle.rules.specs.Leaves.{IsNumbered};
 ghost use Rattle.rules.specs.Onwards.{IsKept, onward_seen};
-ghost use Rattle.rules.specs.Outcomes.{refused};
 ghost use Rattle.rules.specs.Programs.{seen_of};
 ghost use Rattle.rules.specs.Rows.{leaves_of};
 ghost use Rattle.rules.specs.RuleTable.{instruction_outcome};
-ghost use Rattle.rules.specs.Texts as texts;
 
+use crate::breach::{Breach, Reason};
 use crate::checks::has_something;
 use crate::endpoints::kind_of;
 use crate::here::{Here, Site};
@@ -25,21 +23,13 @@ use crate::payloads::{can_send_all, claim_payloads};
 use crate::row::{Leaf, Row};
 use flow::Sending;
 use program::{Kind, MessageId};
-use source::texts::not_sent_here;
-use source::{Finding, Memory, Place};
-use std::alloc::Global;
 
 /// A message is sent. What it takes with it is gone, and its endpoint is in the next state, or still cut off.
-pub(crate) fn send(
-    alloc: Global,
-    site: &Site<'_>,
-    row: &mut Row,
-    sending: &Sending,
-) -> Result<Onward, Memory>
-    ensures outcome { IfOk result (λ o. onward_seen o (leaves_of row.new)
+pub(crate) fn send(site: &Site<'_>, row: &mut Row, sending: &Sending) -> Onward
+    ensures outcome { onward_seen (breach_seen (seen_of site.now.program.now) (method_seen site.now.method.now)) result (leaves_of row.new)
         ≡ instruction_outcome (seen_of site.now.program.now) (method_seen site.now.method.now) (instruction_seen (Instr.Send sending.now))
-        (leaves_of row.old)) }
-    ensures kept { IfOk result (λ o. IsKept o (leaves_of row.old) (leaves_of row.new)) }
+        (leaves_of row.old) }
+    ensures kept { IsKept result (leaves_of row.old) (leaves_of row.new) }
 {
     let here = Here {
         program: site.program,
@@ -47,25 +37,25 @@ pub(crate) fn send(
         row,
     };
     let (endpoint, message) = (sending.endpoint, sending.message);
-    if let Some(finding) = has_something(alloc, &here, endpoint)? {
-        return Ok(Onward::Found(finding));
+    if let Some(breach) = has_something(&here, endpoint) {
+        return Onward::Found(breach);
     }
-    let kind = kind_of(site.method, endpoint.variable);
-    let name = site.program.message_name(kind, message);
     let payloads = sending.payloads.as_slice();
     let kinds = site.program.brought(message);
-    if let Some(finding) = can_send_all(alloc, &here, endpoint, name, kinds, payloads)? {
-        return Ok(Onward::Found(finding));
+    if let Some(breach) = can_send_all(&here, endpoint, message, kinds, payloads) {
+        return Onward::Found(breach);
     }
+    let kind = kind_of(site.method, endpoint.variable);
     let leaf = row.leaf(endpoint.variable);
     let sent = sent_leaf(site.program, kind, message, leaf);
     let Some(after) = sent else {
-        let finding = not_sent_here(alloc, sending.place, name)?;
-        return Ok(Onward::Found(finding));
+        let endpoint = endpoint.variable;
+        let reason = Reason::NotSent { endpoint, message };
+        return Onward::Found(Breach::at(sending.place, reason));
     };
     claim_payloads(row, payloads);
     row.set(endpoint.variable, after);
-    Ok(Onward::Changed(sending.next))
+    Onward::Changed(sending.next)
 }
 
 /// What an endpoint has behind a send of the message: nothing is answered where it is in a state that does not send it.

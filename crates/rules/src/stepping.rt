@@ -1,9 +1,11 @@
 //! Steps: from a point and a row to what comes of them.
 
 ghost use Rattle.std.specs.Prelude.{◌≡◌, ◌<◌, ◌≤◌, ◌∷◌, [], All, IfOk, IfSome, IsSomeAnd, List, length, map, slice_get};
+ghost use Rattle.source.specs.Findings.{FindingParts};
 ghost use Rattle.flow.specs.Graphs.{instruction_seen};
 ghost use Rattle.flow.specs.Lowering.{graph_of};
 ghost use Rattle.program.specs.declared.limits.TheConstants.{MOST_VARIABLES};
+ghost use Rattle.rules.specs.Breaches.{breach_in};
 ghost use Rattle.rules.specs.Endpoints.{declared_leaf};
 ghost use Rattle.rules.specs.Leaves.{IsNumbered};
 ghost use Rattle.rules.specs.Onwards.{IsKept, condition_at, onward_seen};
@@ -12,6 +14,7 @@ ghost use Rattle.rules.specs.Programs.{seen_of};
 ghost use Rattle.rules.specs.Rows.{leaves_of};
 ghost use Rattle.rules.specs.RuleTable.{ways};
 ghost use Rattle.rules.specs.Steps.{entry_leaf, entry_of, outcome, outcome_seen, pair_seen};
+ghost use Rattle.rules.specs.declared.breach.Breach.{Breach as BreachSeen};
 ghost use Rattle.rules.specs.declared.row.Leaf.{Leaf as LeafSeen};
 
 use crate::endpoints::declared_leaf;
@@ -63,7 +66,7 @@ pub fn entry(alloc: Global, program: &Program, method: MethodId) -> Result<(usiz
 }
 
 /// What the instruction at a point of a method does to a row, by the rule table: the points at which the method goes on,
-/// each with its row, or the first check that fails, as its finding.
+/// each with its row, or the first check that fails, as a breach.
 ///
 /// `Memory` is answered where a growth was refused.
 pub fn step(
@@ -74,21 +77,21 @@ pub fn step(
     row: &Row,
 ) -> Result<Outcome, Memory>
     requires there { method.0 < length (seen_of program.now).methods }
-    ensures { IfOk result (λ o. outcome_seen o ≡ outcome (seen_of program.now) method.0 (point, leaves_of row.now)) }
+    ensures { IfOk result (λ o. outcome_seen (breach_in (seen_of program.now) method.0) o
+        ≡ outcome (seen_of program.now) method.0 (point, leaves_of row.now)) }
 {
     let mut after = row.copied(alloc)?;
     let mut spare = Spare::new(alloc);
-    let onward = step_in_place(alloc, program, method, point, &mut after, &mut spare)?;
+    let onward = step_in_place(program, method, point, &mut after, &mut spare)?;
     apart(alloc, onward, after)
 }
 
 /// What the instruction at a point of a method does to a row, by the rule table, as `step` has it. It works on the row in place: that
-/// is the row where the answer is `Changed`, and as it was where it is `Ends`, `Same`, `Both` or `Ways`. It takes no memory, but for a
-/// finding, and for the rows of a switch that are not there to spare.
+/// is the row where the answer is `Changed`, and as it was where it is `Ends`, `Same`, `Both` or `Ways`. It takes no memory, but for the
+/// rows of a switch that are not there to spare.
 ///
 /// `Memory` is answered where a growth was refused. The row may have any leaves then, and also where something is wrong.
 pub fn step_in_place(
-    alloc: Global,
     program: &Program,
     method: MethodId,
     point: usize,
@@ -96,7 +99,7 @@ pub fn step_in_place(
     spare: &mut Spare,
 ) -> Result<Onward, Memory>
     requires there { method.0 < length (seen_of program.now).methods }
-    ensures outcome { IfOk result (λ o. onward_seen o (leaves_of row.new)
+    ensures outcome { IfOk result (λ o. onward_seen (breach_in (seen_of program.now) method.0) o (leaves_of row.new)
         ≡ outcome (seen_of program.now) method.0 (point, leaves_of row.old)) }
     ensures kept { IfOk result (λ o. IsKept o (leaves_of row.old) (leaves_of row.new)) }
 {
@@ -107,7 +110,7 @@ pub fn step_in_place(
         repeats: program.repeats(method),
     };
     match program.graph(method).instructions.get(point) {
-        Some(instruction) => applied(alloc, &site, row, instruction, spare),
+        Some(instruction) => applied(&site, row, instruction, spare),
         None => Ok(Onward::Ends),
     }
 }
@@ -141,20 +144,20 @@ fn branches_of(instruction: &Instr) -> Option<Branches>
 
 /// An answer of a step in place as an outcome with rows of its own.
 fn apart(alloc: Global, onward: Onward, row: Row) -> Result<Outcome, Memory>
-    ensures { IfOk result (λ o. outcome_seen o ≡ onward_seen onward (leaves_of row)) }
+    ensures { IfOk result (λ o. (says : BreachSeen → FindingParts) → outcome_seen says o ≡ onward_seen says onward (leaves_of row)) }
 {
     match onward {
         Onward::Ends => Ok(Outcome::Next(Vec::new(alloc))),
         Onward::Same(point) | Onward::Changed(point) => goes(alloc, point, row),
         Onward::Both(first, second) => goes_both(alloc, first, second, row),
         Onward::Ways(pairs) => Ok(Outcome::Next(pairs)),
-        Onward::Found(finding) => Ok(Outcome::Found(finding)),
+        Onward::Found(breach) => Ok(Outcome::Found(breach)),
     }
 }
 
 /// The method goes on at one point, with this row.
 fn goes(alloc: Global, point: usize, row: Row) -> Result<Outcome, Memory>
-    ensures { IfOk result (λ o. outcome_seen o ≡ Goes ((point, leaves_of row) ∷ [])) }
+    ensures { IfOk result (λ o. (says : BreachSeen → FindingParts) → outcome_seen says o ≡ Goes ((point, leaves_of row) ∷ [])) }
 {
     let mut pairs = Vec::new(alloc);
     pairs.push((point, row))?;
@@ -163,7 +166,8 @@ fn goes(alloc: Global, point: usize, row: Row) -> Result<Outcome, Memory>
 
 /// The method goes on at one of two points, with this row.
 fn goes_both(alloc: Global, first: usize, second: usize, row: Row) -> Result<Outcome, Memory>
-    ensures { IfOk result (λ o. outcome_seen o ≡ Goes ((first, leaves_of row) ∷ (second, leaves_of row) ∷ [])) }
+    ensures { IfOk result (λ o. (says : BreachSeen → FindingParts)
+        → outcome_seen says o ≡ Goes ((first, leaves_of row) ∷ (second, leaves_of row) ∷ [])) }
 {
     let mut pairs = Vec::new(alloc);
     pairs.push((first, row.copied(alloc)?))?;

@@ -7,7 +7,8 @@ ghost use Rattle.flow.specs.Graphs as graphs;
 ghost use Rattle.flow.specs.Graphs.{cases_seen};
 ghost use Rattle.program.specs.Methods.{method_seen};
 ghost use Rattle.program.specs.declared.limits.TheConstants.{MOST_STATES};
-ghost use Rattle.rules.specs.Checks.{StandsFor, check_seen};
+ghost use Rattle.rules.specs.Breaches.{breach_seen};
+ghost use Rattle.rules.specs.Checks.{StandsFor};
 ghost use Rattle.rules.specs.Endpoints.{declared_leaf};
 ghost use Rattle.rules.specs.Leaves.{IsNumbered};
 ghost use Rattle.rules.specs.Mentions.{has_something};
@@ -19,7 +20,8 @@ ghost use Rattle.rules.specs.Steps.{pair_seen};
 ghost use Rattle.rules.specs.Switches as table;
 ghost use Rattle.rules.specs.Switches.{bound_leaves};
 
-use crate::checks::{has_something, name_of};
+use crate::breach::{Breach, Reason};
+use crate::checks::has_something;
 use crate::endpoints::{declared_leaf, kind_of};
 use crate::here::Here;
 use crate::onward::Onward;
@@ -27,30 +29,30 @@ use crate::row::{Leaf, Row};
 use crate::spare::Spare;
 use flow::Cases;
 use program::{Edge, Kind, Mention, VarId};
-use source::texts::{not_covered, nothing_to_receive};
-use source::{Finding, Memory, Place};
-use std::alloc::Global;
+use source::{Memory, Place};
 
 /// A switch waits. It goes on at a case for each message that may come at one of its endpoints, and for the close of each.
+///
+/// `Memory` is returned if a growth for its rows was refused.
 pub(crate) fn switch(
-    alloc: Global,
     here: &Here<'_>,
     place: Place,
     cases: &Cases,
     spare: &mut Spare,
 ) -> Result<Onward, Memory>
-    ensures { IfOk result (λ o. onward_seen o (leaves_of here.now.row.now)
+    ensures { IfOk result (λ o. onward_seen (breach_seen (seen_of here.now.program.now) (method_seen here.now.method.now))
+        o (leaves_of here.now.row.now)
         ≡ instruction_outcome (seen_of here.now.program.now) (method_seen here.now.method.now)
         (graphs.Switch place (cases_seen cases.now)) (leaves_of here.now.row.now)) }
 {
-    if let Some(finding) = are_there(alloc, here, cases.endpoints())? {
-        return Ok(Onward::Found(finding));
+    if let Some(breach) = are_there(here, cases.endpoints()) {
+        return Ok(Onward::Found(breach));
     }
     if are_to_send(here, cases.endpoints()) {
-        return Ok(Onward::Found(nothing_to_receive(alloc, place)?));
+        return Ok(Onward::Found(Breach::at(place, Reason::NothingToReceive)));
     }
-    if let Some(finding) = are_covered(alloc, here, cases)? {
-        return Ok(Onward::Found(finding));
+    if let Some(breach) = are_covered(here, cases) {
+        return Ok(Onward::Found(breach));
     }
     let mut pairs = spare.no_pairs();
     let endpoints = cases.endpoints();
@@ -61,20 +63,16 @@ pub(crate) fn switch(
 }
 
 /// That each endpoint has something.
-fn are_there(
-    alloc: Global,
-    here: &Here<'_>,
-    endpoints: &[Mention],
-) -> Result<Option<Finding>, Memory>
-    ensures { IfOk result
-        (λ found. StandsFor found (map (has_something (method_seen here.now.method.now) (leaves_of here.now.row.now)) endpoints.now)) }
+fn are_there(here: &Here<'_>, endpoints: &[Mention]) -> Option<Breach>
+    ensures { StandsFor (breach_seen (seen_of here.now.program.now) (method_seen here.now.method.now)) result
+        (map (has_something (method_seen here.now.method.now) (leaves_of here.now.row.now)) endpoints.now) }
 {
     for endpoint in endpoints {
-        if let Some(finding) = has_something(alloc, here, *endpoint)? {
-            return Ok(Some(finding));
+        if let Some(breach) = has_something(here, *endpoint) {
+            return Some(breach);
         }
     }
-    Ok(None)
+    None
 }
 
 /// Whether an endpoint is in a state in which it sends.
@@ -115,44 +113,35 @@ fn awaited_edges<'a>(here: &Here<'a>, endpoint: Mention) -> &'a [Edge]
 }
 
 /// That each message which may come at an endpoint has a case.
-fn is_covered(
-    alloc: Global,
-    here: &Here<'_>,
-    cases: &Cases,
-    endpoint: Mention,
-) -> Result<Option<Finding>, Memory>
-    ensures { IfOk result
-        (λ found. StandsFor found
+fn is_covered(here: &Here<'_>, cases: &Cases, endpoint: Mention) -> Option<Breach>
+    ensures { StandsFor (breach_seen (seen_of here.now.program.now) (method_seen here.now.method.now)) result
         (table.covered (seen_of here.now.program.now) (method_seen here.now.method.now) (leaves_of here.now.row.now) (cases_seen cases.now)
-        endpoint)) }
+        endpoint) }
 {
+    let Mention { variable, place } = endpoint;
     let awaited = awaited_edges(here, endpoint);
     for edge in awaited {
-        if cases.find(endpoint.variable, Some(edge.message)).is_none() {
-            let name = name_of(here.method, endpoint.variable);
-            let kind = kind_of(here.method, endpoint.variable);
-            let message = here.program.message_name(kind, edge.message);
-            let finding = not_covered(alloc, endpoint.place, name, message)?;
-            return Ok(Some(finding));
+        if cases.find(variable, Some(edge.message)).is_none() {
+            let (endpoint, message) = (variable, edge.message);
+            return Some(Breach::at(place, Reason::NotCovered { endpoint, message }));
         }
     }
-    Ok(None)
+    None
 }
 
 /// That each message which may come at one of the endpoints has a case.
-fn are_covered(alloc: Global, here: &Here<'_>, cases: &Cases) -> Result<Option<Finding>, Memory>
-    ensures { IfOk result
-        (λ found. StandsFor found
+fn are_covered(here: &Here<'_>, cases: &Cases) -> Option<Breach>
+    ensures { StandsFor (breach_seen (seen_of here.now.program.now) (method_seen here.now.method.now)) result
         (flat_map (table.covered (seen_of here.now.program.now) (method_seen here.now.method.now) (leaves_of here.now.row.now)
-        (cases_seen cases.now)) (first_mentions [] (cases_seen cases.now)))) }
+        (cases_seen cases.now)) (first_mentions [] (cases_seen cases.now))) }
 {
     let endpoints = cases.endpoints();
     for endpoint in endpoints {
-        if let Some(finding) = is_covered(alloc, here, cases, *endpoint)? {
-            return Ok(Some(finding));
+        if let Some(breach) = is_covered(here, cases, *endpoint) {
+            return Some(breach);
         }
     }
-    Ok(None)
+    None
 }
 
 /// What the variables take that a case binds.

@@ -1,21 +1,25 @@
 //! The rule table: a function for each instruction, with its checks in order and the row after it. The first check that
-//! fails is the finding.
+//! fails is what is found.
 
 ghost use Rattle.std.specs.Prelude.{◌≡◌, IfOk, List, []};
 ghost use Rattle.flow.specs.Graphs as graphs;
 ghost use Rattle.flow.specs.Graphs.{Use, New, Move, Delete, instruction_seen};
 ghost use Rattle.flow.specs.declared.graph.Instr.{Instr};
+ghost use Rattle.source.specs.Findings.{FindingParts};
 ghost use Rattle.program.specs.Methods.{method_seen};
+ghost use Rattle.rules.specs.Breaches.{breach_seen};
 ghost use Rattle.rules.specs.Onwards.{IsKept, onward_seen};
 ghost use Rattle.rules.specs.Outcomes.{Goes, Fails};
 ghost use Rattle.rules.specs.Programs.{seen_of};
 ghost use Rattle.rules.specs.Repeats.{first_again, given_again, repeated_in};
 ghost use Rattle.rules.specs.Rows.{leaves_of};
 ghost use Rattle.rules.specs.RuleTable.{ways, instruction_outcome};
-ghost use Rattle.rules.specs.Texts as texts;
+ghost use Rattle.rules.specs.declared.breach.Breach.{Breach as BreachSeen};
+ghost use Rattle.rules.specs.declared.breach.Reason.TheVariants as reasons;
 ghost use Rattle.rules.specs.declared.row.Leaf.{Leaf as LeafSeen};
 
 use crate::arguments::{can_give_all, can_take, claim_all, give};
+use crate::breach::{Breach, Reason};
 use crate::checks::{has_nothing, has_something, is_another, is_not_lent};
 use crate::here::{Here, Site};
 use crate::onward::Onward;
@@ -27,20 +31,20 @@ use crate::spare::Spare;
 use crate::switching::switch;
 use flow::{Branches, Calling, Instr, Starting};
 use program::{Channel, Forget, Mention};
-use source::texts::no_result;
 use source::{Memory, Place};
-use std::alloc::Global;
 
 /// What an instruction does to a row, in place. A switch makes its rows of what there is to spare.
+///
+/// `Memory` is returned if a growth for the rows of a switch was refused.
 pub(crate) fn applied(
-    alloc: Global,
     site: &Site<'_>,
     row: &mut Row,
     instruction: &Instr,
     spare: &mut Spare,
 ) -> Result<Onward, Memory>
     requires { repeated_in site.now.repeats.now site.now.point ≡ given_again (instruction_seen instruction.now) }
-    ensures outcome { IfOk result (λ o. onward_seen o (leaves_of row.new)
+    ensures outcome { IfOk result (λ o. onward_seen (breach_seen (seen_of site.now.program.now) (method_seen site.now.method.now))
+        o (leaves_of row.new)
         ≡ instruction_outcome (seen_of site.now.program.now) (method_seen site.now.method.now) (instruction_seen instruction.now)
         (leaves_of row.old)) }
     ensures kept { IfOk result (λ o. IsKept o (leaves_of row.old) (leaves_of row.new)) }
@@ -51,175 +55,150 @@ pub(crate) fn applied(
         row,
     };
     match instruction {
-        Instr::Use { at, next } => use_(alloc, &here, *at, *next),
-        Instr::New { target, next, .. } => new(alloc, site, row, *target, *next),
-        Instr::NewChannel { channel, next } => new_channel(alloc, site, row, *channel, *next),
+        Instr::Use { at, next } => Ok(use_(&here, *at, *next)),
+        Instr::New { target, next, .. } => Ok(new(site, row, *target, *next)),
+        Instr::NewChannel { channel, next } => Ok(new_channel(site, row, *channel, *next)),
         Instr::Move {
             target,
             source,
             next,
-        } => move_(alloc, site, row, *target, *source, *next),
-        Instr::Delete { at, next } => delete(alloc, site, row, *at, *next),
-        Instr::Send(sending) => send(alloc, site, row, sending),
-        Instr::Switch { place, cases } => switch(alloc, &here, *place, cases, spare),
-        Instr::Call(calling) => call(alloc, site, row, calling),
-        Instr::Start(starting) => start(alloc, site, row, starting),
+        } => Ok(move_(site, row, *target, *source, *next)),
+        Instr::Delete { at, next } => Ok(delete(site, row, *at, *next)),
+        Instr::Send(sending) => Ok(send(site, row, sending)),
+        Instr::Switch { place, cases } => switch(&here, *place, cases, spare),
+        Instr::Call(calling) => Ok(call(site, row, calling)),
+        Instr::Start(starting) => Ok(start(site, row, starting)),
         Instr::Branch { branches, .. } => Ok(branch(*branches)),
-        Instr::Forget { forget, next } => forget_(alloc, &here, *forget, *next),
-        Instr::Return(returning) => return_(alloc, &here, *returning),
-        Instr::Stop { place } => stop(alloc, *place),
+        Instr::Forget { forget, next } => Ok(forget_(&here, *forget, *next)),
+        Instr::Return(returning) => Ok(return_(&here, *returning)),
+        Instr::Stop { place } => Ok(stop(*place)),
     }
 }
 
 /// A read or a write of the block that a variable has. The row stays as it is.
-fn use_(alloc: Global, here: &Here<'_>, at: Mention, next: usize) -> Result<Onward, Memory>
-    ensures { IfOk result (λ o. onward_seen o (leaves_of here.now.row.now)
-        ≡ instruction_outcome (seen_of here.now.program.now) (method_seen here.now.method.now) (Use at next) (leaves_of here.now.row.now)) }
+fn use_(here: &Here<'_>, at: Mention, next: usize) -> Onward
+    ensures { onward_seen (breach_seen (seen_of here.now.program.now) (method_seen here.now.method.now)) result (leaves_of here.now.row.now)
+        ≡ instruction_outcome (seen_of here.now.program.now) (method_seen here.now.method.now) (Use at next) (leaves_of here.now.row.now) }
 {
-    match has_something(alloc, here, at)? {
-        Some(finding) => Ok(Onward::Found(finding)),
-        None => Ok(Onward::Same(next)),
+    match has_something(here, at) {
+        Some(breach) => Onward::Found(breach),
+        None => Onward::Same(next),
     }
 }
 
 /// The variable takes a new block.
-fn new(
-    alloc: Global,
-    site: &Site<'_>,
-    row: &mut Row,
-    at: Mention,
-    next: usize,
-) -> Result<Onward, Memory>
-    ensures outcome { IfOk result (λ o. onward_seen o (leaves_of row.new)
-        ≡ instruction_outcome (seen_of site.now.program.now) (method_seen site.now.method.now) (New at [] next) (leaves_of row.old)) }
-    ensures kept { IfOk result (λ o. IsKept o (leaves_of row.old) (leaves_of row.new)) }
+fn new(site: &Site<'_>, row: &mut Row, at: Mention, next: usize) -> Onward
+    ensures outcome { onward_seen (breach_seen (seen_of site.now.program.now) (method_seen site.now.method.now)) result (leaves_of row.new)
+        ≡ instruction_outcome (seen_of site.now.program.now) (method_seen site.now.method.now) (New at [] next) (leaves_of row.old) }
+    ensures kept { IsKept result (leaves_of row.old) (leaves_of row.new) }
 {
     let here = Here {
         program: site.program,
         method: site.method,
         row,
     };
-    if let Some(finding) = is_not_lent(alloc, here.method, at)? {
-        return Ok(Onward::Found(finding));
+    if let Some(breach) = is_not_lent(&here, at) {
+        return Onward::Found(breach);
     }
-    if let Some(finding) = has_nothing(alloc, &here, at)? {
-        return Ok(Onward::Found(finding));
+    if let Some(breach) = has_nothing(&here, at) {
+        return Onward::Found(breach);
     }
     row.set(at.variable, Leaf::Block);
-    Ok(Onward::Changed(next))
+    Onward::Changed(next)
 }
 
 /// Two variables take the two ends of a new channel, each in the first state of its contract.
-fn new_channel(
-    alloc: Global,
-    site: &Site<'_>,
-    row: &mut Row,
-    channel: Channel,
-    next: usize,
-) -> Result<Onward, Memory>
-    ensures outcome { IfOk result (λ o. onward_seen o (leaves_of row.new)
+fn new_channel(site: &Site<'_>, row: &mut Row, channel: Channel, next: usize) -> Onward
+    ensures outcome { onward_seen (breach_seen (seen_of site.now.program.now) (method_seen site.now.method.now)) result (leaves_of row.new)
         ≡ instruction_outcome (seen_of site.now.program.now) (method_seen site.now.method.now) (graphs.NewChannel channel next)
-        (leaves_of row.old)) }
-    ensures kept { IfOk result (λ o. IsKept o (leaves_of row.old) (leaves_of row.new)) }
+        (leaves_of row.old) }
+    ensures kept { IsKept result (leaves_of row.old) (leaves_of row.new) }
 {
     let here = Here {
         program: site.program,
         method: site.method,
         row,
     };
-    if let Some(finding) = is_not_lent(alloc, here.method, channel.first)? {
-        return Ok(Onward::Found(finding));
+    if let Some(breach) = is_not_lent(&here, channel.first) {
+        return Onward::Found(breach);
     }
-    if let Some(finding) = has_nothing(alloc, &here, channel.first)? {
-        return Ok(Onward::Found(finding));
+    if let Some(breach) = has_nothing(&here, channel.first) {
+        return Onward::Found(breach);
     }
-    if let Some(finding) = is_not_lent(alloc, here.method, channel.second)? {
-        return Ok(Onward::Found(finding));
+    if let Some(breach) = is_not_lent(&here, channel.second) {
+        return Onward::Found(breach);
     }
-    if let Some(finding) = has_nothing(alloc, &here, channel.second)? {
-        return Ok(Onward::Found(finding));
+    if let Some(breach) = has_nothing(&here, channel.second) {
+        return Onward::Found(breach);
     }
     let state = site.program.first_state(channel.contract);
     row.set(channel.first.variable, Leaf::State(state.0));
     row.set(channel.second.variable, Leaf::State(state.0));
-    Ok(Onward::Changed(next))
+    Onward::Changed(next)
 }
 
 /// The target takes what the source has, which then has nothing.
-fn move_(
-    alloc: Global,
-    site: &Site<'_>,
-    row: &mut Row,
-    target: Mention,
-    source: Mention,
-    next: usize,
-) -> Result<Onward, Memory>
-    ensures outcome { IfOk result (λ o. onward_seen o (leaves_of row.new)
+fn move_(site: &Site<'_>, row: &mut Row, target: Mention, source: Mention, next: usize) -> Onward
+    ensures outcome { onward_seen (breach_seen (seen_of site.now.program.now) (method_seen site.now.method.now)) result (leaves_of row.new)
         ≡ instruction_outcome (seen_of site.now.program.now) (method_seen site.now.method.now) (Move target source next)
-        (leaves_of row.old)) }
-    ensures kept { IfOk result (λ o. IsKept o (leaves_of row.old) (leaves_of row.new)) }
+        (leaves_of row.old) }
+    ensures kept { IsKept result (leaves_of row.old) (leaves_of row.new) }
 {
     let here = Here {
         program: site.program,
         method: site.method,
         row,
     };
-    if let Some(finding) = is_another(alloc, here.method, target, source)? {
-        return Ok(Onward::Found(finding));
+    if let Some(breach) = is_another(&here, target, source) {
+        return Onward::Found(breach);
     }
-    if let Some(finding) = is_not_lent(alloc, here.method, source)? {
-        return Ok(Onward::Found(finding));
+    if let Some(breach) = is_not_lent(&here, source) {
+        return Onward::Found(breach);
     }
-    if let Some(finding) = has_something(alloc, &here, source)? {
-        return Ok(Onward::Found(finding));
+    if let Some(breach) = has_something(&here, source) {
+        return Onward::Found(breach);
     }
-    if let Some(finding) = is_not_lent(alloc, here.method, target)? {
-        return Ok(Onward::Found(finding));
+    if let Some(breach) = is_not_lent(&here, target) {
+        return Onward::Found(breach);
     }
-    if let Some(finding) = has_nothing(alloc, &here, target)? {
-        return Ok(Onward::Found(finding));
+    if let Some(breach) = has_nothing(&here, target) {
+        return Onward::Found(breach);
     }
     let taken = row.leaf(source.variable);
     row.set(target.variable, taken);
     row.set(source.variable, Leaf::Nothing);
-    Ok(Onward::Changed(next))
+    Onward::Changed(next)
 }
 
 /// Frees what a variable has.
-fn delete(
-    alloc: Global,
-    site: &Site<'_>,
-    row: &mut Row,
-    freed: Mention,
-    next: usize,
-) -> Result<Onward, Memory>
-    ensures outcome { IfOk result (λ o. onward_seen o (leaves_of row.new)
+fn delete(site: &Site<'_>, row: &mut Row, freed: Mention, next: usize) -> Onward
+    ensures outcome { onward_seen (breach_seen (seen_of site.now.program.now) (method_seen site.now.method.now)) result (leaves_of row.new)
         ≡ instruction_outcome (seen_of site.now.program.now) (method_seen site.now.method.now) (Delete freed next)
-        (leaves_of row.old)) }
-    ensures kept { IfOk result (λ o. IsKept o (leaves_of row.old) (leaves_of row.new)) }
+        (leaves_of row.old) }
+    ensures kept { IsKept result (leaves_of row.old) (leaves_of row.new) }
 {
     let here = Here {
         program: site.program,
         method: site.method,
         row,
     };
-    if let Some(finding) = is_not_lent(alloc, here.method, freed)? {
-        return Ok(Onward::Found(finding));
+    if let Some(breach) = is_not_lent(&here, freed) {
+        return Onward::Found(breach);
     }
-    if let Some(finding) = has_something(alloc, &here, freed)? {
-        return Ok(Onward::Found(finding));
+    if let Some(breach) = has_something(&here, freed) {
+        return Onward::Found(breach);
     }
     row.set(freed.variable, Leaf::Nothing);
-    Ok(Onward::Changed(next))
+    Onward::Changed(next)
 }
 
 /// A call. What is claimed is gone, what is lent comes back as it was, and what takes something has it.
-fn call(alloc: Global, site: &Site<'_>, row: &mut Row, calling: &Calling) -> Result<Onward, Memory>
+fn call(site: &Site<'_>, row: &mut Row, calling: &Calling) -> Onward
     requires { repeated_in site.now.repeats.now site.now.point ≡ first_again [] calling.now.arguments.items }
-    ensures outcome { IfOk result (λ o. onward_seen o (leaves_of row.new)
+    ensures outcome { onward_seen (breach_seen (seen_of site.now.program.now) (method_seen site.now.method.now)) result (leaves_of row.new)
         ≡ instruction_outcome (seen_of site.now.program.now) (method_seen site.now.method.now) (instruction_seen (Instr.Call calling.now))
-        (leaves_of row.old)) }
-    ensures kept { IfOk result (λ o. IsKept o (leaves_of row.old) (leaves_of row.new)) }
+        (leaves_of row.old) }
+    ensures kept { IsKept result (leaves_of row.old) (leaves_of row.new) }
 {
     let here = Here {
         program: site.program,
@@ -228,8 +207,8 @@ fn call(alloc: Global, site: &Site<'_>, row: &mut Row, calling: &Calling) -> Res
     };
     let kinds = site.program.parameter_kinds(calling.method);
     let again = site.repeats.at(site.point);
-    if let Some(finding) = can_give_all(alloc, &here, again, kinds, &calling.arguments)? {
-        return Ok(Onward::Found(finding));
+    if let Some(breach) = can_give_all(&here, again, kinds, &calling.arguments) {
+        return Onward::Found(breach);
     }
     claim_all(row, &calling.arguments);
     let behind = Here {
@@ -237,26 +216,21 @@ fn call(alloc: Global, site: &Site<'_>, row: &mut Row, calling: &Calling) -> Res
         method: site.method,
         row,
     };
-    if let Some(finding) = can_take(alloc, &behind, calling.target)? {
-        return Ok(Onward::Found(finding));
+    if let Some(breach) = can_take(&behind, calling.target) {
+        return Onward::Found(breach);
     }
     let result = site.program.result_of(calling.method);
     give(row, result, calling.target);
-    Ok(Onward::Changed(calling.next))
+    Onward::Changed(calling.next)
 }
 
 /// The start of a method. What it claims is gone.
-fn start(
-    alloc: Global,
-    site: &Site<'_>,
-    row: &mut Row,
-    starting: &Starting,
-) -> Result<Onward, Memory>
+fn start(site: &Site<'_>, row: &mut Row, starting: &Starting) -> Onward
     requires { repeated_in site.now.repeats.now site.now.point ≡ first_again [] starting.now.arguments.items }
-    ensures outcome { IfOk result (λ o. onward_seen o (leaves_of row.new)
+    ensures outcome { onward_seen (breach_seen (seen_of site.now.program.now) (method_seen site.now.method.now)) result (leaves_of row.new)
         ≡ instruction_outcome (seen_of site.now.program.now) (method_seen site.now.method.now)
-        (instruction_seen (Instr.Start starting.now)) (leaves_of row.old)) }
-    ensures kept { IfOk result (λ o. IsKept o (leaves_of row.old) (leaves_of row.new)) }
+        (instruction_seen (Instr.Start starting.now)) (leaves_of row.old) }
+    ensures kept { IsKept result (leaves_of row.old) (leaves_of row.new) }
 {
     let here = Here {
         program: site.program,
@@ -265,16 +239,16 @@ fn start(
     };
     let kinds = site.program.parameter_kinds(starting.method);
     let again = site.repeats.at(site.point);
-    if let Some(finding) = can_give_all(alloc, &here, again, kinds, &starting.arguments)? {
-        return Ok(Onward::Found(finding));
+    if let Some(breach) = can_give_all(&here, again, kinds, &starting.arguments) {
+        return Onward::Found(breach);
     }
     claim_all(row, &starting.arguments);
-    Ok(Onward::Changed(starting.next))
+    Onward::Changed(starting.next)
 }
 
 /// A condition. The row stays as it is, each way that it can go.
 fn branch(branches: Branches) -> Onward
-    ensures outcome { (row : List LeafSeen) → onward_seen result row ≡ Goes (ways branches row) }
+    ensures outcome { (says : BreachSeen → FindingParts) (row : List LeafSeen) → onward_seen says result row ≡ Goes (ways branches row) }
     ensures kept { (row : List LeafSeen) → IsKept result row row }
 {
     match branches {
@@ -284,22 +258,22 @@ fn branch(branches: Branches) -> Onward
 }
 
 /// Variables go out of scope; they have nothing.
-fn forget_(alloc: Global, here: &Here<'_>, forget: Forget, next: usize) -> Result<Onward, Memory>
-    ensures { IfOk result (λ o. onward_seen o (leaves_of here.now.row.now)
+fn forget_(here: &Here<'_>, forget: Forget, next: usize) -> Onward
+    ensures { onward_seen (breach_seen (seen_of here.now.program.now) (method_seen here.now.method.now)) result (leaves_of here.now.row.now)
         ≡ instruction_outcome (seen_of here.now.program.now) (method_seen here.now.method.now) (graphs.Forget forget next)
-        (leaves_of here.now.row.now)) }
+        (leaves_of here.now.row.now) }
 {
     let last = Some(forget.last);
-    match is_given_back(alloc, here, forget.place, None, forget.outer, last)? {
-        Some(finding) => Ok(Onward::Found(finding)),
-        None => Ok(Onward::Same(next)),
+    match is_given_back(here, forget.place, None, forget.outer, last) {
+        Some(breach) => Onward::Found(breach),
+        None => Onward::Same(next),
     }
 }
 
 /// The end of a method that ought to have given something.
-fn stop(alloc: Global, place: Place) -> Result<Onward, Memory>
-    ensures { IfOk result (λ o. (row : List LeafSeen) → onward_seen o row ≡ Fails (texts.no_result place)) }
+fn stop(place: Place) -> Onward
+    ensures { (says : BreachSeen → FindingParts) (row : List LeafSeen)
+        → onward_seen says result row ≡ Fails (says (record { place = place; reason = reasons.NoResult })) }
 {
-    let finding = no_result(alloc, place)?;
-    Ok(Onward::Found(finding))
+    Onward::Found(Breach::at(place, Reason::NoResult))
 }

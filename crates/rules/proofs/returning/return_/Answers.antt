@@ -1,18 +1,18 @@
-use Rattle.std.proofs.Common.{Some, None, [], refl}
-use Rattle.rules.proofs.CallLemmas.{both_stand, first_stands, second_of}
+use Rattle.std.proofs.Common.{Some, None, []}
+use Rattle.program.specs.Methods.{method_seen}
+use Rattle.rules.specs.Breaches.{breach_seen}
+use Rattle.rules.specs.Programs.{seen_of}
+use Rattle.rules.proofs.CallLemmas.{both_stand, second_of}
 use Rattle.rules.proofs.returning.return_.Goals as goal
 
-pub returns-in-Some-2 : goal.returns-in-Some-2
-returns-in-Some-2 c =
-    second_of _ _ c.in_ok-finding.field-0 (Some c.in-Some-2.finding) (Some c.in-Some-2.finding) [] c.in_default.is refl c.in_ok-finding.ensures
-    (first_stands _ _ c.in_ok-finding-2.field-0 c.in-Some-2.finding c.in-Some-2.is c.in_ok-finding-2.ensures)
-
-pub returns-in-Some-3 : goal.returns-in-Some-3
-returns-in-Some-3 c =
-    second_of _ _ c.in_ok-finding.field-0 c.in_ok-finding-3.field-0 (Some c.in-Some-3.finding) [] c.in_default.is c.in-Some-3.is c.in_ok-finding.ensures
-    (both_stand _ _ c.in_ok-finding-2.field-0 c.in_ok-finding-3.field-0 c.in_default-2.is c.in_ok-finding-2.ensures c.in_ok-finding-3.ensures)
+pub returns-in-Some-are_back : goal.returns-in-Some-are_back
+returns-in-Some-are_back c =
+    let says = breach_seen (seen_of c.args.here.now.program.now) (method_seen c.args.here.now.method.now) in
+    second_of says _ _ c.can_return.result c.are_back.result (Some c.in-Some-are_back.breach) [] c.in_default.is c.in-Some-are_back.is c.can_return.ensures
+    (both_stand says _ _ c.is_given_back.result c.are_back.result c.in_default-is_given_back.is c.is_given_back.ensures c.are_back.ensures)
 
 pub returns-in-None : goal.returns-in-None
 returns-in-None c =
-    second_of _ _ c.in_ok-finding.field-0 c.in_ok-finding-3.field-0 None [] c.in_default.is c.in-None.is c.in_ok-finding.ensures
-    (both_stand _ _ c.in_ok-finding-2.field-0 c.in_ok-finding-3.field-0 c.in_default-2.is c.in_ok-finding-2.ensures c.in_ok-finding-3.ensures)
+    let says = breach_seen (seen_of c.args.here.now.program.now) (method_seen c.args.here.now.method.now) in
+    second_of says _ _ c.can_return.result c.are_back.result None [] c.in_default.is c.in-None.is c.can_return.ensures
+    (both_stand says _ _ c.is_given_back.result c.are_back.result c.in_default-is_given_back.is c.is_given_back.ensures c.are_back.ensures)

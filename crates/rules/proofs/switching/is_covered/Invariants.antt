@@ -13,4 +13,4 @@ invariant-loop-edge l =
     let p = seen_of l.here.program.now in
     let m = method_seen l.here.method.now in
     let row = leaves_of l.here.row.now in
-    Left (covered p m row (cases_seen l.cases) l.endpoint) (edge_checks p m (cases_seen l.cases) l.endpoint (drop l.edge-index (awaited_edges p m row l.endpoint)))
+    Left (covered p m row (cases_seen l.cases) l.fn.endpoint) (edge_checks p m (cases_seen l.cases) l.fn.endpoint (drop l.edge-index (awaited_edges p m row l.fn.endpoint)))

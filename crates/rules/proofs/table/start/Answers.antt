@@ -1,6 +1,7 @@
 use Rattle.std.proofs.Common.{Some, None, [], ◌∷◌, ap, ◌∙◌, subst}
 use Rattle.program.specs.Methods.{method_seen}
 use Rattle.rules.specs.Arguments.{all_arguments, claimed}
+use Rattle.rules.specs.Breaches.{breach_seen}
 use Rattle.rules.specs.Checks.{StandsFor}
 use Rattle.rules.specs.Endpoints.{parameter_kinds}
 use Rattle.rules.specs.Outcomes.{Goes}
@@ -15,10 +16,11 @@ returns-in-Some-clause-outcome c =
     let m = method_seen c.args.site.now.method.now in
     let row = leaves_of c.args.row.now in
     let starting = c.args.starting.now in
+    let says = breach_seen p m in
     let first =
-    subst (λ xs. StandsFor c.in_ok-finding.field-0 (all_arguments m row (parameter_kinds p starting.method.0) xs)) c.deref.ensures.value
-    (subst (λ ks. StandsFor c.in_ok-finding.field-0 (all_arguments m row ks c.deref.result.now)) c.parameter_kinds-kinds.ensures c.in_ok-finding.ensures) in
-    alone (all_arguments m row (parameter_kinds p starting.method.0) starting.arguments.items) c.in_ok-finding.field-0 (Some c.in-Some.finding) _ c.in-Some.is first
+    subst (λ xs. StandsFor says c.can_give_all.result (all_arguments m row (parameter_kinds p starting.method.0) xs)) c.deref.ensures.value
+    (subst (λ ks. StandsFor says c.can_give_all.result (all_arguments m row ks c.deref.result.now)) c.parameter_kinds-kinds.ensures c.can_give_all.ensures) in
+    alone says (all_arguments m row (parameter_kinds p starting.method.0) starting.arguments.items) c.can_give_all.result (Some c.in-Some.breach) _ c.in-Some.is first
 
 pub returns-clause-outcome : goal.returns-clause-outcome
 returns-clause-outcome c =
@@ -26,8 +28,9 @@ returns-clause-outcome c =
     let m = method_seen c.args.site.now.method.now in
     let row = leaves_of c.args.row.now in
     let starting = c.args.starting.now in
+    let says = breach_seen p m in
     let first =
-    subst (λ xs. StandsFor c.in_ok-finding.field-0 (all_arguments m row (parameter_kinds p starting.method.0) xs)) c.deref.ensures.value
-    (subst (λ ks. StandsFor c.in_ok-finding.field-0 (all_arguments m row ks c.deref.result.now)) c.parameter_kinds-kinds.ensures c.in_ok-finding.ensures) in
+    subst (λ xs. StandsFor says c.can_give_all.result (all_arguments m row (parameter_kinds p starting.method.0) xs)) c.deref.ensures.value
+    (subst (λ ks. StandsFor says c.can_give_all.result (all_arguments m row ks c.deref.result.now)) c.parameter_kinds-kinds.ensures c.can_give_all.ensures) in
     let after = c.claim_all.ensures ∙ ap (claimed row) c.deref-2.ensures.value in
-    ap (λ r. Goes ((starting.next, r) ∷ [])) after ∙ alone (all_arguments m row (parameter_kinds p starting.method.0) starting.arguments.items) c.in_ok-finding.field-0 None _ c.in_default.is first
+    ap (λ r. Goes ((starting.next, r) ∷ [])) after ∙ alone says (all_arguments m row (parameter_kinds p starting.method.0) starting.arguments.items) c.can_give_all.result None _ c.in_default.is first

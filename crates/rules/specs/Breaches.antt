@@ -1,0 +1,46 @@
+-- What breaches say: the finding of each.
+use Rattle.std.specs.Prelude.{ℕ, List, slice_get}
+use Rattle.std.specs.Option.{option_map_or}
+use Rattle.source.specs.Findings.{FindingParts}
+use Rattle.source.specs.declared.place.Place.{Place}
+use Rattle.program.specs.Methods.{MethodSeen}
+use Rattle.program.specs.Programs.{ProgramSeen}
+use Rattle.program.specs.declared.number.MessageId.{MessageId}
+use Rattle.program.specs.declared.number.VarId.{VarId}
+use Rattle.rules.specs.Endpoints.{kind_of, message_name}
+use Rattle.rules.specs.Mentions.{name_of}
+use Rattle.rules.specs.Texts.{lent, no_result, not_back, not_covered, not_owned, not_sent, nothing_to_receive, overwritten, still_owned}
+use Rattle.rules.specs.Texts.{twice, wrong_for, wrong_for_call, wrong_for_result}
+use Rattle.rules.specs.declared.breach.Breach.{Breach}
+use Rattle.rules.specs.declared.breach.Reason.{Reason}
+use Rattle.rules.specs.declared.breach.Reason.TheVariants.{NotOwned, NotSent, WrongFor, WrongForCall, NotCovered, NothingToReceive}
+use Rattle.rules.specs.declared.breach.Reason.TheVariants.{Overwritten, StillOwned, NotBack, Lent, Twice, WrongForResult, NoResult}
+
+module _ (p : ProgramSeen) (m : MethodSeen) where
+  -- the name of a message of the contract of an endpoint
+  abbrev pub name_along : VarId → MessageId → List ℕ
+  name_along endpoint message = message_name p (kind_of m endpoint.0) message.0
+
+  -- the finding at a place, a line for each reason
+  abbrev pub told : Place → Reason → FindingParts
+  told place (NotOwned variable) = not_owned (name_of m variable.0) place
+  told place (NotSent endpoint message) = not_sent (name_along endpoint message) place
+  told place (WrongFor variable endpoint message) = wrong_for (name_of m variable.0) (name_along endpoint message) place
+  told place (WrongForCall variable) = wrong_for_call (name_of m variable.0) place
+  told place (NotCovered endpoint message) = not_covered (name_of m endpoint.0) (name_along endpoint message) place
+  told place NothingToReceive = nothing_to_receive place
+  told place (Overwritten variable) = overwritten (name_of m variable.0) place
+  told place (StillOwned variable) = still_owned (name_of m variable.0) place
+  told place (NotBack variable) = not_back (name_of m variable.0) place
+  told place (Lent variable) = lent (name_of m variable.0) place
+  told place (Twice variable) = twice (name_of m variable.0) place
+  told place (WrongForResult variable) = wrong_for_result (name_of m variable.0) place
+  told place NoResult = no_result place
+
+  -- the finding of a breach
+  abbrev pub breach_seen : Breach → FindingParts
+  breach_seen breach = told breach.place breach.reason
+
+-- the finding of a breach in the method of a number; calls ask for methods of the program alone
+abbrev pub breach_in : ProgramSeen → ℕ → Breach → FindingParts
+breach_in p method breach = option_map_or (λ m. breach_seen p m breach) (slice_get p.methods method) (no_result breach.place)

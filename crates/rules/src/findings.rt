@@ -1,0 +1,79 @@
+//! The finding of a breach.
+
+ghost use Rattle.std.specs.Prelude.{◌≡◌, ◌<◌, IfOk, length};
+ghost use Rattle.source.specs.Findings.{finding_parts};
+ghost use Rattle.program.specs.Methods.{method_seen};
+ghost use Rattle.rules.specs.Breaches as table;
+ghost use Rattle.rules.specs.Breaches.{breach_in, breach_seen};
+ghost use Rattle.rules.specs.Programs.{seen_of};
+
+use crate::breach::{Breach, Reason};
+use crate::checks::name_of;
+use crate::endpoints::kind_of;
+use crate::lowered::Program;
+use program::{MessageId, Method, MethodId, VarId};
+use source::{Finding, Memory, texts};
+use std::alloc::Global;
+
+impl Program {
+    /// The finding of a breach in a method, with the names of the variables and of the message that it names.
+    ///
+    /// `Memory` is returned if a growth was refused.
+    pub fn finding(
+        &self,
+        alloc: Global,
+        method: MethodId,
+        breach: Breach,
+    ) -> Result<Finding, Memory>
+        requires there { method.0 < length (seen_of self.now).methods }
+        ensures { IfOk result (λ finding. finding_parts finding ≡ breach_in (seen_of self.now) method.0 breach) }
+    {
+        self.told(alloc, self.method(method), breach)
+    }
+
+    /// The same, of a method.
+    fn told(&self, alloc: Global, method: &Method, breach: Breach) -> Result<Finding, Memory>
+        ensures { IfOk result (λ finding. finding_parts finding ≡ breach_seen (seen_of self.now) (method_seen method.now) breach) }
+    {
+        let place = breach.place;
+        match breach.reason {
+            Reason::NotOwned(v) => texts::not_owned(alloc, place, name_of(method, v)),
+            Reason::NotSent { endpoint, message } => {
+                let message = self.name_along(method, endpoint, message);
+                texts::not_sent_here(alloc, place, message)
+            }
+            Reason::WrongFor {
+                variable,
+                endpoint,
+                message,
+            } => {
+                let message = self.name_along(method, endpoint, message);
+                texts::in_a_wrong_state_for(alloc, place, name_of(method, variable), message)
+            }
+            Reason::WrongForCall(v) => {
+                texts::in_a_wrong_state_for_the_call(alloc, place, name_of(method, v))
+            }
+            Reason::NotCovered { endpoint, message } => {
+                let message = self.name_along(method, endpoint, message);
+                texts::not_covered(alloc, place, name_of(method, endpoint), message)
+            }
+            Reason::NothingToReceive => texts::nothing_to_receive(alloc, place),
+            Reason::Overwritten(v) => texts::overwritten(alloc, place, name_of(method, v)),
+            Reason::StillOwned(v) => texts::still_owned(alloc, place, name_of(method, v)),
+            Reason::NotBack(v) => texts::not_back_in_its_state(alloc, place, name_of(method, v)),
+            Reason::Lent(v) => texts::is_lent(alloc, place, name_of(method, v)),
+            Reason::Twice(v) => texts::given_twice(alloc, place, name_of(method, v)),
+            Reason::WrongForResult(v) => {
+                texts::in_a_wrong_state_for_the_result(alloc, place, name_of(method, v))
+            }
+            Reason::NoResult => texts::no_result(alloc, place),
+        }
+    }
+
+    /// The name of a message of the contract of an endpoint.
+    fn name_along<'a>(&'a self, method: &Method, endpoint: VarId, message: MessageId) -> &'a [u8]
+        ensures { result.now ≡ table.name_along (seen_of self.now) (method_seen method.now) endpoint message }
+    {
+        self.message_name(kind_of(method, endpoint), message)
+    }
+}
