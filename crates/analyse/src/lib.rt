@@ -14,6 +14,7 @@ mod recalling;
 mod remembered;
 mod searching;
 mod seating;
+mod seen;
 mod site;
 mod stopped;
 mod task;

@@ -7,8 +7,8 @@ ghost use Rattle.analyse.specs.Workers.{IsAtTable, IsWorkerOf, seat_of};
 
 use crate::own::OwnRows;
 use crate::remembered::Remembered;
+use crate::seen::Seen;
 use crate::worker::Worker;
-use indexmap::IndexSet;
 use intern::Seat;
 use rules::Spare;
 use std::alloc::Global;
@@ -24,7 +24,7 @@ impl Worker {
             seat,
             alone: false,
             own: OwnRows::new(alloc),
-            seen: IndexSet::new(alloc),
+            seen: Seen::new(alloc),
             remembered: Remembered::new(alloc),
             spare: Spare::new(alloc),
         }

@@ -1,9 +1,8 @@
 //! What a worker keeps from method to method.
 
 use crate::own::OwnRows;
-use crate::pair::Pair;
 use crate::remembered::Remembered;
-use indexmap::IndexSet;
+use crate::seen::Seen;
 use intern::Seat;
 use rules::Spare;
 
@@ -15,7 +14,7 @@ pub struct Worker {
     /// Whether it keeps all rows itself, since the table of all had no place near for one.
     pub(crate) alone: bool,
     pub(crate) own: OwnRows,
-    pub(crate) seen: IndexSet<Pair>,
+    pub(crate) seen: Seen,
     /// What came of transfers: of tokens from method to method, since these name their rows for good.
     pub(crate) remembered: Remembered,
     /// What a switch makes its rows of.

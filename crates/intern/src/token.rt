@@ -2,7 +2,7 @@
 
 /// The name of a row in one table: the empty row's own, or the slot of the row's word. Two tokens that are known under one seat
 /// are equal exactly where their rows are.
-#[derive(Clone, Copy, Debug, PartialEq, Eq, Hash)]
+#[derive(Clone, Copy, Debug, PartialEq, Eq, PartialOrd, Ord)]
 pub enum Token {
     /// The row of no leaves, which has no word.
     Empty,
