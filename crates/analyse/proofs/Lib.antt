@@ -5,6 +5,7 @@ pub mod EqualLemmas
 pub mod KeyLemmas
 pub mod KeyedLemmas
 pub mod VerdictLemmas
+pub mod CellLemmas
 pub mod NameLemmas
 pub mod WorkerLemmas
 pub mod WholeLemmas

@@ -1,7 +1,7 @@
+pub mod Cells
 pub mod Kept
 pub mod Names
 pub mod Noted
-pub mod PairTree
 pub mod Reach
 pub mod Remembering
 pub mod RowKeys
