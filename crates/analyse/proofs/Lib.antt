@@ -2,6 +2,7 @@ pub mod ListLemmas
 pub mod AddLemmas
 pub mod ZipLemmas
 pub mod EqualLemmas
+pub mod FoundLemmas
 pub mod KeyLemmas
 pub mod KeyedLemmas
 pub mod VerdictLemmas

@@ -1,7 +1,9 @@
 //! The search over pairs of a point and a row.
 
 ghost use Rattle.std.specs.Prelude.{◌≡◌, IfOk, IfErr, map};
+ghost use Rattle.std.specs.List.Sorted.{IsStrictlySortedBy};
 ghost use Rattle.source.specs.Findings.{finding_parts};
+ghost use Rattle.reports.specs.Orders.{report_cmp};
 ghost use Rattle.intern.specs.View.{Grows};
 ghost use Rattle.rules.specs.Programs.{seen_of};
 ghost use Rattle.analyse.specs.Tasks.{findings_of, number_of, program_of, task_program, verdict_number};
@@ -21,7 +23,8 @@ use std::alloc::Global;
 pub const MOST_PAIRS: usize = 20_000;
 
 /// The verdict of the method of a task of this program: what is found at the pairs that can be reached from its entry, or, if more
-/// than `MOST_PAIRS` can, that alone. All pairs are looked at, and no two rows are joined.
+/// than `MOST_PAIRS` can, that alone. All pairs are looked at, and no two rows are joined. Each finding comes once, in the order of a
+/// report.
 ///
 /// Rows are kept in the table of all. Once that has no place near for a row, the worker leaves the table: it keeps all rows of this
 /// method and of each later one itself. The verdict is the same.
@@ -41,6 +44,7 @@ pub fn analyse(
     ensures program { IfOk result (λ v. program_of v ≡ program.now) }
     ensures method { IfOk result (λ v. verdict_number v ≡ number_of task) }
     ensures found { IfOk result (λ v. IsMethodVerdict (seen_of program.now) (number_of task) (map finding_parts (findings_of v))) }
+    ensures ordered { IfOk result (λ v. IsStrictlySortedBy report_cmp (map finding_parts (findings_of v))) }
     ensures left { HasLeftTable worker.old → HasLeftTable worker.new }
     ensures given_up { IsAtTable worker.old → HasLeftTable worker.new
         → ReachesFar (seen_of program.now) (number_of task) rows.now worker.new }

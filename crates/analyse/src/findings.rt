@@ -1,0 +1,60 @@
+//! The findings of a method.
+
+ghost use Rattle.std.specs.Prelude.{◌≡◌, ◌<◌, ◌↔◌, ◌∷◌, [], Contains, IfOk, length, map};
+ghost use Rattle.std.specs.List.Sorted.{IsStrictlySortedBy};
+ghost use Rattle.source.specs.Findings.{FindingParts, finding_parts};
+ghost use Rattle.reports.specs.Orders.{report_cmp};
+ghost use Rattle.rules.specs.Breaches.{breach_in};
+ghost use Rattle.rules.specs.Programs.{seen_of};
+ghost use Rattle.analyse.specs.Verdicts.{place_of_method, too_many_pairs};
+
+use program::MethodId;
+use reports::in_report_order;
+use rules::{Breach, Program};
+use source::{Finding, Memory, Place, texts};
+use std::alloc::Global;
+use std::collections::BTreeSet;
+
+/// The findings of these breaches in a method, in the order of a report, each once.
+///
+/// `Memory` is returned if a growth was refused.
+pub(crate) fn told(
+    alloc: Global,
+    program: &Program,
+    method: MethodId,
+    found: &BTreeSet<Breach>,
+) -> Result<Vec<Finding>, Memory>
+    requires there { method.0 < length (seen_of program.now).methods }
+    ensures same { IfOk result (λ findings. (f : FindingParts) → Contains (map finding_parts findings.items) f
+        ↔ Contains (map (breach_in (seen_of program.now) method.0) found.now.keys) f) }
+    ensures ordered { IfOk result (λ findings. IsStrictlySortedBy report_cmp (map finding_parts findings.items)) }
+{
+    let mut findings = Vec::new(alloc);
+    for breach in found.iter() {
+        findings.push(program.finding(alloc, method, *breach)?)?;
+    }
+    in_report_order(findings)
+}
+
+/// The one finding of a method in which too many pairs are reached, at its name.
+pub(crate) fn too_many(
+    alloc: Global,
+    program: &Program,
+    method: MethodId,
+) -> Result<Vec<Finding>, Memory>
+    requires there { method.0 < length (seen_of program.now).methods }
+    ensures { IfOk result (λ findings. map finding_parts findings.items
+        ≡ too_many_pairs (place_of_method (seen_of program.now) method.0) ∷ []) }
+{
+    let mut alone = Vec::new(alloc);
+    alone.push(texts::too_many_pairs(alloc, place_of(program, method))?)?;
+    Ok(alone)
+}
+
+/// Where the name of a method stands.
+fn place_of(program: &Program, method: MethodId) -> Place
+    requires there { method.0 < length (seen_of program.now).methods }
+    ensures { result ≡ place_of_method (seen_of program.now) method.0 }
+{
+    program.methods()[method.0 as usize].name
+}
