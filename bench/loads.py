@@ -274,8 +274,53 @@ def many_rows(n):
     return 'rep struct D { int n; }\nclass K {\n' + ''.join(one % k for k in range(max(1, n // 32))) + '}\n'
 
 
+def many_blocks(n, begin, end):
+    """Methods with a claimed block, and eleven others that are made on one way of an `if` each: 2,048 rows come to the end."""
+    names = 'acdefghijkl'
+    ways = ''.join('D*in ExHeap %s;' % it for it in names) + ''.join('if(b){%s=new[ExHeap]D();}' % it for it in names)
+    one = 'static void F%d(bool b,[Claims]D*in ExHeap z){' + begin + ways + end + '}\n'
+    return 'rep struct D{int n;}class K{\n' + ''.join(one % k for k in range(max(1, n // 128))) + '}\n'
+
+
+def fail_at_one_place(n):
+    """Each of 2,048 rows a method uses a freed block at the same place: 6,143 pairs and one finding a method."""
+    return many_blocks(n, 'delete z;', 'z.n=1;while(true){}')
+
+
+def pass_at_one_place(n):
+    """As many pairs without a finding: the last use of the block stands where it was freed."""
+    return many_blocks(n, 'z.n=1;', 'while(true){}')
+
+
+def fail_at_many_places(n):
+    """Each of 2,048 rows a method leaves some of eleven blocks at each of four ends: 18,431 pairs and 44 findings a method."""
+    return many_blocks(n, 'delete z;', 'if(b){return;}' * 3)
+
+
+def pass_at_many_places(n):
+    """As many pairs without a finding: a loop that does not end stands at each end."""
+    return many_blocks(n, 'delete z;', 'if(b){while(true){}}' * 3 + 'while(true){}')
+
+
+def one_block(n, end):
+    """Methods with a block and 5,000 ways out, n of these in all."""
+    one = 'static void F%d(bool b){D*in ExHeap z=new[ExHeap]D();' + ('if(b){' + end + '}') * min(n, 5000) + 'while(true){}}\n'
+    return 'rep struct D{int n;}class K{\n' + ''.join(one % k for k in range(max(1, n // 5000))) + '}\n'
+
+
+def fail_at_a_place_each(n):
+    """n returns that leave a block: each has its own place, its own row and its own finding."""
+    return one_block(n, 'return;')
+
+
+def pass_at_a_place_each(n):
+    """As many pairs without a finding: a loop that does not end stands in place of each return."""
+    return one_block(n, 'while(true){}')
+
+
 LOADS = [path, ring, named_states, messages, contracts_256, comment, line_comments, short_comments, declared_twice, long_names,
          statements, short_statements, else_ifs, long_sum, deep_parentheses, deep_blocks, methods, expressions, turns,
          unknown_names, variables_twice, variables, cases, blocks_of_variables, starts, long_types]
 CHECKED = [reads, small_methods, scalars, many_variables, ways, loops, returns,
-           messages_with_cases, sends, endpoints_in_a_switch, calls_with_endpoints, contracts_of_1900_states, many_rows]
+           messages_with_cases, sends, endpoints_in_a_switch, calls_with_endpoints, contracts_of_1900_states, many_rows,
+           fail_at_one_place, pass_at_one_place, fail_at_many_places, pass_at_many_places, fail_at_a_place_each, pass_at_a_place_each]
