@@ -2,14 +2,14 @@
 use Rattle.std.proofs.Common.{◌≡◌, ℕ, ◌+◌, ◌-◌, ◌*◌, ◌==◌, cond, List, [], ◌∷◌, get_or, refl, sym, ap, ◌∙◌}
 use Rattle.source.specs.Findings.{code_name}
 use Rattle.source.specs.declared.finding.Code.{Code}
-use Rattle.source.specs.declared.finding.Code.TheVariants.{A01, A02, A03, A04, A05, A06, A07, A08, A09, A10, A11, A12, A13, A14, C01, C02, C03, C04, N01, N02, N03, N04, N05, N06, N07, N08, N09, S01, S02, S03, S04, S05, S06}
+use Rattle.source.specs.declared.finding.Code.TheVariants.{A01, A02, A03, A04, A05, A06, A07, A08, A09, A10, A11, A12, A13, A14, A15, C01, C02, C03, C04, N01, N02, N03, N04, N05, N06, N07, N08, N09, S01, S02, S03, S04, S05, S06}
 
 all_codes : List Code
-all_codes = A01 ∷ A02 ∷ A03 ∷ A04 ∷ A05 ∷ A06 ∷ A07 ∷ A08 ∷ A09 ∷ A10 ∷ A11 ∷ A12 ∷ A13 ∷ A14 ∷ C01 ∷ C02 ∷ C03 ∷ C04 ∷ N01 ∷ N02 ∷ N03 ∷ N04 ∷ N05 ∷ N06 ∷ N07 ∷ N08 ∷ N09 ∷ S01 ∷ S02 ∷ S03 ∷ S04 ∷ S05 ∷ S06 ∷ []
+all_codes = A01 ∷ A02 ∷ A03 ∷ A04 ∷ A05 ∷ A06 ∷ A07 ∷ A08 ∷ A09 ∷ A10 ∷ A11 ∷ A12 ∷ A13 ∷ A14 ∷ A15 ∷ C01 ∷ C02 ∷ C03 ∷ C04 ∷ N01 ∷ N02 ∷ N03 ∷ N04 ∷ N05 ∷ N06 ∷ N07 ∷ N08 ∷ N09 ∷ S01 ∷ S02 ∷ S03 ∷ S04 ∷ S05 ∷ S06 ∷ []
 
 -- how many codes have an earlier letter
 before_letter : ℕ → ℕ
-before_letter letter = cond (letter == 65) 0 (cond (letter == 67) 14 (cond (letter == 78) 18 27))
+before_letter letter = cond (letter == 65) 0 (cond (letter == 67) 15 (cond (letter == 78) 19 28))
 
 -- the code that is printed so
 code_named : List ℕ → Code
@@ -31,6 +31,7 @@ named_back A11 = refl
 named_back A12 = refl
 named_back A13 = refl
 named_back A14 = refl
+named_back A15 = refl
 named_back C01 = refl
 named_back C02 = refl
 named_back C03 = refl

@@ -10,7 +10,7 @@ use Rattle.source.specs.declared.fault.TextFault.{TextFault}
 use Rattle.source.specs.declared.fault.TextFault.TheVariants.{Stray, OpenComment, TooLong, TooDeep, TooLarge, Memory}
 use Rattle.source.specs.declared.finding.Code.{Code}
 use Rattle.source.specs.declared.finding.Code.TheVariants.{A01, A02, A03, A04, A05, A06, A07, A08, A09, A10, A11}
-use Rattle.source.specs.declared.finding.Code.TheVariants.{A12, A13, A14, C01, C02, C03, C04, N01, N02, N03, N04}
+use Rattle.source.specs.declared.finding.Code.TheVariants.{A12, A13, A14, A15, C01, C02, C03, C04, N01, N02, N03, N04}
 use Rattle.source.specs.declared.finding.Code.TheVariants.{N05, N06, N07, N08, N09, S01, S02, S03, S04, S05, S06}
 use Rattle.source.specs.declared.finding.Finding.{Finding}
 
@@ -54,6 +54,7 @@ code_name A11 = codes "A11"
 code_name A12 = codes "A12"
 code_name A13 = codes "A13"
 code_name A14 = codes "A14"
+code_name A15 = codes "A15"
 code_name C01 = codes "C01"
 code_name C02 = codes "C02"
 code_name C03 = codes "C03"

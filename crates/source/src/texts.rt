@@ -15,8 +15,9 @@ use crate::finding::{Code, Finding};
 use crate::place::{self, Place};
 pub use ownership::{
     given_twice, in_a_wrong_state_for, in_a_wrong_state_for_the_call,
-    in_a_wrong_state_for_the_result, is_lent, no_result, not_back_in_its_state, not_covered,
-    not_owned, not_sent_here, nothing_to_receive, overwritten, still_owned, too_many_pairs,
+    in_a_wrong_state_for_the_field, in_a_wrong_state_for_the_result, is_lent, no_result,
+    not_back_in_its_state, not_covered, not_owned, not_sent_here, nothing_to_receive, overwritten,
+    still_owned, too_many_pairs,
 };
 use std::alloc::Global;
 use std::str;

@@ -66,6 +66,23 @@ pub fn in_a_wrong_state_for_the_call(
     )
 }
 
+/// An endpoint that is given for a field of a block, and is not in the state that the field asks.
+pub fn in_a_wrong_state_for_the_field(
+    alloc: Global,
+    place: Place,
+    variable: &[u8],
+) -> Result<Finding, Memory>
+    ensures { IfOk result (IsFinding place Code.A15 (utf8_lossy variable.now ++ codes " in a wrong state for the field")) }
+{
+    named(
+        alloc,
+        place,
+        Code::A15,
+        variable,
+        " in a wrong state for the field",
+    )
+}
+
 /// A message that an endpoint may receive in a switch, and for which there is no case.
 pub fn not_covered(
     alloc: Global,
