@@ -4,7 +4,7 @@ use Rattle.std.specs.List.{All}
 use Rattle.std.proofs.lemmas.List.Elements.{All-nil, All-cons, All-append}
 use Rattle.source.specs.declared.place.Place.{Place}
 use Rattle.program.specs.Methods.{MethodSeen}
-use Rattle.program.specs.Statements.{CallSeen, SendSeen}
+use Rattle.program.specs.Statements.{CallSeen, NewSeen, SendSeen}
 use Rattle.program.specs.declared.number.VarId.{VarId}
 use Rattle.program.specs.declared.statement.Action.{Action}
 use Rattle.program.specs.declared.statement.Action.TheVariants as action
@@ -12,8 +12,8 @@ use Rattle.program.specs.declared.statement as made
 use Rattle.program.specs.declared.statement.Mention.{Mention}
 use Rattle.program.specs.declared.statement.Ways.{Ways}
 use Rattle.program.specs.declared.statement.Ways.TheVariants as ways_of
-use Rattle.flow.specs.Graphs.{Instruction, Use, New, Move, Delete, NewChannel, Send, Branch, Forget, Call, Start, Return, Stop}
-use Rattle.flow.specs.Lowering.{Laid, Lays, nothing, one, both, gone, branches, parts, turns, reads, forgets, acts, called, started, sent, ending}
+use Rattle.flow.specs.Graphs.{Instruction, Use, New, Move, Delete, Exchange, NewChannel, Send, Branch, Forget, Call, Start, Return, Stop}
+use Rattle.flow.specs.Lowering.{Laid, Lays, nothing, one, both, gone, branches, parts, turns, reads, forgets, acts, called, started, made_new, sent, ending}
 use Rattle.flow.specs.Within.{goes_on}
 
 -- an instruction goes on below a bound
@@ -137,13 +137,17 @@ started_stay n c = both_stay n (reads c.reads) (one (Start c.place c.method c.ar
 pub sent_stays : (n : ℕ) (s : SendSeen) → StaysBelow n (sent s)
 sent_stays n s = both_stay n (reads s.reads) (one (Send s.place s.endpoint s.message s.payloads)) (reads_stay n s.reads) (one_stays n (Send s.place s.endpoint s.message s.payloads) (one_point n))
 
+-- a new block
+pub new_stays : (n : ℕ) (x : NewSeen) → StaysBelow n (made_new x)
+new_stays n x = both_stay n (reads x.reads) (one (New x.target x.arguments)) (reads_stay n x.reads) (one_stays n (New x.target x.arguments) (one_point n))
+
 -- what a simple statement does
 pub acts_stay : (n : ℕ) (does : Action) (exit again : ℕ) → exit < n → again < n → StaysBelow n (acts does exit again)
 acts_stay n action.Nothing exit again e a = nothing_stays n
 acts_stay n (action.Use m) exit again e a = one_stays n (Use m) (one_point n)
-acts_stay n (action.New m) exit again e a = one_stays n (New m []) (one_point n)
 acts_stay n (action.Move target source) exit again e a = one_stays n (Move target source) (one_point n)
 acts_stay n (action.Delete m) exit again e a = one_stays n (Delete m) (one_point n)
+acts_stay n (action.Exchange x) exit again e a = one_stays n (Exchange x) (one_point n)
 acts_stay n (action.NewChannel c) exit again e a = one_stays n (NewChannel c) (one_point n)
 acts_stay n (action.Break f) exit again e a = gone_stays n exit (forgets f) e (forgets_stay n f)
 acts_stay n (action.Continue f) exit again e a = gone_stays n again (forgets f) a (forgets_stay n f)

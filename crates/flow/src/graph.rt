@@ -1,7 +1,7 @@
 //! Instructions, and where each goes on.
 
 use crate::cases::Cases;
-use program::{Argument, Awaited, Channel, Forget, Mention, MessageId, MethodId, VarId};
+use program::{Argument, Awaited, Channel, Exchange, Forget, Mention, MessageId, MethodId, VarId};
 use source::Place;
 
 /// Where a condition goes on.
@@ -85,6 +85,11 @@ pub enum Instr {
     /// Frees the block that the variable has.
     Delete {
         at: Mention,
+        next: usize,
+    },
+    /// What a field that owns holds and what a variable has change places.
+    Exchange {
+        exchange: Exchange,
         next: usize,
     },
     /// Two variables take the two ends of a new channel.

@@ -1,13 +1,13 @@
 //! Instructions and simple statements, laid on top of those that are laid already.
 
 ghost use Rattle.std.specs.Prelude.{◌≡◌, IfOk, [], ◌∷◌, ◌++◌, length};
-ghost use Rattle.program.specs.Statements.{call_seen, send_seen, simple_seen};
+ghost use Rattle.program.specs.Statements.{call_seen, new_seen, send_seen, simple_seen};
 ghost use Rattle.flow.specs.Cases.{entrance_seen};
 ghost use Rattle.flow.specs.Growths.{Grew};
 ghost use Rattle.flow.specs.Lowering as laid;
 
 use crate::graph::{Branches, Calling, Entrance, Instr, Returning, Sending, Starting};
-use program::{Action, Call, Case, Forget, Mention, Send, Simple, Ways};
+use program::{Action, Call, Case, Forget, Mention, New, Send, Simple, Ways};
 use source::{Memory, Place};
 use std::alloc::Global;
 
@@ -91,7 +91,6 @@ pub(crate) fn lay_forget(
 
 /// Lays what a simple statement does behind its reads.
 fn lay_action(
-    alloc: Global,
     instructions: &mut Vec<Instr>,
     action: Action,
     exits: Exits,
@@ -105,17 +104,13 @@ fn lay_action(
         Action::Break(forget) => return lay_forget(instructions, forget, exits.end),
         Action::Continue(forget) => return lay_forget(instructions, forget, exits.again),
         Action::Use(at) => Instr::Use { at, next },
-        Action::New(target) => Instr::New {
-            target,
-            arguments: Vec::new(alloc),
-            next,
-        },
         Action::Move { target, source } => Instr::Move {
             target,
             source,
             next,
         },
         Action::Delete(at) => Instr::Delete { at, next },
+        Action::Exchange(exchange) => Instr::Exchange { exchange, next },
         Action::NewChannel(channel) => Instr::NewChannel { channel, next },
         Action::Return {
             place,
@@ -132,7 +127,6 @@ fn lay_action(
 
 /// Lays a simple statement: what it does, and on top of it what it reads.
 pub(crate) fn lay_simple(
-    alloc: Global,
     instructions: &mut Vec<Instr>,
     simple: &Simple,
     exits: Exits,
@@ -141,8 +135,27 @@ pub(crate) fn lay_simple(
     ensures { IfOk result (λ entry. Grew instructions.old.items instructions.new.items entry
         (laid.statement (simple_seen simple.now) exits.end exits.again (length instructions.old.items) next)) }
 {
-    let behind = lay_action(alloc, instructions, simple.action, exits, next)?;
+    let behind = lay_action(instructions, simple.action, exits, next)?;
     lay_reads(instructions, &simple.reads, behind)
+}
+
+/// Lays a New, and on top of it what the length of an array reads.
+pub(crate) fn lay_new(
+    alloc: Global,
+    instructions: &mut Vec<Instr>,
+    new: &New,
+    next: usize,
+) -> Result<usize, Memory>
+    ensures { IfOk result (λ entry. Grew instructions.old.items instructions.new.items entry
+        (laid.made_new (new_seen new.now) (length instructions.old.items) next)) }
+{
+    let instruction = Instr::New {
+        target: new.target,
+        arguments: Vec::from_slice(alloc, &new.arguments)?,
+        next,
+    };
+    let at = lay(instructions, instruction)?;
+    lay_reads(instructions, &new.reads, at)
 }
 
 /// Lays a call: what is used behind it, the call, and on top of it what its arguments read.

@@ -14,8 +14,8 @@ ghost use Rattle.flow.specs.Within.{IsClosed};
 use crate::cases::Cases;
 use crate::graph::{Graph, Instr, Returning};
 use crate::laying::{
-    Exits, branches, entrance_of, lay, lay_branches, lay_call, lay_forget, lay_reads, lay_send,
-    lay_simple, lay_start,
+    Exits, branches, entrance_of, lay, lay_branches, lay_call, lay_forget, lay_new, lay_reads,
+    lay_send, lay_simple, lay_start,
 };
 use program::{Block, Case, If, Method, Statement, Test};
 use source::{Memory, Place};
@@ -95,7 +95,8 @@ fn lay_statement(
         (laid.statement (statement_seen statement.now) exits.end exits.again (length instructions.old.items) next)) }
 {
     match statement {
-        Statement::Simple(simple) => lay_simple(alloc, instructions, simple, exits, next),
+        Statement::Simple(simple) => lay_simple(instructions, simple, exits, next),
+        Statement::New(new) => lay_new(alloc, instructions, new, next),
         Statement::Call(call) => lay_call(alloc, instructions, call, next),
         Statement::Start(call) => lay_start(alloc, instructions, call, next),
         Statement::Send(send) => lay_send(alloc, instructions, send, next),

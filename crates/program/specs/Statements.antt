@@ -14,6 +14,15 @@ use Rattle.program.specs.declared.statement.Mention.{Mention}
 use Rattle.program.specs.declared.statement.Ways.{Ways}
 use Rattle.program.specs.declared.statement.Statement.TheOpen as layer
 
+-- a new block: what the length of an array reads, what takes it, and what is given for each field that owns
+pub record NewSeen : Type 0 where
+  pub reads : List Mention
+  pub target : Mention
+  pub arguments : List Mention
+
+abbrev pub new_seen : made.New.New → NewSeen
+new_seen n = record { reads = n.reads.items; target = n.target; arguments = n.arguments.items }
+
 -- a call or a start: what it reads, its place, the method, what is given, what takes what it gives, and what is used behind it
 pub record CallSeen : Type 0 where
   pub reads : List Mention
@@ -48,6 +57,7 @@ mutual
   -- a statement: a simple one reads, and then does what it does
   pub data StatementSeen : Type 0 where
     Simple : List Mention → Action → StatementSeen
+    New : NewSeen → StatementSeen
     Call : CallSeen → StatementSeen
     Start : CallSeen → StatementSeen
     Send : SendSeen → StatementSeen
@@ -116,6 +126,7 @@ simple_seen s = Simple s.reads.items s.action
 
 abbrev pub statement_step : layer.Statement-F StatementSeen BlockSeen CaseSeen IfSeen TestSeen → StatementSeen
 statement_step (layer.Simple s) = simple_seen s
+statement_step (layer.New n) = New (new_seen n)
 statement_step (layer.Call c) = Call (call_seen c.value)
 statement_step (layer.Start c) = Start (call_seen c.value)
 statement_step (layer.Send s) = Send (send_seen s)

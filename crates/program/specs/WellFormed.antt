@@ -2,12 +2,14 @@
 use Rattle.std.specs.Prelude.{◌≡◌, ◌≤◌, ◌<◌, ℕ, ◌==◌, Bool, true, false, ◌&&◌, not, List, [], ◌∷◌, length, map, Option, None, Some}
 use Rattle.std.specs.Prelude.{slice_get, IfSome, IsSomeAnd}
 use Rattle.std.specs.List.{filter}
+use Rattle.std.specs.Option.{option_map_or}
 use Rattle.program.specs.Kinds.{same_scalar, same_side}
 use Rattle.program.specs.Parts.{StateParts, MessageParts, ContractSeen}
 use Rattle.program.specs.declared.number.MessageId.{MessageId}
 use Rattle.program.specs.declared.number.StateId.{StateId}
 use Rattle.program.specs.Methods.{MethodSeen, VariableSeen}
-use Rattle.program.specs.Statements.{CallSeen, SendSeen, StatementSeen, Simple, Call, Start, Send, Block, If, While, Switch}
+use Rattle.program.specs.Statements.{CallSeen, NewSeen, SendSeen, StatementSeen, Simple, New, Call, Start, Send}
+use Rattle.program.specs.Statements.{Block, If, While, Switch}
 use Rattle.program.specs.Statements.{StatementsSeen, NoStatement, MoreStatements, BlockSeen, Braces, TestSeen, Test}
 use Rattle.program.specs.Statements.{OthersSeen, NoOther, Else, ElseIf, CaseSeen, Case, CasesSeen, NoCase, MoreCases}
 use Rattle.program.specs.declared.call.Argument.{Argument}
@@ -21,6 +23,7 @@ use Rattle.program.specs.declared.statement.Action.TheVariants as does
 use Rattle.program.specs.declared.statement.Awaited.{Awaited}
 use Rattle.program.specs.declared.statement.Awaited.TheVariants.{Message, Closed}
 use Rattle.program.specs.declared.statement.Channel.{Channel}
+use Rattle.program.specs.declared.statement.Exchange.{Exchange}
 use Rattle.program.specs.declared.statement.Mention.{Mention}
 use Rattle.program.specs.declared.limits.TheConstants.{MOST_FIELDS, MOST_VARIABLES}
 use Rattle.program.specs.Lists.{Each, is_among}
@@ -81,6 +84,12 @@ contract_held contracts _ = None
 abbrev pub is_end : Kind → Bool
 is_end (Endpoint contract side state) = true
 is_end _ = false
+
+-- what a block of this kind has in its fields that own: of a struct the kind of each, in order; of an array nothing
+abbrev pub field_kinds : (structs : List (List Kind)) → Kind → List Kind
+field_kinds structs (Struct n) = option_map_or (λ kinds. kinds) (slice_get structs n.0) []
+field_kinds structs (Array element) = []
+field_kinds structs (Endpoint contract side state) = []
 
 -- Where a statement stands: the contracts of the program, what its messages bring, what its structs have in fields that own, and its
 -- methods; the variables of its own method, and what that gives; the last variable in scope, and the last that stays at a `break` and at
@@ -214,18 +223,26 @@ module _ (s : Setting) where
   IsChannel c = IsSomeAnd (slice_get s.variables c.first.variable.0) (λ v. IsSomeAnd (slice_get s.variables c.second.variable.0)
       (λ w. are_ends c.contract.0 v.kind w.kind ≡ true))
 
-  -- a variable that takes a new struct or array
-  abbrev pub TakesNew : VarId → Type 0
-  TakesNew v = IsSomeAnd (slice_get s.variables v.0) (λ x. is_end x.kind ≡ false)
+  -- A new block: what takes it is in scope and no endpoint, and for each field that owns a variable of its type is given.
+  pub record IsNew (n : NewSeen) : Type 0 where
+    pub reads : Each IsMention n.reads
+    pub in_scope : IsIn n.target.variable
+    pub taken : IsSomeAnd (slice_get s.variables n.target.variable.0) (λ x. (is_end x.kind ≡ false)
+        × HoldAll (field_kinds s.structs x.kind) (map (λ m. m.variable) n.arguments))
+
+  -- a variable, and a field that owns, of its type and of the block that another variable has
+  abbrev pub IsExchange : Exchange → Type 0
+  IsExchange e = IsIn e.given.variable × IsSomeAnd (slice_get s.variables e.holder.variable.0)
+      (λ v. IsSomeAnd (slice_get (field_kinds s.structs v.kind) e.field) (λ k. Holds k e.given.variable))
 
   -- What is assigned is in scope. What a `break` and a `continue` leave goes out of scope, and a `return` knows what is in scope.
   abbrev pub IsAction : Action → Type 0
   IsAction does.Nothing = Unit {0}
   IsAction (does.Use m) = IsMention m
-  IsAction (does.New m) = IsIn m.variable × TakesNew m.variable
   IsAction (does.Move target source) = IsIn target.variable
       × IsSomeAnd (slice_get s.variables target.variable.0) (λ v. Holds v.kind source.variable)
   IsAction (does.Delete m) = IsMention m
+  IsAction (does.Exchange e) = IsExchange e
   IsAction (does.NewChannel c) = (IsIn c.first.variable × IsIn c.second.variable) × IsChannel c
   IsAction (does.Break f) = GoesBack s.scope s.at_break f
   IsAction (does.Continue f) = GoesBack s.scope s.at_continue f
@@ -244,6 +261,7 @@ abbrev mutual
   -- a statement
   pub IsStatement : Setting → StatementSeen → Type 0
   IsStatement s (Simple reads action) = Each (IsMention s) reads × IsAction s action
+  IsStatement s (New n) = IsNew s n
   IsStatement s (Call c) = IsSomeAnd (slice_get s.methods c.method.0) (IsCallOf s c)
   IsStatement s (Start c) = IsSomeAnd (slice_get s.methods c.method.0) (IsStartOf s c)
   IsStatement s (Send x) = IsSend s x

@@ -29,6 +29,16 @@ pub struct Channel {
     pub second: Mention,
 }
 
+/// What a field that owns holds, and what a variable has, change places. The field is one of the block that the holder has, and its
+/// number counts the fields of the struct that own. The place is that of the word `exchange`.
+#[derive(Clone, Copy)]
+pub struct Exchange {
+    pub place: Place,
+    pub holder: Mention,
+    pub field: usize,
+    pub given: Mention,
+}
+
 /// What a simple statement does behind its reads.
 #[derive(Clone, Copy)]
 pub enum Action {
@@ -36,8 +46,6 @@ pub enum Action {
     Nothing,
     /// A field or an element of what the variable has is written.
     Use(Mention),
-    /// The variable takes a new block.
-    New(Mention),
     /// The target takes what the source has.
     Move {
         target: Mention,
@@ -45,6 +53,8 @@ pub enum Action {
     },
     /// What the variable has is freed.
     Delete(Mention),
+    /// What a field holds and what a variable has change places.
+    Exchange(Exchange),
     /// Two variables take the two ends of a new channel.
     NewChannel(Channel),
     /// The innermost loop or switch ends. What it and what stands in it has declared goes out of scope.
@@ -68,11 +78,22 @@ pub struct Simple {
     pub action: Action,
 }
 
+/// A new struct or array: the variables whose blocks the length of an array reads, the variable that takes it, and those that are given
+/// for the fields of the struct that own, in order.
+#[derive(Drop)]
+pub struct New {
+    pub reads: Vec<Mention>,
+    pub target: Mention,
+    pub arguments: Vec<Mention>,
+}
+
 /// A statement. What is large stands in a box, so that a list of statements takes little for each.
 #[cycle(statement)]
 #[derive(Drop)]
 pub enum Statement {
     Simple(Simple),
+    /// A variable takes a new block.
+    New(New),
     /// A method runs and comes back.
     Call(Box<Call>),
     /// A method runs as a process of its own.
