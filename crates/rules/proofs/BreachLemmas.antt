@@ -11,7 +11,7 @@ use Rattle.rules.specs.Reasons.{numbers, reason_cmp}
 use Rattle.rules.specs.declared.breach.Breach.{Breach}
 use Rattle.rules.specs.declared.breach.Reason.{Reason}
 use Rattle.rules.specs.declared.breach.Reason.TheVariants.{NotOwned, NotSent, WrongFor, WrongForCall, NotCovered, NothingToReceive}
-use Rattle.rules.specs.declared.breach.Reason.TheVariants.{Overwritten, StillOwned, NotBack, Lent, Twice, WrongForResult, NoResult}
+use Rattle.rules.specs.declared.breach.Reason.TheVariants.{Overwritten, StillOwned, NotBack, Lent, Twice, WrongForResult, NoResult, WrongForField}
 
 -- what is equal has equal parts
 both_equal : (a b : Ordering) → ordering_then a b ≡ Equal → (a ≡ Equal) × (b ≡ Equal)
@@ -38,7 +38,7 @@ reasons v e m =
     let message : MessageId = record { 0 = m } in
     NoResult ∷ NotOwned variable ∷ NotSent endpoint message ∷ WrongFor variable endpoint message ∷ WrongForCall variable
     ∷ NotCovered endpoint message ∷ NothingToReceive ∷ Overwritten variable ∷ StillOwned variable ∷ NotBack variable ∷ Lent variable
-    ∷ Twice variable ∷ WrongForResult variable ∷ NoResult ∷ []
+    ∷ Twice variable ∷ WrongForResult variable ∷ NoResult ∷ WrongForField variable ∷ []
 
 -- the reason of these numbers
 abbrev reason_of : List ℕ → Reason
@@ -59,6 +59,7 @@ read_back (Lent variable) = refl
 read_back (Twice variable) = refl
 read_back (WrongForResult variable) = refl
 read_back NoResult = refl
+read_back (WrongForField variable) = refl
 
 one_reason : (a b : Reason) → reason_cmp a b ≡ Equal → a ≡ b
 one_reason a b e = sym (read_back a) ∙ ap reason_of (one_list (numbers a) (numbers b) e) ∙ read_back b

@@ -11,6 +11,11 @@ module _ (says : Breach → FindingParts) where
   alone checks found answer after is stands =
       sym (ap (λ l. checked l after) (sym (append-nil checks)) ∙ stands.all [] after ∙ ap (λ f. checked (check_seen says f ∷ []) after) is)
 
+  -- one check before others went well
+  pub behind_one : (check : Check) (checks : List Check) (found : Option Breach) (after : List Pair) → found ≡ None → check_seen says found ≡ check
+      → checked checks after ≡ checked (check ∷ checks) after
+  behind_one check checks found after none is = ap (λ c. checked (c ∷ checks) after) (ap (check_seen says) (sym none) ∙ is)
+
   -- the first of two lists of checks went well
   pub second_of : (checks behind : List Check) (found other answer : Option Breach) (after : List Pair) → found ≡ None → other ≡ answer → StandsFor says found checks → StandsFor says other behind
       → checked (check_seen says answer ∷ []) after ≡ checked (checks ++ behind) after

@@ -13,4 +13,5 @@ pub mod BreachLemmas
 pub mod RepeatLemmas
 pub mod EndLemmas
 pub mod KindLemmas
+mod SmallSteps
 mod TransferLemmas

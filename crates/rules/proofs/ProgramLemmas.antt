@@ -6,7 +6,7 @@ use Rattle.std.proofs.lemmas.Simd.{map-map}
 use Rattle.flow.specs.declared.graph.Graph.{Graph}
 use Rattle.flow.specs.declared.graph.Instr.{Instr}
 use Rattle.flow.specs.Graphs.{GraphSeen, Instruction, graph_seen, instruction_seen}
-use Rattle.flow.specs.Graphs.{Use, New, Move, Delete, NewChannel, Send, Switch, Branch, Forget, Call, Start, Return, Stop}
+use Rattle.flow.specs.Graphs.{Use, New, Move, Delete, Exchange, NewChannel, Send, Switch, Branch, Forget, Call, Start, Return, Stop}
 use Rattle.flow.specs.declared.graph.Branches.{Branches}
 use Rattle.flow.specs.Lowering.{graph_of}
 use Rattle.program.specs.declared.method.Method.{Method}
@@ -69,6 +69,7 @@ condition_goes p m row branches (Some (Use at next)) e = cc
 condition_goes p m row branches (Some (New target arguments next)) e = cc
 condition_goes p m row branches (Some (Move target source next)) e = cc
 condition_goes p m row branches (Some (Delete at next)) e = cc
+condition_goes p m row branches (Some (Exchange exchange next)) e = cc
 condition_goes p m row branches (Some (NewChannel channel next)) e = cc
 condition_goes p m row branches (Some (Send place endpoint message payloads next)) e = cc
 condition_goes p m row branches (Some (Switch place cases)) e = cc

@@ -1,10 +1,11 @@
 -- Rows with a leaf for each variable.
 use Rattle.std.proofs.Common.{◌≡◌, ℕ, Bool, true, false, List, [], ◌∷◌, ◌++◌, length, map, flat_map, set, slice_get, Option, None, Some, if◌then◌else◌, refl, sym, ap, subst, ◌∙◌}
 use Rattle.std.specs.List.{All}
+use Rattle.std.specs.Option.{option_map_or}
 use Rattle.std.proofs.lemmas.List.{length-map, length-set}
 use Rattle.std.proofs.lemmas.List.Elements.{All-append, All-nil, All-cons}
 use Rattle.source.specs.Findings.{FindingParts}
-use Rattle.flow.specs.Graphs.{Instruction, Use, New, Move, Delete, NewChannel, Send, Switch, Branch, Forget, Call, Start, Return, Stop}
+use Rattle.flow.specs.Graphs.{Instruction, Use, New, Move, Delete, Exchange, NewChannel, Send, Switch, Branch, Forget, Call, Start, Return, Stop}
 use Rattle.flow.specs.Lowering.{graph_of}
 use Rattle.flow.specs.declared.graph.Branches.{Branches}
 use Rattle.flow.specs.declared.graph.Branches.TheVariants.{Either, Only}
@@ -14,12 +15,12 @@ use Rattle.program.specs.Programs.{ProgramSeen}
 use Rattle.program.specs.declared.contract.Edge.{Edge}
 use Rattle.program.specs.declared.kind.Kind.{Kind}
 use Rattle.program.specs.declared.number.VarId.{VarId}
-use Rattle.rules.specs.Endpoints.{brought, declared_leaf, first_state, kind_of, message_name, parameter_kinds, result_of}
+use Rattle.rules.specs.Endpoints.{brought, declared_leaf, field_of, fields_of, first_state, kind_of, message_name, parameter_kinds, result_of}
 use Rattle.rules.specs.Switches.{awaited_edges, bound_leaves, closed, comes_at, pair_at, received, switch_checks, switch_pairs}
 use Rattle.program.specs.declared.call.Argument.{Argument}
 use Rattle.program.specs.declared.statement.Mention.{Mention}
 use Rattle.rules.specs.Rows.{IsRowOf, leaf_at}
-use Rattle.rules.specs.Arguments.{all_payloads, lacks_edge, payload, sent_leaf, all_arguments, claimed, given_leaf, target_checks}
+use Rattle.rules.specs.Arguments.{all_arguments, all_fields, all_payloads, claimed, field_checks, given_leaf, lacks_edge, payload, sent_leaf, target_checks}
 use Rattle.rules.specs.Mentions.{given_back, has_nothing, has_something, is_another, is_not_lent}
 use Rattle.rules.specs.Outcomes.{Check, Fails, Goes, Pair, Step, checked, refused}
 use Rattle.rules.specs.RuleTable.{back_checks, instruction_outcome, value_checks, ways}
@@ -110,8 +111,15 @@ module _ (p : ProgramSeen) (m : MethodSeen) where
       → IsRowOf m row → instruction_outcome p m i row ≡ Goes to → AreRows to
   instruction_on (Use v next) row to is e = leads_on (has_something m row v ∷ []) next row to is e
   instruction_on (New v arguments next) row to is e =
-      let made = set row v.variable.0 Block in
-      leads_on (is_not_lent m v ∷ has_nothing m row v ∷ []) next made to (length-set row v.variable.0 Block ∙ is) e
+      let given = map payload arguments in
+      let left = claimed row given in
+      leads_on (all_fields m row (fields_of p m v.variable.0) given ++ target_checks m left (Some v)) next (set left v.variable.0 Block) to
+      (length-set left v.variable.0 Block ∙ claimed_size row given ∙ is) e
+  instruction_on (Exchange x next) row to is e =
+      let kind = field_of p m x.holder.variable.0 x.field in
+      let leaf = option_map_or declared_leaf kind Nothing in
+      leads_on (is_another m x.holder x.given ∷ has_something m row x.holder ∷ option_map_or (λ kind. field_checks m row kind (payload x.given)) kind [])
+      next (set row x.given.variable.0 leaf) to (length-set row x.given.variable.0 leaf ∙ is) e
   instruction_on (NewChannel c next) row to is e =
       let first = State (first_state p c.contract.0) in
       let one = set row c.first.variable.0 first in

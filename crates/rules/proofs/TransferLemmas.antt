@@ -1,5 +1,5 @@
 -- What an instruction with a transfer comes to.
-use Rattle.std.proofs.Common.{◌≡◌, ℕ, Bool, true, false, not, ◌&&◌, ◌==◌, List, [], ◌∷◌, Option, Some, None, set, IfSome, IsSomeAnd, slice_get, if◌then◌else◌, refl, sym, ap, subst, ◌∙◌, true≢false}
+use Rattle.std.proofs.Common.{◌≡◌, ℕ, Bool, true, false, not, ◌&&◌, ◌==◌, List, [], ◌∷◌, ◌++◌, flat_map, Option, Some, None, set, IfSome, IsSomeAnd, slice_get, if◌then◌else◌, refl, sym, ap, subst, ◌∙◌, true≢false}
 use Rattle.std.specs.Option.{option_map}
 use Rattle.source.specs.Findings.{FindingParts}
 use Rattle.flow.specs.declared.graph.Graph.{Graph}
@@ -7,10 +7,13 @@ use Rattle.flow.specs.declared.graph.Instr.{Instr}
 use Rattle.flow.specs.Graphs.{Instruction, graph_seen, instruction_seen}
 use Rattle.flow.specs.Graphs as graphs
 use Rattle.flow.specs.Lowering.{graph_of}
+use Rattle.program.specs.declared.kind.Kind.{Kind}
 use Rattle.program.specs.declared.method.Method.{Method}
 use Rattle.program.specs.declared.statement.Mention.{Mention}
 use Rattle.program.specs.Methods.{MethodSeen, method_seen}
 use Rattle.program.specs.Programs.{ProgramSeen}
+use Rattle.rules.specs.Arguments.{all_fields, field_checks}
+use Rattle.rules.specs.Endpoints.{fields_of}
 use Rattle.rules.specs.Mentions.{is_lent, name_of}
 use Rattle.rules.specs.Outcomes.{Goes, Pair, Check, checked, refused}
 use Rattle.rules.specs.Rows.{is_owned, leaf_at}
@@ -22,6 +25,7 @@ use Rattle.rules.specs.declared.row.Leaf.{Leaf}
 use Rattle.rules.specs.declared.row.Leaf.TheVariants.{Nothing, Block}
 use Rattle.rules.specs.declared.transfer.Transfer.{Transfer}
 use Rattle.rules.specs.declared.transfer.Transfer.TheVariants.{Use, New, Move, Delete}
+use Rattle.rules.proofs.ArgumentLemmas.{zip_nil}
 use Rattle.rules.proofs.ProgramLemmas.{at_point, one_method, outcome_is}
 
 -- parts of tests
@@ -66,11 +70,16 @@ module _ (p : ProgramSeen) (m : MethodSeen) (row : List Leaf) where
   use_comes : (v : Mention) (next : ℕ) → Comes (graphs.Use v next) (Use v.variable, next)
   use_comes v next fit allowed = pass (not (is_owned row v.variable.0)) (lacking v) [] ((next, row) ∷ []) (ap not allowed)
 
-  new_comes : (v : Mention) (arguments : List Mention) (next : ℕ) → Comes (graphs.New v arguments next) (New v.variable, next)
-  new_comes v arguments next fit allowed =
+  -- nothing is given for fields
+  no_fields : (kinds : List Kind) → all_fields m row kinds [] ≡ []
+  no_fields kinds = ap (flat_map (λ x. field_checks m row x.0 x.1)) (zip_nil kinds [] refl)
+
+  new_comes : (v : Mention) (next : ℕ) → Comes (graphs.New v [] next) (New v.variable, next)
+  new_comes v next fit allowed =
       let after = (next, set row v.variable.0 Block) ∷ [] in
       let filled = refused (is_owned row v.variable.0) (having v) ∷ [] in
-      pass (is_lent m v.variable.0) (lent_one v) filled after (of_not (is_lent m v.variable.0) fit)
+      ap (λ checks. checked (checks ++ (refused (is_lent m v.variable.0) (lent_one v) ∷ filled)) after) (no_fields (fields_of p m v.variable.0))
+      ∙ pass (is_lent m v.variable.0) (lent_one v) filled after (of_not (is_lent m v.variable.0) fit)
       ∙ pass (is_owned row v.variable.0) (having v) [] after (of_not (is_owned row v.variable.0) allowed)
 
   delete_comes : (v : Mention) (next : ℕ) → Comes (graphs.Delete v next) (Delete v.variable, next)
@@ -99,9 +108,11 @@ module _ (p : ProgramSeen) (m : MethodSeen) (row : List Leaf) where
 
   comes : (i : Instruction) (u : Transfer × ℕ) → Path (Option (Transfer × ℕ)) (transfer_in i) (Some u) → Comes i u
   comes (graphs.Use at next) u e = subst (Comes (graphs.Use at next)) (one_some _ u e) (use_comes at next)
-  comes (graphs.New at arguments next) u e = subst (Comes (graphs.New at arguments next)) (one_some _ u e) (new_comes at arguments next)
+  comes (graphs.New at [] next) u e = subst (Comes (graphs.New at [] next)) (one_some _ u e) (new_comes at next)
+  comes (graphs.New at (a ∷ arguments) next) u e = absurd (none_some u e)
   comes (graphs.Move v w next) u e = subst (Comes (graphs.Move v w next)) (one_some _ u e) (move_comes v w next)
   comes (graphs.Delete at next) u e = subst (Comes (graphs.Delete at next)) (one_some _ u e) (delete_comes at next)
+  comes (graphs.Exchange exchange next) u e = absurd (none_some u e)
   comes (graphs.NewChannel channel next) u e = absurd (none_some u e)
   comes (graphs.Send place endpoint message payloads next) u e = absurd (none_some u e)
   comes (graphs.Switch place cases) u e = absurd (none_some u e)

@@ -1,7 +1,9 @@
--- Calls, starts and sends: the checks of what is given, and what is left of a row behind it.
+-- Calls, starts, sends and new blocks: the checks of what is given, and what is left of a row behind it.
 use Rattle.std.specs.Prelude.{ℕ, Bool, true, false, ◌&&◌, List, [], ◌∷◌, ◌++◌, Option, Some, None}
 use Rattle.std.specs.Prelude.{flat_map, is_none, set, zip, if◌then◌else◌}
 use Rattle.std.specs.Option.{option_map_or}
+use Rattle.source.specs.Findings.{FindingParts}
+use Rattle.source.specs.declared.place.Place.{Place}
 use Rattle.program.specs.Lists.{is_among}
 use Rattle.program.specs.Methods.{MethodSeen}
 use Rattle.program.specs.Programs.{ProgramSeen}
@@ -13,7 +15,7 @@ use Rattle.rules.specs.Endpoints.{declared_leaf, edges_out, in_state, is_wrong}
 use Rattle.rules.specs.Mentions.{has_nothing, has_something, is_lent, is_not_lent, name_of}
 use Rattle.rules.specs.Outcomes.{Check, refused}
 use Rattle.rules.specs.Rows.{leaf_at}
-use Rattle.rules.specs.Texts.{lent, twice, wrong_for, wrong_for_call}
+use Rattle.rules.specs.Texts.{lent, twice, wrong_for, wrong_for_call, wrong_for_field}
 use Rattle.rules.specs.declared.row.Leaf.{Leaf}
 use Rattle.rules.specs.declared.row.Leaf.TheVariants.{Nothing, State}
 
@@ -22,7 +24,7 @@ abbrev pub claimed : List Leaf → List Argument → List Leaf
 claimed row [] = row
 claimed row (a ∷ arguments) = claimed (if a.claimed then set row a.mention.variable.0 Nothing else row) arguments
 
--- a message claims what is given with it
+-- a message claims what is given with it, and so does a block what is given for its fields
 abbrev pub payload : Mention → Argument
 payload x = record { mention = x; claimed = true }
 
@@ -59,18 +61,32 @@ module _ (m : MethodSeen) where
   abbrev pub all_arguments : List Leaf → List Kind → List Argument → List Check
   all_arguments row kinds arguments = given_before [] arguments ++ flat_map (λ x. argument_checks row x.0 x.1) (zip kinds arguments)
 
-  -- The checks of what a message takes with it: it is not lent, there, and in the state that the message asks.
-  abbrev pub payload_checks : List Leaf → (message : List ℕ) → Kind → Argument → List Check
-  payload_checks row message kind a =
+  -- The checks of what goes into a message or a field: it is not lent, there, and in the state that is asked. Where it is in a wrong
+  -- one, this is said.
+  abbrev pub taken_checks : List Leaf → (wrong : List ℕ → Place → FindingParts) → Kind → Argument → List Check
+  taken_checks row wrong kind a =
       is_not_lent m a.mention
       ∷ has_something m row a.mention
-      ∷ refused (is_wrong kind (leaf_at row a.mention.variable.0)) (wrong_for (name_of m a.mention.variable.0) message a.mention.place)
+      ∷ refused (is_wrong kind (leaf_at row a.mention.variable.0)) (wrong (name_of m a.mention.variable.0) a.mention.place)
       ∷ []
 
-  -- the checks of what is sent along an endpoint
+  -- the checks of all that goes there at once; none of it is one of these
+  abbrev pub all_taken : (besides : List ℕ) → List Leaf → (wrong : List ℕ → Place → FindingParts) → List Kind → List Argument → List Check
+  all_taken besides row wrong kinds given = given_before besides given ++ flat_map (λ x. taken_checks row wrong x.0 x.1) (zip kinds given)
+
+  -- the checks of what a message takes with it, and of all that is sent along an endpoint
+  abbrev pub payload_checks : List Leaf → (message : List ℕ) → Kind → Argument → List Check
+  payload_checks row message = taken_checks row (λ name place. wrong_for name message place)
+
   abbrev pub all_payloads : List Leaf → Mention → (message : List ℕ) → List Kind → List Argument → List Check
-  all_payloads row endpoint message kinds payloads =
-      given_before (endpoint.variable.0 ∷ []) payloads ++ flat_map (λ x. payload_checks row message x.0 x.1) (zip kinds payloads)
+  all_payloads row endpoint message = all_taken (endpoint.variable.0 ∷ []) row (λ name place. wrong_for name message place)
+
+  -- the checks of what is given for a field, and of all that is given for the fields of a new block
+  abbrev pub field_checks : List Leaf → Kind → Argument → List Check
+  field_checks row = taken_checks row wrong_for_field
+
+  abbrev pub all_fields : List Leaf → List Kind → List Argument → List Check
+  all_fields row = all_taken [] row wrong_for_field
 
   -- the checks of what takes a block: it is not lent, and has nothing
   abbrev pub target_checks : List Leaf → Option Mention → List Check

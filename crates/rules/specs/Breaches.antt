@@ -10,11 +10,12 @@ use Rattle.program.specs.declared.number.VarId.{VarId}
 use Rattle.rules.specs.Endpoints.{kind_of, message_name}
 use Rattle.rules.specs.Mentions.{name_of}
 use Rattle.rules.specs.Texts.{lent, no_result, not_back, not_covered, not_owned, not_sent, nothing_to_receive, overwritten, still_owned}
-use Rattle.rules.specs.Texts.{twice, wrong_for, wrong_for_call, wrong_for_result}
+use Rattle.rules.specs.Texts.{twice, wrong_for, wrong_for_call, wrong_for_field, wrong_for_result}
 use Rattle.rules.specs.declared.breach.Breach.{Breach}
 use Rattle.rules.specs.declared.breach.Reason.{Reason}
 use Rattle.rules.specs.declared.breach.Reason.TheVariants.{NotOwned, NotSent, WrongFor, WrongForCall, NotCovered, NothingToReceive}
 use Rattle.rules.specs.declared.breach.Reason.TheVariants.{Overwritten, StillOwned, NotBack, Lent, Twice, WrongForResult, NoResult}
+use Rattle.rules.specs.declared.breach.Reason.TheVariants.{WrongForField}
 
 module _ (p : ProgramSeen) (m : MethodSeen) where
   -- the name of a message of the contract of an endpoint
@@ -36,6 +37,7 @@ module _ (p : ProgramSeen) (m : MethodSeen) where
   told place (Twice variable) = twice (name_of m variable.0) place
   told place (WrongForResult variable) = wrong_for_result (name_of m variable.0) place
   told place NoResult = no_result place
+  told place (WrongForField variable) = wrong_for_field (name_of m variable.0) place
 
   -- the finding of a breach
   abbrev pub breach_seen : Breach → FindingParts

@@ -4,7 +4,7 @@ use Rattle.std.specs.Prelude.{ℕ, ◌==◌, Bool, false, not, List, [], length,
 use Rattle.std.specs.Option.{option_and_then, option_map_or}
 use Rattle.program.specs.Methods.{MethodSeen}
 use Rattle.program.specs.Programs.{ProgramSeen}
-use Rattle.program.specs.WellFormed.{parameters}
+use Rattle.program.specs.WellFormed.{field_kinds, parameters}
 use Rattle.program.specs.declared.contract.Edge.{Edge}
 use Rattle.program.specs.declared.kind.Kind.{Kind}
 use Rattle.program.specs.declared.kind.Kind.TheVariants.{Endpoint}
@@ -28,6 +28,13 @@ result_of p method = option_and_then (λ m. m.result) (slice_get p.methods metho
 -- what a variable of a method holds
 abbrev pub kind_of : MethodSeen → ℕ → Option Kind
 kind_of m variable = option_map_or (λ v. Some v.kind) (slice_get m.variables variable) None
+
+-- what the block of a variable has in its fields that own, and what one of them holds
+abbrev pub fields_of : ProgramSeen → MethodSeen → (variable : ℕ) → List Kind
+fields_of p m variable = option_map_or (λ kind. field_kinds p.structs kind) (kind_of m variable) []
+
+abbrev pub field_of : ProgramSeen → MethodSeen → (variable field : ℕ) → Option Kind
+field_of p m variable field = slice_get (fields_of p m variable) field
 
 abbrev pub edges_of : ProgramSeen → ℕ → List Edge
 edges_of p contract = option_map_or (λ c. c.parts.edges) (slice_get p.contracts contract) []

@@ -15,5 +15,6 @@ pub mod Rows
 pub mod Scopes
 pub mod Steps
 pub mod Switches
+pub mod Takers
 pub mod Texts
 pub mod Transfers

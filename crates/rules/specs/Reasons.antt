@@ -6,6 +6,7 @@ use Rattle.std.specs.declared.cmp.Ordering.{Ordering}
 use Rattle.rules.specs.declared.breach.Reason.{Reason}
 use Rattle.rules.specs.declared.breach.Reason.TheVariants.{NotOwned, NotSent, WrongFor, WrongForCall, NotCovered, NothingToReceive}
 use Rattle.rules.specs.declared.breach.Reason.TheVariants.{Overwritten, StillOwned, NotBack, Lent, Twice, WrongForResult, NoResult}
+use Rattle.rules.specs.declared.breach.Reason.TheVariants.{WrongForField}
 
 -- the number of the check, the variable, the endpoint and the message: 0 for what the reason does not name
 abbrev pub numbers : Reason → List ℕ
@@ -22,6 +23,7 @@ numbers (Lent variable) = 10 ∷ variable.0 ∷ 0 ∷ 0 ∷ []
 numbers (Twice variable) = 11 ∷ variable.0 ∷ 0 ∷ 0 ∷ []
 numbers (WrongForResult variable) = 12 ∷ variable.0 ∷ 0 ∷ 0 ∷ []
 numbers NoResult = 13 ∷ 0 ∷ 0 ∷ 0 ∷ []
+numbers (WrongForField variable) = 14 ∷ variable.0 ∷ 0 ∷ 0 ∷ []
 
 -- the order of reasons: by these numbers
 abbrev pub reason_cmp : Reason → Reason → Ordering

@@ -7,12 +7,17 @@ use Rattle.source.specs.Findings.{FindingParts}
 use Rattle.source.specs.declared.place.Place.{Place}
 use Rattle.program.specs.Methods.{MethodSeen}
 use Rattle.program.specs.Programs.{ProgramSeen}
+use Rattle.program.specs.declared.kind.Kind.{Kind}
+use Rattle.program.specs.declared.statement as stated
 use Rattle.program.specs.declared.statement.Mention.{Mention}
-use Rattle.flow.specs.Graphs.{Instruction, Use, New, Move, Delete, NewChannel, Send, Switch, Branch, Forget, Call, Start, Return, Stop}
+use Rattle.flow.specs.Graphs.{Instruction, Use, New, Move, Delete, Exchange, NewChannel, Send, Switch, Branch, Forget, Call, Start}
+use Rattle.flow.specs.Graphs.{Return, Stop}
 use Rattle.flow.specs.declared.graph.Branches.{Branches}
 use Rattle.flow.specs.declared.graph.Branches.TheVariants.{Either, Only}
-use Rattle.rules.specs.Arguments.{all_arguments, all_payloads, claimed, given_leaf, lacks_edge, payload, sent_leaf, target_checks}
-use Rattle.rules.specs.Endpoints.{brought, first_state, is_wrong, kind_of, message_name, parameter_kinds, result_of}
+use Rattle.rules.specs.Arguments.{all_arguments, all_fields, all_payloads, claimed, field_checks, given_leaf, lacks_edge, payload}
+use Rattle.rules.specs.Arguments.{sent_leaf, target_checks}
+use Rattle.rules.specs.Endpoints.{brought, declared_leaf, field_of, fields_of, first_state, is_wrong, kind_of, message_name}
+use Rattle.rules.specs.Endpoints.{parameter_kinds, result_of}
 use Rattle.rules.specs.Mentions.{given_back, has_nothing, has_something, is_another, is_lent, is_not_lent, name_of}
 use Rattle.rules.specs.Outcomes.{Step, Goes, Fails, Pair, Check, checked, refused}
 use Rattle.rules.specs.Rows.{leaf_at}
@@ -46,11 +51,23 @@ module _ (p : ProgramSeen) (m : MethodSeen) where
   abbrev pub back_checks : List Leaf → Place → List Check
   back_checks row place = map (λ v. refused (is_not_back row v) (not_back (name_of m v) place)) (range_with_len 0 (length m.variables))
 
+  -- An exchange with a field of this kind. What the field held is in the state that the field asks.
+  abbrev pub exchanged : List Leaf → stated.Exchange.Exchange → ℕ → Option Kind → Step Pair FindingParts
+  exchanged row e next kind =
+      checked
+      (is_another m e.holder e.given
+      ∷ has_something m row e.holder
+      ∷ option_map_or (λ kind. field_checks m row kind (payload e.given)) kind [])
+      ((next, set row e.given.variable.0 (option_map_or declared_leaf kind Nothing)) ∷ [])
+
   -- a line for each instruction
   abbrev pub instruction_outcome : Instruction → List Leaf → Step Pair FindingParts
   instruction_outcome (Use v next) row = checked (has_something m row v ∷ []) ((next, row) ∷ [])
   instruction_outcome (New v arguments next) row =
-      checked (is_not_lent m v ∷ has_nothing m row v ∷ []) ((next, set row v.variable.0 Block) ∷ [])
+      let given = map payload arguments in
+      checked (all_fields m row (fields_of p m v.variable.0) given ++ target_checks m (claimed row given) (Some v))
+      ((next, set (claimed row given) v.variable.0 Block) ∷ [])
+  instruction_outcome (Exchange e next) row = exchanged row e next (field_of p m e.holder.variable.0 e.field)
   instruction_outcome (NewChannel c next) row =
       checked (is_not_lent m c.first ∷ has_nothing m row c.first ∷ is_not_lent m c.second ∷ has_nothing m row c.second ∷ [])
       (let first = State (first_state p c.contract.0) in (next, set (set row c.first.variable.0 first) c.second.variable.0 first) ∷ [])

@@ -3,7 +3,7 @@ use Rattle.std.specs.Prelude.{ℕ, List, ◌++◌, codes}
 use Rattle.std.specs.Str.Lossy.{utf8_lossy}
 use Rattle.source.specs.Findings.{FindingParts}
 use Rattle.source.specs.declared.place.Place.{Place}
-use Rattle.source.specs.declared.finding.Code.TheVariants.{A01, A02, A03, A04, A05, A06, A07, A08, A09, A10, A11, A12, A13}
+use Rattle.source.specs.declared.finding.Code.TheVariants.{A01, A02, A03, A04, A05, A06, A07, A08, A09, A10, A11, A12, A13, A15}
 
 -- it has nothing
 abbrev pub not_owned : List ℕ → Place → FindingParts
@@ -41,6 +41,10 @@ wrong_for name message place =
 -- likewise with a call
 abbrev pub wrong_for_call : List ℕ → Place → FindingParts
 wrong_for_call name place = record { place = place; code = A04; text = utf8_lossy name ++ codes " in a wrong state for the call" }
+
+-- likewise for a field
+abbrev pub wrong_for_field : List ℕ → Place → FindingParts
+wrong_for_field name place = record { place = place; code = A15; text = utf8_lossy name ++ codes " in a wrong state for the field" }
 
 -- no case for a message that may come
 abbrev pub not_covered : List ℕ → List ℕ → Place → FindingParts

@@ -1,5 +1,5 @@
 -- Transfers: what an instruction does to a row, where that depends on nothing but the leaves of a variable or two.
-use Rattle.std.specs.Prelude.{ℕ, ◌==◌, Bool, true, not, ◌&&◌, List, Option, Some, None, set, if◌then◌else◌}
+use Rattle.std.specs.Prelude.{ℕ, ◌==◌, Bool, true, not, ◌&&◌, List, [], Option, Some, None, set, if◌then◌else◌}
 use Rattle.program.specs.Methods.{MethodSeen}
 use Rattle.flow.specs.Graphs as graphs
 use Rattle.flow.specs.Graphs.{Instruction}
@@ -34,7 +34,7 @@ fits m (Delete v) = not (is_lent m v.0)
 -- the transfer of an instruction and the point behind it, if it has one
 abbrev pub transfer_in : Instruction → Option (Transfer × ℕ)
 transfer_in (graphs.Use at next) = Some (Use at.variable, next)
-transfer_in (graphs.New at arguments next) = Some (New at.variable, next)
+transfer_in (graphs.New at [] next) = Some (New at.variable, next)
 transfer_in (graphs.Move target source next) = Some (Move target.variable source.variable, next)
 transfer_in (graphs.Delete at next) = Some (Delete at.variable, next)
 transfer_in _ = None

@@ -67,6 +67,8 @@ pub enum Reason {
     WrongForResult(VarId),
     /// The method ends without the result that it declares.
     NoResult,
+    /// What is given for a field is not in the state that the field asks.
+    WrongForField(VarId),
 }
 
 impl Reason {
@@ -94,6 +96,7 @@ impl Reason {
             Reason::Twice(variable) => [11, variable.0, 0, 0],
             Reason::WrongForResult(variable) => [12, variable.0, 0, 0],
             Reason::NoResult => [13, 0, 0, 0],
+            Reason::WrongForField(variable) => [14, variable.0, 0, 0],
         }
     }
 }

@@ -4,6 +4,7 @@ ghost use Rattle.std.specs.Prelude.{◌≡◌, ◌<◌, All, IfSome, MatchOption
 ghost use Rattle.contracts.specs.Leaving.{end_on};
 ghost use Rattle.contracts.specs.Sounds.{sound_parts};
 ghost use Rattle.program.specs.Methods.{method_seen};
+ghost use Rattle.program.specs.WellFormed.{field_kinds};
 ghost use Rattle.program.specs.declared.limits.TheConstants.{MOST_STATES};
 ghost use Rattle.rules.specs.Endpoints as table;
 ghost use Rattle.rules.specs.Endpoints.{declared_leaf};
@@ -57,6 +58,39 @@ impl Program {
             Some(kinds) => kinds.as_slice(),
             None => &[],
         }
+    }
+
+    /// What a block of this kind has in its fields that own.
+    fn field_kinds(&self, kind: Kind) -> &[Kind]
+        ensures kinds { result.now ≡ field_kinds (seen_of self.now).structs kind }
+        ensures numbered { All (λ kind. IsNumbered (declared_leaf kind)) result.now }
+    {
+        match kind {
+            Kind::Struct(number) => match self.methods.structs().get(number.0 as usize) {
+                Some(kinds) => kinds.as_slice(),
+                None => &[],
+            },
+            Kind::Array(_) | Kind::Endpoint { .. } => &[],
+        }
+    }
+
+    /// What the block of a variable has in its fields that own.
+    pub(crate) fn fields_of(&self, method: &Method, variable: VarId) -> &[Kind]
+        ensures kinds { result.now ≡ table.fields_of (seen_of self.now) (method_seen method.now) variable.0 }
+        ensures numbered { All (λ kind. IsNumbered (declared_leaf kind)) result.now }
+    {
+        match kind_of(method, variable) {
+            Some(kind) => self.field_kinds(kind),
+            None => &[],
+        }
+    }
+
+    /// What one of these fields holds, if there is such a field.
+    pub(crate) fn field_of(&self, method: &Method, variable: VarId, field: usize) -> Option<Kind>
+        ensures kind { result ≡ table.field_of (seen_of self.now) (method_seen method.now) variable.0 field }
+        ensures numbered { IfSome result (λ kind. IsNumbered (declared_leaf kind)) }
+    {
+        self.fields_of(method, variable).get(field).copied()
     }
 
     /// What a method takes for its parameters of the exchange heap.

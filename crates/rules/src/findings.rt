@@ -67,6 +67,9 @@ impl Program {
                 texts::in_a_wrong_state_for_the_result(alloc, place, name_of(method, v))
             }
             Reason::NoResult => texts::no_result(alloc, place),
+            Reason::WrongForField(v) => {
+                texts::in_a_wrong_state_for_the_field(alloc, place, name_of(method, v))
+            }
         }
     }
 

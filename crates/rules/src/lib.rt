@@ -5,6 +5,7 @@ mod arguments;
 mod breach;
 mod checks;
 mod endpoints;
+mod fields;
 mod findings;
 mod here;
 pub mod laws;

@@ -1,11 +1,14 @@
-//! The checks of what is sent with a message, and what it leaves behind. A message has few parameters, so each payload is compared
+//! The checks of what goes into a message or into the fields of a block, and what that leaves behind. It is little, so each is compared
 //! with those before it.
 
-ghost use Rattle.std.specs.Prelude.{◌≡◌, ◌==◌, ◌||◌, ◌∷◌, [], map};
+ghost use Rattle.std.specs.Prelude.{◌≡◌, ◌==◌, ◌||◌, ℕ, map};
 ghost use Rattle.std.specs.List.{list_any};
-ghost use Rattle.program.specs.Methods.{method_seen};
-ghost use Rattle.rules.specs.Arguments.{all_payloads, claimed, payload, payload_checks};
-ghost use Rattle.rules.specs.Breaches.{breach_seen, name_along};
+ghost use Rattle.program.specs.Lists.{is_among};
+ghost use Rattle.program.specs.Methods.{MethodSeen, method_seen};
+ghost use Rattle.program.specs.Programs.{ProgramSeen};
+ghost use Rattle.source.specs.declared.place.Place.{Place};
+ghost use Rattle.rules.specs.Arguments.{all_taken, claimed, payload, taken_checks};
+ghost use Rattle.rules.specs.Breaches.{breach_seen};
 ghost use Rattle.rules.specs.Checks.{StandsFor, check_seen};
 ghost use Rattle.rules.specs.Endpoints.{is_wrong};
 ghost use Rattle.rules.specs.Mentions.{name_of};
@@ -13,7 +16,7 @@ ghost use Rattle.rules.specs.Outcomes.{refused};
 ghost use Rattle.rules.specs.Programs.{seen_of};
 ghost use Rattle.rules.specs.Repeats.{first_again};
 ghost use Rattle.rules.specs.Rows.{leaf_at, leaves_of};
-ghost use Rattle.rules.specs.Texts.{wrong_for};
+ghost use Rattle.rules.specs.Takers.{besides, wrong_in};
 
 use crate::breach::{Breach, Reason};
 use crate::checks::{gives_none_again, has_something, is_not_lent};
@@ -22,6 +25,48 @@ use crate::here::Here;
 use crate::row::{Leaf, Row};
 use program::{Kind, Mention, MessageId, VarId};
 
+/// Where something goes for good.
+#[derive(Clone, Copy)]
+pub(crate) enum Taker {
+    /// Into a message that is sent along an endpoint.
+    Message {
+        endpoint: Mention,
+        message: MessageId,
+    },
+    /// Into a field of a block.
+    Field,
+}
+
+impl Taker {
+    /// Whether it is this variable that cannot go there.
+    fn is_besides(self, variable: VarId) -> bool
+        ensures { result ≡ is_among (besides self) variable.0 }
+    {
+        match self {
+            Taker::Message { endpoint, .. } => endpoint.variable.0 == variable.0,
+            Taker::Field => false,
+        }
+    }
+
+    /// What is found where this variable goes there in a wrong state.
+    fn wrong_state(self, variable: VarId) -> Reason
+        ensures { (p : ProgramSeen) (m : MethodSeen) (place : Place) →
+            breach_seen p m (record { place = place; reason = result }) ≡ wrong_in p m self (name_of m variable.0) place }
+    {
+        match self {
+            Taker::Message { endpoint, message } => {
+                let endpoint = endpoint.variable;
+                Reason::WrongFor {
+                    variable,
+                    endpoint,
+                    message,
+                }
+            }
+            Taker::Field => Reason::WrongForField(variable),
+        }
+    }
+}
+
 /// Whether one of these payloads is this variable.
 fn is_among(payloads: &[Mention], variable: VarId) -> bool
     ensures { result ≡ list_any (λ x. x.variable.0 == variable.0) payloads.now }
@@ -29,61 +74,49 @@ fn is_among(payloads: &[Mention], variable: VarId) -> bool
     payloads.iter().any(|x| x.variable.0 == variable.0)
 }
 
-/// Whether the endpoint or one of these payloads is this variable.
-fn is_sent(endpoint: Mention, payloads: &[Mention], variable: VarId) -> bool
-    ensures { result ≡ ((endpoint.variable.0 == variable.0) || list_any (λ x. x.variable.0 == variable.0) payloads.now) }
+/// Whether a variable cannot go there, or is one of these payloads.
+fn is_taken(taker: Taker, payloads: &[Mention], variable: VarId) -> bool
+    ensures { result ≡ (is_among (besides taker) variable.0 || list_any (λ x. x.variable.0 == variable.0) payloads.now) }
 {
-    endpoint.variable.0 == variable.0 || is_among(payloads, variable)
+    taker.is_besides(variable) || is_among(payloads, variable)
 }
 
-/// The first payload whose variable is that of the endpoint, or of a payload before it.
-fn first_again(endpoint: Mention, payloads: &[Mention]) -> Option<Mention>
-    ensures { result ≡ first_again (endpoint.variable.0 ∷ []) (map payload payloads.now) }
+/// The first payload whose variable cannot go there, or goes there with a payload before it.
+fn first_again(taker: Taker, payloads: &[Mention]) -> Option<Mention>
+    ensures { result ≡ first_again (besides taker) (map payload payloads.now) }
 {
     for (number, mention) in payloads.iter().enumerate() {
-        if is_sent(endpoint, &payloads[..number], mention.variable) {
+        if is_taken(taker, &payloads[..number], mention.variable) {
             return Some(*mention);
         }
     }
     None
 }
 
-/// That what is sent with a message along an endpoint, for a parameter of this kind, is in its state.
-fn is_in_state_for(
-    here: &Here<'_>,
-    endpoint: VarId,
-    message: MessageId,
-    kind: Kind,
-    mention: Mention,
-) -> Option<Breach>
+/// That what goes there, where this kind is asked, is in its state.
+fn is_in_state(here: &Here<'_>, taker: Taker, kind: Kind, mention: Mention) -> Option<Breach>
     ensures { check_seen (breach_seen (seen_of here.now.program.now) (method_seen here.now.method.now)) result ≡ refused
         (is_wrong kind (leaf_at (leaves_of here.now.row.now) mention.variable.0))
-        (wrong_for (name_of (method_seen here.now.method.now) mention.variable.0)
-        (name_along (seen_of here.now.program.now) (method_seen here.now.method.now) endpoint message) mention.place) }
+        (wrong_in (seen_of here.now.program.now) (method_seen here.now.method.now) taker
+        (name_of (method_seen here.now.method.now) mention.variable.0) mention.place) }
 {
     if !is_wrong(kind, here.row.leaf(mention.variable)) {
         return None;
     }
-    let variable = mention.variable;
-    let reason = Reason::WrongFor {
-        variable,
-        endpoint,
-        message,
-    };
+    let reason = taker.wrong_state(mention.variable);
     Some(Breach::at(mention.place, reason))
 }
 
-/// That what a message takes with it along an endpoint is not lent, there, and in the state that the message asks.
-fn can_send(
+/// That what goes there is not lent, there, and in the state that is asked.
+pub(crate) fn can_be_taken(
     here: &Here<'_>,
-    endpoint: VarId,
-    message: MessageId,
+    taker: Taker,
     kind: Kind,
     mention: Mention,
 ) -> Option<Breach>
     ensures { StandsFor (breach_seen (seen_of here.now.program.now) (method_seen here.now.method.now)) result
-        (payload_checks (method_seen here.now.method.now) (leaves_of here.now.row.now)
-        (name_along (seen_of here.now.program.now) (method_seen here.now.method.now) endpoint message) kind (payload mention)) }
+        (taken_checks (method_seen here.now.method.now) (leaves_of here.now.row.now)
+        (wrong_in (seen_of here.now.program.now) (method_seen here.now.method.now) taker) kind (payload mention)) }
 {
     if let Some(breach) = is_not_lent(here, mention) {
         return Some(breach);
@@ -91,36 +124,34 @@ fn can_send(
     if let Some(breach) = has_something(here, mention) {
         return Some(breach);
     }
-    is_in_state_for(here, endpoint, message, kind, mention)
+    is_in_state(here, taker, kind, mention)
 }
 
-/// The checks of what is sent along an endpoint with a message that brings these kinds.
-pub(crate) fn can_send_all(
+/// The checks of all that goes there at once, where these kinds are asked.
+pub(crate) fn can_all_be_taken(
     here: &Here<'_>,
-    endpoint: Mention,
-    message: MessageId,
+    taker: Taker,
     kinds: &[Kind],
     payloads: &[Mention],
 ) -> Option<Breach>
     ensures { StandsFor (breach_seen (seen_of here.now.program.now) (method_seen here.now.method.now)) result
-        (all_payloads (method_seen here.now.method.now) (leaves_of here.now.row.now) endpoint
-        (name_along (seen_of here.now.program.now) (method_seen here.now.method.now) endpoint.variable message) kinds.now
-        (map payload payloads.now)) }
+        (all_taken (method_seen here.now.method.now) (besides taker) (leaves_of here.now.row.now)
+        (wrong_in (seen_of here.now.program.now) (method_seen here.now.method.now) taker) kinds.now (map payload payloads.now)) }
 {
-    let again = first_again(endpoint, payloads);
+    let again = first_again(taker, payloads);
     if let Some(breach) = gives_none_again(here, again) {
         return Some(breach);
     }
     for number in 0..kinds.len().min(payloads.len()) {
         let (kind, given) = (kinds[number], payloads[number]);
-        if let Some(breach) = can_send(here, endpoint.variable, message, kind, given) {
+        if let Some(breach) = can_be_taken(here, taker, kind, given) {
             return Some(breach);
         }
     }
     None
 }
 
-/// Takes away what is sent.
+/// Takes away what goes there.
 pub(crate) fn claim_payloads(row: &mut Row, payloads: &[Mention])
     ensures { leaves_of row.new ≡ claimed (leaves_of row.old) (map payload payloads.now) }
 {

@@ -31,9 +31,9 @@ fn given_again(alloc: Global, instruction: &Instr) -> Result<Option<Mention>, Me
         Instr::Call(calling) => first_again(alloc, &calling.arguments),
         Instr::Start(starting) => first_again(alloc, &starting.arguments),
         Instr::Use { .. } | Instr::New { .. } | Instr::NewChannel { .. } => Ok(None),
-        Instr::Move { .. } | Instr::Delete { .. } | Instr::Forget { .. } => Ok(None),
+        Instr::Move { .. } | Instr::Delete { .. } | Instr::Exchange { .. } => Ok(None),
         Instr::Send(_) | Instr::Switch { .. } | Instr::Branch { .. } => Ok(None),
-        Instr::Return(_) | Instr::Stop { .. } => Ok(None),
+        Instr::Forget { .. } | Instr::Return(_) | Instr::Stop { .. } => Ok(None),
     }
 }
 

@@ -19,7 +19,7 @@ use crate::endpoints::kind_of;
 use crate::here::{Here, Site};
 use crate::lowered::Program;
 use crate::onward::Onward;
-use crate::payloads::{can_send_all, claim_payloads};
+use crate::payloads::{Taker, can_all_be_taken, claim_payloads};
 use crate::row::{Leaf, Row};
 use flow::Sending;
 use program::{Kind, MessageId};
@@ -42,7 +42,8 @@ pub(crate) fn send(site: &Site<'_>, row: &mut Row, sending: &Sending) -> Onward
     }
     let payloads = sending.payloads.as_slice();
     let kinds = site.program.brought(message);
-    if let Some(breach) = can_send_all(&here, endpoint, message, kinds, payloads) {
+    let taker = Taker::Message { endpoint, message };
+    if let Some(breach) = can_all_be_taken(&here, taker, kinds, payloads) {
         return Onward::Found(breach);
     }
     let kind = kind_of(site.method, endpoint.variable);

@@ -136,8 +136,12 @@ fn branches_of(instruction: &Instr) -> Option<Branches>
     match instruction {
         Instr::Branch { branches, .. } => Some(*branches),
         Instr::Use { .. } | Instr::New { .. } | Instr::NewChannel { .. } => None,
-        Instr::Move { .. } | Instr::Delete { .. } | Instr::Forget { .. } => None,
-        Instr::Send(_) | Instr::Switch { .. } | Instr::Call(_) | Instr::Start(_) => None,
+        Instr::Move { .. } | Instr::Delete { .. } | Instr::Exchange { .. } => None,
+        Instr::Forget { .. }
+        | Instr::Send(_)
+        | Instr::Switch { .. }
+        | Instr::Call(_)
+        | Instr::Start(_) => None,
         Instr::Return(_) | Instr::Stop { .. } => None,
     }
 }

@@ -3,7 +3,7 @@
 
 ghost use Rattle.std.specs.Prelude.{◌≡◌, IfOk, List, []};
 ghost use Rattle.flow.specs.Graphs as graphs;
-ghost use Rattle.flow.specs.Graphs.{Use, New, Move, Delete, instruction_seen};
+ghost use Rattle.flow.specs.Graphs.{Use, Move, Delete, instruction_seen};
 ghost use Rattle.flow.specs.declared.graph.Instr.{Instr};
 ghost use Rattle.source.specs.Findings.{FindingParts};
 ghost use Rattle.program.specs.Methods.{method_seen};
@@ -21,6 +21,7 @@ ghost use Rattle.rules.specs.declared.row.Leaf.{Leaf as LeafSeen};
 use crate::arguments::{can_give_all, can_take, claim_all, give};
 use crate::breach::{Breach, Reason};
 use crate::checks::{has_nothing, has_something, is_another, is_not_lent};
+use crate::fields::{self, new};
 use crate::here::{Here, Site};
 use crate::onward::Onward;
 use crate::returning::return_;
@@ -56,7 +57,11 @@ pub(crate) fn applied(
     };
     match instruction {
         Instr::Use { at, next } => Ok(use_(&here, *at, *next)),
-        Instr::New { target, next, .. } => Ok(new(site, row, *target, *next)),
+        Instr::New {
+            target,
+            arguments,
+            next,
+        } => Ok(new(site, row, *target, arguments, *next)),
         Instr::NewChannel { channel, next } => Ok(new_channel(site, row, *channel, *next)),
         Instr::Move {
             target,
@@ -64,6 +69,7 @@ pub(crate) fn applied(
             next,
         } => Ok(move_(site, row, *target, *source, *next)),
         Instr::Delete { at, next } => Ok(delete(site, row, *at, *next)),
+        Instr::Exchange { exchange, next } => Ok(fields::exchange(site, row, *exchange, *next)),
         Instr::Send(sending) => Ok(send(site, row, sending)),
         Instr::Switch { place, cases } => switch(&here, *place, cases, spare),
         Instr::Call(calling) => Ok(call(site, row, calling)),
@@ -84,27 +90,6 @@ fn use_(here: &Here<'_>, at: Mention, next: usize) -> Onward
         Some(breach) => Onward::Found(breach),
         None => Onward::Same(next),
     }
-}
-
-/// The variable takes a new block.
-fn new(site: &Site<'_>, row: &mut Row, at: Mention, next: usize) -> Onward
-    ensures outcome { onward_seen (breach_seen (seen_of site.now.program.now) (method_seen site.now.method.now)) result (leaves_of row.new)
-        ≡ instruction_outcome (seen_of site.now.program.now) (method_seen site.now.method.now) (New at [] next) (leaves_of row.old) }
-    ensures kept { IsKept result (leaves_of row.old) (leaves_of row.new) }
-{
-    let here = Here {
-        program: site.program,
-        method: site.method,
-        row,
-    };
-    if let Some(breach) = is_not_lent(&here, at) {
-        return Onward::Found(breach);
-    }
-    if let Some(breach) = has_nothing(&here, at) {
-        return Onward::Found(breach);
-    }
-    row.set(at.variable, Leaf::Block);
-    Onward::Changed(next)
 }
 
 /// Two variables take the two ends of a new channel, each in the first state of its contract.

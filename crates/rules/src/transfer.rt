@@ -80,7 +80,17 @@ fn transfer_in(instruction: &Instr) -> Option<(Transfer, usize)>
 {
     match instruction {
         Instr::Use { at, next } => Some((Transfer::Use(at.variable), *next)),
-        Instr::New { target, next, .. } => Some((Transfer::New(target.variable), *next)),
+        // What is given for fields is checked by its state, so that is no transfer.
+        Instr::New {
+            target,
+            arguments,
+            next,
+        } => {
+            if !arguments.is_empty() {
+                return None;
+            }
+            Some((Transfer::New(target.variable), *next))
+        }
         Instr::Move {
             target,
             source,
@@ -90,9 +100,9 @@ fn transfer_in(instruction: &Instr) -> Option<(Transfer, usize)>
             Some((Transfer::Move { target, source }, *next))
         }
         Instr::Delete { at, next } => Some((Transfer::Delete(at.variable), *next)),
-        Instr::NewChannel { .. } | Instr::Send(_) | Instr::Switch { .. } => None,
-        Instr::Branch { .. } | Instr::Forget { .. } | Instr::Call(_) => None,
-        Instr::Start(_) | Instr::Return(_) | Instr::Stop { .. } => None,
+        Instr::Exchange { .. } | Instr::NewChannel { .. } | Instr::Send(_) => None,
+        Instr::Switch { .. } | Instr::Branch { .. } | Instr::Forget { .. } => None,
+        Instr::Call(_) | Instr::Start(_) | Instr::Return(_) | Instr::Stop { .. } => None,
     }
 }
 

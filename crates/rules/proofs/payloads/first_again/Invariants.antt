@@ -1,5 +1,6 @@
-use Rattle.rules.proofs.PayloadLemmas.{Sent}
+use Rattle.rules.specs.Takers.{besides}
+use Rattle.rules.proofs.PayloadLemmas.{Taken}
 use Rattle.rules.proofs.payloads.first_again.Given as goal
 
 abbrev pub invariant-loop-number : goal.invariant-loop-number
-invariant-loop-number l = Sent l.endpoint.variable.0 l.payloads l.number
+invariant-loop-number l = Taken (besides l.taker) l.payloads l.number

@@ -1,0 +1,95 @@
+-- Small rows of the rule table with fields that own, computed by the definitions.
+use Rattle.std.proofs.Common.{◌≡◌, ℕ, false, true, List, [], ◌∷◌, None, Some, refl}
+use Rattle.std.specs.Prelude.{codes}
+use Rattle.source.specs.declared.place.Place.{Place}
+use Rattle.program.specs.Methods.{MethodSeen, VariableSeen}
+use Rattle.program.specs.Programs.{ProgramSeen}
+use Rattle.program.specs.Statements.{NoStatement}
+use Rattle.program.specs.declared.kind.Kind.{Kind}
+use Rattle.program.specs.declared.kind.Kind.TheVariants.{Struct, Endpoint}
+use Rattle.program.specs.declared.kind.Side.TheVariants.{Imp}
+use Rattle.program.specs.declared.method.Role.{Role}
+use Rattle.program.specs.declared.method.Role.TheVariants.{Claimed, Lent, Local}
+use Rattle.program.specs.declared.statement.Mention.{Mention}
+use Rattle.flow.specs.Graphs.{Instruction, Exchange, New}
+use Rattle.rules.specs.Outcomes.{Fails, Goes}
+use Rattle.rules.specs.RuleTable.{instruction_outcome}
+use Rattle.rules.specs.Texts.{lent, not_owned, overwritten, twice, wrong_for_field}
+use Rattle.rules.specs.declared.row.Leaf.TheVariants.{Nothing, Block, State, CutOff}
+
+abbrev at : ℕ → Place
+at col = record { line = 1; col = col }
+
+abbrev mention : ℕ → ℕ → Mention
+mention v col = record { variable = record { 0 = v }; place = at col }
+
+abbrev variable : List ℕ → Kind → Role → VariableSeen
+variable name k role = record { name = name; kind = k; role = role; outer = None }
+
+-- an importing endpoint in a state
+abbrev end : ℕ → Kind
+end state = Endpoint record { 0 = 0 } Imp record { 0 = state }
+
+-- struct 0 has no fields that own, struct 1 one for a struct 0, struct 2 one for an endpoint in state 0
+abbrev of_struct : ℕ → Kind
+of_struct n = Struct record { 0 = n }
+
+-- an own block x, a lent block y, a block h with a field for a block, an endpoint i, and a block e with a field for an endpoint
+abbrev method : MethodSeen
+method = record {
+  name = at 1;
+  takes = true;
+  gives = false;
+  result = None;
+  variables = variable (codes "x") (of_struct 0) Claimed ∷ variable (codes "y") (of_struct 0) Lent ∷ variable (codes "h") (of_struct 1) Local
+      ∷ variable (codes "i") (end 1) Claimed ∷ variable (codes "e") (of_struct 2) Local ∷ [];
+  statements = NoStatement;
+  scope = None;
+  close = at 1;
+}
+
+abbrev program : ProgramSeen
+program = record { contracts = []; messages = []; structs = [] ∷ (of_struct 0 ∷ []) ∷ (end 0 ∷ []) ∷ []; methods = method ∷ [] }
+
+abbrev exchange : ℕ → ℕ → Instruction
+exchange holder given = Exchange record { place = at 1; holder = mention holder 2; field = 0; given = mention given 3 } 9
+
+-- what is given for a field is gone, and the target has the new block
+pub given_for_a_field : instruction_outcome program method (New (mention 2 1) (mention 0 2 ∷ []) 9)
+    (Block ∷ Block ∷ Nothing ∷ State 1 ∷ Nothing ∷ []) ≡ Goes ((9, Nothing ∷ Block ∷ Block ∷ State 1 ∷ Nothing ∷ []) ∷ [])
+given_for_a_field = refl
+
+-- it is lent
+pub lent_for_a_field : instruction_outcome program method (New (mention 2 1) (mention 1 2 ∷ []) 9)
+    (Block ∷ Block ∷ Nothing ∷ State 1 ∷ Nothing ∷ []) ≡ Fails (lent (codes "y") (at 2))
+lent_for_a_field = refl
+
+-- it is in another state than the field asks, before the target is looked at
+pub wrong_for_a_field : instruction_outcome program method (New (mention 4 1) (mention 3 2 ∷ []) 9)
+    (Block ∷ Block ∷ Nothing ∷ State 1 ∷ Block ∷ []) ≡ Fails (wrong_for_field (codes "i") (at 2))
+wrong_for_a_field = refl
+
+-- an endpoint that is cut off never is, and then the target is
+pub cut_off_for_a_field : instruction_outcome program method (New (mention 4 1) (mention 3 2 ∷ []) 9)
+    (Block ∷ Block ∷ Nothing ∷ CutOff ∷ Block ∷ []) ≡ Fails (overwritten (codes "e") (at 1))
+cut_off_for_a_field = refl
+
+-- nothing is given where something is asked for
+pub nothing_for_a_field : instruction_outcome program method (exchange 2 0)
+    (Nothing ∷ Block ∷ Block ∷ State 1 ∷ Nothing ∷ []) ≡ Fails (not_owned (codes "x") (at 3))
+nothing_for_a_field = refl
+
+-- the holder itself, before all else
+pub holder_for_its_field : instruction_outcome program method (exchange 2 2)
+    (Block ∷ Block ∷ Nothing ∷ State 1 ∷ Nothing ∷ []) ≡ Fails (twice (codes "h") (at 3))
+holder_for_its_field = refl
+
+-- an endpoint in another state than the field asks
+pub wrong_in_an_exchange : instruction_outcome program method (exchange 4 3)
+    (Block ∷ Block ∷ Nothing ∷ State 1 ∷ Block ∷ []) ≡ Fails (wrong_for_field (codes "i") (at 3))
+wrong_in_an_exchange = refl
+
+-- what comes out of the field has the field's state, and not what the variable had
+pub out_of_a_field : instruction_outcome program method (exchange 4 3)
+    (Block ∷ Block ∷ Nothing ∷ CutOff ∷ Block ∷ []) ≡ Goes ((9, Block ∷ Block ∷ Nothing ∷ State 0 ∷ Block ∷ []) ∷ [])
+out_of_a_field = refl

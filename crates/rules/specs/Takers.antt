@@ -1,0 +1,20 @@
+-- What takes something away from a variable for good: a message that is sent along an endpoint, or a field of a block.
+use Rattle.std.specs.Prelude.{ℕ, List, [], ◌∷◌}
+use Rattle.source.specs.Findings.{FindingParts}
+use Rattle.source.specs.declared.place.Place.{Place}
+use Rattle.program.specs.Methods.{MethodSeen}
+use Rattle.program.specs.Programs.{ProgramSeen}
+use Rattle.rules.specs.Breaches.{name_along}
+use Rattle.rules.specs.Texts.{wrong_for, wrong_for_field}
+use Rattle.rules.specs.declared.payloads.Taker.{Taker}
+use Rattle.rules.specs.declared.payloads.Taker.TheVariants.{Message, Field}
+
+-- what cannot go there: a message does not take its own endpoint with it
+abbrev pub besides : Taker → List ℕ
+besides (Message endpoint message) = endpoint.variable.0 ∷ []
+besides Field = []
+
+-- what is said of an endpoint that goes there in a wrong state
+abbrev pub wrong_in : ProgramSeen → MethodSeen → Taker → (name : List ℕ) → Place → FindingParts
+wrong_in p m (Message endpoint message) name place = wrong_for name (name_along p m endpoint.variable message) place
+wrong_in p m Field name place = wrong_for_field name place

@@ -1,0 +1,112 @@
+//! The rule table's lines of new blocks and of exchanges.
+
+ghost use Rattle.std.specs.Prelude.{◌≡◌, [], IfSome};
+ghost use Rattle.std.specs.Option.{option_map_or};
+ghost use Rattle.flow.specs.Graphs as graphs;
+ghost use Rattle.flow.specs.Graphs.{New};
+ghost use Rattle.program.specs.Methods.{method_seen};
+ghost use Rattle.rules.specs.Arguments.{field_checks, payload};
+ghost use Rattle.rules.specs.Breaches.{breach_seen};
+ghost use Rattle.rules.specs.Checks.{StandsFor};
+ghost use Rattle.rules.specs.Endpoints as table;
+ghost use Rattle.rules.specs.Leaves.{IsNumbered};
+ghost use Rattle.rules.specs.Onwards.{IsKept, onward_seen};
+ghost use Rattle.rules.specs.Programs.{seen_of};
+ghost use Rattle.rules.specs.Rows.{leaves_of};
+ghost use Rattle.rules.specs.RuleTable.{instruction_outcome};
+ghost use Rattle.rules.specs.declared.row.Leaf.TheVariants.{Nothing};
+
+use crate::arguments::can_take;
+use crate::breach::Breach;
+use crate::checks::{has_something, is_another};
+use crate::endpoints::declared_leaf;
+use crate::here::{Here, Site};
+use crate::onward::Onward;
+use crate::payloads::{Taker, can_all_be_taken, can_be_taken, claim_payloads};
+use crate::row::{Leaf, Row};
+use program::{Exchange, Kind, Mention};
+
+/// The variable takes a new block, and what is given for the fields of that is gone.
+pub(crate) fn new(
+    site: &Site<'_>,
+    row: &mut Row,
+    target: Mention,
+    arguments: &[Mention],
+    next: usize,
+) -> Onward
+    ensures outcome { onward_seen (breach_seen (seen_of site.now.program.now) (method_seen site.now.method.now)) result (leaves_of row.new)
+        ≡ instruction_outcome (seen_of site.now.program.now) (method_seen site.now.method.now) (New target arguments.now next)
+        (leaves_of row.old) }
+    ensures kept { IsKept result (leaves_of row.old) (leaves_of row.new) }
+{
+    let here = Here {
+        program: site.program,
+        method: site.method,
+        row,
+    };
+    let kinds = site.program.fields_of(site.method, target.variable);
+    if let Some(breach) = can_all_be_taken(&here, Taker::Field, kinds, arguments) {
+        return Onward::Found(breach);
+    }
+    claim_payloads(row, arguments);
+    let behind = Here {
+        program: site.program,
+        method: site.method,
+        row,
+    };
+    if let Some(breach) = can_take(&behind, Some(target)) {
+        return Onward::Found(breach);
+    }
+    row.set(target.variable, Leaf::Block);
+    Onward::Changed(next)
+}
+
+/// That what is given for a field, if there is such a field, is not lent, there, and in the state that the field asks.
+fn can_be_inside(here: &Here<'_>, field: Option<Kind>, given: Mention) -> Option<Breach>
+    ensures { StandsFor (breach_seen (seen_of here.now.program.now) (method_seen here.now.method.now)) result
+        (option_map_or (λ kind. field_checks (method_seen here.now.method.now) (leaves_of here.now.row.now) kind (payload given))
+        field []) }
+{
+    let kind = field?;
+    can_be_taken(here, Taker::Field, kind, given)
+}
+
+/// What comes out of a field, if there is such a field.
+fn leaf_out_of(field: Option<Kind>) -> Leaf
+    requires numbered { IfSome field (λ kind. IsNumbered (table.declared_leaf kind)) }
+    ensures leaf { result ≡ option_map_or table.declared_leaf field Nothing }
+    ensures numbered { IsNumbered result }
+{
+    match field {
+        Some(kind) => declared_leaf(kind),
+        None => Leaf::Nothing,
+    }
+}
+
+/// What a field holds and what a variable has change places.
+pub(crate) fn exchange(site: &Site<'_>, row: &mut Row, exchange: Exchange, next: usize) -> Onward
+    ensures outcome { onward_seen (breach_seen (seen_of site.now.program.now) (method_seen site.now.method.now)) result (leaves_of row.new)
+        ≡ instruction_outcome (seen_of site.now.program.now) (method_seen site.now.method.now) (graphs.Exchange exchange next)
+        (leaves_of row.old) }
+    ensures kept { IsKept result (leaves_of row.old) (leaves_of row.new) }
+{
+    let here = Here {
+        program: site.program,
+        method: site.method,
+        row,
+    };
+    if let Some(breach) = is_another(&here, exchange.holder, exchange.given) {
+        return Onward::Found(breach);
+    }
+    if let Some(breach) = has_something(&here, exchange.holder) {
+        return Onward::Found(breach);
+    }
+    let field = site
+        .program
+        .field_of(site.method, exchange.holder.variable, exchange.field);
+    if let Some(breach) = can_be_inside(&here, field, exchange.given) {
+        return Onward::Found(breach);
+    }
+    row.set(exchange.given.variable, leaf_out_of(field));
+    Onward::Changed(next)
+}
