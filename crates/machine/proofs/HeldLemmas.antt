@@ -1,16 +1,26 @@
--- Fields hold what is inside their block, whatever else is done to blocks.
-use Rattle.std.proofs.Common.{◌≡◌, ℕ, zero, suc, ◌+◌, ◌<◌, Bool, true, false, List, [], ◌∷◌, ◌++◌, length}
-use Rattle.std.proofs.Common.{refl, sym, ap, ◌∙◌, arith, ⊎_elim}
-use Rattle.std.proofs.lemmas.Bool.{cases_lt}
-use Rattle.std.specs.Prelude.{if◌then◌else◌}
+-- Fields hold what is inside their block, and queues bring what they own, whatever else is done to blocks.
+use Rattle.std.proofs.Common.{◌≡◌, ◌≢◌, ◌==◌, ℕ, zero, suc, ◌+◌, ◌<◌, Bool, true, false, List, [], ◌∷◌, ◌++◌, Some, length, map, set}
+use Rattle.std.proofs.Common.{refl, sym, ap, ◌∙◌, arith, inl, inr, ⊎_elim}
+use Rattle.std.proofs.lemmas.Bool.{cases_Bool, cases_eq, cases_lt}
+use Rattle.std.proofs.lemmas.List.{map-append}
+use Rattle.std.specs.Prelude.{◌⊎◌, ◌||◌, if◌then◌else◌, slice_get}
 use Rattle.program.specs.Lists.{is_among}
-use Rattle.machine.specs.Blocks.{handed, received_block, sent_block}
-use Rattle.machine.specs.Heaps.{AreOwned, IsBrought, IsHeld, brings, occurs, of_process}
-use Rattle.machine.specs.World.{Block, MessageHeld, block_at, changed, is_inside, is_queue}
+use Rattle.program.specs.declared.kind.Kind.{Kind}
+use Rattle.machine.specs.Answers.{with_field}
+use Rattle.machine.specs.BlockViews.{block_seen, blocks_seen, held_seen}
+use Rattle.machine.specs.Blocks.{exchanged_block, handed, new_block, received_block, sent_block}
+use Rattle.machine.specs.Heaps.{AreOwned, IsBrought, IsHeld, brings, occurs, of_process, one_if}
+use Rattle.machine.specs.World.{Block, MessageHeld, block_at, changed, is_inside, is_queue, owns}
+use Rattle.machine.specs.declared.worlds.Block as made_block
+use Rattle.machine.specs.declared.worlds.Held as made_held
 use Rattle.machine.specs.declared.worlds.Owner.{Owner}
-use Rattle.machine.specs.declared.worlds.Owner.TheVariants.{Process, Queue}
-use Rattle.machine.proofs.HeapLemmas.{at_changed, at_past, front_is, past, queue_of_some, some_occurs}
-use Rattle.machine.proofs.Holding.{held_same, not_inside, queue_not_inside}
+use Rattle.machine.specs.declared.worlds.Owner.TheVariants.{Process, Queue, Inside}
+use Rattle.machine.proofs.ChangeLemmas.{changed_same, changed_twice, or_false}
+use Rattle.machine.proofs.HeapLemmas.{at_changed, at_past, eqb_swap, front_is, past, queue_of_some, some_occurs}
+use Rattle.machine.proofs.HeldExchange as exchange
+use Rattle.machine.proofs.HeldNew as new
+use Rattle.machine.proofs.Holding.{held_same, inside_not_queue, not_inside, owned_there, process_no_queue, queue_not_inside}
+use Rattle.machine.proofs.WayKept.{with_parts}
 
 -- fields stay, and what is inside which block
 held_by : (f : ℕ → Block → Block) (bs : List Block) → ((j : ℕ) (b : Block) → (f j b).fields ≡ b.fields)
@@ -70,3 +80,126 @@ inside_added (x ∷ bs) b (suc j) a own = inside_added bs b j a own
 
 pub held_added : (bs : List Block) (b : Block) → of_process b.owner ≡ true → b.fields ≡ [] → IsHeld bs → IsHeld (bs ++ b ∷ [])
 held_added bs b own empty h = held_same bs (bs ++ b ∷ []) (λ a. fields_added bs b a empty) (λ j a. inside_added bs b j a own) h
+
+-- what queues bring is the same, and what they own
+brought_same : (bs bs' : List Block) → ((a : ℕ) → (block_at bs' a).queue ≡ (block_at bs a).queue)
+    → ((j a : ℕ) → is_queue (block_at bs' j).owner a ≡ is_queue (block_at bs j).owner a) → IsBrought bs → IsBrought bs'
+brought_same bs bs' queues owners is = record {
+  brings_are = λ a j. ap (λ (q : List MessageHeld). occurs (brings q) j) (queues a) ∙ (is.brings_are a j ∙ ap one_if (sym (owners j a)));
+}
+
+-- ---- a variable and a field change places
+exchanged_one : (self at field given held j : ℕ) (b : Block)
+    → handed (Inside at) (given ∷ []) j (handed (Process self) (held ∷ []) j (with_field at field given j b))
+    ≡ exchanged_block self at field given held j b
+exchanged_one self at field given held j b =
+    ap (λ (t : Bool). with_parts b (if t then Inside at else (if (held == j) || false then Process self else b.owner)) b.queue
+    (if j == at then set b.fields field given else b.fields)) (or_false (given == j) ∙ eqb_swap given j)
+    ∙ ap (λ (t : Bool). with_parts b (if j == given then Inside at else (if t then Process self else b.owner)) b.queue
+    (if j == at then set b.fields field given else b.fields)) (or_false (held == j) ∙ eqb_swap held j)
+
+-- a field is written, what it held goes to the process, and what is given goes into the block
+pub exchanged_is : (self at field given held : ℕ) (bs : List Block)
+    → changed (handed (Inside at) (given ∷ [])) (changed (handed (Process self) (held ∷ [])) (changed (with_field at field given) bs))
+    ≡ changed (exchanged_block self at field given held) bs
+exchanged_is self at field given held bs =
+    ap (changed (handed (Inside at) (given ∷ []))) (changed_twice (with_field at field given) (handed (Process self) (held ∷ [])) bs)
+    ∙ (changed_twice (λ j b. handed (Process self) (held ∷ []) j (with_field at field given j b)) (handed (Inside at) (given ∷ [])) bs
+    ∙ changed_same (λ j b. handed (Inside at) (given ∷ []) j (handed (Process self) (held ∷ []) j (with_field at field given j b)))
+    (exchanged_block self at field given held) (exchanged_one self at field given held) bs)
+
+module _ (bs : List Block) (self at field given held : ℕ) (h : IsHeld bs) (owned_at : owns bs self at ≡ true)
+    (owned_given : owns bs self given ≡ true) (apart : given ≢ at) (found : slice_get (block_at bs at).fields field ≡ Some held) where
+  pub exchange_brought : IsBrought bs → IsBrought (changed (exchanged_block self at field given held) bs)
+  exchange_brought is = brought_same bs (exchange.changes bs self at field given held h owned_at owned_given apart found)
+      (λ a. ap (λ (b : Block). b.queue) (exchange.exchanged_at bs self at field given held h owned_at owned_given apart found a))
+      (λ j a. by j a (cases_eq j given) (cases_eq j held)) is
+    where
+      by : (j a : ℕ) → (j ≡ given) ⊎ (j ≡ given → ⊥) → (j ≡ held) ⊎ (j ≡ held → ⊥)
+          → is_queue (block_at (changed (exchanged_block self at field given held) bs) j).owner a ≡ is_queue (block_at bs j).owner a
+      by j a (inl g) s = ap (λ (o : Owner). is_queue o a)
+          (exchange.owner_given bs self at field given held h owned_at owned_given apart found j g)
+          ∙ sym (process_no_queue (block_at bs j).owner self a (ap (λ (n : ℕ). owns bs self n) g ∙ owned_given))
+      by j a (inr g) (inl s) = ap (λ (o : Owner). is_queue o a)
+          (exchange.owner_held bs self at field given held h owned_at owned_given apart found j s)
+          ∙ sym (ap (λ (n : ℕ). is_queue (block_at bs n).owner a) s
+          ∙ inside_not_queue (block_at bs held).owner at a (exchange.held_is bs self at field given held h owned_at owned_given apart found))
+      by j a (inr g) (inr s) = ap (λ (o : Owner). is_queue o a)
+          (exchange.owner_other bs self at field given held h owned_at owned_given apart found j g s)
+
+  pub exchange_holds : IsHeld (changed (exchanged_block self at field given held) bs)
+  exchange_holds = exchange.exchange_held bs self at field given held h owned_at owned_given apart found
+
+-- ---- a process has a new block, into which goes what it gives
+changed_append : (f : ℕ → Block → Block) (bs : List Block) (b : Block) → changed f (bs ++ b ∷ []) ≡ changed f bs ++ f (length bs) b ∷ []
+changed_append f [] b = refl
+changed_append f (x ∷ bs) b = ap (λ (xs : List Block). f 0 x ∷ xs) (changed_append (λ a. f (suc a)) bs b)
+
+-- the new block, whose queue is empty, and whose fields are what is given
+pub made_seen : (kind : Kind) (self : ℕ) (given : List ℕ) (queue : List made_held.Held) (fields : List ℕ) → queue ≡ [] → fields ≡ given
+    → with_parts (new_block kind self 0 0 given) (Process self) (map held_seen queue) fields ≡ new_block kind self 0 0 given
+made_seen kind self given queue fields empty same =
+    ap (λ (q : List made_held.Held). with_parts (new_block kind self 0 0 given) (Process self) (map held_seen q) fields) empty
+    ∙ ap (with_parts (new_block kind self 0 0 given) (Process self) []) same
+
+-- it is put behind the others
+pub made_pushed : (made : Block) (old new : List made_block.Block) (b : made_block.Block) → new ≡ old ++ b ∷ [] → block_seen b ≡ made
+    → blocks_seen new ≡ blocks_seen old ++ made ∷ []
+made_pushed made old new b pushed same =
+    ap blocks_seen pushed ∙ (map-append block_seen old (b ∷ []) ∙ ap (λ (x : Block). blocks_seen old ++ x ∷ []) same)
+
+module _ (bs : List Block) (self : ℕ) (given : List ℕ) (kind : Kind) (h : IsHeld bs)
+    (mine : (x : ℕ) → is_among given x ≡ true → owns bs self x ≡ true)
+    (once : (x : ℕ) → occurs given x ≡ one_if (is_among given x)) where
+  -- The block stands behind the others, and then what is given goes into it.
+  pub made_is : changed (handed (Inside (length bs)) given) (bs ++ new_block kind self 0 0 given ∷ [])
+      ≡ changed (handed (Inside (length bs)) given) bs ++ new_block kind self 0 0 given ∷ []
+  made_is = changed_append (handed (Inside (length bs)) given) bs (new_block kind self 0 0 given)
+      ∙ ap (λ (t : Bool). changed (handed (Inside (length bs)) given) bs
+      ++ with_parts (new_block kind self 0 0 given) (if t then Inside (length bs) else Process self) [] given ∷ []) none
+    where
+      none : is_among given (length bs) ≡ false
+      none = ⊎_elim (λ t. absurd (let k = owned_there bs self (length bs) (mine (length bs) t) in omega arith)) (λ f. f)
+          (cases_Bool (is_among given (length bs)))
+
+  -- the same of the blocks as they were on the way
+  pub grown_is : (n : ℕ) (before pushed now : List Block) → n ≡ length bs → before ≡ bs
+      → pushed ≡ before ++ new_block kind self 0 0 given ∷ []
+      → now ≡ changed (handed (Inside n) given) pushed
+      → now ≡ changed (handed (Inside (length bs)) given) bs ++ new_block kind self 0 0 given ∷ []
+  grown_is n before pushed now long same put hands =
+      hands ∙ (ap (λ (k : ℕ). changed (handed (Inside k) given) pushed) long
+      ∙ (ap (changed (handed (Inside (length bs)) given)) (put ∙ ap (λ (xs : List Block). xs ++ new_block kind self 0 0 given ∷ []) same)
+      ∙ made_is))
+
+  pub new_brought : IsBrought bs → IsBrought (changed (handed (Inside (length bs)) given) bs ++ new_block kind self 0 0 given ∷ [])
+  new_brought is = brought_same bs (new.grown bs self given kind h mine once)
+      (λ a. queue a (new.where_is bs self given kind h mine once a))
+      (λ j a. by j a (new.where_is bs self given kind h mine once j)) is
+    where
+      queue : (a : ℕ) → (a < length bs) ⊎ ((a ≡ length bs) ⊎ (length bs < a))
+          → (block_at (new.grown bs self given kind h mine once) a).queue ≡ (block_at bs a).queue
+      queue a (inl less) = ap (λ (b : Block). b.queue) (new.grown_old bs self given kind h mine once a less)
+      queue a (inr (inl e)) = ap (λ (n : ℕ). (block_at (new.grown bs self given kind h mine once) n).queue) e
+          ∙ (ap (λ (b : Block). b.queue) (new.grown_new bs self given kind h mine once)
+          ∙ sym (ap (λ (b : Block). b.queue) (past bs a (omega arith))))
+      queue a (inr (inr more)) = ap (λ (b : Block). b.queue) (new.grown_past bs self given kind h mine once a more)
+          ∙ sym (ap (λ (b : Block). b.queue) (past bs a (omega arith)))
+
+      old_owner : (j a : ℕ) (t : Bool) → is_among given j ≡ t
+          → is_queue (if t then Inside (length bs) else (block_at bs j).owner) a ≡ is_queue (block_at bs j).owner a
+      old_owner j a true e = sym (process_no_queue (block_at bs j).owner self a (mine j e))
+      old_owner j a false e = refl
+
+      by : (j a : ℕ) → (j < length bs) ⊎ ((j ≡ length bs) ⊎ (length bs < j))
+          → is_queue (block_at (new.grown bs self given kind h mine once) j).owner a ≡ is_queue (block_at bs j).owner a
+      by j a (inl less) = ap (λ (b : Block). is_queue b.owner a) (new.grown_old bs self given kind h mine once j less)
+          ∙ old_owner j a (is_among given j) refl
+      by j a (inr (inl e)) = ap (λ (n : ℕ). is_queue (block_at (new.grown bs self given kind h mine once) n).owner a) e
+          ∙ (ap (λ (b : Block). is_queue b.owner a) (new.grown_new bs self given kind h mine once)
+          ∙ sym (ap (λ (b : Block). is_queue b.owner a) (past bs j (omega arith))))
+      by j a (inr (inr more)) = ap (λ (b : Block). is_queue b.owner a) (new.grown_past bs self given kind h mine once j more)
+          ∙ sym (ap (λ (b : Block). is_queue b.owner a) (past bs j (omega arith)))
+
+  pub new_holds : IsHeld (changed (handed (Inside (length bs)) given) bs ++ new_block kind self 0 0 given ∷ [])
+  new_holds = new.new_held bs self given kind h mine once

@@ -1,5 +1,6 @@
 -- Fields hold what is inside their block, and owners lead up in finitely many steps: what keeps this true.
-use Rattle.std.proofs.Common.{◌≡◌, ◌≢◌, ℕ, ◌<◌, Bool, true, false, List, [], length, refl, sym, ap, ◌∙◌, subst, arith, ⊎_elim}
+use Rattle.std.proofs.Common.{◌≡◌, ◌≢◌, ℕ, ◌<◌, Bool, true, false, List, [], length}
+use Rattle.std.proofs.Common.{refl, sym, ap, ◌∙◌, subst, arith, ⊎_elim}
 use Rattle.std.proofs.lemmas.Bool.{cases_Bool}
 use Rattle.std.specs.Prelude.{◌⊎◌, if◌then◌else◌}
 use Rattle.machine.specs.Blocks.{freed_block, goes_with, in_queue_of}
@@ -33,6 +34,16 @@ queue_not_inside (Inside n) a b e = absurd (cc)
 queue_not_inside Channel a b e = absurd (cc)
 queue_not_inside Freed a b e = absurd (cc)
 
+pub inside_not_process : (o : Owner) (b q : ℕ) → o ≡ Inside b → is_process o q ≡ false
+inside_not_process o b q e = ap (λ (x : Owner). is_process x q) e
+
+pub inside_not_queue : (o : Owner) (b a : ℕ) → o ≡ Inside b → is_queue o a ≡ false
+inside_not_queue o b a e = ap (λ (x : Owner). is_queue x a) e
+
+-- a block of a process is there
+pub owned_there : (bs : List Block) (q a : ℕ) → owns bs q a ≡ true → a < length bs
+owned_there bs q a o = own_there bs a (of_some (block_at bs a).owner q o)
+
 -- the owner of a block that stays, when the queues of endpoints that meet a condition are emptied
 abbrev pub unqueued : (ℕ → Bool) → Owner → Owner
 unqueued P o = if in_queue_of o P then Channel else o
@@ -61,6 +72,19 @@ rooted_less bs bs' less x (below a b is r) = ⊎_elim
     (rooted_less bs bs' less b r)))
     (λ out. top x out)
     (inside_or (block_at bs' x).owner)
+
+-- Blocks are put into one that is inside no other. Other owners stay, or blocks come out of blocks.
+pub rooted_put : (bs bs' : List Block) (at : ℕ) → ((b : ℕ) → is_inside (block_at bs' at).owner b ≡ false)
+    → ((j b : ℕ) → (block_at bs' j).owner ≡ Inside b → (b ≡ at) ⊎ ((block_at bs j).owner ≡ Inside b)) → (x : ℕ) → Rooted bs x → Rooted bs' x
+rooted_put bs bs' at root put x (top a out) = ⊎_elim
+    (λ k. ⊎_elim (λ e. below x k.0 k.1 (top k.0 (λ b. ap (λ (n : ℕ). is_inside (block_at bs' n).owner b) e ∙ root b)))
+    (λ was. absurd (true≢false (ap (λ (o : Owner). is_inside o k.0) was ∙ is_inside_same k.0) (out k.0))) (put x k.0 k.1))
+    (λ out. top x out) (inside_or (block_at bs' x).owner)
+rooted_put bs bs' at root put x (below a c is s) = ⊎_elim
+    (λ k. ⊎_elim (λ e. below x k.0 k.1 (top k.0 (λ b. ap (λ (n : ℕ). is_inside (block_at bs' n).owner b) e ∙ root b)))
+    (λ was. below x k.0 k.1 (subst (λ (n : ℕ). Rooted bs' n) (inside_same (block_at bs x).owner c k.0 is was)
+    (rooted_put bs bs' at root put c s))) (put x k.0 k.1))
+    (λ out. top x out) (inside_or (block_at bs' x).owner)
 
 -- ---- nothing is put into a block, and nothing comes out
 pub held_same : (bs bs' : List Block) → ((a : ℕ) → (block_at bs' a).fields ≡ (block_at bs a).fields)
@@ -153,8 +177,8 @@ module _ (bs : List Block) (a : ℕ) (h : IsHeld bs) (own : of_process (block_at
   pub gone_no_queue : (x c : ℕ) → goes x ≡ true → is_queue (block_at bs x).owner c ≡ false
   gone_no_queue x c g = ⊎_elim
       (λ e. no_queue (block_at bs x).owner c (ap (λ (n : ℕ). of_process (block_at bs n).owner) e ∙ own))
-      (λ k. ap (λ (o : Owner). is_queue o c) k.1) (up x g)
+      (λ k. inside_not_queue (block_at bs x).owner k.0 c k.1) (up x g)
 
   -- no process owned what goes, but for the block itself
   pub gone_no_process : (x q : ℕ) → goes x ≡ true → x ≢ a → owns bs q x ≡ false
-  gone_no_process x q g n = ⊎_elim (λ e. absurd (n e)) (λ k. ap (λ (o : Owner). is_process o q) k.1) (up x g)
+  gone_no_process x q g n = ⊎_elim (λ e. absurd (n e)) (λ k. inside_not_process (block_at bs x).owner k.0 q k.1) (up x g)

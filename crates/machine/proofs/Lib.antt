@@ -9,8 +9,11 @@ pub mod FreeLemmas
 pub mod FreedQueues
 pub mod GiveLemmas
 pub mod HeapLemmas
+pub mod HeldExchange
 pub mod HeldLemmas
+pub mod HeldNew
 pub mod Holding
+pub mod MakeLemmas
 pub mod PassLemmas
 pub mod ReplayLemmas
 pub mod ScopeLemmas

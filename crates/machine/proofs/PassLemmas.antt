@@ -1,5 +1,6 @@
 -- What is known where tests pass.
-use Rattle.std.proofs.Common.{◌≡◌, ◌==◌, ℕ, zero, suc, ◌+◌, ◌<◌, Bool, true, false, List, [], ◌∷◌, Some, None, refl, sym, ap, ◌∙◌, length, arith, ◌⊎◌, inl, inr, ⊎_elim}
+use Rattle.std.proofs.Common.{◌≡◌, ◌==◌, ℕ, zero, suc, ◌+◌, ◌<◌, Bool, true, false, List, [], ◌∷◌, Some, None, refl, sym, ap, ◌∙◌}
+use Rattle.std.proofs.Common.{length, arith, ◌⊎◌, inl, inr, ⊎_elim}
 use Rattle.std.specs.Prelude.{Option, get_or, if◌then◌else◌, ◌||◌, ◌&&◌, not}
 use Rattle.std.proofs.lemmas.Bool.Decides.{eqb_tells}
 use Rattle.program.specs.Lists.{is_among}
@@ -8,7 +9,7 @@ use Rattle.program.specs.declared.statement.Mention.{Mention}
 use Rattle.machine.specs.Answers.{Pass}
 use Rattle.machine.specs.Blocks.{argument_tests_in, is_own_still}
 use Rattle.machine.specs.Frames.{address, addresses, payloads_claimed}
-use Rattle.machine.specs.Heaps.{AreOnce, AreOwned, occurs, of_process, one_if}
+use Rattle.machine.specs.Heaps.{AreOnce, AreOwned, AreOwnedBy, occurs, one_if}
 use Rattle.machine.specs.Outcomes.{Faulty, Test, Waits, test}
 use Rattle.machine.specs.World.{Block, block_at, is_own_in, owns, read}
 use Rattle.machine.specs.declared.halts.Fault.{Fault}
@@ -51,29 +52,38 @@ and_not false t is = absurd (cc)
 among_own : (x j : ℕ) (rest : List ℕ) → is_among (x ∷ rest) j ≡ true → ((x ≡ j) ⊎ (is_among rest j ≡ true))
 among_own x j rest is = ⊎_elim (λ h. inl h.1) (λ h. inr (ap (λ t. t || is_among rest j) (sym h.0) ∙ is)) (eqb_tells x j)
 
-still_owned : (bs : List Block) (self : ℕ) (taken : List ℕ) (x : Option ℕ) → is_own_still bs self taken x ≡ true → of_process (block_at bs (address x)).owner ≡ true
+still_owned : (bs : List Block) (self : ℕ) (taken : List ℕ) (x : Option ℕ) → is_own_still bs self taken x ≡ true
+    → owns bs self (address x) ≡ true
 still_owned bs self taken None own = absurd (cc)
-still_owned bs self taken (Some a) own = of_some (block_at bs a).owner self (and_first (owns bs self a) (not (is_among taken a)) own)
+still_owned bs self taken (Some a) own = and_first (owns bs self a) (not (is_among taken a)) own
 
 still_free : (bs : List Block) (self : ℕ) (taken : List ℕ) (x : Option ℕ) → is_own_still bs self taken x ≡ true → is_among taken (address x) ≡ false
 still_free bs self taken None own = absurd (cc)
 still_free bs self taken (Some a) own = and_not (owns bs self a) (is_among taken a) own
 
--- arguments that pass their tests are blocks of a process
-pub pass_owned : (bs : List Block) (self : ℕ) (variables : List (Option ℕ)) (taken : List ℕ) (arguments : List Argument) → Pass (argument_tests_in bs self variables taken arguments)
-    → AreOwned bs (addresses variables arguments)
-pass_owned bs self variables taken [] pass = record { own = λ j is. absurd (cc) }
-pass_owned bs self variables taken (a ∷ arguments) pass =
+-- arguments that pass their tests are blocks of the process
+pub pass_owned_by : (bs : List Block) (self : ℕ) (variables : List (Option ℕ)) (taken : List ℕ) (arguments : List Argument)
+    → Pass (argument_tests_in bs self variables taken arguments) → AreOwnedBy bs self (addresses variables arguments)
+pass_owned_by bs self variables taken [] pass = record { own = λ j is. absurd (cc) }
+pass_owned_by bs self variables taken (a ∷ arguments) pass =
     let x = read variables a.mention.variable.0 in
     let fault = if a.claimed then F3 else F1 in
     let more = if a.claimed then address x ∷ taken else taken in
-    let own : is_own_still bs self taken x ≡ true = first_passes (is_own_still bs self taken x) fault (argument_tests_in bs self variables more arguments) pass in
-    let rest = pass_owned bs self variables more arguments (rest_pass (is_own_still bs self taken x) fault (argument_tests_in bs self variables more arguments) own pass) in
+    let tests = argument_tests_in bs self variables more arguments in
+    let own : is_own_still bs self taken x ≡ true = first_passes (is_own_still bs self taken x) fault tests pass in
+    let rest = pass_owned_by bs self variables more arguments (rest_pass (is_own_still bs self taken x) fault tests own pass) in
     record {
-      own = λ j is. ⊎_elim (λ same. ap (λ n. of_process (block_at bs n).owner) (sym same) ∙ still_owned bs self taken x own) (λ there. rest.own j there) (among_own (address x) j (addresses variables arguments) is);
+      own = λ j is. ⊎_elim (λ same. ap (owns bs self) (sym same) ∙ still_owned bs self taken x own) (λ there. rest.own j there)
+          (among_own (address x) j (addresses variables arguments) is);
     }
 
--- what a message claims is there once, and was not taken before
+pub pass_owned : (bs : List Block) (self : ℕ) (variables : List (Option ℕ)) (taken : List ℕ) (arguments : List Argument)
+    → Pass (argument_tests_in bs self variables taken arguments) → AreOwned bs (addresses variables arguments)
+pass_owned bs self variables taken arguments pass = record {
+  own = λ j is. of_some (block_at bs j).owner self ((pass_owned_by bs self variables taken arguments pass).own j is);
+}
+
+-- what a message or a new block claims is there once, and was not taken before
 pub record Once (taken given : List ℕ) : Type 0 where
   pub once : (j : ℕ) → occurs given j ≡ one_if (is_among given j)
   pub apart : (j : ℕ) → is_among taken j ≡ true → is_among given j ≡ false

@@ -5,7 +5,7 @@ use Rattle.source.specs.declared.place.Place.{Place}
 use Rattle.program.specs.Methods.{MethodSeen, VariableSeen}
 use Rattle.program.specs.Parts.{ContractSeen}
 use Rattle.program.specs.Programs.{ProgramSeen}
-use Rattle.program.specs.Statements.{StatementSeen, StatementsSeen, Simple, Send, MoreStatements, NoStatement}
+use Rattle.program.specs.Statements.{StatementSeen, StatementsSeen, Simple, New, Send, MoreStatements, NoStatement}
 use Rattle.program.specs.declared.contract.Sign.TheVariants as sign
 use Rattle.program.specs.declared.kind.Kind.{Kind}
 use Rattle.program.specs.declared.kind.Kind.TheVariants.{Struct, Endpoint}
@@ -18,9 +18,9 @@ use Rattle.machine.specs.Frames.{entered}
 use Rattle.machine.specs.Machine.{event_outcome}
 use Rattle.machine.specs.Outcomes.{Bounds, Outcome, Moved, Faulty}
 use Rattle.machine.specs.Runs.{start_of}
-use Rattle.machine.specs.World.{Block, MessageHeld, cut_off}
+use Rattle.machine.specs.World.{Block, Frame, MessageHeld, cut_off, stack_at}
 use Rattle.machine.specs.declared.halts.Event.{Event}
-use Rattle.machine.specs.declared.halts.Fault.TheVariants.{F1, F4, F7}
+use Rattle.machine.specs.declared.halts.Fault.TheVariants.{F1, F3, F4, F7}
 use Rattle.machine.specs.declared.worlds.Owner.{Owner}
 use Rattle.machine.specs.declared.worlds.Owner.TheVariants.{Process, Queue, Inside, Channel, Freed}
 
@@ -75,6 +75,10 @@ opens statements = record {
 abbrev sends : ℕ → StatementSeen
 sends n = Send record { reads = []; place = at; endpoint = mention 1; message = record { 0 = 0 }; payloads = mention n ∷ [] }
 
+-- it makes a struct of what is given
+abbrev makes : List Mention → StatementSeen
+makes arguments = New record { reads = []; target = mention 2; arguments = arguments }
+
 abbrev bound : Bounds
 bound c s = 1
 
@@ -92,6 +96,9 @@ four p = next p (next p (next p (next p (Moved (start_of p 0)))))
 abbrev three : ProgramSeen → Outcome
 three p = next p (next p (next p (Moved (start_of p 0))))
 
+abbrev two : ProgramSeen → Outcome
+two p = next p (next p (Moved (start_of p 0)))
+
 abbrev blocks_of : Outcome → List Block
 blocks_of (Moved w) = w.blocks
 blocks_of _ = []
@@ -102,7 +109,7 @@ owners (b ∷ bs) = b.owner ∷ owners bs
 
 -- a struct is sent, and read then
 abbrev reads_what_it_sent : ProgramSeen
-reads_what_it_sent = opens (Simple [] (does.New (mention 2)) ∷ sends 2 ∷ Simple (mention 2 ∷ []) does.Nothing ∷ [])
+reads_what_it_sent = opens (makes [] ∷ sends 2 ∷ Simple (mention 2 ∷ []) does.Nothing ∷ [])
 
 pub sent_then : blocks_of (three reads_what_it_sent) ≡
     record { kind = Endpoint record { 0 = 0 } Imp record { 0 = 0 }; owner = Process 0; peer = 1; state = 0; queue = record { message = 0; payload = 2 ∷ [] } ∷ []; fields = [] }
@@ -122,14 +129,14 @@ end_sent = refl
 
 -- the importing end is freed, a struct is sent all the same, and goes to the channel
 abbrev sends_to_nobody : ProgramSeen
-sends_to_nobody = opens (Simple [] (does.Delete (mention 0)) ∷ Simple [] (does.New (mention 2)) ∷ sends 2 ∷ [])
+sends_to_nobody = opens (Simple [] (does.Delete (mention 0)) ∷ makes [] ∷ sends 2 ∷ [])
 
 pub lost_then : owners (blocks_of (four sends_to_nobody)) ≡ Freed ∷ Process 0 ∷ Channel ∷ []
 lost_then = refl
 
 -- a message is sent twice where its contract has it once
 abbrev sends_twice : ProgramSeen
-sends_twice = opens (sends 0 ∷ Simple [] (does.New (mention 2)) ∷ sends 2 ∷ [])
+sends_twice = opens (sends 0 ∷ makes [] ∷ sends 2 ∷ [])
 
 pub sent_twice : four sends_twice ≡ Faulty F4
 sent_twice = refl
@@ -201,3 +208,48 @@ pub two_ends_deleted : blocks_of (next deletes (Moved record {
       ∷ [];
 })) ≡ struct_of Freed [] ∷ end_of Imp Freed 2 [] ∷ end_of Exp Freed 1 [] ∷ struct_of Channel [] ∷ []
 two_ends_deleted = refl
+
+-- ---- what goes into blocks, and comes out
+-- It makes a struct of the importing end, and then what a field of that holds and what a variable has change places.
+abbrev exchanges : (field given : ℕ) → ProgramSeen
+exchanges field given =
+    opens
+    (makes (mention 0 ∷ [])
+    ∷ Simple [] (does.Exchange record { place = at; holder = mention 2; field = field; given = mention given })
+    ∷ [])
+
+abbrev end_inside : List Block
+end_inside = end_of Imp (Inside 2) 1 [] ∷ end_of Exp (Process 0) 0 [] ∷ struct_of (Process 0) (0 ∷ []) ∷ []
+
+-- what the variables of the first process have
+abbrev had_in : List Frame → List (Option ℕ)
+had_in [] = []
+had_in (f ∷ rest) = f.variables
+
+abbrev had : Outcome → List (Option ℕ)
+had (Moved w) = had_in (stack_at w.processes 0)
+had _ = []
+
+pub made_then : blocks_of (two (exchanges 0 1)) ≡ end_inside
+made_then = refl
+
+pub exchanged_then : blocks_of (three (exchanges 0 1))
+    ≡ end_of Imp (Process 0) 1 [] ∷ end_of Exp (Inside 2) 0 [] ∷ struct_of (Process 0) (1 ∷ []) ∷ []
+exchanged_then = refl
+
+pub had_then : had (three (exchanges 0 1)) ≡ None ∷ Some 0 ∷ Some 2 ∷ []
+had_then = refl
+
+-- the struct has no second field
+pub none_exchanged : blocks_of (three (exchanges 1 1)) ≡ end_inside
+none_exchanged = refl
+
+-- no block goes into itself, and nothing goes in that was given already
+pub not_into_itself : three (exchanges 0 2) ≡ Faulty F3
+not_into_itself = refl
+
+pub not_again : three (exchanges 0 0) ≡ Faulty F3
+not_again = refl
+
+pub not_twice : two (opens (makes (mention 1 ∷ mention 1 ∷ []) ∷ [])) ≡ Faulty F3
+not_twice = refl

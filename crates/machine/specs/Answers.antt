@@ -3,7 +3,7 @@ use Rattle.std.specs.Prelude.{◌≡◌, ℕ, ◌==◌, Bool, true, false, List,
 use Rattle.std.specs.Prelude.{Option, Result, Ok, Err, Some, None}
 use Rattle.source.specs.declared.place.Place.{Place}
 use Rattle.program.specs.Programs.{ProgramSeen}
-use Rattle.flow.specs.Graphs.{Instruction, New, NewChannel, Delete, Send, Switch, Call, Start, Return, Stop}
+use Rattle.flow.specs.Graphs.{Instruction, New, NewChannel, Delete, Exchange, Send, Switch, Call, Start, Return, Stop}
 use Rattle.program.specs.declared.call.Argument.{Argument}
 use Rattle.program.specs.declared.statement.Mention.{Mention}
 use Rattle.machine.specs.Frames.{address, put}
@@ -71,11 +71,12 @@ is_of_frame (Return place value scope) = false
 is_of_frame (Stop place) = false
 is_of_frame _ = true
 
--- of these, those that make or free blocks
+-- of these, those that make or free blocks, or change what is inside one
 abbrev pub is_of_heap : Instruction → Bool
 is_of_heap (New v arguments next) = true
 is_of_heap (NewChannel c next) = true
 is_of_heap (Delete v next) = true
+is_of_heap (Exchange e next) = true
 is_of_heap _ = false
 
 -- and those that send or receive
@@ -145,6 +146,17 @@ left_in a messages j b = record {
   state = b.state;
   queue = if j == a then messages else b.queue;
   fields = b.fields;
+}
+
+-- a field of the block at an address holds this
+abbrev pub with_field : (at field given : ℕ) → ℕ → Block → Block
+with_field at field given j b = record {
+  kind = b.kind;
+  owner = b.owner;
+  peer = b.peer;
+  state = b.state;
+  queue = b.queue;
+  fields = if j == at then set b.fields field given else b.fields;
 }
 
 -- the message at the front of a queue

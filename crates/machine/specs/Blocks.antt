@@ -1,6 +1,6 @@
 -- What becomes of blocks, each by its address, and what is asked of them.
 use Rattle.std.specs.Prelude.{ℕ, zero, suc, ◌==◌, nat_lt, Bool, true, false, not, ◌&&◌, ◌||◌, if◌then◌else◌}
-use Rattle.std.specs.Prelude.{List, [], ◌∷◌, ◌++◌, length, Option, Some, None, is_some}
+use Rattle.std.specs.Prelude.{List, [], ◌∷◌, ◌++◌, length, Option, Some, None, is_some, set}
 use Rattle.program.specs.Lists.{is_among}
 use Rattle.program.specs.Programs.{ProgramSeen}
 use Rattle.program.specs.declared.call.Argument.{Argument}
@@ -58,6 +58,18 @@ freed_block goes j b = record {
   state = b.state;
   queue = if goes j then [] else b.queue;
   fields = if goes j then [] else b.fields;
+}
+
+-- What the block at the address given and what a field of the block at the address at held change places: the one is inside that block
+-- now, and the other is a process's.
+abbrev pub exchanged_block : (self at field given held : ℕ) → ℕ → Block → Block
+exchanged_block self at field given held j b = record {
+  kind = b.kind;
+  owner = if j == given then Inside at else (if j == held then Process self else b.owner);
+  peer = b.peer;
+  state = b.state;
+  queue = b.queue;
+  fields = if j == at then set b.fields field given else b.fields;
 }
 
 -- The endpoint at a sends: it goes on to a state, what is given goes to an owner, and the message goes to the queue of the endpoint

@@ -1,7 +1,7 @@
 -- What a heap keeps true of its blocks, so that no step has to go over all of them.
 use Rattle.std.specs.Prelude.{◌≡◌, ◌⊎◌, ℕ, ◌+◌, ◌<◌, ◌==◌, Bool, true, false, List, [], ◌∷◌, ◌++◌, get_or, length}
 use Rattle.program.specs.Lists.{is_among}
-use Rattle.machine.specs.World.{Block, MessageHeld, block_at, is_inside, is_process, is_queue}
+use Rattle.machine.specs.World.{Block, MessageHeld, block_at, is_inside, is_process, is_queue, owns}
 use Rattle.machine.specs.declared.worlds.Owner.{Owner}
 use Rattle.machine.specs.declared.worlds.Owner.TheVariants.{Process, Inside}
 
@@ -69,6 +69,10 @@ of_process _ = false
 -- each of these blocks is a process's
 pub record AreOwned (blocks : List Block) (given : List ℕ) : Type 0 where
   pub own : (j : ℕ) → is_among given j ≡ true → of_process (block_at blocks j).owner ≡ true
+
+-- each of these blocks is this process's
+pub record AreOwnedBy (blocks : List Block) (self : ℕ) (given : List ℕ) : Type 0 where
+  pub own : (j : ℕ) → is_among given j ≡ true → owns blocks self j ≡ true
 
 -- none of these is there twice
 pub record AreOnce (given : List ℕ) : Type 0 where

@@ -4,20 +4,22 @@ use Rattle.std.specs.Prelude.{List, [], ◌∷◌, ◌++◌, map, length, slice_
 use Rattle.program.specs.Programs.{ProgramSeen}
 use Rattle.program.specs.declared.call.Argument.{Argument}
 use Rattle.program.specs.declared.kind.Side.TheVariants.{Imp, Exp}
+use Rattle.program.specs.declared.statement as stated
 use Rattle.program.specs.declared.statement.Mention.{Mention}
 use Rattle.flow.specs.Cases.{EntranceSeen, case_for, first_mentions}
-use Rattle.flow.specs.Graphs.{Instruction, Use, New, Move, Delete, NewChannel, Send, Switch, Branch, Forget, Call, Start, Return, Stop}
+use Rattle.flow.specs.Graphs.{Instruction, Use, New, Move, Delete, Exchange, NewChannel, Send, Switch, Branch, Forget, Call, Start}
+use Rattle.flow.specs.Graphs.{Return, Stop}
 use Rattle.flow.specs.declared.graph.Branches.{Branches}
 use Rattle.flow.specs.declared.graph.Branches.TheVariants.{Either, Only}
 use Rattle.rules.specs.Endpoints.{first_state}
-use Rattle.machine.specs.Blocks.{argument_tests_in, edge_in_in, edge_out_in, has_room_in, owns_none, send_tests_in}
-use Rattle.machine.specs.Blocks.{end_kind, freed_block, goes_with, handed, is_imp, new_block, received_block, sent_block}
+use Rattle.machine.specs.Blocks.{argument_tests_in, edge_in_in, edge_out_in, has_room_in, is_own_still, owns_none, send_tests_in}
+use Rattle.machine.specs.Blocks.{end_kind, exchanged_block, freed_block, goes_with, handed, is_imp, new_block, received_block, sent_block}
 use Rattle.machine.specs.Frames.{call_next, call_target, entered, instruction_at, kind_at, method_at, variables_of}
 use Rattle.machine.specs.Frames.{address, addresses, bound_to, forgotten, gone_with, payloads_claimed, put}
 use Rattle.machine.specs.Outcomes.{Bounds, Outcome, Moved, Faulty, Waits, NoChoice, Test, test, tested}
 use Rattle.machine.specs.World.{Block, Frame, MessageHeld, World, block_at, changed, cut_off, freed, is_own_in, let_go, read}
 use Rattle.machine.specs.declared.halts.Fault.TheVariants.{F1, F2, F3, F5, F7}
-use Rattle.machine.specs.declared.worlds.Owner.TheVariants.{Process}
+use Rattle.machine.specs.declared.worlds.Owner.TheVariants.{Process, Inside}
 
 -- the way of a condition
 abbrev pub way : Branches → ℕ → ℕ
@@ -103,12 +105,23 @@ module _ (p : ProgramSeen) (bound : Bounds) (w : World) (self : ℕ) (f : Frame)
   value_tests None = []
   value_tests (Some v) = test (is_own (has v)) F3 ∷ []
 
+  -- A variable and a field of the block at an address change places, where the field holds something. Where that block has no such field
+  -- nothing changes.
+  abbrev pub exchanges : stated.Exchange.Exchange → ℕ → (held : Option ℕ) → Outcome
+  exchanges e next None = on next f.variables w.blocks
+  exchanges e next (Some held) =
+      on next (set f.variables e.given.variable.0 (Some held))
+      (changed (exchanged_block self (address (has e.holder)) e.field (address (has e.given)) held) w.blocks)
+
   -- a line for each instruction
   abbrev pub event_of : Instruction → (choice : ℕ) → Outcome
   event_of (Use v next) choice = tested (test (is_own (has v)) F1 ∷ []) (on next f.variables w.blocks)
   event_of (New v arguments next) choice =
-      on next (set f.variables v.variable.0 (Some (length w.blocks)))
-      (w.blocks ++ new_block (kind_at (variables_of p f.method) v.variable.0) self 0 0 [] ∷ [])
+      let given = payloads_claimed arguments in
+      tested (argument_tests [] given)
+      (on next (set (let_go f.variables given) v.variable.0 (Some (length w.blocks)))
+      (changed (handed (Inside (length w.blocks)) (addresses f.variables given)) w.blocks
+      ++ new_block (kind_at (variables_of p f.method) v.variable.0) self 0 0 (addresses f.variables given) ∷ []))
   event_of (NewChannel c next) choice =
       let first_is_imp = is_imp (kind_at (variables_of p f.method) c.first.variable.0) in
       let a = length w.blocks in
@@ -122,6 +135,12 @@ module _ (p : ProgramSeen) (bound : Bounds) (w : World) (self : ℕ) (f : Frame)
   event_of (Delete v next) choice =
       tested (test (is_own (has v)) F2 ∷ [])
       (on next (set f.variables v.variable.0 None) (changed (freed_block (goes_with w.blocks (address (has v)))) w.blocks))
+  event_of (Exchange e next) choice =
+      tested
+      (test (is_own (has e.holder)) F1
+      ∷ test (is_own_still w.blocks self (address (has e.holder) ∷ []) (has e.given)) F3
+      ∷ [])
+      (exchanges e next (slice_get (block_at w.blocks (address (has e.holder))).fields e.field))
   event_of (Send place e message payloads next) choice =
       let at = address (has e) in
       let given = payloads_claimed payloads in

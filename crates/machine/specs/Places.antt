@@ -3,7 +3,8 @@ use Rattle.std.specs.Prelude.{ℕ, List, [], ◌∷◌, Option, None}
 use Rattle.std.specs.Option.{option_map}
 use Rattle.source.specs.declared.place.Place.{Place}
 use Rattle.program.specs.Programs.{ProgramSeen}
-use Rattle.flow.specs.Graphs.{Instruction, Use, New, Move, Delete, NewChannel, Send, Switch, Branch, Forget, Call, Start, Return, Stop}
+use Rattle.flow.specs.Graphs.{Instruction, Use, New, Move, Delete, Exchange, NewChannel, Send, Switch, Branch, Forget, Call, Start}
+use Rattle.flow.specs.Graphs.{Return, Stop}
 use Rattle.machine.specs.Frames.{instruction_at}
 use Rattle.machine.specs.World.{Frame, World, stack_at}
 
@@ -13,6 +14,7 @@ place_of (Use v next) = v.place
 place_of (New v arguments next) = v.place
 place_of (Move v u next) = v.place
 place_of (Delete v next) = v.place
+place_of (Exchange e next) = e.place
 place_of (NewChannel c next) = c.place
 place_of (Send place e message payloads next) = place
 place_of (Switch place cases) = place

@@ -1,7 +1,7 @@
 //! What becomes of blocks, and of the counts of those that processes have.
 
 ghost use Rattle.std.specs.Prelude.{◌≡◌, ◌+◌, ◌<◌, ◌^◌, IsFalse, IsTrue, List, Some, [], ◌∷◌, get_or, length, map, option_map, true, ℕ};
-ghost use Rattle.machine.specs.Answers.{in_state, left_in, queued};
+ghost use Rattle.machine.specs.Answers.{in_state, left_in, queued, with_field};
 ghost use Rattle.machine.specs.Blocks.{handed};
 ghost use Rattle.machine.specs.Heaps.{IsCounted, IsListed, brings, one_if};
 ghost use Rattle.machine.specs.BlockViews.{blocks_seen, held_seen};
@@ -84,6 +84,15 @@ pub(crate) fn set_state(blocks: &mut Vec<Block>, a: usize, state: StateId)
     if a < blocks.len() {
         blocks[a].state = state;
     }
+}
+
+/// A field of a block takes an address in place of what it holds.
+pub(crate) fn set_field(blocks: &mut Vec<Block>, at: usize, field: usize, given: usize)
+    requires there { at < length blocks.old.items }
+    requires field { field < length (block_at (blocks_seen blocks.old.items) at).fields }
+    ensures { blocks_seen blocks.new.items ≡ changed (with_field at field given) (blocks_seen blocks.old.items) }
+{
+    blocks[at].fields[field] = given;
 }
 
 /// A message goes to the queue of an endpoint, if there is memory for it.

@@ -1,19 +1,22 @@
 //! Blocks, with what is kept of them so that no step has to go over all of them.
 
-ghost use Rattle.std.specs.Prelude.{◌≡◌, ◌<◌, ◌++◌, ◌∷◌, [], IfErr, IsFalse, IsTrue, List, OnErr, OnOk, false, length, true};
+ghost use Rattle.std.specs.Prelude.{◌≡◌, ◌≢◌, ◌<◌, ◌++◌, ◌∷◌, [], IfErr, IfNone, IfSome, IsFalse, IsTrue, List, OnErr, OnOk};
+ghost use Rattle.std.specs.Prelude.{false, length, slice_get, true};
 ghost use Rattle.machine.specs.BlockViews.{block_seen, blocks_seen};
-ghost use Rattle.machine.specs.Blocks.{freed_block, goes_with, handed, owns_none, received_block, sent_block};
-ghost use Rattle.machine.specs.Heaps.{AreOnce, AreOwned, IsHeap, of_process};
+ghost use Rattle.machine.specs.Blocks.{exchanged_block, freed_block, goes_with, handed, new_block, owns_none, received_block, sent_block};
+ghost use Rattle.machine.specs.Heaps.{AreOnce, AreOwned, AreOwnedBy, IsHeap, of_process};
 ghost use Rattle.machine.specs.Once.{heap_once};
 ghost use Rattle.machine.specs.World.{MessageHeld, block_at, changed, owns};
 
-use crate::changing::{count_more, enqueue, hand, set_state, take_front};
+use crate::changing::{count_more, enqueue, hand, hand_one, set_field, set_state, take_front};
 use crate::edges::Way;
 use crate::freeing::free;
 use crate::halts::Refusal;
+use crate::reading::field_of;
 use crate::worlds::{Block, Held, Owner};
-use program::{MessageId, StateId};
+use program::{Kind, MessageId, StateId};
 use std::alloc::Global;
+use std::collections::VecDeque;
 
 /// Blocks by their addresses, and by its number how many of them each process has.
 #[derive(Drop)]
@@ -60,18 +63,36 @@ impl Heap {
         Ok(())
     }
 
-    /// A process has a new block, whose queue and fields are empty.
-    pub(crate) fn add(&mut self, process: usize, block: Block) -> Result<(), Refusal>
-        requires owner { block.owner ≡ Owner.Process process }
-        requires empty { block.queue.items ≡ [] }
-        requires holds_none { block.fields.items ≡ [] }
-        ensures added { OnOk result (blocks_seen self.new.blocks.items ≡ blocks_seen self.old.blocks.items ++ block_seen block ∷ []) }
+    /// A process has a new block, whose fields hold what it gives. That is inside the new block from now on.
+    pub(crate) fn add(
+        &mut self,
+        alloc: Global,
+        process: usize,
+        kind: Kind,
+        given: &[usize],
+    ) -> Result<(), Refusal>
+        requires owned { AreOwnedBy (blocks_seen self.old.blocks.items) process given.now }
+        requires once { AreOnce given.now }
+        ensures added { OnOk result (blocks_seen self.new.blocks.items
+            ≡ changed (handed (Owner.Inside (length (blocks_seen self.old.blocks.items))) given.now) (blocks_seen self.old.blocks.items)
+            ++ new_block kind process 0 0 given.now ∷ []) }
         ensures same { OnErr result (blocks_seen self.new.blocks.items ≡ blocks_seen self.old.blocks.items) }
         ensures memory { IfErr result (λ refusal. refusal ≡ Refusal.Memory) }
     {
+        let address = self.blocks.len();
+        let fields = Vec::from_slice(alloc, given)?;
         self.list(process)?;
-        self.blocks.push(block)?;
+        self.blocks.push(Block {
+            kind,
+            owner: Owner::Process(process),
+            peer: 0,
+            state: StateId(0),
+            queue: VecDeque::new(alloc),
+            fields,
+        })?;
         count_more(&mut self.counts, Owner::Process(process));
+        let inside = Owner::Inside(address);
+        hand(&mut self.blocks, &mut self.counts, given, inside);
         Ok(())
     }
 
@@ -110,6 +131,32 @@ impl Heap {
             ≡ changed (freed_block (goes_with (blocks_seen self.old.blocks.items) a)) (blocks_seen self.old.blocks.items) }
     {
         free(alloc, &mut self.blocks, &mut self.counts, a);
+    }
+
+    /// What a process gives and what a field of another of its blocks holds change places. The latter is returned, if there is such a
+    /// field.
+    pub(crate) fn exchange(
+        &mut self,
+        process: usize,
+        at: usize,
+        field: usize,
+        given: usize,
+    ) -> Option<usize>
+        requires holder { owns (blocks_seen self.old.blocks.items) process at ≡ true }
+        requires given { owns (blocks_seen self.old.blocks.items) process given ≡ true }
+        requires apart { given ≢ at }
+        ensures held { result ≡ slice_get (block_at (blocks_seen self.old.blocks.items) at).fields field }
+        ensures exchanged { IfSome result (λ held. blocks_seen self.new.blocks.items
+            ≡ changed (exchanged_block process at field given held) (blocks_seen self.old.blocks.items)) }
+        ensures same { IfNone result (blocks_seen self.new.blocks.items ≡ blocks_seen self.old.blocks.items) }
+    {
+        let held = field_of(&self.blocks, at, field)?;
+        set_field(&mut self.blocks, at, field, given);
+        let owner = Owner::Process(process);
+        hand_one(&mut self.blocks, &mut self.counts, held, owner);
+        let inside = Owner::Inside(at);
+        hand_one(&mut self.blocks, &mut self.counts, given, inside);
+        Some(held)
     }
 
     /// What processes have goes to a process.

@@ -14,9 +14,10 @@ ghost use Rattle.machine.specs.World.{stack_at};
 ghost use Rattle.machine.specs.declared.worlds.Process.{Process};
 
 use crate::calling::call;
+use crate::exchanging::exchange;
 use crate::halts::Refusal;
 use crate::heaps::Heap;
-use crate::owning::{Turn, delete, new, new_channel};
+use crate::owning::{Making, Turn, delete, new, new_channel};
 use crate::quiet::{branch, forget_, move_, use_};
 use crate::returning::{end, return_};
 use crate::sending::send;
@@ -48,7 +49,7 @@ pub(crate) struct Chosen {
     pub(crate) choice: usize,
 }
 
-/// An instruction that makes or frees blocks.
+/// An instruction that makes or frees blocks, or changes what is inside one.
 fn on_heap(
     alloc: Global,
     program: &Program,
@@ -68,12 +69,20 @@ fn on_heap(
 {
     let process = chosen.process;
     match instr {
-        Instr::New { target, next, .. } => {
+        Instr::New {
+            target,
+            arguments,
+            next,
+        } => {
             let turn = Turn {
                 process,
                 next: *next,
             };
-            new(alloc, program, frame, heap, turn, *target)
+            let making = Making {
+                target: *target,
+                arguments,
+            };
+            new(alloc, program, frame, heap, turn, &making)
         }
         Instr::NewChannel { channel, next } => {
             let turn = Turn {
@@ -83,6 +92,7 @@ fn on_heap(
             new_channel(alloc, program, frame, heap, turn, *channel)
         }
         Instr::Delete { at, next } => delete(alloc, frame, heap, process, *at, *next),
+        Instr::Exchange { exchange: e, next } => exchange(frame, heap, process, *e, *next),
         _ => unreachable!(),
     }
 }

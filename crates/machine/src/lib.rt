@@ -4,6 +4,7 @@
 mod calling;
 mod changing;
 mod edges;
+mod exchanging;
 mod freeing;
 mod giving;
 mod halts;

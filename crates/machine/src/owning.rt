@@ -3,7 +3,6 @@
 ghost use Rattle.std.specs.Prelude.{◌≡◌, ◌+◌, ◌++◌, ◌∷◌, [], IfErr, List, OnErr, OnOk, length};
 ghost use Rattle.program.specs.Programs.{ProgramSeen};
 ghost use Rattle.flow.specs.Graphs.{New, NewChannel, Delete};
-ghost use Rattle.program.specs.declared.statement.Mention as named;
 ghost use Rattle.program.specs.declared.kind.Side.TheVariants.{Imp, Exp};
 ghost use Rattle.rules.specs.Programs.{seen_of};
 ghost use Rattle.machine.specs.Answers.{Tells, on_top};
@@ -14,10 +13,12 @@ ghost use Rattle.machine.specs.Outcomes.{Bounds};
 ghost use Rattle.machine.specs.Views.{block_seen, blocks_seen, frame_seen};
 ghost use Rattle.machine.specs.World as seen;
 
+use crate::giving::addresses;
 use crate::halts::{Fault, Refusal};
 use crate::heaps::Heap;
+use crate::payloads::{are_unsent, payloads_claimed};
 use crate::reading::own;
-use crate::variables::kind_at;
+use crate::variables::{kind_at, lets_go};
 use crate::worlds::{Block, Frame, Owner};
 use program::{Channel, Kind, Mention, Side, StateId};
 use rules::Program;
@@ -31,34 +32,39 @@ pub(crate) struct Turn {
     pub(crate) next: usize,
 }
 
-/// The target takes a new block.
+/// What takes a new block, and what is given for its fields, in order.
+#[derive(Clone, Copy)]
+pub(crate) struct Making<'a> {
+    pub(crate) target: Mention,
+    pub(crate) arguments: &'a [Mention],
+}
+
+/// The target takes a new block, whose fields hold what is given. Every test comes before the first growth of memory.
 pub(crate) fn new(
     alloc: Global,
     program: &Program,
     frame: &mut Frame,
     heap: &mut Heap,
     turn: Turn,
-    target: Mention,
+    making: &Making<'_>,
 ) -> Result<(), Refusal>
-    ensures tells { (bound : Bounds) (w : seen.World) (rest : List seen.Frame) (arguments : List named.Mention) →
-        w.blocks ≡ blocks_seen heap.old.blocks.items →
-        Tells result (event_of (seen_of program.now) bound w turn.process (frame_seen frame.old) rest (New target arguments turn.next) 0)
+    ensures tells { (bound : Bounds) (w : seen.World) (rest : List seen.Frame) → w.blocks ≡ blocks_seen heap.old.blocks.items →
+        Tells result (event_of (seen_of program.now) bound w turn.process (frame_seen frame.old) rest
+        (New making.now.target making.now.arguments.now turn.next) 0)
         (on_top w.processes turn.process rest (frame_seen frame.new) (blocks_seen heap.new.blocks.items)) }
     ensures same { OnErr result (frame_seen frame.new ≡ frame_seen frame.old) }
     ensures same_blocks { OnErr result (blocks_seen heap.new.blocks.items ≡ blocks_seen heap.old.blocks.items) }
 {
+    if !are_unsent(frame, heap.blocks(), turn.process, making.arguments) {
+        return Err(Refusal::Fault(Fault::F3));
+    }
+    let arguments = payloads_claimed(alloc, making.arguments)?;
+    let given = addresses(alloc, frame, &arguments)?;
     let address = heap.blocks().len();
-    let kind = kind_at(program, frame.method, target.variable);
-    let block = Block {
-        kind,
-        owner: Owner::Process(turn.process),
-        peer: 0,
-        state: StateId(0),
-        queue: VecDeque::new(alloc),
-        fields: Vec::new(alloc),
-    };
-    heap.add(turn.process, block)?;
-    frame.put(target, Some(address));
+    let kind = kind_at(program, frame.method, making.target.variable);
+    heap.add(alloc, turn.process, kind, &given)?;
+    lets_go(&mut frame.variables, &arguments);
+    frame.put(making.target, Some(address));
     frame.point = turn.next;
     Ok(())
 }

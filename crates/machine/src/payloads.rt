@@ -1,4 +1,4 @@
-//! What is given with a message.
+//! What is given with a message, or for the fields of a new block.
 
 ghost use Rattle.std.specs.Prelude.{◌≡◌, [], IfErr, IfOk, IsFalse, IsTrue, Some};
 ghost use Rattle.program.specs.Lists.{is_among};
@@ -47,8 +47,8 @@ fn is_unsent(
     }
 }
 
-/// Whether the process has the block of each payload, and no two are the same. A message has few payloads, so each is compared with all
-/// before it, which takes no memory: a fault comes before want of memory.
+/// Whether the process has the block of each payload, and no two are the same. A message has few payloads, and a struct few fields that
+/// own, so each is compared with all before it, which takes no memory: a fault comes before want of memory.
 pub(crate) fn are_unsent(
     frame: &Frame,
     blocks: &[Block],
@@ -68,7 +68,7 @@ pub(crate) fn are_unsent(
     true
 }
 
-/// A message claims what is given with it.
+/// A message claims what is given with it, and so does a new block.
 fn payload(mention: Mention) -> Argument
     ensures { result ≡ payload mention }
 {
@@ -78,7 +78,7 @@ fn payload(mention: Mention) -> Argument
     }
 }
 
-/// A message claims all that is given with it.
+/// A message claims all that is given with it, and so does a new block.
 pub(crate) fn payloads_claimed(
     alloc: Global,
     payloads: &[Mention],

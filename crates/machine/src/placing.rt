@@ -21,6 +21,7 @@ pub(crate) fn place_of(instr: &Instr) -> Place
     match instr {
         Instr::Use { at, .. } | Instr::Delete { at, .. } => at.place,
         Instr::New { target, .. } | Instr::Move { target, .. } => target.place,
+        Instr::Exchange { exchange, .. } => exchange.place,
         Instr::NewChannel { channel, .. } => channel.place,
         Instr::Send(sending) => sending.place,
         Instr::Forget { forget, .. } => forget.place,

@@ -1,6 +1,6 @@
 //! What blocks say.
 
-ghost use Rattle.std.specs.Prelude.{◌≡◌, ◌<◌, IfNone, IfSome, Some, false, length, option_map, true};
+ghost use Rattle.std.specs.Prelude.{◌≡◌, ◌<◌, IfNone, IfSome, Some, false, length, option_map, slice_get, true};
 ghost use Rattle.machine.specs.Answers.{front_of};
 ghost use Rattle.machine.specs.Views.{blocks_seen};
 ghost use Rattle.machine.specs.World.{block_at, cut_off, freed, is_freed, is_own_in, is_process, is_queue};
@@ -94,6 +94,14 @@ pub(crate) fn state_of(blocks: &[Block], a: usize) -> StateId
         Some(block) => block.state,
         None => StateId(0),
     }
+}
+
+/// What a field of a block holds, if the block has such a field.
+pub(crate) fn field_of(blocks: &[Block], at: usize, field: usize) -> Option<usize>
+    ensures { result ≡ slice_get (block_at (blocks_seen blocks.now) at).fields field }
+{
+    let block = blocks.get(at)?;
+    block.fields.get(field).copied()
 }
 
 /// How many messages are in the queue of an endpoint.

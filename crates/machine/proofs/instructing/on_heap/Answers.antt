@@ -1,5 +1,6 @@
-use Rattle.std.proofs.Common.{ap}
-use Rattle.flow.specs.Graphs.{New, Delete, NewChannel, instruction_seen}
+use Rattle.std.proofs.Common.{List, ap, ◌∙◌, sym}
+use Rattle.program.specs.declared.statement.Mention.{Mention}
+use Rattle.flow.specs.Graphs.{New, Delete, Exchange, NewChannel, instruction_seen}
 use Rattle.rules.specs.Programs.{seen_of}
 use Rattle.machine.specs.Views.{frame_seen}
 use Rattle.machine.proofs.StepLemmas.{frame_tells}
@@ -9,8 +10,13 @@ pub returns-in-New-clause-tells : goal.returns-in-New-clause-tells
 returns-in-New-clause-tells c = λ bound w rest are is.
     let p = seen_of c.args.program.now in
     let f = frame_seen c.args.frame.now in
-    frame_tells _ c.new.result p bound w c.args.chosen.process f rest (instruction_seen c.args.instr.now) (New c.in-New.target c.in-New.arguments.items c.in-New.next) c.args.chosen.choice _ (ap instruction_seen c.in-New.is)
-    (c.new.ensures.tells bound w rest c.in-New.arguments.items is)
+    let target = c.in-New.target in
+    let next = c.in-New.next in
+    frame_tells _ c.new.result p bound w c.args.chosen.process f rest (instruction_seen c.args.instr.now)
+    (New target c.deref.result.now next)
+    c.args.chosen.choice _
+    (ap instruction_seen c.in-New.is ∙ ap (λ (arguments : List Mention). New target arguments next) (sym c.deref.ensures.value))
+    (c.new.ensures.tells bound w rest is)
 
 pub returns-in-NewChannel-clause-tells : goal.returns-in-NewChannel-clause-tells
 returns-in-NewChannel-clause-tells c = λ bound w rest are is.
@@ -25,3 +31,11 @@ returns-in-Delete-clause-tells c = λ bound w rest are is.
     let f = frame_seen c.args.frame.now in
     frame_tells _ c.delete.result p bound w c.args.chosen.process f rest (instruction_seen c.args.instr.now) (Delete c.in-Delete.at c.in-Delete.next) c.args.chosen.choice _ (ap instruction_seen c.in-Delete.is)
     (c.delete.ensures.tells p bound w rest is)
+
+pub returns-in-Exchange-clause-tells : goal.returns-in-Exchange-clause-tells
+returns-in-Exchange-clause-tells c = λ bound w rest are is.
+    let p = seen_of c.args.program.now in
+    let f = frame_seen c.args.frame.now in
+    frame_tells _ c.exchange.result p bound w c.args.chosen.process f rest (instruction_seen c.args.instr.now)
+    (Exchange c.in-Exchange.e c.in-Exchange.next) c.args.chosen.choice _ (ap instruction_seen c.in-Exchange.is)
+    (c.exchange.ensures.tells p bound w rest is)

@@ -1,0 +1,70 @@
+-- A new block, into which goes what is given: its tests, and what they say.
+use Rattle.std.proofs.Common.{◌≡◌, ℕ, List, [], ◌∷◌, ◌++◌, Some, ap, ◌∙◌, refl, subst, sym, length, set}
+use Rattle.std.specs.Prelude.{Option}
+use Rattle.program.specs.declared.call.Argument.{Argument}
+use Rattle.program.specs.declared.kind.Kind.{Kind}
+use Rattle.program.specs.declared.statement.Mention.{Mention}
+use Rattle.machine.specs.Answers.{IsFirstFault, Pass, on_top, with_variables}
+use Rattle.machine.specs.Blocks.{argument_tests_in, handed, new_block}
+use Rattle.machine.specs.Frames.{addresses, payloads_claimed}
+use Rattle.machine.specs.Heaps.{AreOnce, AreOwnedBy}
+use Rattle.machine.specs.Outcomes.{Faulty, Outcome, tested}
+use Rattle.machine.specs.World.{Block, Frame, changed, let_go}
+use Rattle.machine.specs.declared.halts.Fault.{Fault}
+use Rattle.machine.specs.declared.worlds.Owner.TheVariants.{Inside}
+use Rattle.machine.proofs.CallLemmas.{pass_alone, refused_alone}
+use Rattle.machine.proofs.PassLemmas.{pass_once, pass_owned_by}
+
+-- The blocks b are those that were tested.
+module _ (bs b : List Block) (self : ℕ) (variables : List (Option ℕ)) (same : bs ≡ b) where
+  pub tests_pass : (arguments : List Argument) (o : Outcome) → Pass (argument_tests_in b self variables [] arguments)
+      → tested (argument_tests_in bs self variables [] arguments) o ≡ o
+  tests_pass arguments o pass = ap (λ (l : List Block). tested (argument_tests_in l self variables [] arguments) o) same
+      ∙ pass_alone (argument_tests_in b self variables [] arguments) o pass
+
+  pub tests_fail : (arguments : List Argument) (fault : Fault) (o : Outcome)
+      → IsFirstFault (Some fault) (argument_tests_in b self variables [] arguments)
+      → tested (argument_tests_in bs self variables [] arguments) o ≡ Faulty fault
+  tests_fail arguments fault o fails = ap (λ (l : List Block). tested (argument_tests_in l self variables [] arguments) o) same
+      ∙ refused_alone (argument_tests_in b self variables [] arguments) fault o
+      (tested (argument_tests_in b self variables [] arguments) o) fails refl
+
+  -- what is given is the process's, and nothing is given twice
+  pub given_owned : (payloads : List Mention) (given : List ℕ) → given ≡ addresses variables (payloads_claimed payloads)
+      → Pass (argument_tests_in b self variables [] (payloads_claimed payloads)) → AreOwnedBy bs self given
+  given_owned payloads given is pass = subst (λ (l : List Block). AreOwnedBy l self given) (sym same)
+      (subst (AreOwnedBy b self) (sym is) (pass_owned_by b self variables [] (payloads_claimed payloads) pass))
+
+  pub given_once : (payloads : List Mention) (given : List ℕ) → given ≡ addresses variables (payloads_claimed payloads)
+      → Pass (argument_tests_in b self variables [] (payloads_claimed payloads)) → AreOnce given
+  given_once payloads given is pass = subst AreOnce (sym is) (pass_once b self variables payloads pass)
+
+-- the blocks, when a process has made one of what it gives
+abbrev pub blocks_with : (kind : Kind) (self : ℕ) (given : List ℕ) → List Block → List Block
+blocks_with kind self given bs = changed (handed (Inside (length bs)) given) bs ++ new_block kind self 0 0 given ∷ []
+
+-- a frame at this point, with these variables
+abbrev pub frame_at : Frame → ℕ → List (Option ℕ) → Frame
+frame_at f point variables = record { method = f.method; point = point; variables = variables }
+
+-- The world then. The frame f lets go what is given, takes the address, and is then f2.
+pub world_with : (processes : List (List Frame)) (self : ℕ) (rest : List Frame) (f f2 : Frame) (point target address : ℕ)
+    (bs after : List Block) (arguments claimed : List Argument) (given : List ℕ) (left : List (Option ℕ)) (kind known : Kind)
+    → claimed ≡ arguments → given ≡ addresses f.variables arguments → address ≡ length bs → known ≡ kind → left ≡ let_go f.variables claimed
+    → f2 ≡ with_variables f (set left target (Some address)) → after ≡ blocks_with known self given bs
+    → on_top processes self rest (frame_at f point (set (let_go f.variables arguments) target (Some (length bs))))
+    (blocks_with kind self (addresses f.variables arguments) bs)
+    ≡ on_top processes self rest (frame_at f2 point f2.variables) after
+world_with processes self rest f f2 point target address bs after arguments claimed given left kind known these gives at kinds gone put made =
+    let variables : set (let_go f.variables arguments) target (Some (length bs)) ≡ f2.variables =
+    sym (ap (λ (x : Frame). x.variables) put
+    ∙ (ap (λ (l : List (Option ℕ)). set l target (Some address)) (gone ∙ ap (let_go f.variables) these)
+    ∙ ap (λ (n : ℕ). set (let_go f.variables arguments) target (Some n)) at)) in
+    let method : f.method ≡ f2.method = sym (ap (λ (x : Frame). x.method) put) in
+    let blocks : blocks_with kind self (addresses f.variables arguments) bs ≡ after =
+    sym (made ∙ (ap (λ (k : Kind). blocks_with k self given bs) kinds ∙ ap (λ (g : List ℕ). blocks_with kind self g bs) gives)) in
+    ap (λ (l : List (Option ℕ)). on_top processes self rest (frame_at f point l)
+    (blocks_with kind self (addresses f.variables arguments) bs)) variables
+    ∙ (ap (λ (m : ℕ). on_top processes self rest (record { method = m; point = point; variables = f2.variables })
+    (blocks_with kind self (addresses f.variables arguments) bs)) method
+    ∙ ap (on_top processes self rest (frame_at f2 point f2.variables)) blocks)

@@ -1,0 +1,59 @@
+//! A variable and a field of a block change places.
+
+ghost use Rattle.std.specs.Prelude.{◌≡◌, ◌∷◌, [], IfSome, List, MatchOption, OnErr, Some, false, true};
+ghost use Rattle.program.specs.Programs.{ProgramSeen};
+ghost use Rattle.flow.specs.Graphs as instruction;
+ghost use Rattle.machine.specs.Answers.{Tells, on_top};
+ghost use Rattle.machine.specs.Blocks.{is_own_still};
+ghost use Rattle.machine.specs.Machine.{event_of};
+ghost use Rattle.machine.specs.Outcomes.{Bounds};
+ghost use Rattle.machine.specs.Views.{blocks_seen, frame_seen};
+ghost use Rattle.machine.specs.World as seen;
+
+use crate::halts::{Fault, Refusal};
+use crate::heaps::Heap;
+use crate::reading::own;
+use crate::worlds::{Block, Frame};
+use program::Exchange;
+
+/// The address, where the process has the block and it is not the one at another address.
+fn own_apart(blocks: &[Block], process: usize, at: usize, address: Option<usize>) -> Option<usize>
+    ensures some { IfSome result (λ a. address ≡ Some a) }
+    ensures own { MatchOption result (is_own_still (blocks_seen blocks.now) process (at ∷ []) address ≡ false)
+        (λ a. is_own_still (blocks_seen blocks.now) process (at ∷ []) address ≡ true) }
+{
+    let a = own(blocks, process, address)?;
+    if a == at {
+        return None;
+    }
+    Some(a)
+}
+
+/// What a variable has and what a field of a block holds change places. Where the block has no such field only the point moves on. No
+/// memory is taken.
+pub(crate) fn exchange(
+    frame: &mut Frame,
+    heap: &mut Heap,
+    process: usize,
+    e: Exchange,
+    next: usize,
+) -> Result<(), Refusal>
+    ensures tells { (p : ProgramSeen) (bound : Bounds) (w : seen.World) (rest : List seen.Frame) →
+        w.blocks ≡ blocks_seen heap.old.blocks.items →
+        Tells result (event_of p bound w process (frame_seen frame.old) rest (instruction.Exchange e next) 0)
+        (on_top w.processes process rest (frame_seen frame.new) (blocks_seen heap.new.blocks.items)) }
+    ensures same { OnErr result (frame_seen frame.new ≡ frame_seen frame.old) }
+    ensures same_blocks { OnErr result (blocks_seen heap.new.blocks.items ≡ blocks_seen heap.old.blocks.items) }
+{
+    let Some(at) = own(heap.blocks(), process, frame.has(e.holder)) else {
+        return Err(Refusal::Fault(Fault::F1));
+    };
+    let Some(given) = own_apart(heap.blocks(), process, at, frame.has(e.given)) else {
+        return Err(Refusal::Fault(Fault::F3));
+    };
+    if let Some(held) = heap.exchange(process, at, e.field, given) {
+        frame.put(e.given, Some(held));
+    }
+    frame.point = next;
+    Ok(())
+}
