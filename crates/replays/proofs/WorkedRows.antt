@@ -7,7 +7,8 @@ use Rattle.source.specs.declared.place.Place.{Place}
 use Rattle.program.specs.Methods.{MethodSeen, VariableSeen}
 use Rattle.program.specs.Parts.{ContractSeen, MessageParts, StateParts}
 use Rattle.program.specs.Programs.{ProgramSeen}
-use Rattle.program.specs.Statements.{CaseSeen, CasesSeen, StatementSeen, Simple, Start, Send, While, Switch, Braces, Test, Case, NoCase, MoreCases, statement_row}
+use Rattle.program.specs.Statements.{CaseSeen, CasesSeen, StatementSeen, Simple, New, Start, Send, While, Switch, Braces, Test, Case, NoCase}
+use Rattle.program.specs.Statements.{MoreCases, statement_row}
 use Rattle.program.specs.declared.contract.Direction.{Direction}
 use Rattle.program.specs.declared.contract.Direction.TheVariants.{In, Out}
 use Rattle.program.specs.declared.contract.Edge.{Edge}
@@ -89,6 +90,10 @@ acts action = Simple [] action
 abbrev sends : (line col endpoint message : ℕ) → List Mention → StatementSeen
 sends line col e m payloads = Send record { reads = []; place = at line col; endpoint = mention e line 1; message = record { 0 = m }; payloads = payloads }
 
+-- a struct of what is given
+abbrev makes : (line col : ℕ) → List Mention → StatementSeen
+makes line col arguments = New record { reads = []; target = mention 2 line col; arguments = arguments }
+
 abbrev deletes : ℕ → StatementSeen
 deletes v = acts (does.Delete (mention v 1 1))
 
@@ -151,7 +156,7 @@ put = record {
 
 abbrev reads_what_it_sent : ProgramSeen
 reads_what_it_sent = program put ((Struct record { 0 = 0 } ∷ []) ∷ []) (main
-    (opens 6 ∷ acts (does.New (mention 2 7 14)) ∷ sends 8 3 1 0 (mention 2 8 9 ∷ []) ∷ Simple (mention 2 9 9 ∷ []) does.Nothing ∷ deletes 0 ∷ deletes 1 ∷ []) (at 11 1) ∷ [])
+    (opens 6 ∷ makes 7 14 [] ∷ sends 8 3 1 0 (mention 2 8 9 ∷ []) ∷ Simple (mention 2 9 9 ∷ []) does.Nothing ∷ deletes 0 ∷ deletes 1 ∷ []) (at 11 1) ∷ [])
 
 pub sent_then_read : printed reads_what_it_sent (replicate 5 (event 0))
     ≡ codes "steps 3\nstop: fault F1 at 9:9 in process 0\nprocess 0 at 9:9, frames 1\nblock 0 Put.Imp S owner process 0 queue [X(2)]\nblock 1 Put.Exp E owner process 0 queue []\nblock 2 D owner queue 0\n"
@@ -214,6 +219,28 @@ sends_an_end = program itself ((importing ∷ []) ∷ []) (main (opens 5 ∷ sen
 pub end_sent : printed sends_an_end (replicate 4 (event 0))
     ≡ codes "steps 4\nstop: end of schedule\nprocess 0 ended\nblock 0 W.Imp S owner queue 0 queue [M(0)]\nblock 1 W.Exp freed\n"
 end_sent = simp (digit 0 (omega arith), digit 1 (omega arith), digit 4 (omega arith)) refl
+
+-- A struct is made of an end, and then that end and the other one change places.
+abbrev exchanges_ends : ProgramSeen
+exchanges_ends = program itself ([] ∷ []) (main
+    (opens 5 ∷ makes 6 10 (mention 0 6 20 ∷ [])
+    ∷ acts (does.Exchange record { place = at 7 3; holder = mention 2 7 12; field = 0; given = mention 1 7 17 })
+    ∷ deletes 2 ∷ deletes 1 ∷ []) (at 10 1) ∷ [])
+
+pub end_goes_in : printed exchanges_ends (replicate 2 (event 0))
+    ≡ codes "steps 2\nstop: end of schedule\nprocess 0 at 7:3, frames 1\nblock 0 W.Imp S owner block 2 queue []\n"
+    ++ codes "block 1 W.Exp S owner process 0 queue []\nblock 2 D owner process 0 holds [0]\n"
+end_goes_in = simp (digit 0 (omega arith), digit 1 (omega arith), digit 2 (omega arith), digit 3 (omega arith), digit 7 (omega arith)) refl
+
+pub ends_change_places : printed exchanges_ends (replicate 3 (event 0))
+    ≡ codes "steps 3\nstop: end of schedule\nprocess 0 at 1:1, frames 1\nblock 0 W.Imp S owner process 0 queue []\n"
+    ++ codes "block 1 W.Exp S owner block 2 queue []\nblock 2 D owner process 0 holds [1]\n"
+ends_change_places = simp (digit 0 (omega arith), digit 1 (omega arith), digit 2 (omega arith), digit 3 (omega arith)) refl
+
+pub other_end_goes : printed exchanges_ends (replicate 4 (event 0))
+    ≡ codes "steps 4\nstop: end of schedule\nprocess 0 at 1:1, frames 1\nblock 0 W.Imp S owner process 0 queue []\n"
+    ++ codes "block 1 W.Exp freed\nblock 2 D freed\n"
+other_end_goes = simp (digit 0 (omega arith), digit 1 (omega arith), digit 2 (omega arith), digit 4 (omega arith)) refl
 
 -- blocks inside blocks, and an end among them
 abbrev struct_of : ℕ → Owner → List ℕ → Block
