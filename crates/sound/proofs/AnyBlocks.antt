@@ -1,8 +1,8 @@
 -- What an event of any run does to blocks, whatever is found: what it gives is its own, and it is given once.
-use Rattle.std.proofs.Common.{◌≡◌, ◌==◌, ◌&&◌, ℕ, ◌<◌, ◌≤◌, Bool, true, false, not, List, [], ◌∷◌, ◌++◌, Some, None, length, refl, sym}
-use Rattle.std.proofs.Common.{ap, ◌∙◌, subst, arith, ⊎_elim}
+use Rattle.std.proofs.Common.{◌≡◌, ◌≢◌, ◌==◌, ◌&&◌, ℕ, ◌<◌, ◌≤◌, Bool, true, false, not, List, [], ◌∷◌, ◌++◌, Some, None, length, refl}
+use Rattle.std.proofs.Common.{sym, ap, ◌∙◌, subst, arith, ⊎_elim}
 use Rattle.std.proofs.lemmas.Bool.{cases_Bool, cases_lt, eqb-true}
-use Rattle.std.specs.Prelude.{Option, ◌||◌, if◌then◌else◌, is_some}
+use Rattle.std.specs.Prelude.{Option, ◌||◌, if◌then◌else◌, is_some, slice_get}
 use Rattle.program.specs.Lists.{Each, is_among}
 use Rattle.program.specs.Programs.{ProgramSeen}
 use Rattle.program.specs.WellFormed.{is_end}
@@ -12,7 +12,7 @@ use Rattle.program.specs.declared.kind.Kind.{Kind}
 use Rattle.program.specs.declared.kind.Side.{Side}
 use Rattle.contracts.specs.Leaving.{end_on}
 use Rattle.rules.specs.Endpoints.{edges_out}
-use Rattle.machine.specs.Blocks.{is_own_still, goes_with, handed, sent_block, freed_block}
+use Rattle.machine.specs.Blocks.{is_own_still, exchanged_block, goes_with, handed, sent_block, freed_block}
 use Rattle.machine.specs.Frames.{address, addresses}
 use Rattle.machine.specs.Outcomes.{Outcome, Moved, Faulty, Bounds, Test, test, tested}
 use Rattle.machine.specs.World.{no_kind, MessageHeld, Block, Frame, World, block_at, read, owns}
@@ -26,6 +26,7 @@ use Rattle.sound.proofs.Arguments.{or_right}
 use Rattle.sound.proofs.Basics.{block_past, block_append, changed_length, changed_all, owns_there}
 use Rattle.sound.proofs.Blocks.{AreFresh, queue_append}
 use Rattle.sound.proofs.Deleting as deleting
+use Rattle.sound.proofs.ExchangedBlocks as exchanging
 use Rattle.sound.proofs.HandedBlocks.{handed_fits}
 use Rattle.sound.proofs.Invariant.{one_if, standing_in, BlocksFit}
 use Rattle.sound.proofs.Lists.{true≢false, and_true}
@@ -170,6 +171,17 @@ module _ (p : ProgramSeen) (bound : Bounds) (w : World) (self : ℕ) (f : Frame)
         (λ n. deleting.queue_other p w self h.fits a owned j n
         ∙ h.plain j (sym (ap (λ (b : Block). is_end b.kind) (deleting.at p w self h.fits a owned j)) ∙ no_end))
         (cases_Bool (goes_with w.blocks a j));
+  }
+
+  -- ---- Exchange
+  pub exchange_fits : (at field given held : ℕ) → owns w.blocks self at ≡ true → owns w.blocks self given ≡ true → given ≢ at
+      → slice_get (block_at w.blocks at).fields field ≡ Some held
+      → RunFits p (changed (exchanged_block self at field given held) w.blocks)
+  exchange_fits at field given held own_at own_given apart found = record {
+    fits = exchanging.fits_now p w self h.fits at field given held own_at own_given apart found;
+    plain = λ j no_end.
+        let is = exchanging.is_at p w self h.fits at field given held own_at own_given apart found j in
+        ap (λ (b : Block). b.queue) is ∙ h.plain j (sym (ap (λ (b : Block). is_end b.kind) is) ∙ no_end);
   }
 
   -- ---- blocks that are handed on

@@ -1,6 +1,6 @@
 -- In every run queues are walks and keep within their bounds, whatever is found.
-use Rattle.std.proofs.Common.{◌≡◌, ℕ, ◌+◌, ◌≤◌, Bool, true, false, List, [], ◌∷◌, ◌++◌, Some, None, length, refl, sym, ap, ◌∙◌, subst}
-use Rattle.std.proofs.Common.{arith}
+use Rattle.std.proofs.Common.{◌≡◌, ◌≢◌, ◌==◌, ℕ, ◌+◌, ◌≤◌, Bool, true, false, List, [], ◌∷◌, ◌++◌, Some, None, length, refl, sym, ap, ◌∙◌}
+use Rattle.std.proofs.Common.{subst, arith}
 use Rattle.std.proofs.lemmas.List.{length-map}
 use Rattle.std.specs.Option.{option_map_or}
 use Rattle.std.specs.Prelude.{Option, slice_get, if◌then◌else◌, nat_lt}
@@ -12,41 +12,47 @@ use Rattle.program.specs.WellFormed.{is_end}
 use Rattle.program.specs.declared.kind.Side.TheVariants.{Imp, Exp}
 use Rattle.program.specs.declared.kind.Side.{Side}
 use Rattle.program.specs.declared.number.MessageId.{MessageId}
-use Rattle.program.specs.declared.statement.Channel as made
+use Rattle.program.specs.declared.statement.Channel as channel
+use Rattle.program.specs.declared.statement.Exchange as stated
 use Rattle.program.specs.declared.statement.Mention.{Mention}
-use Rattle.flow.specs.Graphs.{Instruction, Use, New, Move, Delete, NewChannel, Send, Switch, Branch, Forget, Call, Start, Return, Stop}
+use Rattle.flow.specs.Graphs.{Instruction, Use, New, Move, Delete, Exchange, NewChannel, Send, Switch, Branch, Forget, Call, Start}
+use Rattle.flow.specs.Graphs.{Return, Stop}
 use Rattle.flow.specs.Lowering.{graph_of}
 use Rattle.contracts.specs.Bounds.{sign_to}
 use Rattle.contracts.specs.TwoEnds.{HeldAlways, NeverLonger}
 use Rattle.rules.specs.Endpoints.{first_state}
-use Rattle.machine.specs.Blocks.{new_block, owns_none, end_kind}
+use Rattle.machine.specs.Blocks.{handed, is_own_still, new_block, owns_none, end_kind}
 use Rattle.machine.specs.Frames.{method_at, variables_of, kind_at, payloads_claimed, address, addresses, choices, point_instruction}
 use Rattle.machine.specs.Machine.{event_at, event_in}
 use Rattle.machine.specs.Machine.{event_outcome}
 use Rattle.machine.specs.Outcomes.{Outcome, NoChoice, Bounds, tested}
 use Rattle.machine.specs.Runs.{Run, begins, goes_on}
-use Rattle.machine.specs.World.{no_kind, MessageHeld, Block, Frame, World, block_at, stack_at, read, owns, let_go}
+use Rattle.machine.specs.World.{no_kind, MessageHeld, Block, Frame, World, block_at, stack_at, changed, read, owns, let_go}
+use Rattle.machine.specs.Heaps.{top}
+use Rattle.machine.specs.declared.worlds.Owner.TheVariants.{Inside}
 use Rattle.machine.specs.declared.halts.Event.{Event}
 use Rattle.machine.specs.declared.halts.Fault.TheVariants.{F1, F2, F3, F7}
 use Rattle.sound.specs.GraphFit.{AreGraphsFit, IsFit, Scope}
 use Rattle.sound.specs.Operands.{stateless}
 use Rattle.sound.specs.Queues.{IsBounded, IsLiveEnd}
 use Rattle.sound.proofs.Contracts.{sound_program}
-use Rattle.machine.specs.Heaps.{top}
-use Rattle.sound.proofs.Blocks.{bare_one, fresh_one, held_append, queues_append, channels_new}
+use Rattle.sound.proofs.Arguments.{or_false}
+use Rattle.sound.proofs.Blocks.{queues_append}
+use Rattle.sound.proofs.Lists.{true≢false, eqb_same}
+use Rattle.sound.proofs.NewBlock as made
 use Rattle.sound.proofs.Giving.{given_counts, payloads_claim}
 use Rattle.sound.proofs.Invariant.{one_if, standing_in, ChannelsFit, IsSoundProgram}
 use Rattle.sound.proofs.NewEnds as opened
 use Rattle.sound.proofs.Queues.{queues_are_walks}
 use Rattle.sound.proofs.Sending.{channel_of}
-use Rattle.sound.proofs.AnyBlocks.{AreGiven, IsFine, RunFits, delete_fits, given_fine, given_mine, given_once, one_test, own_at}
-use Rattle.sound.proofs.AnyBlocks.{plain_append, start_fits, tested_append}
+use Rattle.sound.proofs.AnyBlocks.{AreGiven, IsFine, RunFits, delete_fits, exchange_fits, given_fine, given_mine, given_once, one_test}
+use Rattle.sound.proofs.AnyBlocks.{own_at, still_own, plain_append, start_fits, tested_append}
 use Rattle.sound.proofs.AnyEvent.{send_fine, switch_fine}
 use Rattle.program.specs.WellFormed.{AreWellFormed}
 use Rattle.sound.specs.Premises.{AreSound}
 use Rattle.machine.specs.Runs.{AreBounds}
 use Rattle.sound.proofs.Trees.{graphs_fit}
-use Rattle.machine.specs.Instructions.{is_own, argument_tests, send_tests, edge_out, value_tests, returns, event_of}
+use Rattle.machine.specs.Instructions.{is_own, argument_tests, send_tests, edge_out, value_tests, returns, event_of, exchanges}
 
 -- What is asked of an instruction, whatever is found: a new block is no endpoint, and the contract of a new channel is there.
 abbrev pub IsMadeWell : ProgramSeen → MethodSeen → Instruction → Type 0
@@ -79,23 +85,33 @@ module _ (p : ProgramSeen) (bound : Bounds) (w : World) (self : ℕ) (f : Frame)
       given_counts (addresses f.variables (payloads_claimed payloads)) x
       (given_once p bound w self f rest h [] (payloads_claimed payloads) (payloads_claim payloads) given x).1
 
-  new_fits : (m : MethodSeen) (v : Mention) → method_at p f.method ≡ Some m → is_end (kind_at m.variables v.variable.0) ≡ false
-      → RunFits p (w.blocks ++ new_block (kind_at (variables_of p f.method) v.variable.0) self 0 0 [] ∷ [])
-  new_fits m v there plain =
+  new_fits : (m : MethodSeen) (v : Mention) (arguments : List Mention) → method_at p f.method ≡ Some m
+      → is_end (kind_at m.variables v.variable.0) ≡ false → AreGiven p bound w self f rest h [] (payloads_claimed arguments)
+      → RunFits p (changed (handed (Inside (length w.blocks)) (addresses f.variables (payloads_claimed arguments))) w.blocks
+      ++ new_block (kind_at (variables_of p f.method) v.variable.0) self 0 0 (addresses f.variables (payloads_claimed arguments)) ∷ [])
+  new_fits m v arguments there plain given =
+      let xs = addresses f.variables (payloads_claimed arguments) in
       let k = kind_at (variables_of p f.method) v.variable.0 in
-      let b = new_block k self 0 0 [] in
-      let fresh = fresh_one self k [] in
+      let no_end : is_end k ≡ false = ap (λ (o : Option MethodSeen). is_end
+      (kind_at (option_map_or (λ x. x.variables) o []) v.variable.0)) there ∙ plain in
+      let mine = given_mine p bound w self f rest h [] (payloads_claimed arguments) given in
       record {
-        fits = record {
-          channels = channels_new p w.blocks b (ap (λ (o : Option MethodSeen). is_end
-              (kind_at (option_map_or (λ x. x.variables) o []) v.variable.0)) there ∙ plain) h.fits.channels;
-          queues = queues_append self w.blocks (b ∷ []) fresh h.fits.queues;
-          held = held_append w.blocks (b ∷ []) (bare_one self k) h.fits.held;
-        };
-        plain = plain_append self w.blocks (b ∷ []) fresh h.plain;
+        fits = made.fits_now p w self h.fits xs k mine (once_given arguments given) no_end;
+        plain = made.plain_now p w self h.fits xs k mine (once_given arguments given) no_end h.plain;
       }
 
-  channel_fits : (c : made.Channel) (held : ContractSeen) → slice_get p.contracts c.contract.0 ≡ Some held
+  exchanges_fine : (e : stated.Exchange) (next : ℕ) (held : Option ℕ)
+      → slice_get (block_at w.blocks (address (read f.variables e.holder.variable.0))).fields e.field ≡ held
+      → owns w.blocks self (address (read f.variables e.holder.variable.0)) ≡ true
+      → owns w.blocks self (address (read f.variables e.given.variable.0)) ≡ true
+      → address (read f.variables e.given.variable.0) ≢ address (read f.variables e.holder.variable.0)
+      → IsFine p (exchanges p bound w self f rest e next held)
+  exchanges_fine e next None is own_at own_given apart = h
+  exchanges_fine e next (Some held) is own_at own_given apart =
+      exchange_fits p bound w self f rest h (address (read f.variables e.holder.variable.0)) e.field
+      (address (read f.variables e.given.variable.0)) held own_at own_given apart is
+
+  channel_fits : (c : channel.Channel) (held : ContractSeen) → slice_get p.contracts c.contract.0 ≡ Some held
       → RunFits p (w.blocks ++ new_block (end_kind c Imp) self (length w.blocks + 1) (first_state p c.contract.0) []
       ∷ new_block (end_kind c Exp) self (length w.blocks) (first_state p c.contract.0) [] ∷ [])
   channel_fits c held there =
@@ -117,7 +133,18 @@ module _ (p : ProgramSeen) (bound : Bounds) (w : World) (self : ℕ) (f : Frame)
     instruction_fine : (i : Instruction) (choice : ℕ) → IsMadeWell p m i → IsFine p (event_of p bound w self f rest i choice)
     instruction_fine (Use v next) choice fit =
         one_test p (is_own p bound w self f rest (read f.variables v.variable.0)) F1 [] _ (λ e. tt) (λ e. h)
-    instruction_fine (New v arguments next) choice fit = new_fits m v there fit
+    instruction_fine (New v arguments next) choice fit =
+        given_fine p bound w self f rest h [] (payloads_claimed arguments) _ (λ given. new_fits m v arguments there fit given)
+    instruction_fine (Exchange e next) choice fit =
+        let x = read f.variables e.holder.variable.0 in
+        let y = read f.variables e.given.variable.0 in
+        one_test p (is_own p bound w self f rest x) F1 _ _ (λ k. tt)
+        (λ k. let o = own_at p bound w self f rest h x k in
+        one_test p (is_own_still w.blocks self (address x ∷ []) y) F3 [] _ (λ l. tt)
+        (λ l. let s = still_own p bound w self f rest h (address x ∷ []) y l in
+        exchanges_fine e next (slice_get (block_at w.blocks (address x)).fields e.field) refl
+        (ap (λ (z : Option ℕ). owns w.blocks self (address z)) o.is ∙ o.owned) s.0
+        (λ same. true≢false (eqb_same (address x) (address y) (sym same)) (or_false (address x == address y) false s.1).0)))
     instruction_fine (NewChannel c next) choice fit = channel_fits c fit.0 fit.1
     instruction_fine (Move v u next) choice fit =
         one_test p (is_own p bound w self f rest (read f.variables u.variable.0)) F1 [] _ (λ e. tt) (λ e. h)
@@ -203,6 +230,7 @@ fit_made p m scope point (NewChannel c next) fit = (fit.contract, fit.contract_t
 fit_made p m scope point (Use v next) fit = tt
 fit_made p m scope point (Move v u next) fit = tt
 fit_made p m scope point (Delete v next) fit = tt
+fit_made p m scope point (Exchange e next) fit = tt
 fit_made p m scope point (Send place e message payloads next) fit = tt
 fit_made p m scope point (Switch place cases) fit = tt
 fit_made p m scope point (Branch place branches) fit = tt
@@ -220,8 +248,9 @@ made_well p graphs = record {
 }
 
 -- in every run queues are walks, and no send passes the bound of a queue
-pub runs_are_bounded : HeldAlways → NeverLonger → (p : ProgramSeen) (bound : Bounds) → AreWellFormed p.contracts p.messages p.structs p.methods
-    → AreSound p → AreBounds p bound → (n : ℕ) (w : World) → Run p bound n w → IsBounded p bound w
+pub runs_are_bounded : HeldAlways → NeverLonger → (p : ProgramSeen) (bound : Bounds)
+    → AreWellFormed p.contracts p.messages p.structs p.methods → AreSound p → AreBounds p bound
+    → (n : ℕ) (w : World) → Run p bound n w → IsBounded p bound w
 runs_are_bounded always longer p bound well sound bounds n w run =
     let program = sound_program p bound sound bounds in
     let made = made_well p (graphs_fit p well) in

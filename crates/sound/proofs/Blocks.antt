@@ -1,9 +1,8 @@
--- New: one block more.
-use Rattle.std.proofs.Common.{◌≡◌, ◌≢◌, ◌==◌, ◌&&◌, ℕ, zero, suc, ◌+◌, ◌<◌, ◌≤◌, true, false, List, [], ◌∷◌, ◌++◌, Some, length, map}
-use Rattle.std.proofs.Common.{refl, sym, ap, ◌∙◌, subst, arith, inl, ⊎_elim, set}
+-- Blocks where ends stay, and where some are added behind the others.
+use Rattle.std.proofs.Common.{◌≡◌, ◌≢◌, ◌==◌, ◌&&◌, ℕ, zero, suc, ◌+◌, ◌<◌, ◌≤◌, true, false, List, [], ◌∷◌, ◌++◌, Some, length, map, refl}
+use Rattle.std.proofs.Common.{sym, ap, ◌∙◌, subst, arith, inl, ⊎_elim}
 use Rattle.std.proofs.lemmas.Bool.{cases_lt}
 use Rattle.std.proofs.lemmas.List.{length-append}
-use Rattle.std.proofs.lemmas.Option.{slice_get_within}
 use Rattle.std.specs.Option.{option_map_or}
 use Rattle.std.specs.Prelude.{Option, slice_get}
 use Rattle.program.specs.Methods.{MethodSeen, VariableSeen}
@@ -13,33 +12,21 @@ use Rattle.program.specs.declared.kind.Kind.TheVariants.{Endpoint}
 use Rattle.program.specs.declared.kind.Kind.{Kind}
 use Rattle.program.specs.declared.kind.Side.TheVariants.{Imp, Exp}
 use Rattle.program.specs.declared.kind.Side.{Side}
-use Rattle.program.specs.declared.statement.Mention.{Mention}
-use Rattle.flow.specs.Graphs.{New}
 use Rattle.contracts.specs.TwoEnds.{Ends}
-use Rattle.rules.specs.Mentions.{is_lent, has_nothing, is_not_lent}
-use Rattle.rules.specs.Rows.{leaf_at, is_owned}
-use Rattle.rules.specs.declared.row.Leaf.TheVariants as leaf
 use Rattle.machine.specs.Blocks.{new_block}
 use Rattle.machine.specs.Frames.{method_at, kind_at, variables_of}
-use Rattle.machine.specs.Outcomes.{Bounds}
 use Rattle.machine.specs.Heaps.{IsHeld}
-use Rattle.machine.specs.World.{no_kind, MessageHeld, Block, Frame, World, block_at, read, owns, freed}
-use Rattle.machine.specs.World.{is_inside, is_process, is_queue, is_freed}
+use Rattle.machine.specs.World.{no_kind, MessageHeld, Block, block_at, owns, freed, is_inside, is_process, is_queue, is_freed}
 use Rattle.machine.proofs.Holding.{held_same}
 use Rattle.machine.specs.World.{is_empty}
 use Rattle.machine.specs.declared.worlds.Owner.TheVariants.{Process}
 use Rattle.machine.specs.declared.worlds.Owner.{Owner}
-use Rattle.sound.specs.GraphFit.{IsGraphFit, IsNewFit}
 use Rattle.sound.specs.Operands.{stateless}
-use Rattle.sound.proofs.Basics.{block_past, standing_set, block_append, block_appended}
-use Rattle.sound.proofs.Checks.{all_pass, passed_goes, not_refused, something_is}
-use Rattle.sound.proofs.Invariant.{AreDeclared, one_if, one_at, standing, StaysCutOff, in_queue, AreBrought, IsEndOf, ChannelFits}
-use Rattle.sound.proofs.Invariant.{IsPeer, ChannelsFit}
-use Rattle.sound.proofs.Kept.{AreKept, LiesInside, SameFields, brought_kept, fields_kept, goes_on, lent_stays_set, row_kept, some_same}
-use Rattle.sound.proofs.Lists.{true≢false, eqb_same, eqb_apart, eqb_suc, add_zero, and_true, both_true}
-use Rattle.sound.proofs.Quiet.{contains_first, end_stateless}
-use Rattle.sound.proofs.Here.{IsGood, row_set, nothing_none, Here}
-use Rattle.machine.specs.Instructions.{event_of}
+use Rattle.sound.proofs.Basics.{block_append}
+use Rattle.sound.proofs.Invariant.{one_if, one_at, StaysCutOff, in_queue, AreBrought, IsEndOf, ChannelFits, IsPeer, ChannelsFit}
+use Rattle.sound.proofs.Kept.{AreKept, LiesInside, SameFields, brought_kept}
+use Rattle.sound.proofs.Lists.{true≢false, eqb_same, eqb_apart, eqb_suc, and_true, both_true}
+use Rattle.sound.proofs.Quiet.{end_stateless}
 
 -- ---- channels where ends stay
 -- an end that lives now lived before, and is as it was
@@ -252,71 +239,3 @@ pub kind_of_variable : (p : ProgramSeen) (n : ℕ) (m : MethodSeen) (v : ℕ) (x
 kind_of_variable p n m v x there at =
     ap (λ (o : Option MethodSeen). kind_at (option_map_or (λ y. y.variables) o []) v) there
     ∙ ap (λ (o : Option VariableSeen). option_map_or (λ y. y.kind) o no_kind) at
-
--- a new block that holds nothing
-pub bare_one : (self : ℕ) (k : Kind) → AreBare (new_block k self 0 0 [] ∷ [])
-bare_one self k = record { fields = fields; outside = outside }
-  where
-    fields : (n : ℕ) → (block_at (new_block k self 0 0 [] ∷ []) n).fields ≡ []
-    fields zero = refl
-    fields (suc n) = refl
-
-    outside : (n a : ℕ) → is_inside (block_at (new_block k self 0 0 [] ∷ []) n).owner a ≡ false
-    outside zero a = refl
-    outside (suc n) a = refl
-
-pub good_new : (p : ProgramSeen) (bound : Bounds) (w : World) (self choice : ℕ) (f : Frame) (rest : List Frame) (m : MethodSeen)
-    (v : Mention) (arguments : List Mention) (next : ℕ)
-    → Here p w self f rest m (New v arguments next) → ((h : IsGraphFit p m) → IsNewFit p m h.scope f.point v.variable.0 next)
-    → IsGood p w (event_of p bound w self f rest (New v arguments next) choice)
-good_new p bound w self choice f rest m v arguments next h fit =
-    let n = length w.blocks in
-    let k = kind_at (variables_of p f.method) v.variable.0 in
-    let b = new_block k self 0 0 [] in
-    let bs' = w.blocks ++ b ∷ [] in
-    let vs' = set f.variables v.variable.0 (Some n) in
-    let row' = set h.row v.variable.0 leaf.Block in
-    let checks = is_not_lent m v ∷ has_nothing m h.row v ∷ [] in
-    let passed = all_pass checks ((next, row') ∷ []) h.passes in
-    let own = not_refused (is_lent m v.variable.0) _ passed.0 in
-    let none = nothing_none w.blocks m.variables f.variables h.row v.variable.0 h.fits
-    (something_is (leaf_at h.row v.variable.0) (not_refused (is_owned h.row v.variable.0) _ passed.1.0)) in
-    let g = fit h.graph in
-    let fresh = fresh_one self k [] in
-    let is_kind : k ≡ g.variable.kind = kind_of_variable p f.method m v.variable.0 g.variable h.there g.there in
-    let last : block_at bs' n ≡ b = ap (block_at bs') (sym (add_zero n)) ∙ block_appended w.blocks (b ∷ []) 0 in
-    let reached = h.onward ((next, row') ∷ []) (next, row') (passed_goes checks ((next, row') ∷ []) passed)
-    (contains_first (next, row') []) in
-    let fits = row_set bs' m.variables f.variables h.row v.variable.0 (Some n) leaf.Block
-    (row_kept w.blocks bs' m.variables f.variables h.row (cut_append w.blocks (b ∷ []))
-    (kept_append w.blocks (b ∷ []) (λ a. 0 < standing a f.variables)) h.fits)
-    (λ y at. record {
-      there = simp length-append (omega arith);
-      kind = ap (λ (x : Block). stateless x.kind) last
-          ∙ (ap stateless is_kind ∙ ap (λ (x : VariableSeen). stateless x.kind) (some_same g.variable y (sym g.there ∙ at)));
-      state = ap (λ (x : VariableSeen). is_end x.kind) (some_same y g.variable (sym at ∙ g.there)) ∙ g.block;
-    }) in (
-      goes_on p w self f rest m next vs' row' bs' h.holds h.is h.there h.below reached fits (record {
-        lent = lent_stays_set m.variables f.variables v.variable.0 (Some n) own;
-        cut = cut_append w.blocks (b ∷ []);
-        kept = kept_append w.blocks (b ∷ []) (λ a. standing a f.variables ≡ 0);
-        counted = λ a.
-            let short : v.variable.0 < length f.variables = let i =
-            slice_get_within m.variables v.variable.0 g.variable g.there in let l = h.fits.long in omega arith in
-            let one = standing_set f.variables v.variable.0 a (Some n) short in
-            let was : one_at a (read f.variables v.variable.0) ≡ 0 = ap (one_at a) none in
-            let two = new_counts self w.blocks b a refl in
-            omega arith;
-        others = λ q a apart. others_append self w.blocks (b ∷ []) q a fresh apart;
-        channels = channels_new p w.blocks b (ap is_end is_kind ∙ g.block) h.holds.channels;
-        queues = queues_append self w.blocks (b ∷ []) fresh h.holds.queues;
-        brought = λ a. brought_append p self w.blocks (b ∷ []) a fresh (h.holds.brought a);
-        held = held_append w.blocks (b ∷ []) (bare_one self k) h.holds.held;
-        declared = λ j within lives. ⊎_elim
-            (λ short. fields_kept p w.blocks bs' j h.holds.held (same_append p w.blocks (b ∷ [])) h.holds.declared short lives)
-            (λ past. subst (λ (xs : List ℕ). AreDeclared bs' [] xs)
-            (sym (fields_append w.blocks (b ∷ []) j (bare_one self k) ∙ ap (λ (x : Block). x.fields) (block_past w.blocks j past))) tt)
-            (cases_lt j (length w.blocks));
-      }),
-      cut_append w.blocks (b ∷ []),
-    )

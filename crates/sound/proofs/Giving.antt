@@ -3,9 +3,10 @@ use Rattle.std.proofs.Common.{◌≡◌, ◌≢◌, ◌==◌, ℕ, ◌+◌, ◌<
 use Rattle.std.proofs.Common.{◌∙◌, subst, arith, ⊎_elim}
 use Rattle.std.proofs.lemmas.Bool.{cases_Bool, eqb-true}
 use Rattle.std.specs.Prelude.{Option, ◌||◌, if◌then◌else◌}
+use Rattle.source.specs.Findings.{FindingParts}
+use Rattle.source.specs.declared.place.Place.{Place}
 use Rattle.program.specs.Lists.{Each, is_among}
 use Rattle.program.specs.Methods.{MethodSeen, VariableSeen}
-use Rattle.program.specs.Programs.{ProgramSeen}
 use Rattle.program.specs.declared.call.Argument.{Argument}
 use Rattle.program.specs.declared.kind.Kind.{Kind}
 use Rattle.program.specs.declared.statement.Mention.{Mention}
@@ -13,7 +14,7 @@ use Rattle.rules.specs.Arguments.{payload}
 use Rattle.rules.specs.Endpoints.{declared_leaf, is_wrong}
 use Rattle.rules.specs.Mentions.{is_lent}
 use Rattle.rules.specs.Rows.{leaf_at, is_owned}
-use Rattle.sound.proofs.Parameters.{each_payload}
+use Rattle.sound.proofs.Parameters.{each_taken}
 use Rattle.rules.specs.declared.row.Leaf.{Leaf}
 use Rattle.machine.specs.Frames.{address, payloads_claimed, addresses}
 use Rattle.machine.specs.World.{Block, read, owns, let_go}
@@ -84,30 +85,31 @@ given_leaves a bs vs row kinds arguments fit apart claims once =
     let four = given_counts (given vs arguments) a less in
     (omega arith, four)
 
--- payloads as arguments
-pub payloads_fit : (p : ProgramSeen) (m : MethodSeen) (bs : List Block) (vs : List (Option ℕ)) (row : List Leaf) (name : List ℕ)
-    (kinds : List Kind) (payloads : List Mention) → RowFits bs m.variables vs row
-    → AreOfKinds m.variables kinds (map (λ x. x.variable.0) payloads) → Passed (each_payload m row name kinds payloads)
-    → ArgsFit bs vs row kinds (payloads_claimed payloads)
-payloads_fit p m bs vs row name [] [] fits are h = tt
-payloads_fit p m bs vs row name [] (x ∷ payloads) fits are h = absurd are
-payloads_fit p m bs vs row name (k ∷ kinds) [] fits are h = absurd are
-payloads_fit p m bs vs row name (k ∷ kinds) (x ∷ payloads) fits are h = (
+-- what goes into a message or the fields of a block, as arguments
+pub taken_fit : (m : MethodSeen) (bs : List Block) (vs : List (Option ℕ)) (row : List Leaf) (wrong : List ℕ → Place → FindingParts)
+    (kinds : List Kind) (given : List Mention) → RowFits bs m.variables vs row
+    → AreOfKinds m.variables kinds (map (λ x. x.variable.0) given) → Passed (each_taken m row wrong kinds given)
+    → ArgsFit bs vs row kinds (payloads_claimed given)
+taken_fit m bs vs row wrong [] [] fits are h = tt
+taken_fit m bs vs row wrong [] (x ∷ given) fits are h = absurd are
+taken_fit m bs vs row wrong (k ∷ kinds) [] fits are h = absurd are
+taken_fit m bs vs row wrong (k ∷ kinds) (x ∷ given) fits are h = (
   arg_fits bs m.variables vs row k (payload x) fits are.0
       (not_false (is_owned row x.variable.0) (not_refused (not (is_owned row x.variable.0)) _ h.1.0))
       (not_refused (is_wrong k (leaf_at row x.variable.0)) _ h.1.1.0),
-  payloads_fit p m bs vs row name kinds payloads fits are.1 h.1.1.1,
+  taken_fit m bs vs row wrong kinds given fits are.1 h.1.1.1,
 )
 
-pub payloads_own : (p : ProgramSeen) (m : MethodSeen) (row : List Leaf) (name : List ℕ) (variables : List VariableSeen)
-    (kinds : List Kind) (payloads : List Mention) → AreOfKinds variables kinds (map (λ x. x.variable.0) payloads)
-    → Passed (each_payload m row name kinds payloads)
-    → Each (λ a. a.claimed ≡ true → is_lent m (number a) ≡ false) (payloads_claimed payloads)
-payloads_own p m row name variables [] [] are h = tt
-payloads_own p m row name variables [] (x ∷ payloads) are h = absurd are
-payloads_own p m row name variables (k ∷ kinds) [] are h = tt
-payloads_own p m row name variables (k ∷ kinds) (x ∷ payloads) are h =
-    (λ c. not_refused (is_lent m x.variable.0) _ h.0, payloads_own p m row name variables kinds payloads are.1 h.1.1.1)
+-- none of it is lent
+pub taken_own : (m : MethodSeen) (row : List Leaf) (wrong : List ℕ → Place → FindingParts) (variables : List VariableSeen)
+    (kinds : List Kind) (given : List Mention) → AreOfKinds variables kinds (map (λ x. x.variable.0) given)
+    → Passed (each_taken m row wrong kinds given)
+    → Each (λ a. a.claimed ≡ true → is_lent m (number a) ≡ false) (payloads_claimed given)
+taken_own m row wrong variables [] [] are h = tt
+taken_own m row wrong variables [] (x ∷ given) are h = absurd are
+taken_own m row wrong variables (k ∷ kinds) [] are h = tt
+taken_own m row wrong variables (k ∷ kinds) (x ∷ given) are h =
+    (λ c. not_refused (is_lent m x.variable.0) _ h.0, taken_own m row wrong variables kinds given are.1 h.1.1.1)
 
 pub payloads_claim : (payloads : List Mention) → Each (λ b. b.claimed ≡ true) (payloads_claimed payloads)
 payloads_claim [] = tt

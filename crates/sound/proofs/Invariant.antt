@@ -6,7 +6,7 @@ use Rattle.program.specs.Lists.{Each}
 use Rattle.program.specs.Methods.{MethodSeen, VariableSeen}
 use Rattle.program.specs.Parts.{ContractSeen}
 use Rattle.program.specs.Programs.{ProgramSeen}
-use Rattle.program.specs.WellFormed.{is_end}
+use Rattle.program.specs.WellFormed.{field_kinds, is_end}
 use Rattle.program.specs.declared.call.Argument.{Argument}
 use Rattle.program.specs.declared.kind.Kind.TheVariants.{Endpoint}
 use Rattle.program.specs.declared.kind.Kind.{Kind}
@@ -175,14 +175,10 @@ abbrev pub AreBrought : ProgramSeen → List Block → List MessageHeld → Type
 AreBrought p bs queue = Each (λ m. AreDeclared bs (brought p m.message) m.payload) queue
 
 -- ---- fields
--- how the owning fields of a kind are declared: no program has any
-abbrev pub fields_of : ProgramSeen → Kind → List Kind
-fields_of p kind = []
-
 -- the fields of each block that is not freed hold what they are declared with
 abbrev pub FieldsDeclared : ProgramSeen → List Block → Type 0
 FieldsDeclared p bs = (a : ℕ) → a < length bs → freed bs a ≡ false
-    → AreDeclared bs (fields_of p (block_at bs a).kind) (block_at bs a).fields
+    → AreDeclared bs (field_kinds p.structs (block_at bs a).kind) (block_at bs a).fields
 
 -- ---- channels
 -- an end that lives is as two ends say

@@ -8,6 +8,7 @@ use Rattle.std.specs.Prelude.{Option, ◌⊎◌, slice_get}
 use Rattle.program.specs.Methods.{MethodSeen, VariableSeen}
 use Rattle.program.specs.Programs.{ProgramSeen}
 use Rattle.program.specs.declared.call.Argument.{Argument}
+use Rattle.program.specs.WellFormed.{field_kinds}
 use Rattle.program.specs.declared.kind.Kind.{Kind}
 use Rattle.program.specs.declared.method.Role.TheVariants as role
 use Rattle.program.specs.declared.method.Role.{Role}
@@ -25,7 +26,7 @@ use Rattle.machine.specs.Heaps.{IsHeld, occurs}
 use Rattle.machine.specs.World.{MessageHeld, Block, Frame, World, block_at, stack_at, read, is_inside, is_queue, owns, cut_off, freed}
 use Rattle.sound.specs.Operands.{stateless}
 use Rattle.sound.proofs.Basics.{one_if_most, one_true, standing_read, process_apart, stack_there}
-use Rattle.sound.proofs.Invariant.{fields_of, IsOn, HasLeaf, LeafFits, RowFits, one_if, standing, kept_back, waiting, held, IsLent}
+use Rattle.sound.proofs.Invariant.{IsOn, HasLeaf, LeafFits, RowFits, one_if, standing, kept_back, waiting, held, IsLent}
 use Rattle.sound.proofs.Invariant.{with_first}
 use Rattle.sound.proofs.Invariant.{by_role, as_claimed, standing_in, AreLent, WaitsFor, RestFits, StackFits, in_queue, AreDeclared}
 use Rattle.sound.proofs.Invariant.{AreBrought, ChannelsFit, FieldsDeclared, Holds, StaysCutOff}
@@ -269,11 +270,11 @@ pub record SameFields (p : ProgramSeen) (bs bs' : List Block) : Type 0 where
 
 -- the fields of a block that was there are still as they are declared
 pub fields_kept : (p : ProgramSeen) (bs bs' : List Block) (a : ℕ) → IsHeld bs → SameFields p bs bs' → FieldsDeclared p bs → a < length bs
-    → freed bs' a ≡ false → AreDeclared bs' (fields_of p (block_at bs' a).kind) (block_at bs' a).fields
+    → freed bs' a ≡ false → AreDeclared bs' (field_kinds p.structs (block_at bs' a).kind) (block_at bs' a).fields
 fields_kept p bs bs' a held same h within lives =
-    subst (λ (k : Kind). AreDeclared bs' (fields_of p k) (block_at bs' a).fields) (sym (same.kinds a within))
-    (subst (λ (xs : List ℕ). AreDeclared bs' (fields_of p (block_at bs a).kind) xs) (sym (same.fields a within lives))
-    (declared_kept bs bs' (fields_of p (block_at bs a).kind) (block_at bs a).fields same.cut
+    subst (λ (k : Kind). AreDeclared bs' (field_kinds p.structs k) (block_at bs' a).fields) (sym (same.kinds a within))
+    (subst (λ (xs : List ℕ). AreDeclared bs' (field_kinds p.structs (block_at bs a).kind) xs) (sym (same.fields a within lives))
+    (declared_kept bs bs' (field_kinds p.structs (block_at bs a).kind) (block_at bs a).fields same.cut
     (λ x some short. same.kept x (
       a,
       one_true (is_inside (block_at bs x).owner a)

@@ -13,6 +13,7 @@ use Rattle.program.specs.declared.statement.Channel as made
 use Rattle.contracts.specs.TwoEnds.{begun}
 use Rattle.rules.specs.Endpoints.{first_state}
 use Rattle.machine.specs.Blocks.{new_block, end_kind}
+use Rattle.program.specs.WellFormed.{field_kinds}
 use Rattle.program.specs.declared.kind.Kind.{Kind}
 use Rattle.machine.specs.Heaps.{IsHeld}
 use Rattle.machine.specs.World.{Block, block_at, is_inside, is_process, is_queue, is_freed}
@@ -20,7 +21,7 @@ use Rattle.sound.specs.Operands.{stateless}
 use Rattle.sound.proofs.Basics.{block_append, block_appended}
 use Rattle.sound.proofs.Blocks.{AreBare, AreFresh, held_append, same_append}
 use Rattle.sound.proofs.Kept.{fields_kept}
-use Rattle.sound.proofs.Invariant.{fields_of, IsEndOf, ChannelFits, IsPeer, ChannelsFit, AreDeclared, FieldsDeclared}
+use Rattle.sound.proofs.Invariant.{IsEndOf, ChannelFits, IsPeer, ChannelsFit, AreDeclared, FieldsDeclared}
 use Rattle.sound.proofs.Lists.{eqb_apart, add_zero}
 use Rattle.sound.proofs.Moving.{kind_apart, same_contract}
 
@@ -186,10 +187,10 @@ module _ (p : ProgramSeen) (bs : List Block) (self : ℕ) (c : made.Channel) (he
   }
 
   -- an end holds nothing
-  empty_end : (j : ℕ) (b : Block) → block_at bs' j ≡ b → fields_of p b.kind ≡ [] → b.fields ≡ []
-      → AreDeclared bs' (fields_of p (block_at bs' j).kind) (block_at bs' j).fields
+  empty_end : (j : ℕ) (b : Block) → block_at bs' j ≡ b → field_kinds p.structs b.kind ≡ [] → b.fields ≡ []
+      → AreDeclared bs' (field_kinds p.structs (block_at bs' j).kind) (block_at bs' j).fields
   empty_end j b is kinds fields =
-      subst (λ (x : Block). AreDeclared bs' (fields_of p x.kind) x.fields) (sym is)
+      subst (λ (x : Block). AreDeclared bs' (field_kinds p.structs x.kind) x.fields) (sym is)
       (subst (λ (ks : List Kind). AreDeclared bs' ks b.fields) (sym kinds)
       (subst (λ (xs : List ℕ). AreDeclared bs' [] xs) (sym fields) tt))
 

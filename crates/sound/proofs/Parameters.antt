@@ -1,15 +1,18 @@
--- Parameters among variables, and the checks of arguments and payloads, one by one.
-use Rattle.std.proofs.Common.{◌≡◌, ap}
+-- Parameters among variables, the checks of what is given, one by one, and what a variable has in its fields.
+use Rattle.std.proofs.Common.{◌≡◌, [], ap}
 use Rattle.std.specs.Prelude.{ℕ, List, None, Option, Some, flat_map, map, slice_get, zip}
 use Rattle.std.specs.Option.{option_map_or}
 use Rattle.std.specs.List.{filter}
+use Rattle.source.specs.Findings.{FindingParts}
+use Rattle.source.specs.declared.place.Place.{Place}
 use Rattle.program.specs.Methods.{MethodSeen, VariableSeen}
-use Rattle.program.specs.WellFormed.{is_parameter}
+use Rattle.program.specs.Programs.{ProgramSeen}
+use Rattle.program.specs.WellFormed.{field_kinds, is_parameter}
 use Rattle.program.specs.declared.call.Argument.{Argument}
 use Rattle.program.specs.declared.kind.Kind.{Kind}
 use Rattle.program.specs.declared.statement.Mention.{Mention}
-use Rattle.rules.specs.Arguments.{argument_checks, payload, payload_checks}
-use Rattle.rules.specs.Endpoints.{kind_of}
+use Rattle.rules.specs.Arguments.{argument_checks, payload, taken_checks}
+use Rattle.rules.specs.Endpoints.{field_of, fields_of, kind_of}
 use Rattle.rules.specs.Outcomes.{Check}
 use Rattle.rules.specs.declared.row.Leaf.{Leaf}
 
@@ -26,10 +29,20 @@ module _ (m : MethodSeen) where
   abbrev pub each_argument : List Leaf → List Kind → List Argument → List Check
   each_argument row kinds arguments = flat_map (λ x. argument_checks m row x.0 x.1) (zip kinds arguments)
 
-  -- likewise for what is sent
-  abbrev pub each_payload : List Leaf → List ℕ → List Kind → List Mention → List Check
-  each_payload row message kinds payloads = flat_map (λ x. payload_checks m row message x.0 x.1) (zip kinds (map payload payloads))
+  -- likewise for what goes into a message or the fields of a new block
+  abbrev pub each_taken : List Leaf → (List ℕ → Place → FindingParts) → List Kind → List Mention → List Check
+  each_taken row wrong kinds given = flat_map (λ x. taken_checks m row wrong x.0 x.1) (zip kinds (map payload given))
 
   -- what a variable holds that is there
   pub kind_known : (v : ℕ) (x : VariableSeen) → slice_get m.variables v ≡ Some x → kind_of m v ≡ Some x.kind
   kind_known v x there = ap (λ (o : Option VariableSeen). option_map_or (λ y. Some y.kind) o None) there
+
+  -- what its block has in its fields that own
+  pub fields_known : (p : ProgramSeen) (v : ℕ) (x : VariableSeen) → slice_get m.variables v ≡ Some x
+      → fields_of p m v ≡ field_kinds p.structs x.kind
+  fields_known p v x there = ap (λ (o : Option Kind). option_map_or (λ k. field_kinds p.structs k) o []) (kind_known v x there)
+
+  -- what one of them holds
+  pub field_known : (p : ProgramSeen) (v field : ℕ) (x : VariableSeen) → slice_get m.variables v ≡ Some x
+      → field_of p m v field ≡ slice_get (field_kinds p.structs x.kind) field
+  field_known p v field x there = ap (λ (kinds : List Kind). slice_get kinds field) (fields_known p v x there)

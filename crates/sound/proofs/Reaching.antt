@@ -20,16 +20,18 @@ use Rattle.program.specs.declared.statement.Awaited.TheVariants.{Message, Closed
 use Rattle.program.specs.declared.statement.Awaited.{Awaited}
 use Rattle.program.specs.declared.statement.Mention.{Mention}
 use Rattle.flow.specs.Cases.{EntranceSeen, first_mentions, case_for, awaits}
-use Rattle.flow.specs.Graphs.{Instruction, Use, New, Move, Delete, NewChannel, Send, Switch, Branch, Forget, Call, Start, Return, Stop}
+use Rattle.flow.specs.Graphs.{Instruction, Use, New, Move, Delete, Exchange, NewChannel, Send, Switch, Branch, Forget, Call, Start}
+use Rattle.flow.specs.Graphs.{Return, Stop}
 use Rattle.flow.specs.Lowering.{graph_of}
 use Rattle.flow.specs.declared.graph.Branches.TheVariants.{Either, Only}
-use Rattle.rules.specs.Arguments.{all_arguments, all_payloads, claimed, given_leaf, lacks_edge, payload, sent_leaf, target_checks}
-use Rattle.rules.specs.Endpoints.{brought, declared_leaf, result_of, first_state, message_name, parameter_kinds, kind_of}
+use Rattle.rules.specs.Arguments.{all_arguments, all_fields, all_payloads, claimed, field_checks, given_leaf, lacks_edge, payload}
+use Rattle.rules.specs.Arguments.{sent_leaf, target_checks}
+use Rattle.rules.specs.Endpoints.{brought, declared_leaf, fields_of, result_of, first_state, message_name, parameter_kinds, kind_of}
 use Rattle.rules.specs.Leaves.{is_something}
 use Rattle.rules.specs.Mentions.{is_lent, is_kept, has_something, given_back, is_not_lent, has_nothing, is_another}
 use Rattle.rules.specs.Outcomes.{Goes, Pair, refused}
 use Rattle.rules.specs.Rows.{leaf_at, given, is_owned}
-use Rattle.rules.specs.RuleTable.{instruction_outcome, value_checks, back_checks}
+use Rattle.rules.specs.RuleTable.{exchanged, instruction_outcome, value_checks, back_checks}
 use Rattle.rules.specs.Scopes.{declared_between}
 use Rattle.rules.specs.Steps.{outcome, entry_of, method_entry, method_outcome, point_outcome, entry_leaf}
 use Rattle.rules.specs.Switches.{bound_leaves, pair_at, received, closed, awaited_edges, comes_at, switch_checks, switch_pairs}
@@ -41,6 +43,7 @@ use Rattle.sound.specs.GraphFit.{IsGraphFit, IsFit, Keeps, IsEntrance, IsBoundAt
 use Rattle.sound.proofs.Checks.{Passed, checked_passed, goes_same, leaf_set_other, not_refused, passed_left, row_set_still, row_still}
 use Rattle.sound.proofs.Checks.{something_is}
 use Rattle.sound.proofs.Lists.{each_all, each_append, each_contains, each_flat, each_map, not_false, true≢false}
+use Rattle.sound.proofs.Parameters.{field_known}
 
 -- the case that is found stands among the cases
 pub case_is : (P : EntranceSeen → Type 0) (cases : List EntranceSeen) (v : ℕ) (n : Option ℕ) (c : EntranceSeen) → Each P cases
@@ -166,10 +169,23 @@ module _ (p : ProgramSeen) (m : MethodSeen) (scope : (point variable : ℕ) → 
   step_in from row (Use v next) all fit h e = let k =
       checked_passed (has_something m row v ∷ []) ((next, row) ∷ []) all e in subst (λ ps. Each NoneOut ps) k.1
       (keeps_all from next row fit h, tt)
-  step_in from row (New v arguments next) all fit h e = let k =
-      checked_passed (is_not_lent m v ∷ has_nothing m row v ∷ [])
-      ((next, set row v.variable.0 leaf.Block) ∷ []) all e in subst (λ ps. Each NoneOut ps) k.1
-      (set_in next row v.variable.0 leaf.Block fit.in_scope (keeps_all from next row fit.keeps h), tt)
+  step_in from row (New v arguments next) all fit h e =
+      let given = map payload arguments in
+      let k = checked_passed (all_fields m row (fields_of p m v.variable.0) given ++ target_checks m (claimed row given) (Some v))
+      ((next, set (claimed row given) v.variable.0 leaf.Block) ∷ []) all e in
+      subst (λ ps. Each NoneOut ps) k.1 (
+        set_in next (claimed row given) v.variable.0 leaf.Block fit.in_scope
+            (claimed_out next row given (keeps_all from next row fit.keeps h)),
+        tt,
+      )
+  step_in from row (Exchange x next) all fit h e =
+      let kind = field_known m p x.holder.variable.0 x.field fit.holder fit.holder_there ∙ fit.field_there in
+      let l = declared_leaf fit.kind in
+      let k = checked_passed
+      (is_another m x.holder x.given ∷ has_something m row x.holder ∷ field_checks m row fit.kind (payload x.given))
+      ((next, set row x.given.variable.0 l) ∷ []) all (sym (ap (λ (o : Option Kind). exchanged p m row x next o) kind) ∙ e) in
+      subst (λ ps. Each NoneOut ps) k.1
+      (set_in next row x.given.variable.0 l fit.in_scope (keeps_all from next row fit.keeps h), tt)
   step_in from row (Move v u next) all fit h e =
       let k = checked_passed (is_another m v u ∷ is_not_lent m u ∷ has_something m row u ∷ is_not_lent m v ∷ has_nothing m row v ∷ [])
       ((next, set (set row v.variable.0 (leaf_at row u.variable.0)) u.variable.0 leaf.Nothing) ∷ []) all e in

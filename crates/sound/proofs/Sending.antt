@@ -29,8 +29,8 @@ use Rattle.rules.specs.Endpoints.{brought, edges_of, edges_out, message_name, ki
 use Rattle.rules.specs.Mentions.{has_something}
 use Rattle.rules.specs.Outcomes.{refused}
 use Rattle.rules.specs.Rows.{leaf_at, is_owned}
-use Rattle.sound.proofs.Parameters.{each_payload, kind_known}
-use Rattle.rules.specs.Texts.{not_sent}
+use Rattle.sound.proofs.Parameters.{each_taken, kind_known}
+use Rattle.rules.specs.Texts.{not_sent, wrong_for}
 use Rattle.rules.specs.declared.row.Leaf.TheVariants as leaf
 use Rattle.rules.specs.declared.row.Leaf.{Leaf}
 use Rattle.machine.specs.Blocks.{bound_of}
@@ -44,7 +44,7 @@ use Rattle.sound.proofs.Arguments.{NotClaimed, pair_apart, go_other, go_fits, or
 use Rattle.sound.proofs.Basics.{standing_read}
 use Rattle.sound.proofs.Calling.{no_copies, top_once, top_owned, arguments_hold, none_taken, go_stays}
 use Rattle.sound.proofs.Checks.{all_pass, passed_goes, not_refused, leaf_set_other, leaf_set_same, passed_left, passed_right, number}
-use Rattle.sound.proofs.Giving.{payloads_fit, payloads_own, payloads_claim, given_leaves, given_own, not_given, given_declared}
+use Rattle.sound.proofs.Giving.{taken_fit, taken_own, payloads_claim, given_leaves, given_own, not_given, given_declared}
 use Rattle.sound.proofs.Invariant.{HasLeaf, LeafFits, RowFits, IsOn, standing, StaysCutOff, IsEndOf, ChannelsFit, blocks_fit}
 use Rattle.sound.proofs.Invariant.{IsSoundProgram}
 use Rattle.sound.proofs.Kept.{goes_on, IsKept, some_same, fits_kept}
@@ -290,8 +290,9 @@ good_send p bound w self choice f rest m longer sound place e message payloads n
     let kinds = brought p message.0 in
     let name = message_name p (kind_of m v) message.0 in
     let l = leaf_at h.row v in
+    let wrong = λ (x : List ℕ) (at : Place). wrong_for x name at in
     let lacks = refused (lacks_edge p (kind_of m v) message.0 l) (not_sent name place) ∷ [] in
-    let checks = has_something m h.row e ∷ ((given_before m (v ∷ []) args ++ each_payload m h.row name kinds payloads) ++ lacks) in
+    let checks = has_something m h.row e ∷ ((given_before m (v ∷ []) args ++ each_taken m h.row wrong kinds payloads) ++ lacks) in
     let row' = set (claimed h.row args) v (sent_leaf p (kind_of m v) message.0 l) in
     let passed = all_pass checks ((next, row') ∷ []) h.passes in
     let owned = not_false (is_owned h.row v) (not_refused (not (is_owned h.row v)) _ passed.0) in
@@ -299,7 +300,7 @@ good_send p bound w self choice f rest m longer sound place e message payloads n
     let x = o.variable in
     let a = o.at in
     let given_checks = given_before m (v ∷ []) args in
-    let payload_checks = each_payload m h.row name kinds payloads in
+    let payload_checks = each_taken m h.row wrong kinds payloads in
     let all_passed = passed_left (given_checks ++ payload_checks) lacks passed.1 in
     let given_passed = passed_left given_checks payload_checks all_passed in
     let each = passed_right given_checks payload_checks all_passed in
@@ -312,7 +313,7 @@ good_send p bound w self choice f rest m longer sound place e message payloads n
     ∙ not_refused (lacks_edge p (kind_of m v) message.0 l) _ (passed_right (given_checks ++ payload_checks) lacks passed.1).0 in
     let apart = pair_apart p m (v ∷ []) args given_passed in
     let free = not_earlier p m (v ∷ []) args given_passed v (ap (λ (b : Bool). b || false) (eqb_same v v refl)) in
-    let fits = payloads_fit p m w.blocks vs h.row name kinds payloads h.fits fit.kinds each in
+    let fits = taken_fit m w.blocks vs h.row wrong kinds payloads h.fits fit.kinds each in
     let claims = payloads_claim payloads in
     let all = λ (y : ℕ). top_once p w self f rest y h.holds h.is in
     let own = λ (y u : ℕ) (i : read vs u ≡ Some y). top_owned p w self f rest y u h.holds h.is i in
@@ -383,7 +384,7 @@ good_send p bound w self choice f rest m longer sound place e message payloads n
           ),
     ) (
       goes_on p w self f rest m next (let_go vs args) row' bs' h.holds h.is h.there h.below reached fits' (record {
-        lent = go_stays p m vs args (payloads_own p m h.row name m.variables kinds payloads fit.kinds each);
+        lent = go_stays p m vs args (taken_own m h.row wrong m.variables kinds payloads fit.kinds each);
         cut = cut';
         kept = kept' (λ j. standing j vs ≡ 0) (λ j z s. let k : standing j vs ≡ standing a vs =
             ap (λ (n : ℕ). standing n vs) s in absurd (omega arith));

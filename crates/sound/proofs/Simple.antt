@@ -5,8 +5,9 @@ use Rattle.std.proofs.lemmas.Option.{slice_get_within}
 use Rattle.program.specs.Methods.{MethodSeen}
 use Rattle.program.specs.Programs.{ProgramSeen}
 use Rattle.program.specs.Scopes.{GoesBack}
-use Rattle.program.specs.Statements.{CallSeen, SendSeen}
-use Rattle.program.specs.WellFormed.{Holds, HoldAll, IsAction, IsCallOf, IsIn, IsKind, IsMessageOf, IsSend, IsStartOf, IsTaken}
+use Rattle.program.specs.Statements.{CallSeen, NewSeen, SendSeen}
+use Rattle.program.specs.WellFormed.{Holds, HoldAll, IsAction, IsCallOf, IsIn, IsKind, IsMessageOf, IsNew, IsSend}
+use Rattle.program.specs.WellFormed.{IsStartOf, IsTaken, field_kinds}
 use Rattle.program.specs.WellFormed.{IsWellFormed}
 use Rattle.program.specs.WellFormed.{Setting, are_ends, is_end, parameters}
 use Rattle.program.specs.declared.kind.Kind.{Kind}
@@ -16,7 +17,7 @@ use Rattle.program.specs.declared.statement.Action.{Action}
 use Rattle.program.specs.declared.statement.Forget.{Forget}
 use Rattle.program.specs.declared.statement.Mention.{Mention}
 use Rattle.flow.specs.Graphs as graph
-use Rattle.flow.specs.Lowering.{Lays, acts, both, called, forgets, one, reads, sent, started}
+use Rattle.flow.specs.Lowering.{Lays, acts, both, called, forgets, made_new, one, reads, sent, started}
 use Rattle.rules.specs.Endpoints.{brought}
 use Rattle.sound.specs.GraphFit.{Keeps, Scope}
 use Rattle.sound.proofs.Binding.{leads_in}
@@ -99,15 +100,21 @@ module _ (p : ProgramSeen) (m : MethodSeen) (well : IsWellFormed p.contracts p.m
   acts_fit (does.Delete u) exit again here x a from next wf ge ga =
       one_fits p m (graph.Delete u) (in_scope m here) (in_scope m here) (Out exit again x a) from next
       (λ scope is w out. keeps_here scope from next here is w)
-  acts_fit (does.New u) exit again here x a from next wf ge ga =
-      let v = some_there (slice_get m.variables u.variable.0) (λ x. is_end x.kind ≡ false) wf.1 in
-      let in_here = inside exit again here u.variable (slice_get_within m.variables u.variable.0 v.0 v.1) wf.0 in
-      one_fits p m (graph.New u []) (in_scope m here) (in_scope m here) (Out exit again x a) from next
+  acts_fit (does.Exchange e) exit again here x a from next wf ge ga =
+      let s = around exit again here in
+      let v = some_there (slice_get m.variables e.holder.variable.0)
+      (λ v. IsSomeAnd (slice_get (field_kinds p.structs v.kind) e.field) (λ k. Holds s k e.given.variable)) wf.1 in
+      let k = some_there (slice_get (field_kinds p.structs v.0.kind) e.field) (λ k. Holds s k e.given.variable) v.2 in
+      let g = of_kind s k.0 e.given.variable k.2 in
+      let in_here = inside exit again here e.given.variable (slice_get_within m.variables e.given.variable.0 g.variable g.there) wf.0 in
+      one_fits p m (graph.Exchange e) (in_scope m here) (in_scope m here) (Out exit again x a) from next
       (λ scope is w out. record {
-        variable = v.0;
-        there = v.1;
-        block = v.2;
-        in_scope = w u.variable.0 in_here;
+        holder = v.0;
+        holder_there = v.1;
+        kind = k.0;
+        field_there = k.1;
+        given = g;
+        in_scope = w e.given.variable.0 in_here;
         keeps = keeps_here scope from next here is w;
       })
   acts_fit (does.Move target source) exit again here x a from next wf ge ga =
@@ -168,6 +175,25 @@ module _ (p : ProgramSeen) (m : MethodSeen) (well : IsWellFormed p.contracts p.m
   both_here a b here Outside f g from next =
       both_fits p m a b (in_scope m here) (in_scope m here) (in_scope m here) Outside from next (g from next)
       (f (from + length (b from next).instructions) (b from next).entry)
+
+  pub new_fit : (n : NewSeen) (exit again here : Option VarId) (Outside : Scope → Type 0) (from next : ℕ)
+      → IsNew (around exit again here) n → here_fits (made_new n) here here Outside from next
+  new_fit n exit again here Outside from next wf =
+      let s = around exit again here in
+      let v = some_there (slice_get m.variables n.target.variable.0) (λ x. (is_end x.kind ≡ false)
+      × HoldAll s (field_kinds p.structs x.kind) (map (λ y. y.variable) n.arguments)) wf.taken in
+      let in_here = inside exit again here n.target.variable (slice_get_within m.variables n.target.variable.0 v.0 v.1) wf.in_scope in
+      both_here (reads n.reads) (one (graph.New n.target n.arguments)) here Outside (reads_fit n.reads here Outside)
+      (λ at to. one_fits p m (graph.New n.target n.arguments) (in_scope m here) (in_scope m here) Outside at to
+      (λ scope is w out. record {
+        variable = v.0;
+        there = v.1;
+        block = v.2.0;
+        kinds = payloads_of_kinds s (field_kinds p.structs v.0.kind) n.arguments v.2.1;
+        in_scope = w n.target.variable.0 in_here;
+        keeps = keeps_here scope at to here is w;
+      }))
+      from next
 
   -- what takes the result of a call is in scope
   target_in : (exit again here : Option VarId) (k : Option Kind) (target : Option Mention) → IsTaken (around exit again here) k target

@@ -1,10 +1,11 @@
 -- Where nothing is found every run is safe, from what each instruction keeps.
-use Rattle.std.proofs.Common.{◌≡◌, ℕ, Bool, true, false, List, [], ◌∷◌, Some, None, refl, sym, ap, ◌∙◌, subst, arith, inr}
+use Rattle.std.proofs.Common.{◌≡◌, ◌≢◌, ℕ, suc, length, Bool, true, false, List, [], ◌∷◌, Some, None, refl, sym, ap, ◌∙◌, subst, arith, inr}
 use Rattle.std.proofs.lemmas.Option.{slice_get_within}
 use Rattle.std.specs.Prelude.{Option, slice_get, if◌then◌else◌, nat_lt}
 use Rattle.program.specs.Methods.{MethodSeen}
 use Rattle.program.specs.Programs.{ProgramSeen}
-use Rattle.flow.specs.Graphs.{Instruction, Use, New, Move, Delete, NewChannel, Send, Switch, Branch, Forget, Call, Start, Return, Stop}
+use Rattle.flow.specs.Graphs.{Instruction, Use, New, Move, Delete, Exchange, NewChannel, Send, Switch, Branch, Forget, Call, Start}
+use Rattle.flow.specs.Graphs.{Return, Stop}
 use Rattle.flow.specs.Lowering.{graph_of}
 use Rattle.contracts.specs.TwoEnds.{HeldAlways, NeverLonger}
 use Rattle.rules.specs.Steps.{outcome, entry_of}
@@ -13,20 +14,27 @@ use Rattle.machine.specs.Frames.{method_at, instruction_at, point_instruction, c
 use Rattle.machine.specs.Machine.{event_at, event_in, event_outcome}
 use Rattle.machine.specs.Outcomes.{Outcome, NoChoice, Bounds}
 use Rattle.machine.specs.Runs.{AreBounds, Run, begins, goes_on}
-use Rattle.machine.specs.World.{Frame, World, stack_at, owns}
+use Rattle.machine.specs.World.{Block, Frame, World, block_at, stack_at, owns, read}
 use Rattle.machine.specs.declared.halts.Event.{Event}
 use Rattle.sound.specs.GraphFit.{IsGraphFit, AreGraphsFit, IsFit}
 use Rattle.sound.specs.Premises.{AreSound, IsEntry, NothingIsFound}
 use Rattle.program.specs.WellFormed.{AreWellFormed}
 use Rattle.sound.proofs.Contracts.{sound_program}
 use Rattle.sound.proofs.Trees.{graphs_fit}
-use Rattle.sound.specs.Safe.{IsSafe}
+use Rattle.sound.specs.Safe.{FieldsOwn, IsSafe}
+use Rattle.program.specs.WellFormed.{field_kinds}
+use Rattle.program.specs.declared.kind.Kind.{Kind}
+use Rattle.machine.specs.Heaps.{IsHeld}
+use Rattle.machine.proofs.Chains.{is_inside_is}
+use Rattle.machine.proofs.Holding.{inside_not_process}
+use Rattle.sound.proofs.Lists.{each_map, true≢false}
 use Rattle.sound.proofs.Beginning.{start_holds}
-use Rattle.sound.proofs.Blocks.{good_new}
+use Rattle.sound.proofs.Exchanging.{good_exchange}
+use Rattle.sound.proofs.Making.{good_new}
 use Rattle.sound.proofs.Calling.{good_call}
 use Rattle.sound.proofs.Checks.{reached_more, IsClean}
 use Rattle.sound.proofs.Deleting.{good_delete}
-use Rattle.sound.proofs.Invariant.{TopFits, RestFits, StackFits, Holds, held, one_if, IsSoundProgram}
+use Rattle.sound.proofs.Invariant.{TopFits, RestFits, StackFits, Holds, held, one_if, IsSoundProgram, AreDeclared, FieldsDeclared}
 use Rattle.sound.proofs.Opening.{good_channel}
 use Rattle.sound.proofs.Owning.{owns_what}
 use Rattle.sound.proofs.Queues.{queues_are_walks}
@@ -87,6 +95,8 @@ good_instruction always longer p bound sound graphs none w self choice f rest m 
     good_move p bound w self choice f rest m v u next h fit
 good_instruction always longer p bound sound graphs none w self choice f rest m (Delete v next) h fit =
     good_delete p bound w self choice f rest m v next h
+good_instruction always longer p bound sound graphs none w self choice f rest m (Exchange e next) h fit =
+    good_exchange p bound w self choice f rest m e next h fit
 good_instruction always longer p bound sound graphs none w self choice f rest m (NewChannel c next) h fit =
     good_channel p bound w self choice f rest m c next h (fit h.graph)
 good_instruction always longer p bound sound graphs none w self choice f rest m (Send place e message payloads next) h fit =
@@ -104,6 +114,21 @@ good_instruction always longer p bound sound graphs none w self choice f rest m 
 good_instruction always longer p bound sound graphs none w self choice f rest m (Return place value last) h fit =
     good_return p bound w self choice f rest m place value last graphs none h (fit h.graph)
 good_instruction always longer p bound sound graphs none w self choice f rest m (Stop place) h fit = absurd (h.passes _ refl)
+
+-- addresses that are as declared are as many
+declared_long : (bs : List Block) (kinds : List Kind) (xs : List ℕ) → AreDeclared bs kinds xs → length xs ≡ length kinds
+declared_long bs [] [] h = refl
+declared_long bs [] (x ∷ xs) h = absurd h
+declared_long bs (k ∷ kinds) [] h = absurd h
+declared_long bs (k ∷ kinds) (x ∷ xs) h = ap suc (declared_long bs kinds xs h.1)
+
+-- fields that hold what is inside their block, and are as declared
+fields_own : (p : ProgramSeen) (bs : List Block) → IsHeld bs → FieldsDeclared p bs → FieldsOwn p bs
+fields_own p bs held were = record {
+  full = λ a within lives. declared_long bs (field_kinds p.structs (block_at bs a).kind) (block_at bs a).fields (were a within lives);
+  once = held.holds_are;
+  rooted = held.rooted;
+}
 
 -- every event of a world of which the invariant holds is good
 module _ (always : HeldAlways) (longer : NeverLonger) (p : ProgramSeen) (bound : Bounds) (sound : IsSoundProgram p bound)
@@ -139,13 +164,19 @@ module _ (always : HeldAlways) (longer : NeverLonger) (p : ProgramSeen) (bound :
     queues = queues_are_walks always p bound sound w h.channels;
     holds = λ q v a. (owns_what p none w h q).holds v a;
     once = λ q a owned. (owns_what p none w h q).once a owned;
+    apart = λ q v a b inside. each_map (λ f. read f.variables v ≡ Some a → owns w.blocks q a ≡ true) (λ f. read f.variables v ≢ Some a)
+        (stack_at w.processes q) (λ f own is. true≢false (own is)
+        (inside_not_process (block_at w.blocks a).owner b q (is_inside_is (block_at w.blocks a).owner b inside)))
+        ((owns_what p none w h q).holds v a);
+    fields = fields_own p w.blocks h.held h.declared;
     stays_cut_off = λ e v a moved within cut. (subst (λ (o : Outcome). IsGood p w o) moved (good w e h)).1.each a within cut;
     ended = λ q a is. ended_has_nothing p w h q a is;
   }
 
 -- where nothing is found, every run is safe
-pub empty_report_is_safe : HeldAlways → NeverLonger → (p : ProgramSeen) (bound : Bounds) → AreWellFormed p.contracts p.messages p.structs p.methods
-    → AreSound p → AreBounds p bound → NothingIsFound p → (n : ℕ) (w : World) → IsEntry p n → Run p bound n w → IsSafe p bound w
+pub empty_report_is_safe : HeldAlways → NeverLonger → (p : ProgramSeen) (bound : Bounds)
+    → AreWellFormed p.contracts p.messages p.structs p.methods → AreSound p → AreBounds p bound → NothingIsFound p
+    → (n : ℕ) (w : World) → IsEntry p n → Run p bound n w → IsSafe p bound w
 empty_report_is_safe always longer p bound well sound bounds nothing n w entry run =
     let graphs = graphs_fit p well in
     let program = sound_program p bound sound bounds in

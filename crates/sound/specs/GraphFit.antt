@@ -5,15 +5,18 @@ use Rattle.program.specs.Lists.{Each, is_among}
 use Rattle.program.specs.Methods.{MethodSeen, VariableSeen}
 use Rattle.program.specs.Parts.{ContractSeen}
 use Rattle.program.specs.Programs.{ProgramSeen}
-use Rattle.program.specs.WellFormed.{are_ends, is_end, is_parameter, parameters}
+use Rattle.program.specs.WellFormed.{are_ends, field_kinds, is_end, is_parameter, parameters}
 use Rattle.program.specs.declared.call.Argument.{Argument}
+use Rattle.program.specs.declared.kind.Kind.{Kind}
 use Rattle.program.specs.declared.number.VarId.{VarId}
 use Rattle.program.specs.declared.statement.Awaited.{Awaited}
 use Rattle.program.specs.declared.statement.Awaited.TheVariants.{Message, Closed}
 use Rattle.program.specs.declared.statement.Channel.{Channel}
+use Rattle.program.specs.declared.statement.Exchange as stated
 use Rattle.program.specs.declared.statement.Mention.{Mention}
 use Rattle.flow.specs.Cases.{EntranceSeen, case_for, first_mentions}
-use Rattle.flow.specs.Graphs.{Instruction, Use, New, Move, Delete, NewChannel, Send, Switch, Branch, Forget, Call, Start, Return, Stop}
+use Rattle.flow.specs.Graphs.{Instruction, Use, New, Move, Delete, Exchange, NewChannel, Send, Switch, Branch, Forget, Call, Start}
+use Rattle.flow.specs.Graphs.{Return, Stop}
 use Rattle.flow.specs.Lowering.{graph_of}
 use Rattle.flow.specs.Within.{goes_on}
 use Rattle.rules.specs.Endpoints.{brought}
@@ -77,12 +80,23 @@ module _ (p : ProgramSeen) (m : MethodSeen) (scope : Scope) where
     pub given : IsTakenBy m.variables m.result value
     pub covers : (v : ℕ) → scope point v ≡ true → is_among (declared_between m None last) v ≡ true
 
-  -- New: the variable is of no endpoint.
-  pub record IsNewFit (point v next : ℕ) : Type 0 where
+  -- New: the variable is of no endpoint, and what is given is of the kinds of its fields that own.
+  pub record IsNewFit (point v : ℕ) (arguments : List Mention) (next : ℕ) : Type 0 where
     pub variable : VariableSeen
     pub there : slice_get m.variables v ≡ Some variable
     pub block : is_end variable.kind ≡ false
+    pub kinds : AreOfKinds m.variables (field_kinds p.structs variable.kind) (map (λ x. x.variable.0) arguments)
     pub in_scope : scope next v ≡ true
+    pub keeps : Keeps scope point next []
+
+  -- Exchange: the block of the holder has such a field, and what is given is of its kind.
+  pub record IsExchangeFit (point : ℕ) (e : stated.Exchange) (next : ℕ) : Type 0 where
+    pub holder : VariableSeen
+    pub holder_there : slice_get m.variables e.holder.variable.0 ≡ Some holder
+    pub kind : Kind
+    pub field_there : slice_get (field_kinds p.structs holder.kind) e.field ≡ Some kind
+    pub given : IsOfKind m.variables kind e.given.variable.0
+    pub in_scope : scope next e.given.variable.0 ≡ true
     pub keeps : Keeps scope point next []
 
   -- NewChannel: the contract is there, and the two variables are for its two ends.
@@ -120,7 +134,8 @@ module _ (p : ProgramSeen) (m : MethodSeen) (scope : Scope) where
   -- an instruction at a point
   abbrev pub IsFit : ℕ → Instruction → Type 0
   IsFit point (Use v next) = Keeps scope point next []
-  IsFit point (New v arguments next) = IsNewFit point v.variable.0 next
+  IsFit point (New v arguments next) = IsNewFit point v.variable.0 arguments next
+  IsFit point (Exchange e next) = IsExchangeFit point e next
   IsFit point (NewChannel c next) = IsChannelFit point c next
   IsFit point (Move v w next) = IsMoveFit point v.variable.0 w.variable.0 next
   IsFit point (Delete v next) = Keeps scope point next []

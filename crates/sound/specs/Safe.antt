@@ -3,12 +3,14 @@ use Rattle.std.specs.Prelude.{◌≡◌, ◌≢◌, ◌+◌, ◌==◌, ◌<◌, 
 use Rattle.program.specs.Lists.{Each}
 use Rattle.program.specs.Methods.{VariableSeen}
 use Rattle.program.specs.Programs.{ProgramSeen}
+use Rattle.program.specs.WellFormed.{field_kinds}
 use Rattle.program.specs.declared.kind.Side.{Side}
 use Rattle.rules.specs.Mentions.{is_lent_role}
 use Rattle.machine.specs.Frames.{variables_of}
 use Rattle.machine.specs.Machine.{event_outcome}
 use Rattle.machine.specs.Outcomes.{Bounds, Faulty, Moved}
-use Rattle.machine.specs.World.{Frame, World, cut_off, owns, read, stack_at}
+use Rattle.machine.specs.Heaps.{Rooted, occurs, one_if}
+use Rattle.machine.specs.World.{Block, Frame, World, block_at, cut_off, freed, is_inside, owns, read, stack_at}
 use Rattle.machine.specs.declared.halts.Event.{Event}
 use Rattle.machine.specs.declared.halts.Fault.{Fault}
 use Rattle.sound.specs.Queues.{IsLiveEnd, QueueIsWalk}
@@ -24,6 +26,16 @@ abbrev pub stands_in_frames : ProgramSeen → List Frame → ℕ → ℕ
 stands_in_frames p [] a = 0
 stands_in_frames p (f ∷ frames) a = stands_in (variables_of p f.method) f.variables a + stands_in_frames p frames a
 
+-- The fields that own: each holds a block that is inside theirs, and each block that is inside another is in just one field.
+pub record FieldsOwn (p : ProgramSeen) (blocks : List Block) : Type 0 where
+  -- a block that is not freed has an address in each field that owns of its struct
+  pub full : (a : ℕ) → a < length blocks → freed blocks a ≡ false
+      → length (block_at blocks a).fields ≡ length (field_kinds p.structs (block_at blocks a).kind)
+  -- An address stands once in the fields of the block that it is directly inside, and in no field of another.
+  pub once : (a x : ℕ) → occurs (block_at blocks a).fields x ≡ one_if (is_inside (block_at blocks x).owner a)
+  -- the owners lead from each address, in finitely many steps, to one that is inside no other
+  pub rooted : (x : ℕ) → Rooted blocks x
+
 -- What holds of a world, and of each event that may come next in it.
 pub record IsSafe (p : ProgramSeen) (bound : Bounds) (w : World) : Type 0 where
   -- no event is a fault
@@ -34,6 +46,11 @@ pub record IsSafe (p : ProgramSeen) (bound : Bounds) (w : World) : Type 0 where
   pub holds : (q v a : ℕ) → Each (λ f. read f.variables v ≡ Some a → owns w.blocks q a ≡ true) (stack_at w.processes q)
   -- what a process owns stands in exactly one of its variables, lent copies not counted
   pub once : (q a : ℕ) → owns w.blocks q a ≡ true → stands_in_frames p (stack_at w.processes q) a ≡ 1
+  -- what is inside a block stands in no variable, also not as a lent copy
+  pub apart : (q v a b : ℕ) → is_inside (block_at w.blocks a).owner b ≡ true
+      → Each (λ f. read f.variables v ≢ Some a) (stack_at w.processes q)
+  -- fields that own hold just what is inside their block, and each holds something
+  pub fields : FieldsOwn p w.blocks
   -- what is cut off stays so
   pub stays_cut_off : (e : Event) (v : World) (a : ℕ) → event_outcome p bound w e ≡ Moved v → a < length w.blocks
       → cut_off w.blocks a ≡ true → cut_off v.blocks a ≡ true

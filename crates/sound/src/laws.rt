@@ -15,8 +15,9 @@ ghost use Rattle.sound.specs.Safe.{IsSafe};
 use contracts::{Sound, two_ends};
 use program::Methods;
 
-/// The graphs of well formed methods fit: the operands of each instruction are there and of the right kind, each point has a scope,
-/// and what leaves the scope is in the Forget of the instruction.
+/// The graphs of well formed methods fit: the operands of each instruction are there and of the right kind, also what is given for the
+/// fields of a new block and what changes places with a field, each point has a scope, and what leaves the scope is in the Forget of the
+/// instruction.
 pub fn graphs_fit()
     ensures { (p : ProgramSeen) → AreWellFormed p.contracts p.messages p.structs p.methods → AreGraphsFit p }
 {}
@@ -31,7 +32,8 @@ pub fn runs_are_bounded()
 }
 
 /// A program of sound contracts in whose methods nothing is found is safe in every run: no event is a fault, each queue is a walk of
-/// its contract, a process holds just what it owns, what is cut off stays so, and a process that has ended owns nothing.
+/// its contract, a process holds just what it owns, what is cut off stays so, and a process that has ended owns nothing. In a block that
+/// is not freed each field that owns holds a block; that block stands in no variable and in no other field, and none is inside itself.
 pub fn empty_report_is_safe()
     ensures { (p : ProgramSeen) (bound : Bounds) → AreWellFormed p.contracts p.messages p.structs p.methods → AreSound p → AreBounds p bound
         → NothingIsFound p → (n : ℕ) (w : World) → IsEntry p n → Run p bound n w → IsSafe p bound w }
