@@ -13,9 +13,10 @@ use Rattle.tree.specs.declared.expression.Target as target_folds
 use Rattle.tree.specs.declared.expression.Atom.TheOpen as target_layer
 use Rattle.tree.specs.declared.expression.Target.TheVariants as target
 use Rattle.program.specs.Statements as seen
-use Rattle.program.specs.Statements.{StatementSeen, BlockSeen, CaseSeen, IfSeen, TestSeen, statement_seen, call_seen, send_seen}
+use Rattle.program.specs.Statements.{StatementSeen, BlockSeen, CaseSeen, IfSeen, TestSeen, statement_seen, new_seen, call_seen, send_seen}
 use Rattle.program.specs.declared.call.Call as resolved_call
 use Rattle.program.specs.declared.call.Send.{Send}
+use Rattle.program.specs.declared.statement as resolved
 use Rattle.program.specs.declared.statement.Statement.TheOpen as seen_layer
 use Rattle.program.specs.declared.statement.Statement.TheFolds as seen_folds
 use Rattle.program.specs.declared.statement.Statement.TheVariants as seen_variants
@@ -40,6 +41,9 @@ of_element e =
     (elements.fold_out-ElementTarget AtomTree (LevelTree (Joined Or)) (LevelTree (Joined Add)) TargetTree (LevelTree Single) (LevelTree (Joined And)) (LevelTree (Joined Or)) (Span × LevelTree (Joined Or)) (LevelTree (Joined Equal)) (StepOf Equal) FactorTree (LevelTree (Joined Add)) (LevelTree Single) (LevelTree (Joined Compare)) (StepOf Compare) atom_of expression_of sum_of target_of unary_of conjunction_of disjunction_of element_target_of equality_of equality_step_of factor_of factors_of prefixed_of relation_of relation_step_of e.value)
 
 -- the forms of a resolved statement
+
+pub new_is : (n : resolved.New.New) → statement_seen (seen_variants.New n) ≡ seen.New (new_seen n)
+new_is n = ap statement_seen (sym (seen_variants.rolls-New n)) ∙ seen_folds.fold-roll-Statement StatementSeen BlockSeen CaseSeen IfSeen TestSeen seen.statement_step seen.block_step seen.case_step seen.if_step seen.test_step (seen_layer.New n)
 
 pub called_is : (c : Box resolved_call.Call Global) → statement_seen (seen_variants.Call c) ≡ seen.Call (call_seen c.value)
 called_is c = ap statement_seen (sym (seen_variants.rolls-Call c)) ∙ seen_folds.fold-roll-Statement StatementSeen BlockSeen CaseSeen IfSeen TestSeen seen.statement_step seen.block_step seen.case_step seen.if_step seen.test_step (seen_layer.Call c)

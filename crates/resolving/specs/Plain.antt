@@ -16,12 +16,12 @@ use Rattle.names.specs.Kinds.{type_kind}
 use Rattle.names.specs.Program.{Program}
 use Rattle.program.specs.declared.number.ContractId.{ContractId}
 use Rattle.program.specs.Statements as seen
-use Rattle.program.specs.Statements.{CallSeen, SendSeen, StatementSeen, StatementsSeen}
+use Rattle.program.specs.Statements.{CallSeen, NewSeen, SendSeen, StatementSeen, StatementsSeen}
 use Rattle.program.specs.Statements.{BlockSeen, TestSeen, OthersSeen, CaseSeen, CasesSeen}
 use Rattle.program.specs.declared.call.Argument.{Argument}
 use Rattle.program.specs.declared.method.Role.TheVariants.{Local}
 use Rattle.program.specs.declared.statement.Action.{Action}
-use Rattle.program.specs.declared.statement.Action.TheVariants.{Nothing, Use, New, Move, Delete, NewChannel, Return}
+use Rattle.program.specs.declared.statement.Action.TheVariants.{Nothing, Use, Move, Delete, NewChannel, Return}
 use Rattle.program.specs.declared.statement.Mention.{Mention}
 use Rattle.resolving.specs.Locals.{Frame, mention, mention_of, declared, next_number, number_of}
 use Rattle.resolving.specs.Callees.{Callee, callee, called_name}
@@ -145,11 +145,15 @@ module _ (p : Program) (class : ℕ) (f : Frame) where
   made_reads (values.Struct name left) = []
   made_reads (values.Array element length) = reads p.text f.locals length
 
+  -- a variable takes a new block; nothing is given for fields, since no struct has one that owns
+  abbrev pub new_of : Mention → MadeTree → NewSeen
+  new_of target m = record { reads = made_reads m; target = target; arguments = [] }
+
   -- a variable of the exchange heap takes a value
   abbrev pub taken : Mention → ValueTree → StatementSeen
   taken target (values.Expression e) = told [] (moved target (lone e))
   taken target (values.Call c) = called c (Some target) []
-  taken target (values.New n) = told (made_reads n.made) (New target)
+  taken target (values.New n) = seen.New (new_of target n.made)
 
   -- a scalar takes a value
   abbrev pub scalar_taken : ValueTree → StatementSeen

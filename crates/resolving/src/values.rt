@@ -5,20 +5,21 @@ ghost use Rattle.tree.specs.ExpressionTrees.{expression_tree};
 ghost use Rattle.tree.specs.Trees.{ItemTree};
 ghost use Rattle.tree.specs.Values as values;
 ghost use Rattle.tree.specs.Values.{call_tree, value_tree, made_tree};
+ghost use Rattle.program.specs.Statements as seen;
 ghost use Rattle.program.specs.Statements.{statement_seen};
 ghost use Rattle.resolving.specs.Around.{IsAround, program_in};
 ghost use Rattle.resolving.specs.Steps.{AddsReads, Tells};
 ghost use Rattle.resolving.specs.Frames.{IsFrame};
 ghost use Rattle.resolving.specs.Locals.{Frame};
 ghost use Rattle.resolving.specs.Reads.{listed, reads};
-ghost use Rattle.resolving.specs.Plain.{told, lone, moved, used, made_reads, taken, scalar_taken, assigned, part_taken};
+ghost use Rattle.resolving.specs.Plain.{told, lone, moved, used, made_reads, new_of, taken, scalar_taken, assigned, part_taken};
 
 use crate::alone::name_alone;
 use crate::around::Around;
 use crate::calls::tell_call;
 use crate::locals::Locals;
 use crate::reads::add_reads;
-use program::{Action, Mention, Simple, Statement};
+use program::{Action, Mention, New, Simple, Statement};
 use std::alloc::{AllocError, Global};
 use tree::{Expression, Made, Value};
 
@@ -96,6 +97,27 @@ fn tell_made(
     Ok(reading(before, action))
 }
 
+/// The target takes a new block. Nothing is given for fields, since no struct has one that owns.
+fn tell_new(
+    alloc: Global,
+    text: &[u8],
+    locals: &Locals<'_>,
+    target: Mention,
+    made: &Made,
+) -> Result<Statement, AllocError>
+    ensures { (items : List ItemTree) (own : ℕ) → IfOk result (Tells text.now locals.now
+        (λ f. seen.New (new_of (program_in text.now items) own f target (made_tree made.now)))) }
+{
+    let mut reads = Vec::new(alloc);
+    add_made_reads(text, locals, made, &mut reads)?;
+    let arguments = Vec::new(alloc);
+    Ok(Statement::New(New {
+        reads,
+        target,
+        arguments,
+    }))
+}
+
 /// An expression is read, and this is done then, behind what was read before.
 pub(crate) fn tell_read(
     text: &[u8],
@@ -132,10 +154,7 @@ fn tell_taken(
             let behind = Vec::new(alloc);
             tell_call(alloc, text, around, locals, call, Some(target), behind)
         }
-        Value::New(new) => {
-            let reads = Vec::new(alloc);
-            tell_made(text, locals, reads, &new.made, Action::New(target))
-        }
+        Value::New(new) => tell_new(alloc, text, locals, target, &new.made),
     }
 }
 

@@ -1,5 +1,5 @@
 -- Values that variables and parts of blocks take.
-use Rattle.std.proofs.Common.{◌≡◌, ℕ, Bool, true, false, not, List, [], ◌++◌, length, sym, refl, ◌∙◌, subst, ◌⊎◌, inl, inr}
+use Rattle.std.proofs.Common.{◌≡◌, ℕ, Bool, true, false, not, List, [], ◌++◌, length, sym, refl, ap, ◌∙◌, subst, ◌⊎◌, inl, inr}
 use Rattle.std.specs.Option.{option_map_or}
 use Rattle.std.specs.Prelude.{Option, None, Some, option_map, slice_get, IsSomeAnd}
 use Rattle.std.proofs.lemmas.Bool.{not-true}
@@ -20,17 +20,19 @@ use Rattle.program.specs.Methods.{VariableSeen}
 use Rattle.program.specs.Statements.{Call}
 use Rattle.program.specs.declared.statement.Action.TheVariants as does
 use Rattle.program.specs.declared.statement.Mention.{Mention}
+use Rattle.resolving.specs.Fields.{structs_told}
 use Rattle.resolving.specs.Kinds.{result_held, state_in}
 use Rattle.resolving.specs.Locals.{Frame}
-use Rattle.resolving.specs.Plain.{call_of, called, lone, made_reads, moved, part_taken, scalar_taken, taken, told, used}
+use Rattle.resolving.specs.Plain.{call_of, called, lone, made_reads, moved, new_of, part_taken, scalar_taken, taken, told, used}
 use Rattle.resolving.specs.Reads.{listed, reads}
 use Rattle.program.specs.Lists.{Each}
-use Rattle.program.specs.WellFormed.{Holds, IsAction, IsIn, IsMention, IsStatement, IsTaken, Setting, TakesNew, is_end}
+use Rattle.program.specs.WellFormed.{HoldAll, Holds, IsAction, IsIn, IsMention, IsNew, IsStatement, IsTaken, Setting, field_kinds, is_end}
 use Rattle.wellformed.proofs.ArgumentLemmas.{asked_block, asked_known, holds_there}
 use Rattle.wellformed.proofs.CallLemmas.{CallsMethod, call_fits, call_means}
 use Rattle.wellformed.proofs.ExpressionLemmas.{reads_within}
 use Rattle.wellformed.proofs.SendLemmas.{SendsMessage}
 use Rattle.wellformed.proofs.KindLemmas.{Holding, agree_alike, alike_block, alike_held, alike_sym, array_no_end, block_holds, known_loud, loud_left, pointer_no_end, scalar_holds, type_known}
+use Rattle.wellformed.proofs.FieldLemmas.{none_owned}
 use Rattle.wellformed.proofs.FindingLemmas.{unless_none}
 use Rattle.wellformed.proofs.ListLemmas.{both_none, each_append}
 use Rattle.wellformed.proofs.ProgramLemmas.{result_clean}
@@ -130,12 +132,23 @@ made_no_end : (p : Program) (g : names.Frame) (m : MadeTree) (k : declared.Kind.
 made_no_end p g (values.Struct name left) k held known none fits is = struct_no_end p name (struct_named p name) k held known none fits is
 made_no_end p g (values.Array element length) k held known none fits is = array_no_end p element k held (loud_left (is_silent k) (alike (kind.Array element) k) (known_loud p k known) fits) is
 
-new_fits : (p : Program) (s : Setting) (g : names.Frame) (k : declared.Kind.Kind) (target : Mention) (v : VariableSeen) (n : NewTree) → IsKnown p k → slice_get s.variables target.variable.0 ≡ Some v → IsHeld p k v.kind
-    → new_findings (scope_of p g) k n ≡ [] → TakesNew s target.variable
-new_fits p s g k target v n known there holds none =
+-- nothing is given for fields, since no block has one that owns
+given_none : (p : Program) (s : Setting) (k : Kind) → s.structs ≡ structs_told p → HoldAll s (field_kinds s.structs k) []
+given_none p s k is = subst (λ kinds. HoldAll s kinds []) (sym (ap (λ structs. field_kinds structs k) is ∙ none_owned p k)) tt
+
+-- a variable takes a new block
+new_fits : (p : Program) (t : ClassTree) (class : ℕ) (result : Option tree.Type.Type) (s : Setting) (f : Frame) (g : names.Frame) (k : declared.Kind.Kind) (target : Mention) (v : VariableSeen) (n : NewTree)
+    → Around p t class result s → AreStanding p s.variables f g → IsKnown p k → slice_get s.variables target.variable.0 ≡ Some v → IsHeld p k v.kind
+    → IsIn s target.variable → new_findings (scope_of p g) k n ≡ [] → IsNew s (new_of p class f target n.made)
+new_fits p t class result s f g k target v n around standing known there holds inside none =
     let both = both_none (made_findings (scope_of p g) n.made) (unless (agree (made_kind (scope_of p g) n.made) k) n.word.place) none in
     let fits = unless_none (agree (made_kind (scope_of p g) n.made) k) n.word.place both.1 in
-    subst (λ o. IsSomeAnd o (λ x. is_end x.kind ≡ false)) (sym there) (made_no_end p g n.made k v.kind known both.0 fits holds)
+    record {
+      reads = made_within p class s f g standing n.made;
+      in_scope = inside;
+      taken = subst (λ o. IsSomeAnd o (λ x. (is_end x.kind ≡ false) × HoldAll s (field_kinds s.structs x.kind) [])) (sym there)
+          (made_no_end p g n.made k v.kind known both.0 fits holds, given_none p s v.kind around.structs_are);
+    }
 
 -- a variable of the exchange heap takes a value
 pub taken_fits : (p : Program) (t : ClassTree) (class : ℕ) (result : Option tree.Type.Type) (s : Setting) (f : Frame) (g : names.Frame) (k : declared.Kind.Kind) (target : Mention) (v : VariableSeen) (value : ValueTree)
@@ -148,7 +161,7 @@ taken_fits p t class result s f g k target v (values.Call c) around standing kno
     let x = asked_call p t class result s f g k c around standing none in
     let taken_is = block_result p s k target v x.method.result (result_clean p x.method x.number around.clean x.told) known block there holds x.fits in
     told_call p class s f g c (Some target) [] _ x (call_fits p t class result s f g c (Some target) [] _ around standing x (taken_is, inside) tt)
-taken_fits p t class result s f g k target v (values.New n) around standing known block there holds inside none = (made_within p class s f g standing n.made, (inside, new_fits p s g k target v n known there holds none))
+taken_fits p t class result s f g k target v (values.New n) around standing known block there holds inside none = new_fits p t class result s f g k target v n around standing known there holds inside none
 
 -- a scalar takes a value
 pub scalar_taken_fits : (p : Program) (t : ClassTree) (class : ℕ) (result : Option tree.Type.Type) (s : Setting) (f : Frame) (g : names.Frame) (k : declared.Kind.Kind) (value : ValueTree)

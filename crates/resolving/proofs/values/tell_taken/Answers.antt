@@ -1,9 +1,9 @@
-use Rattle.std.proofs.Common.{sym, ap, ◌∙◌, ◌++◌, [], Some}
+use Rattle.std.proofs.Common.{sym, ap, ◌∙◌, [], Some}
 use Rattle.tree.specs.Values.{call_tree, value_tree, made_tree}
 use Rattle.tree.specs.declared.value.Value.{Value}
-use Rattle.program.specs.declared.statement.Action.TheVariants.{New}
+use Rattle.program.specs.Statements as seen
 use Rattle.resolving.specs.Around.{program_in}
-use Rattle.resolving.specs.Plain.{told, called, moved, made_reads, taken}
+use Rattle.resolving.specs.Plain.{told, called, moved, new_of, taken}
 use Rattle.resolving.proofs.PlainLemmas.{told_as}
 use Rattle.resolving.proofs.values.tell_taken.Goals as goal
 
@@ -32,6 +32,6 @@ returns-in-New c = λ items own around.
     let locals = c.args.locals.now in
     let value = c.args.value.now in
     let made = made_tree c.in-New.new.made in
-    told_as text locals c.tell_made.result (λ f. told (c.new-reads.result.items ++ made_reads p own f made) (New c.args.target)) (λ f. taken p own f c.args.target (value_tree value))
-    (λ f frame. ap (λ l. told (l ++ made_reads p own f made) (New c.args.target)) c.new-reads.ensures.items ∙ ap (λ (v : Value). taken p own f c.args.target (value_tree v)) (sym c.in-New.is))
-    (c.tell_made.ensures items own)
+    told_as text locals c.tell_new.result (λ f. seen.New (new_of p own f c.args.target made)) (λ f. taken p own f c.args.target (value_tree value))
+    (λ f frame. ap (λ (v : Value). taken p own f c.args.target (value_tree v)) (sym c.in-New.is))
+    (c.tell_new.ensures items own)
