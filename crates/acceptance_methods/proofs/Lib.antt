@@ -1,1 +1,2 @@
 pub mod ContractLemmas
+pub mod FormedLemmas

@@ -6,6 +6,8 @@ mod channels;
 #[cfg(test)]
 mod faults;
 #[cfg(test)]
+mod fields;
+#[cfg(test)]
 mod interning;
 #[cfg(test)]
 mod steps;

@@ -49,7 +49,7 @@ fn analysed(
 }
 
 /// The verdict of a program's only method.
-fn verdict_of(
+pub(crate) fn verdict_of(
     alloc: Global,
     program: &Program,
     rows: &Rows,

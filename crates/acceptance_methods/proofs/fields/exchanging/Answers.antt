@@ -1,0 +1,8 @@
+use Rattle.acceptance_methods.proofs.FormedLemmas.{made_well_formed, one_method}
+use Rattle.acceptance_methods.proofs.fields.exchanging.Goals as goal
+
+pub new-requires-3 : goal.new-requires-3
+new-requires-3 c = record {
+  well_formed = made_well_formed _ _ _ _ c.new.ensures.items c.new-2.ensures.items c.in_ok-structs.ensures
+      (one_method _ _ _ c.new-methods.ensures.items c.in_ok-push.ensures.items c.in_ok-method.ensures);
+}
