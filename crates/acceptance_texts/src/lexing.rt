@@ -116,7 +116,7 @@ fn places_and_spans(rt: HostRuntime) -> Result<(), Fail> {
 }
 
 /// Every reserved word, in order of the alphabet.
-const RESERVED: [Kind; 37] = [
+const RESERVED: [Kind; 38] = [
     Kind::Bool,
     Kind::Break,
     Kind::Byte,
@@ -128,6 +128,7 @@ const RESERVED: [Kind; 37] = [
     Kind::Contract,
     Kind::Delete,
     Kind::Else,
+    Kind::Exchange,
     Kind::Exp,
     Kind::ExHeap,
     Kind::False,
@@ -159,14 +160,15 @@ const RESERVED: [Kind; 37] = [
 #[test]
 fn reserved_words(rt: HostRuntime) -> Result<(), Fail> {
     let text =
-        b"bool break byte case class ChannelClosed Claims continue contract delete else Exp ExHeap \
+        b"bool break byte case class ChannelClosed Claims continue contract delete else exchange Exp ExHeap \
         false if Imp in int internal message new NewChannel one out private public receive rep return start \
         state static struct switch true void while";
     let words = kinds(rt.alloc(), text)?;
     assert_eq!(rt; words.as_slice(), RESERVED.as_slice());
-    let text = b"Bool breaks channelClosed exheap In i iff _in internall Case rece NewChannels";
+    let text =
+        b"Bool breaks channelClosed exheap In i iff _in internall Case rece NewChannels exchanged Exchange";
     let names = kinds(rt.alloc(), text)?;
-    assert_eq!(rt; names.as_slice(), [Kind::Name; 12].as_slice());
+    assert_eq!(rt; names.as_slice(), [Kind::Name; 14].as_slice());
     Ok(())
 }
 

@@ -10,7 +10,7 @@ use std::test::Fail;
 use syntax::{SyntaxFault, parse};
 
 /// The words of the grammar.
-const WORDS: [(&str, Kind); 54] = [
+const WORDS: [(&str, Kind); 55] = [
     ("ID", Kind::Name),
     ("contract", Kind::Contract),
     ("message", Kind::Message),
@@ -52,6 +52,7 @@ const WORDS: [(&str, Kind); 54] = [
     ("Claims", Kind::Claims),
     ("start", Kind::Start),
     ("delete", Kind::Delete),
+    ("exchange", Kind::Exchange),
     ("NewChannel", Kind::NewChannel),
     ("if", Kind::If),
     ("else", Kind::Else),
@@ -198,6 +199,8 @@ fn agrees(alloc: Global, text: &str) -> Result<bool, AllocError> {
 fn every_form_of_a_program(rt: HostRuntime) -> Result<(), Fail> {
     for text in [
         "rep struct ID { int ID ; public bool ID ; }",
+        "rep struct ID { ID * in ExHeap ID ; private byte [ ] ! in ExHeap ID ; ID . Imp : ID ID ; internal ID . Exp ! in ExHeap ID ; }",
+        "class ID { static void ID ( ) { exchange ( ID . ID , ID ) ; ID = new [ ExHeap ] ID ( ID , 7 + ID . ID ) ; } }",
         "public class ID { static void ID ( ) { } private static ID * in ExHeap ID ( [ Claims ] ID * in ExHeap ID , int ID ) { \
             return ID ; } }",
         "class ID { static void ID ( ) { { } int ID ; byte [ ] in ExHeap ID = new [ ExHeap ] byte [ 7 ] ; ID * in ExHeap ID = ID ( ) ; \
@@ -236,12 +239,38 @@ fn first_wrong_tokens(rt: HostRuntime) -> Result<(), Fail> {
         ("class ID { static void ID ( int ID , ) { } }", 10),
         ("class ID { static void ID ( ) { ID ( ID , ) ; } }", 13),
         ("class ID { } }", 4),
-        // A field of a heap type, and a method that is not static.
-        ("rep struct ID { ID * in ExHeap ID ; }", 4),
+        // A field of no type, one whose type goes on behind its end, and a method that is not static.
+        ("rep struct ID { void ID ; }", 4),
+        ("rep struct ID { ID . Imp : ID * in ExHeap ID ; }", 9),
         ("class ID { public void ID ( ) { } }", 4),
         ("class ID { static void ID ( [ Claims ] ) { } }", 10),
         ("class ID { static void ID ( ) { return }", 10),
         ("class ID { static void ID ( ) {", 9),
+    ] {
+        let words: Vec<&str> = text.split_whitespace().collect(rt.alloc())?;
+        let tokens = tokens_of(rt.alloc(), &words)?;
+        assert!(rt; answers(rt.alloc(), &tokens, Some(wanted)), "{text}");
+    }
+    Ok(())
+}
+
+#[test]
+fn first_wrong_tokens_of_exchanges(rt: HostRuntime) -> Result<(), Fail> {
+    for (text, wanted) in [
+        // An exchange without its field, one with two, its word as a name, and a trailing comma in a `new`.
+        (
+            "class ID { static void ID ( ) { exchange ( ID , ID ) ; } }",
+            12,
+        ),
+        (
+            "class ID { static void ID ( ) { exchange ( ID . ID , ID . ID ) ; } }",
+            16,
+        ),
+        ("class ID { static void exchange ( ) { } }", 5),
+        (
+            "class ID { static void ID ( ) { ID = new [ ExHeap ] ID ( ID , ) ; } }",
+            19,
+        ),
     ] {
         let words: Vec<&str> = text.split_whitespace().collect(rt.alloc())?;
         let tokens = tokens_of(rt.alloc(), &words)?;

@@ -3,7 +3,7 @@ use Rattle.std.specs.Prelude.{ℕ, List, [], ◌∷◌, find, nat_eq, unwrap_or,
 use Rattle.std.specs.Cmp.Lexicographic.{pointwise}
 use Rattle.source.specs.declared.kind.Kind.{Kind}
 use Rattle.source.specs.declared.kind.Kind.TheVariants.{Name, Bool as BoolWord, Break, Byte, Case, Class, ChannelClosed, Claims}
-use Rattle.source.specs.declared.kind.Kind.TheVariants.{Continue, Contract, Delete, Else, Exp, ExHeap, False, If, Imp, In, Int}
+use Rattle.source.specs.declared.kind.Kind.TheVariants.{Continue, Contract, Delete, Else, Exchange, Exp, ExHeap, False, If, Imp, In, Int}
 use Rattle.source.specs.declared.kind.Kind.TheVariants.{Internal, Message, New, NewChannel, One, Out, Private, Public, Receive}
 use Rattle.source.specs.declared.kind.Kind.TheVariants.{Rep, Return, Start, State, Static, Struct, Switch, True, Void, While}
 
@@ -11,7 +11,7 @@ use Rattle.source.specs.declared.kind.Kind.TheVariants.{Rep, Return, Start, Stat
 abbrev pub reserved : List Kind
 reserved =
     BoolWord ∷ Break ∷ Byte ∷ Case ∷ Class ∷ ChannelClosed ∷ Claims ∷ Continue ∷ Contract ∷ Delete
-    ∷ Else ∷ Exp ∷ ExHeap ∷ False ∷ If ∷ Imp ∷ In ∷ Int ∷ Internal ∷ Message
+    ∷ Else ∷ Exchange ∷ Exp ∷ ExHeap ∷ False ∷ If ∷ Imp ∷ In ∷ Int ∷ Internal ∷ Message
     ∷ New ∷ NewChannel ∷ One ∷ Out ∷ Private ∷ Public ∷ Receive ∷ Rep ∷ Return ∷ Start
     ∷ State ∷ Static ∷ Struct ∷ Switch ∷ True ∷ Void ∷ While ∷ []
 
@@ -23,6 +23,7 @@ statement_word ChannelClosed = codes "ChannelClosed"
 statement_word Continue = codes "continue"
 statement_word Delete = codes "delete"
 statement_word Else = codes "else"
+statement_word Exchange = codes "exchange"
 statement_word False = codes "false"
 statement_word If = codes "if"
 statement_word New = codes "new"

@@ -17,6 +17,7 @@ pub enum Kind {
     Contract,
     Delete,
     Else,
+    Exchange,
     Exp,
     ExHeap,
     False,

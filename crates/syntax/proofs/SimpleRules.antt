@@ -10,8 +10,9 @@ use Rattle.tree.specs.Expressions.{ExpressionTree, expression, dot_name}
 use Rattle.syntax.specs.ExpressionReads.{opens_expression, expression_on, expression_at}
 use Rattle.tree.specs.Values.{ValueTree, CallTree, value_spelling, arguments}
 use Rattle.syntax.specs.ValueReads.{value_on, value_at}
-use Rattle.tree.specs.StatementGrammar.{init}
+use Rattle.tree.specs.StatementGrammar.{init, exchange}
 use Rattle.syntax.specs.StatementParts.{init_on, result_on, declared, assigned, called, channel_ends, jump, delete, start, return_parts}
+use Rattle.tree.specs.declared.statement as made
 use Rattle.syntax.specs.declared.statement_ends.ChannelEnds.{ChannelEnds}
 use Rattle.syntax.proofs.Pieces.{Piece, Follows, Meets, both, both_piece, next, via_piece, or_left, or_right}
 use Rattle.syntax.proofs.Beginnings.{Starts, splits_self}
@@ -201,3 +202,17 @@ ends_from p = record { word = p.0; «open» = p.1.0; first = p.1.1.1.0; second =
 
 pub channel_ends_piece : Piece channel_ends never (λ _. never)
 channel_ends_piece = via_piece ends_to ends_from (λ _. refl) (next (placed_piece kind.NewChannel) (next (placed_piece kind.OpenParen) (next (fixed_piece kind.Out) (next named_piece (next (fixed_piece kind.Comma) (next (fixed_piece kind.Out) (next named_piece (next (fixed_piece kind.CloseParen) (fixed_piece kind.Semicolon)))))))))
+
+-- exchange = "exchange" "(" ID "." ID "," ID ")" ";" .
+
+abbrev pub Exchanged : Type 0
+Exchanged = Span × (Span × (Span × (Unit {0} × (Span × (Unit {0} × (Span × (Unit {0} × Unit {0})))))))
+
+abbrev pub exchange_to : made.Exchange.Exchange → Exchanged
+exchange_to e = (e.word, (e.«open», (e.holder, (tt, (e.field, (tt, (e.given, (tt, tt))))))))
+
+abbrev pub exchange_from : Exchanged → made.Exchange.Exchange
+exchange_from p = record { word = p.0; «open» = p.1.0; holder = p.1.1.0; field = p.1.1.1.1.0; given = p.1.1.1.1.1.1.0 }
+
+pub exchange_piece : Piece exchange never (λ _. never)
+exchange_piece = via_piece exchange_to exchange_from (λ _. refl) (next (placed_piece kind.Exchange) (next (placed_piece kind.OpenParen) (next named_piece (next (fixed_piece kind.Dot) (next named_piece (next (fixed_piece kind.Comma) (next named_piece (next (fixed_piece kind.CloseParen) (fixed_piece kind.Semicolon)))))))))

@@ -118,7 +118,7 @@ value_tokens (Call c) = call_tokens c
 value_tokens (New n) = made_tokens n.made
   where
     made_tokens : SpellsTokens made_spelling
-    made_tokens (Struct span left) = refl
+    made_tokens (Struct span left given) = simp (list_all-append, listed_tokens expression level_tokens given)
     made_tokens (Array element length) = simp (list_all-append, level_tokens length)
 
 -- statements
@@ -144,6 +144,7 @@ mutual
   statement_tokens (form.Call c) = simp (list_all-append, call_tokens c)
   statement_tokens (form.Start span c) = simp (list_all-append, call_tokens c)
   statement_tokens (form.Delete span) = refl
+  statement_tokens (form.Exchange e) = refl
   statement_tokens (form.NewChannel n) = refl
   statement_tokens (form.If t more) = simp (list_all-append, test_tokens kind.If t, others_tokens more)
   statement_tokens (form.While t) = test_tokens kind.While t
@@ -181,7 +182,7 @@ access_tokens : SpellsTokens (optional (λ a. word (access_word a)))
 access_tokens = optional_tokens (λ a. word (access_word a)) (λ _. refl)
 
 field_tokens : SpellsTokens field
-field_tokens f = simp (list_all-append, access_tokens f.access)
+field_tokens f = simp (list_all-append, access_tokens f.access, type_tokens f.kind)
 
 result_tokens : SpellsTokens result_type
 result_tokens None = refl

@@ -5,7 +5,7 @@ use Rattle.std.specs.Option.{option_map}
 use Rattle.source.specs.declared.token.Span.{Span}
 use Rattle.tree.specs.ExpressionTrees.{expression_tree}
 use Rattle.tree.specs.Values.{call_tree}
-use Rattle.tree.specs.StatementTrees.{StatementTree, Block, Declare, Assign, Call, Start, Delete, NewChannel, If, While, Break, Continue, Return, Switch, BlockTree, Braces, CaseTree, Case, IfTree, SwitchTree, TestTree, Test, statement_row, case_row, other_row, declare_tree, assign_tree, statement_step, block_step, case_step, if_step, switch_step, test_step, statement_tree, block_tree, case_tree, if_tree, switch_tree, test_tree}
+use Rattle.tree.specs.StatementTrees.{StatementTree, Block, Declare, Assign, Call, Start, Delete, Exchange, NewChannel, If, While, Break, Continue, Return, Switch, BlockTree, Braces, CaseTree, Case, IfTree, SwitchTree, TestTree, Test, statement_row, case_row, other_row, declare_tree, assign_tree, statement_step, block_step, case_step, if_step, switch_step, test_step, statement_tree, block_tree, case_tree, if_tree, switch_tree, test_tree}
 use Rattle.tree.specs.declared.expression.Expression.{Expression}
 use Rattle.tree.specs.declared.value as value
 use Rattle.tree.specs.declared.statement as made
@@ -30,6 +30,9 @@ made_start span c = ap statement_tree (sym (variant.rolls-Start span c)) ∙ fol
 
 pub made_delete : (span : Span) → statement_tree (variant.Delete span) ≡ Delete span
 made_delete span = ap statement_tree (sym (variant.rolls-Delete span)) ∙ fold-roll-Statement StatementTree BlockTree CaseTree IfTree SwitchTree TestTree statement_step block_step case_step if_step switch_step test_step (layer.Delete span)
+
+pub made_exchange : (e : Box made.Exchange.Exchange Global) → statement_tree (variant.Exchange e) ≡ Exchange e.value
+made_exchange e = ap statement_tree (sym (variant.rolls-Exchange e)) ∙ fold-roll-Statement StatementTree BlockTree CaseTree IfTree SwitchTree TestTree statement_step block_step case_step if_step switch_step test_step (layer.Exchange e)
 
 pub made_new_channel : (n : Box made.NewChannel.NewChannel Global) → statement_tree (variant.NewChannel n) ≡ NewChannel n.value
 made_new_channel n = ap statement_tree (sym (variant.rolls-NewChannel n)) ∙ fold-roll-Statement StatementTree BlockTree CaseTree IfTree SwitchTree TestTree statement_step block_step case_step if_step switch_step test_step (layer.NewChannel n)

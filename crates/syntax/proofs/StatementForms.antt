@@ -12,8 +12,8 @@ use Rattle.syntax.specs.Firsts.{scalar_of}
 use Rattle.syntax.specs.Types.{scalar_type, scalar_at, of_scalar}
 use Rattle.tree.specs.Expressions.{ExpressionTree}
 use Rattle.tree.specs.Values.{ValueTree, CallTree}
-use Rattle.tree.specs.StatementTrees.{StatementTree, Block, Declare, Assign, Call, Start, Delete, NewChannel, If, While, Break, Continue, Return, Switch, BlockTree, Braces, TestTree, Test, IfTree, SwitchTree, case_row}
-use Rattle.tree.specs.StatementGrammar.{statement, block, test, others, case}
+use Rattle.tree.specs.StatementTrees.{StatementTree, Block, Declare, Assign, Call, Start, Delete, Exchange, NewChannel, If, While, Break, Continue, Return, Switch, BlockTree, Braces, TestTree, Test, IfTree, SwitchTree, case_row}
+use Rattle.tree.specs.StatementGrammar.{exchange, statement, block, test, others, case}
 use Rattle.syntax.specs.StatementParts.{if_parts, switch_parts, declared, jump, delete, start, return_parts}
 use Rattle.syntax.specs.StatementFirsts.{case_list}
 use Rattle.tree.specs.declared.types as type_nodes
@@ -105,6 +105,13 @@ delete_form = record { first = record { each = λ x. record { head = Fixed kind.
     each (Delete span) = Same span refl
     each z = other kind.Delete z refl
 
+pub exchange_form : Form statement exchange Exchange (is_kind kind.Exchange)
+exchange_form = record { first = record { each = λ e. record { head = Placed kind.Exchange e.word; tail = _; is = refl; first = refl } }; same = λ e. refl; each = each }
+  where
+    each : (z : StatementTree) → FormOf statement Exchange (is_kind kind.Exchange) z
+    each (Exchange e) = Same e refl
+    each z = other kind.Exchange z refl
+
 abbrev pub of_return : Span × Option ExpressionTree → StatementTree
 of_return p = Return p.0 p.1
 
@@ -177,6 +184,7 @@ scalar_declared_form = record {
     each (Call c) = away (Call c) kind.Name (begins_by (Call c)) refl
     each (Start span c) = away (Start span c) kind.Start (begins_by (Start span c)) refl
     each (Delete span) = away (Delete span) kind.Delete (begins_by (Delete span)) refl
+    each (Exchange e) = away (Exchange e) kind.Exchange (begins_by (Exchange e)) refl
     each (NewChannel n) = away (NewChannel n) kind.Name (begins_by (NewChannel n)) refl
     each (If t more) = away (If t more) kind.If (begins_by (If t more)) refl
     each (While t) = away (While t) kind.While (begins_by (While t)) refl

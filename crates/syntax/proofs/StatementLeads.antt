@@ -10,7 +10,7 @@ use Rattle.syntax.specs.Firsts.{scalar_of, opens_type}
 use Rattle.tree.specs.Grammar.{value_type}
 use Rattle.tree.specs.Expressions.{TargetTree, Variable, Field, Element}
 use Rattle.tree.specs.Values.{ValueTree}
-use Rattle.tree.specs.StatementTrees.{StatementTree, Block, Declare, Assign, Call, Start, Delete, NewChannel, If, While, Break, Continue, Return, Switch, Braces, Test}
+use Rattle.tree.specs.StatementTrees.{StatementTree, Block, Declare, Assign, Call, Start, Delete, Exchange, NewChannel, If, While, Break, Continue, Return, Switch, Braces, Test}
 use Rattle.tree.specs.StatementGrammar.{statement}
 use Rattle.syntax.specs.StatementParts.{declared}
 use Rattle.syntax.specs.StatementFirsts.{lead_of, opens_statement}
@@ -34,6 +34,7 @@ led_by (lead.Simple simple.Name) = kind_is kind.Name
 led_by (lead.Simple simple.Scalar) = λ k. is_some (scalar_of k)
 led_by (lead.Simple simple.Start) = kind_is kind.Start
 led_by (lead.Simple simple.Delete) = kind_is kind.Delete
+led_by (lead.Simple simple.Exchange) = kind_is kind.Exchange
 led_by (lead.Simple simple.Break) = kind_is kind.Break
 led_by (lead.Simple simple.Continue) = kind_is kind.Continue
 led_by (lead.Simple simple.Return) = kind_is kind.Return
@@ -49,6 +50,7 @@ led (Some kind.Bool) l e = subst (λ l. led_by l (Some kind.Bool) ≡ true) (one
 led (Some kind.Byte) l e = subst (λ l. led_by l (Some kind.Byte) ≡ true) (one_some e) refl
 led (Some kind.Start) l e = subst (λ l. led_by l (Some kind.Start) ≡ true) (one_some e) refl
 led (Some kind.Delete) l e = subst (λ l. led_by l (Some kind.Delete) ≡ true) (one_some e) refl
+led (Some kind.Exchange) l e = subst (λ l. led_by l (Some kind.Exchange) ≡ true) (one_some e) refl
 led (Some kind.Break) l e = subst (λ l. led_by l (Some kind.Break) ≡ true) (one_some e) refl
 led (Some kind.Continue) l e = subst (λ l. led_by l (Some kind.Continue) ≡ true) (one_some e) refl
 led (Some kind.Return) l e = subst (λ l. led_by l (Some kind.Return) ≡ true) (one_some e) refl
@@ -63,6 +65,7 @@ none_led (lead.Simple simple.Name) = refl
 none_led (lead.Simple simple.Scalar) = refl
 none_led (lead.Simple simple.Start) = refl
 none_led (lead.Simple simple.Delete) = refl
+none_led (lead.Simple simple.Exchange) = refl
 none_led (lead.Simple simple.Break) = refl
 none_led (lead.Simple simple.Continue) = refl
 none_led (lead.Simple simple.Return) = refl
@@ -79,6 +82,7 @@ opens_by (Assign a) = kind_is kind.Name
 opens_by (Call c) = kind_is kind.Name
 opens_by (Start span c) = kind_is kind.Start
 opens_by (Delete span) = kind_is kind.Delete
+opens_by (Exchange e) = kind_is kind.Exchange
 opens_by (NewChannel n) = kind_is kind.Name
 opens_by (If t more) = kind_is kind.If
 opens_by (While t) = kind_is kind.While
@@ -103,6 +107,7 @@ begins_by (Assign a) = assign_begins a.target a.value
 begins_by (Call c) = record { head = Named c.name; tail = _; is = refl; first = refl }
 begins_by (Start span c) = record { head = Placed kind.Start span; tail = _; is = refl; first = refl }
 begins_by (Delete span) = record { head = Fixed kind.Delete; tail = _; is = refl; first = refl }
+begins_by (Exchange e) = record { head = Placed kind.Exchange e.word; tail = _; is = refl; first = refl }
 begins_by (NewChannel n) = record { head = Named n.contract; tail = _; is = refl; first = refl }
 begins_by (If (Test span left e b) more) = record { head = Placed kind.If span; tail = _; is = refl; first = refl }
 begins_by (While (Test span left e b)) = record { head = Placed kind.While span; tail = _; is = refl; first = refl }
@@ -133,6 +138,7 @@ begins_statement (Block b) = of_kind (Block b) kind.OpenBrace (begins_by (Block 
 begins_statement (Call c) = of_kind (Call c) kind.Name (begins_by (Call c)) refl
 begins_statement (Start span c) = of_kind (Start span c) kind.Start (begins_by (Start span c)) refl
 begins_statement (Delete span) = of_kind (Delete span) kind.Delete (begins_by (Delete span)) refl
+begins_statement (Exchange e) = of_kind (Exchange e) kind.Exchange (begins_by (Exchange e)) refl
 begins_statement (NewChannel n) = of_kind (NewChannel n) kind.Name (begins_by (NewChannel n)) refl
 begins_statement (If t more) = of_kind (If t more) kind.If (begins_by (If t more)) refl
 begins_statement (While t) = of_kind (While t) kind.While (begins_by (While t)) refl

@@ -7,7 +7,7 @@ use Rattle.source.specs.declared.token.Span.{Span}
 use Rattle.syntax.specs.Reading.{never}
 use Rattle.tree.specs.Expressions.{TargetTree, Variable, Field, Element, ExpressionTree}
 use Rattle.tree.specs.Values.{ValueTree}
-use Rattle.tree.specs.StatementTrees.{StatementTree, Block, Declare, Assign, Call, Start, Delete, NewChannel, If, While, Break, Continue, Return, Switch, StatementTrees, NoStatement, MoreStatements, BlockTree, Braces, TestTree, Test, OtherTrees, NoOther, Else, ElseIf, CaseTree, Case, CaseTrees, NoCase, MoreCases}
+use Rattle.tree.specs.StatementTrees.{StatementTree, Block, Declare, Assign, Call, Start, Delete, Exchange, NewChannel, If, While, Break, Continue, Return, Switch, StatementTrees, NoStatement, MoreStatements, BlockTree, Braces, TestTree, Test, OtherTrees, NoOther, Else, ElseIf, CaseTree, Case, CaseTrees, NoCase, MoreCases}
 use Rattle.tree.specs.StatementGrammar.{statement, block, test, others, case}
 use Rattle.syntax.specs.StatementFirsts.{statement_on, others_at, statement_at, statements_on, statements_at, statement_list, case_at, cases_on, cases_at, case_list}
 use Rattle.tree.specs.declared.types as tree
@@ -21,11 +21,11 @@ use Rattle.syntax.proofs.Enclosed.{braced_way}
 use Rattle.syntax.proofs.CursorLemmas.{fixed_piece, placed_piece, named_piece}
 use Rattle.syntax.proofs.StatementRows.{case_list_row}
 use Rattle.syntax.proofs.StatementLeads.{statement_starts}
-use Rattle.syntax.proofs.SimpleRules.{jump_piece, delete_piece, start_piece, return_piece}
+use Rattle.syntax.proofs.SimpleRules.{jump_piece, delete_piece, exchange_piece, start_piece, return_piece}
 use Rattle.syntax.proofs.CaseRules.{case_front_piece}
 use Rattle.syntax.proofs.NameRests.{Passed, Written, Ended, Made, Member, Called, Indexed, Assigned, Pointed, Dotted, Plain}
 use Rattle.syntax.proofs.NamedForms.{named_way}
-use Rattle.syntax.proofs.StatementForms.{block_form, if_form, while_form, switch_form, break_form, continue_form, delete_form, return_form, start_form, scalar_declared_form, scalar_declared_piece}
+use Rattle.syntax.proofs.StatementForms.{block_form, if_form, while_form, switch_form, break_form, continue_form, delete_form, exchange_form, return_form, start_form, scalar_declared_form, scalar_declared_piece}
 use Rattle.syntax.proofs.StatementCycle.{block_to, block_from, block_back, block_spelled, test_to, test_from, test_back, test_spelled, Last, Further, others_to, others_from, others_back, others_spelled, others_stops, else_starts, else_opens, last_form, further_form, else_way, case_to, case_from, case_back, case_spelled, case_stops, case_starts, statement_splits, statement_leaves, case_splits, case_leaves, block_inside, cases_end, cases_follow, cases_meet, case_follows, case_meets, if_to, if_from, switch_to, switch_from}
 use Rattle.syntax.proofs.ExpressionFails.{parens_expression_piece}
 
@@ -52,6 +52,7 @@ mutual
   statement_way (Call c) = call_way c.name c.open_paren c.member c.arguments
   statement_way (Start span c) = form_way start_form (λ _ r _. stops_never r) (wide_way (λ y h. refl) (start_piece.each (span, c)))
   statement_way (Delete span) = form_way delete_form (λ _ r _. stops_never r) (wide_way (λ y h. refl) (delete_piece.each span))
+  statement_way (Exchange e) = form_way exchange_form (λ _ r _. stops_never r) (wide_way (λ y h. refl) (exchange_piece.each e))
   statement_way (NewChannel n) = named_way n.contract (Dotted (Made (record { word = n.word; «open» = n.«open»; first = n.first; second = n.second })))
   statement_way (If t more) = form_way if_form {x = record { first = t; others = more }} (λ _ r h. h) (via_way if_to if_from (λ _. refl) (both_way (test_way kind.If t) (others_way more) ends meets))
   statement_way (While t) = form_way while_form (λ _ r _. stops_never r) (wide_way (λ y h. refl) (test_way kind.While t))

@@ -1,39 +1,52 @@
 -- Structs as pieces.
-use Rattle.std.proofs.Common.{◌≡◌, true, false, List, Option, Some, None, refl}
+use Rattle.std.proofs.Common.{◌≡◌, true, false, List, [], ◌∷◌, ◌++◌, Option, Some, None, refl, sym, ap, subst}
 use Rattle.std.specs.List.{flat_map}
+use Rattle.source.specs.declared.kind.Kind.{Kind}
 use Rattle.source.specs.declared.kind.Kind.TheVariants as kind
 use Rattle.source.specs.declared.token.Span.{Span}
-use Rattle.tree.specs.Symbols.{Symbol, Fixed, by_kind}
-use Rattle.tree.specs.Spelling.{word, name, braced}
-use Rattle.syntax.specs.Reading.{never, optional_at}
-use Rattle.tree.specs.Grammar.{access_word, scalar_word}
-use Rattle.syntax.specs.Firsts.{opens_access, opens_field}
+use Rattle.tree.specs.Symbols.{Symbol, Fixed, by_kind, kind_at}
+use Rattle.tree.specs.Spelling.{name, braced}
+use Rattle.syntax.specs.Reading.{never, Stops, optional_at}
+use Rattle.tree.specs.Grammar.{access_word, value_type}
+use Rattle.syntax.specs.Firsts.{opens_access, opens_type, opens_field}
+use Rattle.syntax.specs.Types.{type_on, type_at}
 use Rattle.tree.specs.Trees.{StructTree}
 use Rattle.tree.specs.Programs.{field, struct}
 use Rattle.tree.specs.declared.class as made
 use Rattle.tree.specs.declared.item as item_nodes
-use Rattle.program.specs.declared.kind as kind_nodes
+use Rattle.tree.specs.declared.types as type_nodes
 use Rattle.tree.specs.declared.item.Access.TheVariants as access
-use Rattle.program.specs.declared.kind.Scalar.TheVariants as scalar
-use Rattle.syntax.proofs.Pieces.{Piece, Follows, Meets, both, both_piece, next, via_piece}
+use Rattle.syntax.proofs.Pieces.{Piece, Follows, Meets, both, both_piece, next, via_piece, stops_never}
 use Rattle.syntax.proofs.Beginnings.{Begins, Starts, splits_self}
 use Rattle.syntax.proofs.Repeats.{many_piece}
 use Rattle.syntax.proofs.Enclosed.{InBraces, braced_piece}
-use Rattle.syntax.proofs.Words.{words_piece}
 use Rattle.syntax.proofs.CursorLemmas.{fixed, fixed_piece, named_piece}
-use Rattle.syntax.proofs.TypeRules.{scalars}
+use Rattle.syntax.proofs.TypeForms.{type_piece, type_meets}
 use Rattle.syntax.proofs.AccessRules.{access_piece}
+use Rattle.syntax.proofs.CaseRules.{type_starts}
 
--- field = [ access ] scalar ID ";" .
+-- field = [ access ] type ID ";" .
+
+abbrev pub named_end : Span × Unit {0} → List Symbol
+named_end = both name (fixed kind.Semicolon)
+
+pub named_end_piece : Piece named_end never (λ _. never)
+named_end_piece = next named_piece (fixed_piece kind.Semicolon)
+
+pub type_ends : Follows type_on named_end never
+type_ends = record { each = λ p r h. refl }
+
+type_met : Meets type_at named_end (λ _. never)
+type_met = record { here = λ t p r h. type_meets.here t p.0 [] tt }
 
 abbrev Behind : Type 0
-Behind = kind_nodes.Scalar.Scalar × (Span × Unit {0})
+Behind = type_nodes.Type.Type × (Span × Unit {0})
 
 abbrev pub behind_access : Behind → List Symbol
-behind_access = both (λ s. word (scalar_word s)) (both name (fixed kind.Semicolon))
+behind_access = both value_type named_end
 
 pub behind_piece : Piece behind_access never (λ _. never)
-behind_piece = next (words_piece scalars) (next named_piece (fixed_piece kind.Semicolon))
+behind_piece = both_piece type_piece named_end_piece type_ends type_met
 
 abbrev pub field_to : made.Field.Field → Option item_nodes.Access.Access × Behind
 field_to f = (f.access, (f.kind, (f.name, tt)))
@@ -41,16 +54,23 @@ field_to f = (f.access, (f.kind, (f.name, tt)))
 abbrev pub field_from : Option item_nodes.Access.Access × Behind → made.Field.Field
 field_from p = record { access = p.0; kind = p.1.0; name = p.1.1.0 }
 
-apart : (s : kind_nodes.Scalar.Scalar) → opens_access (Some (scalar_word s)) ≡ false
-apart scalar.Int = refl
-apart scalar.Bool = refl
-apart scalar.Byte = refl
+-- no type begins with an access word
+type_apart : (k : Option Kind) → opens_type k ≡ true → opens_access k ≡ false
+type_apart (Some kind.Public) h = sym h
+type_apart (Some kind.Private) h = sym h
+type_apart (Some kind.Internal) h = sym h
+type_apart k h = refl
+
+access_stops : (p : Behind) (r : List Symbol) → Stops (by_kind opens_access) (behind_access p ++ r)
+access_stops p r =
+    let b = type_starts.each p.0 in
+    subst (λ l. Stops (by_kind opens_access) ((l ++ named_end p.1) ++ r)) (sym b.is) (type_apart (kind_at (b.head ∷ [])) b.first)
 
 pub field_follows : Follows (by_kind opens_access) behind_access never
-field_follows = record { each = λ p r h. apart p.0 }
+field_follows = record { each = λ p r h. access_stops p r }
 
 field_meets : Meets {X = Option item_nodes.Access.Access} (optional_at (by_kind opens_access) (λ _. never)) behind_access (λ _. never)
-field_meets = record { here = elim [ None ↦ λ p r h. apart p.0 | Some a ↦ λ p r h. refl ] }
+field_meets = record { here = elim [ None ↦ λ p r h. access_stops p r | Some a ↦ λ p r h. stops_never (behind_access p ++ r) ] }
 
 pub field_piece : Piece field never (λ _. never)
 field_piece = via_piece field_to field_from (λ _. refl) (both_piece access_piece behind_piece field_follows field_meets)
@@ -63,14 +83,17 @@ field_starts = record { each = λ f. begins f.access f.kind f.name }
     worded access.Private = refl
     worded access.Internal = refl
 
-    typed : (s : kind_nodes.Scalar.Scalar) → opens_field (Some (scalar_word s)) ≡ true
-    typed scalar.Int = refl
-    typed scalar.Bool = refl
-    typed scalar.Byte = refl
+    typed : (k : Option Kind) → opens_type k ≡ true → opens_field k ≡ true
+    typed (Some kind.Public) h = refl
+    typed (Some kind.Private) h = refl
+    typed (Some kind.Internal) h = refl
+    typed k h = h
 
-    begins : (o : Option item_nodes.Access.Access) (s : kind_nodes.Scalar.Scalar) (span : Span) → Begins field (by_kind opens_field) (record { access = o; kind = s; name = span })
-    begins None s span = record { head = Fixed (scalar_word s); tail = _; is = refl; first = typed s }
-    begins (Some a) s span = record { head = Fixed (access_word a); tail = _; is = refl; first = worded a }
+    begins : (o : Option item_nodes.Access.Access) (t : type_nodes.Type.Type) (span : Span) → Begins field (by_kind opens_field) (record { access = o; kind = t; name = span })
+    begins None t span =
+        let b = type_starts.each t in
+        record { head = b.head; tail = b.tail ++ named_end (span, tt); is = ap (λ l. l ++ named_end (span, tt)) b.is; first = typed (kind_at (b.head ∷ [])) b.first }
+    begins (Some a) t span = record { head = Fixed (access_word a); tail = _; is = refl; first = worded a }
 
 -- { field }
 

@@ -29,16 +29,16 @@ use Rattle.syntax.proofs.ExpressionFails.{index_piece, expression_piece, express
 use Rattle.syntax.proofs.ValueRules.{arguments_piece}
 use Rattle.syntax.proofs.ValueForms.{call_piece, call_to, call_from, dot_starts, dot_follows, lifted, lifted_spelled, no_expression, opens_call, no_call, no_member_call, value_only}
 
--- made_struct = ID "(" ")" .
+-- made_struct = ID arguments .
 
-abbrev pub struct_to : Span × Span → Span × (Span × Unit {0})
-struct_to p = (p.0, (p.1, tt))
+abbrev pub struct_to : Span × Span × List ExpressionTree → Span × (Span × List ExpressionTree)
+struct_to p = (p.0, (p.1, p.2))
 
-abbrev pub struct_from : Span × (Span × Unit {0}) → Span × Span
-struct_from p = (p.0, p.1.0)
+abbrev pub struct_from : Span × (Span × List ExpressionTree) → Span × Span × List ExpressionTree
+struct_from p = (p.0, p.1.0, p.1.1)
 
 pub struct_piece : Piece made_struct never (λ _. never)
-struct_piece = via_piece struct_to struct_from (λ _. refl) (next named_piece (next (placed_piece kind.OpenParen) (fixed_piece kind.CloseParen)))
+struct_piece = via_piece struct_to struct_from (λ _. refl) (next named_piece arguments_piece)
 
 -- made_array = scalar "[" expression "]" .
 
@@ -50,8 +50,8 @@ array_piece = via_piece array_to array_to (λ _. refl) (next (words_piece scalar
 
 -- made = made_struct | made_array .
 
-abbrev of_struct : Span × Span → MadeTree
-of_struct p = Struct p.0 p.1
+abbrev of_struct : Span × Span × List ExpressionTree → MadeTree
+of_struct p = Struct p.0 p.1 p.2
 
 abbrev of_array : Scalar × ExpressionTree → MadeTree
 of_array p = Array p.0 p.1
@@ -65,21 +65,21 @@ pub struct_form : Form made_spelling made_struct of_struct (is_kind kind.Name)
 struct_form = record {
   first = record { each = λ p. record { head = Named p.0; tail = _; is = refl; first = refl } };
   same = λ p. refl;
-  each = elim [ Struct span left ↦ Same (span, left) refl | Array s e ↦ Other (record { head = Fixed (scalar_word s); tail = _; is = refl; first = scalar_not_name s }) ];
+  each = elim [ Struct span left given ↦ Same (span, left, given) refl | Array s e ↦ Other (record { head = Fixed (scalar_word s); tail = _; is = refl; first = scalar_not_name s }) ];
 }
 
 pub array_form : Form made_spelling made_array of_array (λ y. not (is_kind kind.Name y))
 array_form = record {
   first = record { each = λ p. record { head = Fixed (scalar_word p.0); tail = _; is = refl; first = scalar_not_name p.0 } };
   same = λ p. refl;
-  each = elim [ Struct span left ↦ Other (record { head = Named span; tail = _; is = refl; first = refl }) | Array s e ↦ Same (s, e) refl ];
+  each = elim [ Struct span left given ↦ Other (record { head = Named span; tail = _; is = refl; first = refl }) | Array s e ↦ Same (s, e) refl ];
 }
 
 pub made_piece : Piece made_spelling never (λ _. never)
 made_piece = record { some = of_struct struct_piece.some; each = way }
   where
     way : (m : MadeTree) → ReadsOneWay made_spelling never (λ _. never) m
-    way (Struct span left) = form_way struct_form (λ _ r h. h) (struct_piece.each (span, left))
+    way (Struct span left given) = form_way struct_form (λ _ r h. h) (struct_piece.each (span, left, given))
     way (Array s e) = form_way array_form (λ _ r h. h) (array_piece.each (s, e))
 
 -- new = "new" "[" "ExHeap" "]" made .

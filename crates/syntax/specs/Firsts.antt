@@ -70,7 +70,7 @@ opens_access k = is_some (access_of k)
 
 -- whether a field does
 abbrev pub opens_field : Option Kind → Bool
-opens_field k = opens_access k || is_some (scalar_of k)
+opens_field k = opens_access k || opens_type k
 
 -- whether a parameter of a method does
 abbrev pub opens_parameter : Option Kind → Bool

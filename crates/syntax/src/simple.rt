@@ -12,7 +12,7 @@ use crate::cursor::{Cursor, Stuck};
 use crate::expressions::read_index;
 use crate::leads::{Lead, Simple};
 use crate::statement_ends::{
-    assigned, called, channel_ends, declared, delete, jump, return_statement, start,
+    assigned, called, channel_ends, declared, delete, exchange, jump, return_statement, start,
 };
 use crate::types::{endpoint_end, is_side, pointer_tail, scalar_type};
 use source::{Kind, Span};
@@ -47,6 +47,7 @@ pub fn simple_statement(
             Ok(Statement::Start { word, call })
         }
         Simple::Delete => Ok(Statement::Delete(delete(cursor)?)),
+        Simple::Exchange => Ok(Statement::Exchange(Box::new(alloc, exchange(cursor)?)?)),
         Simple::Break => Ok(Statement::Break(jump(cursor, Kind::Break)?)),
         Simple::Continue => Ok(Statement::Continue(jump(cursor, Kind::Continue)?)),
         Simple::Return => {

@@ -10,7 +10,7 @@ ghost use Rattle.syntax.specs.ExpressionReads.{opens_expression, expression_on, 
 ghost use Rattle.tree.specs.ExpressionTrees.{expression_tree};
 ghost use Rattle.tree.specs.Values.{value_tree, call_tree, call};
 ghost use Rattle.syntax.specs.ValueReads.{value_on, value_at};
-ghost use Rattle.tree.specs.StatementGrammar.{init};
+ghost use Rattle.tree.specs.StatementGrammar.{init, exchange};
 ghost use Rattle.syntax.specs.StatementParts.{init_on, result_on, declared, assigned, called, called_tree};
 ghost use Rattle.syntax.specs.StatementParts.{channel_ends, jump, delete, start, return_parts};
 
@@ -19,7 +19,7 @@ use crate::expressions::{dot_name, is_expression, read_expression};
 use crate::values::{read_arguments, read_value};
 use source::{Kind, Span};
 use std::alloc::Global;
-use tree::{Call, Expression, Value};
+use tree::{Call, Exchange, Expression, Value};
 
 /// declared = ID [ init ] ";" .
 pub fn declared(alloc: Global, cursor: &mut Cursor<'_>) -> Result<(Span, Option<Value>), Stuck>
@@ -118,6 +118,28 @@ pub fn delete(cursor: &mut Cursor<'_>) -> Result<Span, Stuck>
     let name = cursor.name()?;
     cursor.expect(Kind::Semicolon)?;
     Ok(name)
+}
+
+/// exchange = "exchange" "(" ID "." ID "," ID ")" ";" .
+pub fn exchange(cursor: &mut Cursor<'_>) -> Result<Exchange, Stuck>
+    ensures { ReadsEnded (λ x. x) exchange cursor.old cursor.new result }
+{
+    let word = cursor.placed(Kind::Exchange)?;
+    let open = cursor.placed(Kind::OpenParen)?;
+    let holder = cursor.name()?;
+    cursor.expect(Kind::Dot)?;
+    let field = cursor.name()?;
+    cursor.expect(Kind::Comma)?;
+    let given = cursor.name()?;
+    cursor.expect(Kind::CloseParen)?;
+    cursor.expect(Kind::Semicolon)?;
+    Ok(Exchange {
+        word,
+        open,
+        holder,
+        field,
+        given,
+    })
 }
 
 /// start = "start" call ";" .

@@ -12,7 +12,7 @@ ghost use Rattle.tree.specs.Programs.{field, struct};
 use crate::access::access;
 use crate::cursor::{Cursor, Stuck};
 use crate::fitted::push;
-use crate::types::scalar;
+use crate::types::{is_type, value_type};
 use source::{Kind, Span};
 use std::alloc::Global;
 use tree::{Field, Struct};
@@ -46,10 +46,7 @@ fn fields(alloc: Global, cursor: &mut Cursor<'_>) -> Result<(Vec<Field>, Span), 
 fn is_field(kind: Option<Kind>) -> bool
     ensures { result ≡ opens_field kind }
 {
-    matches!(
-        kind,
-        Some(Kind::Public | Kind::Private | Kind::Internal | Kind::Int | Kind::Bool | Kind::Byte)
-    )
+    matches!(kind, Some(Kind::Public | Kind::Private | Kind::Internal)) || is_type(kind)
 }
 
 /// { field }
@@ -64,12 +61,12 @@ fn field_row(alloc: Global, cursor: &mut Cursor<'_>) -> Result<Vec<Field>, Stuck
     Ok(all)
 }
 
-/// field = [ access ] scalar ID ";" .
+/// field = [ access ] type ID ";" .
 fn field(cursor: &mut Cursor<'_>) -> Result<Field, Stuck>
     ensures { ReadsEnded (λ x. x) field cursor.old cursor.new result }
 {
     let access = access(cursor);
-    let kind = scalar(cursor)?;
+    let kind = value_type(cursor)?;
     let name = cursor.name()?;
     cursor.expect(Kind::Semicolon)?;
     Ok(Field { access, kind, name })

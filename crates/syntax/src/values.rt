@@ -130,8 +130,12 @@ fn made(alloc: Global, cursor: &mut Cursor<'_>) -> Result<Made, Stuck>
     ensures { ReadsEnded made_tree made_spelling cursor.old cursor.new result }
 {
     if cursor.is_next(Kind::Name) {
-        let (name, open) = made_struct(cursor)?;
-        Ok(Made::Struct { name, open })
+        let (name, open, arguments) = made_struct(alloc, cursor)?;
+        Ok(Made::Struct {
+            name,
+            open,
+            arguments,
+        })
     } else {
         let (element, length) = made_array(alloc, cursor)?;
         let length = Box::new(alloc, length)?;
@@ -139,14 +143,16 @@ fn made(alloc: Global, cursor: &mut Cursor<'_>) -> Result<Made, Stuck>
     }
 }
 
-/// made_struct = ID "(" ")" .
-fn made_struct(cursor: &mut Cursor<'_>) -> Result<(Span, Span), Stuck>
-    ensures { ReadsEnded (λ x. x) made_struct cursor.old cursor.new result }
+/// made_struct = ID arguments .
+fn made_struct(
+    alloc: Global,
+    cursor: &mut Cursor<'_>,
+) -> Result<(Span, Span, Vec<Expression>), Stuck>
+    ensures { ReadsEnded (λ p. (p.0, p.1, map expression_tree p.2.items)) made_struct cursor.old cursor.new result }
 {
     let name = cursor.name()?;
-    let left = cursor.placed(Kind::OpenParen)?;
-    cursor.expect(Kind::CloseParen)?;
-    Ok((name, left))
+    let (open, arguments) = read_arguments(alloc, cursor)?;
+    Ok((name, open, arguments))
 }
 
 /// made_array = scalar "[" expression "]" .

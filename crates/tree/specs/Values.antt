@@ -21,7 +21,7 @@ pub record CallTree : Type 0 where
 
 -- what is made in the heap
 pub data MadeTree : Type 0 where
-  Struct : Span → Span → MadeTree
+  Struct : Span → Span → List ExpressionTree → MadeTree
   Array : Scalar → ExpressionTree → MadeTree
 
 -- what makes something in the heap
@@ -41,7 +41,7 @@ call_tree c = record { name = c.name; member = c.member; open_paren = c.open; ar
 
 -- what is made, in memory, as a tree
 abbrev pub made_tree : values.Made.Made → MadeTree
-made_tree (made.Struct name left) = Struct name left
+made_tree (made.Struct name left given) = Struct name left (map expression_tree given.items)
 made_tree (made.Array element length) = Array element (expression_tree length.value)
 
 -- what makes it, in memory, as a tree
@@ -62,9 +62,9 @@ arguments = parens (listed expression)
 abbrev pub call : CallTree → List Symbol
 call c = row (name c.name ∷ optional dot_name c.member ∷ arguments (c.open_paren, c.arguments) ∷ [])
 
--- made_struct = ID "(" ")" .
-abbrev pub made_struct : Span × Span → List Symbol
-made_struct p = row (name p.0 ∷ placed kind.OpenParen p.1 ∷ word kind.CloseParen ∷ [])
+-- made_struct = ID arguments ; what is given is for the fields that own
+abbrev pub made_struct : Span × Span × List ExpressionTree → List Symbol
+made_struct p = row (name p.0 ∷ arguments (p.1, p.2) ∷ [])
 
 -- made_array = scalar "[" expression "]" .
 abbrev pub made_array : Scalar × ExpressionTree → List Symbol
@@ -72,7 +72,7 @@ made_array p = row (word (scalar_word p.0) ∷ within kind.OpenBracket expressio
 
 -- made = made_struct | made_array .
 abbrev pub made_spelling : MadeTree → List Symbol
-made_spelling (Struct span left) = made_struct (span, left)
+made_spelling (Struct span left given) = made_struct (span, left, given)
 made_spelling (Array element length) = made_array (element, length)
 
 -- new = "new" "[" "ExHeap" "]" made .

@@ -3,7 +3,6 @@
 use crate::item::Access;
 use crate::statement::Block;
 use crate::types::Type;
-use program::Scalar;
 use source::Span;
 
 /// struct = "rep" "struct" ID "{" { field } "}" .
@@ -14,11 +13,11 @@ pub struct Struct {
     pub close: Span,
 }
 
-/// field = [ access ] scalar ID ";" .
+/// field = [ access ] type ID ";" .
 #[derive(Clone, Copy)]
 pub struct Field {
     pub access: Option<Access>,
-    pub kind: Scalar,
+    pub kind: Type,
     pub name: Span,
 }
 

@@ -30,6 +30,7 @@ pub enum Statement {
     },
     /// "delete" ID ";" .
     Delete(Span),
+    Exchange(Box<Exchange>),
     NewChannel(Box<NewChannel>),
     If(Box<If>),
     /// "while" "(" expression ")" block .
@@ -59,6 +60,16 @@ pub struct Declare {
 pub struct Assign {
     pub target: Target,
     pub value: Value,
+}
+
+/// exchange = "exchange" "(" ID "." ID "," ID ")" ";" .
+#[derive(Clone, Copy)]
+pub struct Exchange {
+    pub word: Span,
+    pub open: Span,
+    pub holder: Span,
+    pub field: Span,
+    pub given: Span,
 }
 
 /// new_channel = ID "." "NewChannel" "(" "out" ID "," "out" ID ")" ";" .

@@ -28,12 +28,14 @@ pub struct New {
     pub made: Made,
 }
 
-/// made = ID "(" ")" | scalar "[" expression "]" .
+/// made = ID "(" [ expression { "," expression } ] ")" | scalar "[" expression "]" .
 #[derive(Drop)]
 pub enum Made {
     Struct {
         name: Span,
         open: Span,
+        /// What is given for the fields that own.
+        arguments: Vec<Expression>,
     },
     Array {
         element: Scalar,

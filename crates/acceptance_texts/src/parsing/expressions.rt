@@ -97,6 +97,7 @@ fn values_that_are_read(rt: HostRuntime) -> Result<(), Fail> {
         "f ( a )",
         "f . g ( a , b [ 1 ] , - 1 )",
         "new [ ExHeap ] s ( )",
+        "new [ ExHeap ] s ( a , b [ 1 ] )",
         "new [ ExHeap ] int [ a + 1 ]",
     ] {
         let text = format!(in rt.alloc(); "{value} ; }} }}")?;
@@ -145,7 +146,8 @@ fn first_wrong_tokens_of_values(rt: HostRuntime) -> Result<(), Fail> {
         ("f . g ( a", 5),
         ("f ( g ( 1 ) )", 3),
         ("new ExHeap", 1),
-        ("new [ ExHeap ] s ( a )", 6),
+        ("new [ ExHeap ] s ( a , )", 8),
+        ("new [ ExHeap ] s [ a ]", 5),
         ("new [ ExHeap ] int ( )", 5),
         ("new [ ExHeap ] int [ ]", 6),
         ("new [ ExHeap ] 1", 4),

@@ -4,7 +4,7 @@ use std::alloc::{AllocError, Global};
 
 /// An alternative of a rule; of the operators of expressions, which differ in the tree alone, some. What stands in angles is a rule, any
 /// other word a token, `END` the end of the text.
-const RULES: [(&str, &str); 120] = [
+const RULES: [(&str, &str); 121] = [
     ("<program>", "END"),
     ("<program>", "<item> <program>"),
     ("<item>", "<definition>"),
@@ -14,8 +14,8 @@ const RULES: [(&str, &str); 120] = [
     ("<definition>", "class ID { <methods> }"),
     ("<fields>", ""),
     ("<fields>", "<field> <fields>"),
-    ("<field>", "<scalar> ID ;"),
-    ("<field>", "<access> <scalar> ID ;"),
+    ("<field>", "<type> ID ;"),
+    ("<field>", "<access> <type> ID ;"),
     ("<methods>", ""),
     ("<methods>", "<method> <methods>"),
     ("<methods>", "<access> <method> <methods>"),
@@ -37,6 +37,7 @@ const RULES: [(&str, &str); 120] = [
     ("<statement>", "<call> ;"),
     ("<statement>", "start <call> ;"),
     ("<statement>", "delete ID ;"),
+    ("<statement>", "exchange ( ID . ID , ID ) ;"),
     ("<statement>", "ID . NewChannel ( out ID , out ID ) ;"),
     ("<statement>", "if ( <expression> ) <block> <else>"),
     ("<else>", ""),
@@ -64,7 +65,7 @@ const RULES: [(&str, &str); 120] = [
     ("<target>", "ID [ <expression> ]"),
     ("<value>", "<expression>"),
     ("<value>", "<call>"),
-    ("<value>", "new [ ExHeap ] ID ( )"),
+    ("<value>", "new [ ExHeap ] ID ( <arguments> )"),
     ("<value>", "new [ ExHeap ] <scalar> [ <expression> ]"),
     ("<call>", "ID ( <arguments> )"),
     ("<call>", "ID . ID ( <arguments> )"),

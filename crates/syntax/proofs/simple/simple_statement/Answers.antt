@@ -12,7 +12,7 @@ use Rattle.syntax.proofs.SimpleRules.{declared_piece}
 use Rattle.syntax.proofs.NameRests.{name_rest_piece}
 use Rattle.syntax.proofs.NamedForms.{named_form}
 use Rattle.syntax.proofs.StatementLeads.{lead_leads}
-use Rattle.syntax.proofs.StatementForms.{break_form, continue_form, delete_form, return_form, start_form, scalar_declared_form, declared_follows}
+use Rattle.syntax.proofs.StatementForms.{break_form, continue_form, delete_form, exchange_form, return_form, start_form, scalar_declared_form, declared_follows}
 use Rattle.syntax.proofs.simple.simple_statement.Goals as goal
 
 pub returns-in_err-name-in-Name : goal.returns-in_err-name-in-Name
@@ -34,6 +34,10 @@ returns-in_err-word-in-Start c = exits statement_tree statement statement_on sta
 pub returns-in_err-delete-in-Delete : goal.returns-in_err-delete-in-Delete
 returns-in_err-delete-in-Delete c = exits statement_tree statement statement_on statement_at _ _ _ _ _ c.from_residual-in_err-delete-in-Delete.ensures.1 c.in_err-delete-in-Delete.ensures
     (λ h. form_fails delete_form (lead_leads (lead.Simple simple.Delete) _ (c.requires ∙ ap (λ s. Some (lead.Simple s)) c.in-Delete.is)) (wide_fails (λ y k. refl) h))
+
+pub returns-in_err-exchange-in-Exchange : goal.returns-in_err-exchange-in-Exchange
+returns-in_err-exchange-in-Exchange c = exits statement_tree statement statement_on statement_at _ _ _ _ _ c.from_residual-in_err-exchange-in-Exchange.ensures.1 c.in_err-exchange-in-Exchange.ensures
+    (λ h. form_fails exchange_form (lead_leads (lead.Simple simple.Exchange) _ (c.requires ∙ ap (λ s. Some (lead.Simple s)) c.in-Exchange.is)) (wide_fails (λ y k. refl) h))
 
 pub returns-in_err-jump-in-Break : goal.returns-in_err-jump-in-Break
 returns-in_err-jump-in-Break c = exits statement_tree statement statement_on statement_at _ _ _ _ _ c.from_residual-in_err-jump-in-Break.ensures.1 c.in_err-jump-in-Break.ensures

@@ -2,23 +2,22 @@ use Rattle.std.proofs.Common.{refl}
 use Rattle.source.specs.declared.kind.Kind.TheVariants as kind
 use Rattle.syntax.specs.Reading.{never}
 use Rattle.syntax.proofs.Exits.{exits}
-use Rattle.syntax.proofs.Pieces.{fails_here, fails_after, fails_second, via_fails, next}
-use Rattle.syntax.proofs.Words.{words_piece}
+use Rattle.syntax.proofs.Pieces.{fails_first, fails_here, fails_after, fails_second, via_fails}
 use Rattle.syntax.proofs.CursorLemmas.{fixed_piece, named_piece}
 use Rattle.tree.specs.Programs.{field}
-use Rattle.syntax.proofs.TypeRules.{scalars}
+use Rattle.syntax.proofs.TypeForms.{type_piece}
 use Rattle.syntax.proofs.AccessRules.{access_piece}
-use Rattle.syntax.proofs.StructRules.{field_to, field_from, field_follows}
+use Rattle.syntax.proofs.StructRules.{named_end_piece, type_ends, field_to, field_from, field_follows}
 use Rattle.syntax.proofs.structs.field.Goals as goal
 
 pub returns-in_err-kind : goal.returns-in_err-kind
 returns-in_err-kind c = exits (λ x. x) field never (λ _. never) _ _ _ _ _ c.from_residual.ensures.1 c.in_err-kind.ensures
-    (λ h. via_fails field_to field_from (λ _. refl) (fails_second c.access-access.result access_piece c.access-access.ensures field_follows (fails_here h (next named_piece (fixed_piece kind.Semicolon)))))
+    (λ h. via_fails field_to field_from (λ _. refl) (fails_second c.access-access.result access_piece c.access-access.ensures field_follows (fails_first h named_end_piece type_ends)))
 
 pub returns-in_err-name : goal.returns-in_err-name
 returns-in_err-name c = exits (λ x. x) field never (λ _. never) _ _ _ _ _ c.from_residual-in_err-name.ensures.1 c.in_err-name.ensures
-    (λ h. via_fails field_to field_from (λ _. refl) (fails_second c.access-access.result access_piece c.access-access.ensures field_follows (fails_after c.in_ok-kind.kind (words_piece scalars) c.in_ok-kind.ensures (fails_here h (fixed_piece kind.Semicolon)))))
+    (λ h. via_fails field_to field_from (λ _. refl) (fails_second c.access-access.result access_piece c.access-access.ensures field_follows (fails_second c.in_ok-kind.kind type_piece c.in_ok-kind.ensures type_ends (fails_here h (fixed_piece kind.Semicolon)))))
 
 pub returns-in_err-expect : goal.returns-in_err-expect
 returns-in_err-expect c = exits (λ x. x) field never (λ _. never) _ _ _ _ _ c.from_residual-in_err-expect.ensures.1 c.in_err-expect.ensures
-    (λ h. via_fails field_to field_from (λ _. refl) (fails_second c.access-access.result access_piece c.access-access.ensures field_follows (fails_after c.in_ok-kind.kind (words_piece scalars) c.in_ok-kind.ensures (fails_after c.in_ok-name.name named_piece c.in_ok-name.ensures h))))
+    (λ h. via_fails field_to field_from (λ _. refl) (fails_second c.access-access.result access_piece c.access-access.ensures field_follows (fails_second c.in_ok-kind.kind type_piece c.in_ok-kind.ensures type_ends (fails_after c.in_ok-name.name named_piece c.in_ok-name.ensures h))))

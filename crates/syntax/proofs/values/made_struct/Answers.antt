@@ -1,21 +1,18 @@
-use Rattle.std.proofs.Common.{refl}
-use Rattle.source.specs.declared.kind.Kind.TheVariants as kind
+use Rattle.std.proofs.Common.{refl, map}
 use Rattle.syntax.specs.Reading.{never}
+use Rattle.tree.specs.ExpressionTrees.{expression_tree}
 use Rattle.tree.specs.Values.{made_struct}
 use Rattle.syntax.proofs.Exits.{exits}
-use Rattle.syntax.proofs.Pieces.{next, fails_here, fails_after, via_fails}
-use Rattle.syntax.proofs.CursorLemmas.{fixed_piece, placed_piece, named_piece}
+use Rattle.syntax.proofs.Pieces.{fails_here, fails_after, via_fails}
+use Rattle.syntax.proofs.CursorLemmas.{named_piece}
+use Rattle.syntax.proofs.ValueRules.{arguments_piece}
 use Rattle.syntax.proofs.ValueFails.{struct_to, struct_from}
 use Rattle.syntax.proofs.values.made_struct.Goals as goal
 
 pub returns-in_err-name : goal.returns-in_err-name
-returns-in_err-name c = exits (λ x. x) made_struct never (λ _. never) _ _ _ _ _ c.from_residual.ensures.1 c.in_err-name.ensures
-    (λ h. via_fails struct_to struct_from (λ _. refl) (fails_here h (next (placed_piece kind.OpenParen) (fixed_piece kind.CloseParen))))
+returns-in_err-name c = exits (λ p. (p.0, p.1, map expression_tree p.2.items)) made_struct never (λ _. never) _ _ _ _ _ c.from_residual.ensures.1 c.in_err-name.ensures
+    (λ h. via_fails struct_to struct_from (λ _. refl) (fails_here h arguments_piece))
 
-pub returns-in_err-left : goal.returns-in_err-left
-returns-in_err-left c = exits (λ x. x) made_struct never (λ _. never) _ _ _ _ _ c.from_residual-in_err-left.ensures.1 c.in_err-left.ensures
-    (λ h. via_fails struct_to struct_from (λ _. refl) (fails_after c.in_ok-name.name named_piece c.in_ok-name.ensures (fails_here h (fixed_piece kind.CloseParen))))
-
-pub returns-in_err-expect : goal.returns-in_err-expect
-returns-in_err-expect c = exits (λ x. x) made_struct never (λ _. never) _ _ _ _ _ c.from_residual-in_err-expect.ensures.1 c.in_err-expect.ensures
-    (λ h. via_fails struct_to struct_from (λ _. refl) (fails_after c.in_ok-name.name named_piece c.in_ok-name.ensures (fails_after c.in_ok-left.left (placed_piece kind.OpenParen) c.in_ok-left.ensures h)))
+pub returns-in_err-open : goal.returns-in_err-open
+returns-in_err-open c = exits (λ p. (p.0, p.1, map expression_tree p.2.items)) made_struct never (λ _. never) _ _ _ _ _ c.from_residual-in_err-open.ensures.1 c.in_err-open.ensures
+    (λ h. via_fails struct_to struct_from (λ _. refl) (fails_after c.in_ok-name.name named_piece c.in_ok-name.ensures h))
