@@ -175,7 +175,7 @@ message 1 A Out
 }
 
 /// Texts, and what is wrong with their names.
-const FINDINGS: [(&str, &str); 13] = [
+const FINDINGS: [(&str, &str); 14] = [
     ("", ""),
     (
         "contract S { in message S(int S, S.Imp:S x); in message T(int S); state S: S? -> S; }",
@@ -224,6 +224,13 @@ const FINDINGS: [(&str, &str); 13] = [
     (
         "rep struct A { int x; bool x; }\ncontract A { in message M(A* in ExHeap p, A.Imp e); state S: ; }",
         "1:28 N01 x declared twice\n2:10 N01 A declared twice\n2:43 N02 A unknown\n",
+    ),
+    (
+        "rep struct D { int n; }\nrep struct S { D* in ExHeap d; int n; None* in ExHeap x; }\n\
+        class K { static void F(S* in ExHeap s, D* in ExHeap d) { s.d = d; D* in ExHeap q = s.d; exchange(s.n, d); \
+        exchange(s.d, s); s = new[ExHeap] S(d); } }",
+        "2:39 N02 None unknown\n3:61 N03 wrong type\n3:85 N03 wrong type\n3:101 N03 wrong type\n3:104 N03 wrong type\n\
+        3:122 N03 wrong type\n3:142 N04 wrong number of arguments\n",
     ),
 ];
 

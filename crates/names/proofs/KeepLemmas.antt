@@ -62,6 +62,7 @@ statement_extends m (trees.Assign a) f = same_extends f _ refl
 statement_extends m (trees.Call c) f = same_extends f _ refl
 statement_extends m (trees.Start word c) f = same_extends f _ refl
 statement_extends m (trees.Delete name) f = same_extends f _ refl
+statement_extends m (trees.Exchange e) f = same_extends f _ refl
 statement_extends m (trees.NewChannel n) f = same_extends f _ refl
 statement_extends m (trees.If first others) f = same_extends f _ (others_same m others (test_turn m first f).frame ∙ test_same m first f)
 statement_extends m (trees.While test) f = same_extends f _ (test_same (in_loop m) test f)

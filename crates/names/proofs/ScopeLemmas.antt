@@ -8,7 +8,7 @@ use Rattle.tree.specs.declared.item as tree
 use Rattle.names.specs.Program.{Program, item_at, as_contract, as_struct, as_class}
 use Rattle.names.specs.Scopes.{AllMembers, AreMembers, IsDeclared, AreFields, IsContract, IsStruct, IsClass, as_declared, as_fields, as_methods}
 use Rattle.names.specs.declared.members.Declared.{Declared}
-use Rattle.names.specs.declared.members.Fields.{Fields}
+use Rattle.names.specs.declared.fields.Fields.{Fields}
 use Rattle.names.specs.declared.members.Methods.{Methods}
 use Rattle.names.specs.declared.members.Members.{Members}
 use Rattle.names.specs.declared.members.Members.TheVariants as members
@@ -118,6 +118,10 @@ no_struct text (Some s) h = absurd h
 pub contract_seen : (text : List ℕ) (o : Option (ℕ × ContractTree)) (k : ℕ) (found : Option (Bor Declared)) → IsContract text o (option_map (λ c. (k, c)) (option_copied found)) → IsContract text o (option_map (λ d. (k, d.now)) found)
 contract_seen text o k None h = h
 contract_seen text o k (Some d) h = h
+
+pub struct_seen : (text : List ℕ) (o : Option (ℕ × StructTree)) (k : ℕ) (found : Option (Bor Fields)) → IsStruct text o (option_map (λ f. (k, f)) (option_copied found)) → IsStruct text o (option_map (λ f. (k, f.now)) found)
+struct_seen text o k None h = h
+struct_seen text o k (Some f) h = h
 
 pub class_seen : (text : List ℕ) (o : Option (ℕ × ClassTree)) (found : Option (Bor Methods)) → IsClass text o (option_copied found) → IsClass text o (option_map (λ m. m.now) found)
 class_seen text o None h = h

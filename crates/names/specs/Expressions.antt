@@ -1,5 +1,5 @@
 -- The kind of an expression, and what is wrong with the names and kinds in it.
-use Rattle.std.specs.Prelude.{ℕ, Bool, ◌||◌, not, List, [], ◌∷◌, ◌++◌, map, codes, if◌then◌else◌}
+use Rattle.std.specs.Prelude.{ℕ, Bool, false, ◌||◌, not, List, [], ◌∷◌, ◌++◌, map, codes, if◌then◌else◌}
 use Rattle.std.specs.Prelude.{Option, None, Some, is_some, option_and_then, slice_get}
 use Rattle.std.specs.Option.{option_map_or}
 use Rattle.source.specs.declared.place.Place.{Place}
@@ -7,7 +7,7 @@ use Rattle.source.specs.declared.token.Span.{Span}
 use Rattle.program.specs.declared.kind.Scalar.TheVariants as scalar
 use Rattle.names.specs.Declarations.{first_among}
 use Rattle.names.specs.Found.{FindingParts, unknown}
-use Rattle.names.specs.Kinds.{is_silent, is_unknown, is_number, is_truth, is_block, unless}
+use Rattle.names.specs.Kinds.{is_silent, is_unknown, is_number, is_truth, is_block, is_heap, type_kind, unless}
 use Rattle.names.specs.Program.{Program, as_struct, item_at}
 use Rattle.names.specs.Shapes.{Shape, Number, Truth, Mention, Field, Element, Parens, Signed}
 use Rattle.names.specs.Shapes.{Joined, Joint, Logic, Likeness, Order, Sum, Sign, Denial, Minus}
@@ -48,7 +48,17 @@ place_of (Joined joint left right) = place_of left
 -- the kind of a field of what a variable holds; of an array there is the length alone
 abbrev pub struct_field_kind : InScope → Option made.Field.Field → Kind
 struct_field_kind s None = kind.Unknown
-struct_field_kind s (Some f) = kind.Scalar f.kind
+struct_field_kind s (Some f) = type_kind s.program f.kind
+
+-- A field owns where it is of a type of the exchange heap, whether the names in that are declared or not.
+abbrev pub is_owning : Option made.Field.Field → Bool
+is_owning None = false
+is_owning (Some f) = is_heap f.kind
+
+-- whether a field of what a variable holds owns
+abbrev pub owns : InScope → Kind → Span → Bool
+owns s (kind.Pointer n) field = option_map_or (λ x. is_owning (field_named s.program.text x.1 field)) (item_at as_struct s.program n) false
+owns s _ field = false
 
 abbrev pub field_kind : InScope → Kind → Span → Kind
 field_kind s (kind.Array element) field = if is_length s field then kind.Scalar scalar.Int else kind.Unknown
@@ -146,7 +156,9 @@ abbrev pub expression_findings : InScope → Shape → List FindingParts
 expression_findings s (Number place) = []
 expression_findings s (Truth place) = []
 expression_findings s (Mention name) = mention_findings s name
-expression_findings s (Field name field) = variable_findings s name ++ field_findings s (held (meant s name)) name field
+expression_findings s (Field name field) =
+    variable_findings s name ++ (field_findings s (held (meant s name)) name field
+    ++ unless (not (owns s (held (meant s name)) field)) name.place)
 expression_findings s (Element name index) =
     expression_findings s index ++ (asked_number (kind_of s index) (place_of index)
     ++ (variable_findings s name ++ element_findings (held (meant s name)) name))

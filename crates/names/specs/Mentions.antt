@@ -1,18 +1,14 @@
 -- What is judged of the variables in expressions and targets.
-use Rattle.std.specs.Prelude.{◌≡◌, ℕ, List, Option, None, Some}
+use Rattle.std.specs.Prelude.{◌≡◌, List}
 use Rattle.source.specs.declared.finding.Finding.{Finding}
-use Rattle.tree.specs.Trees.{StructTree}
 use Rattle.names.specs.Expressions.{InScope}
 use Rattle.names.specs.Found.{Adds, FindingParts}
 use Rattle.names.specs.Frames.{IsFrame}
 use Rattle.names.specs.Operands.{in_frame}
 use Rattle.names.specs.Program.{Program}
-use Rattle.names.specs.Scopes.{IsScope, AreFields}
+use Rattle.names.specs.Scopes.{IsScope}
 use Rattle.names.specs.Variables.{Frame}
 use Rattle.names.specs.declared.kinds.Kind.{Kind}
-use Rattle.names.specs.declared.members.Fields.{Fields}
-use Rattle.names.specs.declared.members.Members.{Members}
-use Rattle.names.specs.declared.members.Members.TheVariants as members
 use Rattle.names.specs.declared.scope.Scope.{Scope}
 use Rattle.names.specs.declared.variables.Variables.{Variables}
 
@@ -31,15 +27,3 @@ pub record Gives (scope : Scope) (variables : Variables) (kind : InScope → Kin
     (old new : List Finding) (k : Kind) : Type 0 where
   pub all : (p : Program) (f : Frame) → IsScope p scope → IsFrame p.text f variables
       → IsGiven (kind (in_frame p f)) (more (in_frame p f)) old new k
-
--- what a look-up of a struct answers
-abbrev pub IsStruct : List ℕ → Option (ℕ × StructTree) → Option Fields → Type 0
-IsStruct text None None = Unit {0}
-IsStruct text (Some x) (Some f) = AreFields text x.1 f
-IsStruct text _ _ = ⊥
-
--- the fields that a definition declares
-abbrev pub fields_declared : Members → Option Fields
-fields_declared (members.Contract d) = None
-fields_declared (members.Struct f) = Some f
-fields_declared (members.Class m) = None

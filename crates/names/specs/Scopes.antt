@@ -12,10 +12,10 @@ use Rattle.names.specs.Numbered.{names_in, places_named}
 use Rattle.names.specs.Outlines.{IsOutline}
 use Rattle.names.specs.Program.{Program, item_names}
 use Rattle.tables.specs.Tables.{IsTable}
-use Rattle.names.specs.Values.{can_start}
+use Rattle.names.specs.Values.{can_start, owning_fields}
 use Rattle.tables.specs.Words.{words_at}
 use Rattle.names.specs.declared.members.Declared.{Declared}
-use Rattle.names.specs.declared.members.Fields.{Fields}
+use Rattle.names.specs.declared.fields.Fields.{Fields}
 use Rattle.names.specs.declared.members.Methods.{Methods}
 use Rattle.names.specs.declared.members.Members.{Members}
 use Rattle.names.specs.declared.members.Members.TheVariants as members
@@ -32,9 +32,10 @@ pub record IsDeclared (text : List ℕ) (c : ContractTree) (d : Declared) : Type
   pub all : d.counted.all.items ≡ flat_map names_in (states_of c)
   pub named : d.counted.named.items ≡ places_named (states_of c)
 
--- the fields of a struct, and the table of them
+-- the fields of a struct, those that own, and the table of them
 pub record AreFields (text : List ℕ) (s : StructTree) (f : Fields) : Type 0 where
   pub list : f.list.now ≡ s.fields
+  pub owning : f.owning.items ≡ owning_fields s
   pub table : IsTable (words_at text (map (λ x. x.name) s.fields)) f.table
 
 -- the methods of a class, which of them can be started, and the table of them

@@ -19,7 +19,7 @@ use crate::variables::Variables;
 use crate::wholes::judge_asked;
 use source::{Finding, Memory};
 use std::alloc::Global;
-use tree::{Expression, Param, Parameter};
+use tree::{Expression, Field, Param, Parameter};
 
 /// Adds what is wrong with an argument for a parameter of this kind, if there is one.
 fn judge_argument(
@@ -103,6 +103,23 @@ fn message_kinds(
     Ok(kinds)
 }
 
+/// The kinds of the first so many of these fields.
+fn field_kinds(
+    alloc: Global,
+    scope: &Scope<'_>,
+    fields: &[Field],
+    most: usize,
+) -> Result<Vec<Kind>, Memory>
+    ensures { IfOk result (λ kinds. (p : Program) → IsScope p scope.now
+        → kinds.items ≡ map (λ f. type_kind p f.kind) (take most fields.now)) }
+{
+    let mut kinds = Vec::new(alloc);
+    for field in &fields[..most.min(fields.len())] {
+        kinds.push(kind_of_type(scope, field.kind))?;
+    }
+    Ok(kinds)
+}
+
 /// Adds what is wrong with arguments for the parameters of a method.
 pub(crate) fn judge_parameter_arguments(
     alloc: Global,
@@ -134,5 +151,22 @@ pub(crate) fn judge_message_arguments(
         (map (λ x. type_kind p x.kind) parameters.now) (map shape (map expression_tree arguments.now)))) }
 {
     let kinds = message_kinds(alloc, scope, parameters, arguments.len())?;
+    judge_arguments(alloc, scope, variables, &kinds, arguments, found)
+}
+
+/// Adds what is wrong with arguments for these fields.
+pub(crate) fn judge_field_arguments(
+    alloc: Global,
+    scope: &Scope<'_>,
+    variables: &Variables<'_>,
+    fields: &[Field],
+    arguments: &[Expression],
+    found: &mut Vec<Finding>,
+) -> Result<(), Memory>
+    ensures { (p : Program) (f : Frame) → IsScope p scope.now → IsFrame p.text f variables.now
+        → OnOk result (Adds found.old.items found.new.items (argument_findings (record { program = p; variables = f.variables })
+        (map (λ x. type_kind p x.kind) fields.now) (map shape (map expression_tree arguments.now)))) }
+{
+    let kinds = field_kinds(alloc, scope, fields, arguments.len())?;
     judge_arguments(alloc, scope, variables, &kinds, arguments, found)
 }

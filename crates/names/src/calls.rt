@@ -102,7 +102,7 @@ fn judge_known_method(
 }
 
 /// Adds that this name is not declared, and what is wrong with the arguments behind it.
-fn judge_unknown(
+pub(crate) fn judge_unknown(
     alloc: Global,
     scope: &Scope<'_>,
     variables: &Variables<'_>,

@@ -5,19 +5,22 @@ ghost use Rattle.std.specs.List.{flat_map};
 ghost use Rattle.tree.specs.Trees.{DefinitionTree, StructTree, item_tree, definition_tree, method_tree};
 ghost use Rattle.names.specs.Findings.{definition_findings, program_findings};
 ghost use Rattle.names.specs.Found.{Adds};
+ghost use Rattle.names.specs.Kinds.{type_unknown};
 ghost use Rattle.names.specs.Methods.{struct_findings, items_findings, methods_in};
 ghost use Rattle.names.specs.Program.{Program};
 ghost use Rattle.names.specs.Scopes.{IsScope, AreFields, AreMembers};
 
 use crate::contracts::{judge_contract, judge_counted};
+use crate::fields::{Fields, names_of_fields};
 use crate::judging::{judge_limit, judge_twice};
-use crate::members::{Fields, Members, names_of_fields};
+use crate::members::Members;
 use crate::methods::judge_class;
 use crate::scope::{Scope, names_of_items};
-use program::MOST_METHODS;
+use crate::types::judge_type;
+use program::{MOST_FIELDS, MOST_METHODS};
 use source::{Finding, Memory, Span};
 use std::alloc::{AllocError, Global};
-use tree::{Definition, Item, Method};
+use tree::{Definition, Field, Item, Method};
 
 /// Adds all that is wrong with the names and kinds of a program.
 pub(crate) fn judge_program(
@@ -69,23 +72,42 @@ fn judge_definition<'a>(
 {
     match members {
         Members::Contract(declared) => judge_contract(alloc, scope, declared, found),
-        Members::Struct(fields) => judge_struct(alloc, scope.text, fields, found),
+        Members::Struct(fields) => judge_struct(alloc, scope, fields, found),
         Members::Class(methods) => judge_class(alloc, scope, methods, found),
     }
 }
 
-/// Adds each field of a struct whose name an earlier one has.
+/// Adds each field of a struct whose name an earlier one has, the names in the types of its fields that are not declared,
+/// and the field that owns one past the limit.
 fn judge_struct(
     alloc: Global,
-    text: &[u8],
+    scope: &Scope<'_>,
     fields: &Fields<'_>,
     found: &mut Vec<Finding>,
 ) -> Result<(), Memory>
-    ensures { (p : Program) (s : StructTree) → text.now ≡ p.text → AreFields p.text s fields.now
+    ensures { (p : Program) (s : StructTree) → IsScope p scope.now → AreFields p.text s fields.now
         → OnOk result (Adds found.old.items found.new.items (struct_findings p s)) }
 {
     let names = names_of_fields(alloc, fields.list)?;
-    judge_twice(alloc, text, &fields.table, &names, found)
+    judge_twice(alloc, scope.text, &fields.table, &names, found)?;
+    judge_types(alloc, scope, fields.list, found)?;
+    let owning = names_of_fields(alloc, &fields.owning)?;
+    judge_limit(alloc, MOST_FIELDS, &owning, found)
+}
+
+fn judge_types(
+    alloc: Global,
+    scope: &Scope<'_>,
+    fields: &[Field],
+    found: &mut Vec<Finding>,
+) -> Result<(), Memory>
+    ensures { (p : Program) → IsScope p scope.now
+        → OnOk result (Adds found.old.items found.new.items (flat_map (λ f. type_unknown p f.kind) fields.now)) }
+{
+    for field in fields {
+        judge_type(alloc, scope, field.kind, found)?;
+    }
+    Ok(())
 }
 
 /// The names of all methods in these items, in order.

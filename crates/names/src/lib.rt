@@ -9,8 +9,10 @@ mod cases;
 mod contracts;
 mod counted;
 mod edges;
+mod exchanges;
 mod expressions;
 mod fault;
+mod fields;
 mod heads;
 mod items;
 mod judging;
@@ -47,8 +49,8 @@ mod wholes;
 pub use fault::NameFaults;
 pub use kinds::Kind;
 pub use program::{
-    ContractId, MOST_CONTRACTS, MOST_METHODS, MOST_PARAMETERS, MOST_STATES, MOST_VARIABLES,
-    MessageId, MethodId, Resolved, StateId, VarId,
+    ContractId, MOST_CONTRACTS, MOST_FIELDS, MOST_METHODS, MOST_PARAMETERS, MOST_STATES,
+    MOST_VARIABLES, MessageId, MethodId, Resolved, StateId, VarId,
 };
 pub use resolving::resolve;
 pub use scope::Scope;

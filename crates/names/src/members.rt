@@ -2,20 +2,20 @@
 
 ghost use Rattle.std.specs.Prelude.{◌≡◌, List, ℕ, map, IfOk, option_map, slice_get};
 ghost use Rattle.std.specs.Option.{option_copied};
-ghost use Rattle.tree.specs.Trees.{ContractTree, StructTree, ClassTree, contract_tree, struct_tree};
+ghost use Rattle.tree.specs.Trees.{ContractTree, ClassTree, contract_tree};
 ghost use Rattle.tree.specs.Trees.{class_tree, definition_tree, message_tree, method_tree};
 ghost use Rattle.names.specs.Declarations.{first_among, names_of_messages, names_of_states};
-ghost use Rattle.names.specs.Expressions.{field_named};
 ghost use Rattle.names.specs.Outlines.{outlined_messages, outlined_states};
 ghost use Rattle.names.specs.Values.{message_written, method_named};
 
+use crate::fields::Fields;
 use crate::outline::Outline;
 use crate::starts::{Callee, startable_methods};
 use crate::state_names::{StateNames, state_names};
 use source::Span;
 use std::alloc::{AllocError, Global};
 use tables::Table;
-use tree::{Class, Contract, Definition, Field, Message, Method, Struct};
+use tree::{Class, Contract, Definition, Message, Method};
 
 /// What a contract declares, where each of its names is declared first, and the names at which its states are counted.
 #[derive(Drop)]
@@ -24,13 +24,6 @@ pub(crate) struct Declared<'a> {
     pub(crate) messages: Table<'a>,
     pub(crate) states: Table<'a>,
     pub(crate) counted: StateNames,
-}
-
-/// The fields of a struct, and where each of their names is declared first.
-#[derive(Drop)]
-pub(crate) struct Fields<'a> {
-    pub(crate) list: &'a [Field],
-    pub(crate) table: Table<'a>,
 }
 
 /// The methods of a class, whether each can be started, and where each of their names is declared first.
@@ -145,34 +138,6 @@ impl<'a> Declared<'a> {
     }
 }
 
-impl<'a> Fields<'a> {
-    ghost use Rattle.names.specs.Scopes.{AreFields};
-
-    /// The fields of a struct.
-    pub(crate) fn of(
-        alloc: Global,
-        text: &'a [u8],
-        structure: &'a Struct,
-    ) -> Result<Fields<'a>, AllocError>
-        ensures { IfOk result (AreFields text.now (struct_tree structure.now)) }
-    {
-        let names = names_of_fields(alloc, &structure.fields)?;
-        let table = Table::of(alloc, text, &names)?;
-        Ok(Fields {
-            list: &structure.fields,
-            table,
-        })
-    }
-
-    /// The first field of this name.
-    pub(crate) fn find(&self, text: &[u8], name: Span) -> Option<Field>
-        ensures { (s : StructTree) → AreFields text.now s self.now → result ≡ field_named text.now s name }
-    {
-        let place = self.table.find(name.slice(text))?;
-        self.list.get(place).copied()
-    }
-}
-
 impl<'a> Methods<'a> {
     ghost use Rattle.names.specs.Scopes.{AreMethods, IsCallee};
 
@@ -243,17 +208,6 @@ impl<'a> Outline<'a> {
         }
         Ok(names)
     }
-}
-
-/// The names of these fields, in order.
-pub(crate) fn names_of_fields(alloc: Global, fields: &[Field]) -> Result<Vec<Span>, AllocError>
-    ensures { IfOk result (λ names. names.items ≡ map (λ f. f.name) fields.now) }
-{
-    let mut names = Vec::new(alloc);
-    for field in fields {
-        names.push(field.name)?;
-    }
-    Ok(names)
 }
 
 /// The names of these methods, in order.

@@ -1,29 +1,30 @@
 //! What is wrong with the variables in an expression, their fields and their elements.
 
-ghost use Rattle.std.specs.Prelude.{◌≡◌, ℕ, List, [], ◌∷◌, OnOk, IfOk, Option, option_map, is_some, codes, if◌then◌else◌};
+ghost use Rattle.std.specs.Prelude.{◌≡◌, ℕ, List, [], ◌∷◌, OnOk, IfOk, is_some, codes, if◌then◌else◌};
 ghost use Rattle.source.specs.declared.finding.Finding.{Finding};
 ghost use Rattle.source.specs.declared.token.Span.{Span};
 ghost use Rattle.tree.specs.Trees.{StructTree};
 ghost use Rattle.names.specs.Expressions.{InScope, meant, held, variable_findings, field_kind, field_findings};
-ghost use Rattle.names.specs.Expressions.{element_kind, element_findings, struct_field_kind, field_named};
+ghost use Rattle.names.specs.Expressions.{element_kind, element_findings, struct_field_kind, field_named, is_owning, owns};
 ghost use Rattle.names.specs.Found.{Adds, unknown};
-ghost use Rattle.names.specs.Mentions.{Gives, GivesIn, IsGiven, IsStruct, fields_declared};
+ghost use Rattle.names.specs.Mentions.{Gives, GivesIn, IsGiven};
 ghost use Rattle.names.specs.Operands.{Judges};
-ghost use Rattle.names.specs.Program.{Program, item_at, as_struct};
 ghost use Rattle.names.specs.Scopes.{IsScope, AreFields};
 ghost use Rattle.names.specs.Shapes as shapes;
 ghost use Rattle.names.specs.Shapes.{Shape};
 ghost use Rattle.tables.specs.Words.{word_at, same_word};
 
+use crate::fields::Fields;
 use crate::judging::add_unknown;
 use crate::kinds::Kind;
-use crate::members::{Fields, Members};
 use crate::operands::{Operand, ask, ask_number};
 use crate::scope::Scope;
+use crate::types::{is_heap, kind_of_type};
 use crate::variables::Variables;
 use program::Scalar;
 use source::{Finding, Memory, Span};
 use std::alloc::Global;
+use tree::Field;
 
 /// What a variable holds; adds the name if nothing declares it.
 pub(crate) fn judge_variable(
@@ -76,6 +77,7 @@ pub(crate) fn judge_field_of(
 {
     let held = judge_variable(alloc, scope, variables, variable, found)?;
     let kind = judge_field(alloc, scope, held, variable, field, found)?;
+    ask(alloc, !owns(scope, held, field), variable.place, found)?;
     Ok(Operand {
         kind,
         place: variable.place,
@@ -154,6 +156,25 @@ pub(crate) fn judge_field(
     }
 }
 
+/// Whether a field of what a variable holds owns.
+pub(crate) fn owns(scope: &Scope<'_>, held: Kind, field: Span) -> bool
+    ensures { (s : InScope) → IsScope s.program scope.now → result ≡ owns s held field }
+{
+    match held {
+        Kind::Pointer(place) => is_owning(scope.field(place, field)),
+        _ => false,
+    }
+}
+
+fn is_owning(field: Option<Field>) -> bool
+    ensures { result ≡ is_owning field }
+{
+    match field {
+        Some(field) => is_heap(field.kind),
+        None => false,
+    }
+}
+
 /// The kind of a field of an array; adds any but its length.
 fn judge_length(
     alloc: Global,
@@ -191,8 +212,8 @@ fn judge_struct_field(
     ensures { IfOk result (GivesIn scope.now (λ s. field_kind s (Kind.Pointer place) field)
         (λ s. field_findings s (Kind.Pointer place) field field) found.old.items found.new.items) }
 {
-    match struct_at(scope, place) {
-        Some(fields) => judge_field_in(alloc, scope.text, fields, field, found),
+    match scope.structure_at(place) {
+        Some(fields) => judge_field_in(alloc, scope, fields, field, found),
         None => Ok(Kind::Unknown),
     }
 }
@@ -200,38 +221,21 @@ fn judge_struct_field(
 /// The kind of a field of a struct; adds one that it lacks.
 fn judge_field_in(
     alloc: Global,
-    text: &[u8],
+    scope: &Scope<'_>,
     fields: &Fields<'_>,
     field: Span,
     found: &mut Vec<Finding>,
 ) -> Result<Kind, Memory>
-    ensures { IfOk result (λ k. (s : InScope) (x : StructTree) → AreFields text.now x fields.now
-        → IsGiven (struct_field_kind s (field_named text.now x field))
-        (if is_some (field_named text.now x field) then [] else unknown text.now field ∷ [])
+    ensures { IfOk result (λ k. (s : InScope) (x : StructTree) → IsScope s.program scope.now → AreFields scope.now.text.now x fields.now
+        → IsGiven (struct_field_kind s (field_named scope.now.text.now x field))
+        (if is_some (field_named scope.now.text.now x field) then [] else unknown scope.now.text.now field ∷ [])
         found.old.items found.new.items k) }
 {
-    match fields.find(text, field) {
-        Some(declared) => Ok(Kind::Scalar(declared.kind)),
+    match fields.find(scope.text, field) {
+        Some(declared) => Ok(kind_of_type(scope, declared.kind)),
         None => {
-            add_unknown(alloc, text, field, found)?;
+            add_unknown(alloc, scope.text, field, found)?;
             Ok(Kind::Unknown)
         }
-    }
-}
-
-/// What the item at this place declares, if it is a struct.
-fn struct_at<'s, 'a>(scope: &'s Scope<'a>, place: usize) -> Option<&'s Fields<'a>>
-    ensures { (p : Program) → IsScope p scope.now → IsStruct p.text (item_at as_struct p place) (option_map (λ f. f.now) result) }
-{
-    fields_of(scope.members.get(place)?)
-}
-
-/// The fields, if a struct declares them.
-fn fields_of<'s, 'a>(members: &'s Members<'a>) -> Option<&'s Fields<'a>>
-    ensures { option_map (λ f. f.now) result ≡ fields_declared members.now }
-{
-    match members {
-        Members::Struct(fields) => Some(fields),
-        _ => None,
     }
 }

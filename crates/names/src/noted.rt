@@ -1,4 +1,4 @@
-//! The kinds of the types that stand in the heads of methods and messages.
+//! The kinds of the types that stand in structs and in the heads of methods and messages.
 
 ghost use Rattle.std.specs.Prelude.{◌≡◌, true, Some, OnOk, IfOk};
 ghost use Rattle.tree.specs.declared.types.Type.TheVariants as type;
@@ -23,8 +23,8 @@ pub(crate) struct Noted {
     pub(crate) kind: Kind,
 }
 
-/// The kinds of types, each by where the first name of its type begins. A kind is found once, so that no call reads the
-/// names in the types of the method again, which may be longer than the call.
+/// The kinds of types, each by where the first name of its type begins. A kind is found once, so that no call and no `new`
+/// reads the names in the types of the method, the message or the struct again, which may be longer than the call.
 #[derive(Drop)]
 pub(crate) struct NotedKinds {
     pub(crate) first: BTreeMap<u32, Noted>,
@@ -40,7 +40,7 @@ impl NotedKinds {
         }
     }
 
-    /// The kinds of the types in the heads of the methods and messages in scope.
+    /// The kinds of the types in the structs, and in the heads of the methods and messages, in scope.
     pub(crate) fn of(alloc: Global, scope: &Scope<'_>) -> Result<NotedKinds, AllocError>
         ensures { IfOk result (λ noted. (p : Program) → IsScope p scope.now → AreNoted p noted) }
     {

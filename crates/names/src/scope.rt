@@ -9,7 +9,8 @@ ghost use Rattle.names.specs.Program.{item_names, as_contract, as_struct, as_cla
 ghost use Rattle.names.specs.Expressions.{field_named};
 ghost use Rattle.names.specs.Scopes.{AllMembers};
 
-use crate::members::{Declared, Fields, Members, Methods};
+use crate::fields::Fields;
+use crate::members::{Declared, Members, Methods};
 use crate::noted::NotedKinds;
 use source::Span;
 use std::alloc::{AllocError, Global};
@@ -28,7 +29,7 @@ pub struct Scope<'a> {
 }
 
 impl<'a> Scope<'a> {
-    ghost use Rattle.names.specs.Scopes.{IsScope, IsContract, IsClass, as_declared, as_fields, as_methods};
+    ghost use Rattle.names.specs.Scopes.{IsScope, IsContract, IsStruct, IsClass, as_declared, as_fields, as_methods};
 
     /// What these items declare.
     ///
@@ -67,13 +68,21 @@ impl<'a> Scope<'a> {
         self.declared_at(place)
     }
 
-    /// How many items stand before the first item of this name, if it is a struct.
-    pub(crate) fn structure(&self, name: Span) -> Option<usize>
-        ensures { (p : Program) → IsScope p self.now → result ≡ option_map (λ s. s.0) (struct_named p name) }
+    /// The first item of this name, if it is a struct: how many items stand before it, and its fields.
+    pub(crate) fn structure(&self, name: Span) -> Option<(usize, &Fields<'a>)>
+        ensures { (p : Program) → IsScope p self.now → IsStruct p.text (struct_named p name) (option_map (λ s. (s.0, s.1.now)) result) }
     {
         let place = self.place(name)?;
-        let _fields = self.fields_at(place)?;
-        Some(place)
+        let fields = self.structure_at(place)?;
+        Some((place, fields))
+    }
+
+    /// The fields of the item at this place, if it is a struct.
+    pub(crate) fn structure_at(&self, place: usize) -> Option<&Fields<'a>>
+        ensures { (p : Program) → IsScope p self.now
+            → IsStruct p.text (item_at as_struct p place) (option_map (λ f. (place, f.now)) result) }
+    {
+        self.fields_at(place)
     }
 
     /// The first field of this name in the struct that is the item at this place.
@@ -83,6 +92,15 @@ impl<'a> Scope<'a> {
     {
         let fields = self.fields_at(place)?;
         fields.find(self.text, name)
+    }
+
+    /// How many fields stand before the first one of this name in the struct that is the item at this place.
+    pub fn field_place(&self, structure: usize, name: Span) -> Option<usize>
+        ensures { (p : Program) → IsScope p self.now
+            → result ≡ option_and_then (λ s. first_among p.text (map (λ f. f.name) s.1.fields) name) (item_at as_struct p structure) }
+    {
+        let fields = self.fields_at(structure)?;
+        fields.place(self.text, name)
     }
 
     /// The first item of this name, if it is a class.

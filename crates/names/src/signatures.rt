@@ -1,10 +1,10 @@
-//! The types of the exchange heap that stand in the heads of methods and messages.
+//! The types of the exchange heap that stand in structs and in the heads of methods and messages.
 
 use crate::members::Members;
 use std::alloc::{AllocError, Global};
-use tree::{Heap, Message, Method, Param, Parameter, Type};
+use tree::{Field, Heap, Message, Method, Param, Parameter, Type};
 
-/// The types of the exchange heap in the heads of these methods and messages, in order.
+/// The types of the exchange heap in these structs and in the heads of these methods and messages, in order.
 pub(crate) fn signature_types(
     alloc: Global,
     items: &[Members<'_>],
@@ -13,7 +13,7 @@ pub(crate) fn signature_types(
     for members in items {
         match members {
             Members::Contract(declared) => add_messages(&declared.outline.messages, &mut types)?,
-            Members::Struct(_) => {}
+            Members::Struct(fields) => add_fields(&fields.owning, &mut types)?,
             Members::Class(methods) => add_methods(methods.list, &mut types)?,
         }
     }
@@ -30,6 +30,13 @@ fn add_messages(messages: &[&Message], types: &mut Vec<Heap>) -> Result<(), Allo
 fn add_params(params: &[Param], types: &mut Vec<Heap>) -> Result<(), AllocError> {
     for param in params {
         add_type(param.kind, types)?;
+    }
+    Ok(())
+}
+
+fn add_fields(fields: &[Field], types: &mut Vec<Heap>) -> Result<(), AllocError> {
+    for field in fields {
+        add_type(field.kind, types)?;
     }
     Ok(())
 }

@@ -13,6 +13,7 @@ ghost use Rattle.names.specs.Variables.{Frame, follow};
 
 use crate::calls::{Role, judge_call};
 use crate::cases::{judge_binds, judge_head};
+use crate::exchanges::judge_exchange;
 use crate::heads::Heads;
 use crate::simple_statements::{
     judge_assign, judge_channel, judge_declare, judge_delete, judge_return,
@@ -106,6 +107,7 @@ fn judge_statement<'a>(
             judge_call(alloc, around, variables, Role::Started, call, found)
         }
         Statement::Delete(name) => judge_delete(alloc, scope, variables, *name, found),
+        Statement::Exchange(exchange) => judge_exchange(alloc, scope, variables, **exchange, found),
         Statement::NewChannel(channel) => judge_channel(alloc, scope, variables, **channel, found),
         Statement::If(branches) => judge_if(alloc, around, variables, branches, found),
         Statement::While(test) => {

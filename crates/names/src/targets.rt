@@ -1,16 +1,17 @@
 //! What is wrong with the names and kinds in targets.
 
-ghost use Rattle.std.specs.Prelude.{◌++◌, IfOk, OnOk};
+ghost use Rattle.std.specs.Prelude.{◌++◌, not, IfOk, OnOk};
 ghost use Rattle.tree.specs.ExpressionTrees.{target_tree};
-ghost use Rattle.names.specs.Expressions.{InScope, meant, held, variable_findings, field_kind, field_findings};
+ghost use Rattle.names.specs.Expressions.{InScope, meant, held, variable_findings, field_kind, field_findings, owns};
 ghost use Rattle.names.specs.Found.{Adds};
+ghost use Rattle.names.specs.Kinds.{unless};
 ghost use Rattle.names.specs.Mentions.{Gives};
 ghost use Rattle.names.specs.Scopes.{IsScope};
 ghost use Rattle.names.specs.Values.{target_kind, target_findings, length_findings};
 
 use crate::expressions::judge_operand;
 use crate::kinds::Kind;
-use crate::mentions::{is_length, judge_element_of, judge_field, judge_variable};
+use crate::mentions::{is_length, judge_element_of, judge_field, judge_variable, owns};
 use crate::operands::ask;
 use crate::scope::Scope;
 use crate::variables::Variables;
@@ -42,7 +43,7 @@ pub(crate) fn judge_target(
     }
 }
 
-/// A field as a target: the length of an array is read, and not written.
+/// A field as a target: the length of an array is read, and not written, and what a field owns is exchanged.
 fn judge_field_target(
     alloc: Global,
     scope: &Scope<'_>,
@@ -53,11 +54,13 @@ fn judge_field_target(
 ) -> Result<Kind, Memory>
     ensures { IfOk result (Gives scope.now variables.now (λ s. field_kind s (held (meant s variable)) field)
         (λ s. variable_findings s variable ++ (field_findings s (held (meant s variable)) variable field
-        ++ length_findings s (held (meant s variable)) field)) found.old.items found.new.items) }
+        ++ (length_findings s (held (meant s variable)) field ++ unless (not (owns s (held (meant s variable)) field)) field.place)))
+        found.old.items found.new.items) }
 {
     let held = judge_variable(alloc, scope, variables, variable, found)?;
     let kind = judge_field(alloc, scope, held, variable, field, found)?;
     judge_written(alloc, scope, held, field, found)?;
+    ask(alloc, !owns(scope, held, field), field.place, found)?;
     Ok(kind)
 }
 

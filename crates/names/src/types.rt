@@ -63,7 +63,7 @@ pub(crate) fn kind_of_pointer(scope: &Scope<'_>, name: Span) -> Kind
     ensures { (p : Program) → IsScope p scope.now → result ≡ pointer_kind (struct_named p name) }
 {
     match scope.structure(name) {
-        Some(place) => Kind::Pointer(place),
+        Some((place, _)) => Kind::Pointer(place),
         None => Kind::Unknown,
     }
 }

@@ -1,43 +1,60 @@
 //! What is wrong with the names and kinds in values.
 
-ghost use Rattle.std.specs.Prelude.{◌≡◌, OnOk, IfOk};
+ghost use Rattle.std.specs.Prelude.{◌≡◌, map, OnOk, IfOk};
+ghost use Rattle.tree.specs.ExpressionTrees.{expression_tree};
 ghost use Rattle.tree.specs.Values.{value_tree, new_tree, made_tree};
 ghost use Rattle.names.specs.Bodies as bodies;
 ghost use Rattle.names.specs.Found.{Adds};
 ghost use Rattle.names.specs.Frames.{IsFrame, AreSurroundings};
-ghost use Rattle.names.specs.Kinds.{pointer_kind, pointer_unknown};
+ghost use Rattle.names.specs.Kinds.{pointer_kind};
 ghost use Rattle.names.specs.Program.{Program, struct_named};
 ghost use Rattle.names.specs.Scopes.{IsScope};
-ghost use Rattle.names.specs.Values.{made_kind, made_findings, new_findings, value_findings};
+ghost use Rattle.names.specs.Shapes.{shape};
+ghost use Rattle.names.specs.Values.{made_kind, made_findings, struct_made_findings, new_findings, value_findings};
 ghost use Rattle.names.specs.Variables.{Frame};
 
-use crate::calls::{Role, judge_call};
-use crate::judging::add_unknown;
+use crate::arguments::judge_field_arguments;
+use crate::calls::{Role, judge_call, judge_unknown};
 use crate::kinds::Kind;
 use crate::operands::ask;
 use crate::scope::Scope;
 use crate::surroundings::Surroundings;
+use crate::told;
 use crate::variables::Variables;
 use crate::wholes::{judge_asked, judge_number};
 use source::{Finding, Memory, Span};
 use std::alloc::Global;
-use tree::{Made, New, Value};
+use tree::{Expression, Made, New, Value};
 
-/// The kind of a pointer to the struct of this name; adds that there is none.
+/// The kind of a pointer to the struct of this name; adds that there is none, and what is wrong with what is given for its
+/// fields that own.
 fn judge_structure(
     alloc: Global,
     scope: &Scope<'_>,
+    variables: &Variables<'_>,
     name: Span,
+    arguments: &[Expression],
     found: &mut Vec<Finding>,
 ) -> Result<Kind, Memory>
     ensures kind { IfOk result (λ kind. (p : Program) → IsScope p scope.now → kind ≡ pointer_kind (struct_named p name)) }
-    ensures found { (p : Program) → IsScope p scope.now
-        → OnOk result (Adds found.old.items found.new.items (pointer_unknown p.text (struct_named p name) name)) }
+    ensures found { (p : Program) (f : Frame) → IsScope p scope.now → IsFrame p.text f variables.now
+        → OnOk result (Adds found.old.items found.new.items (struct_made_findings (record { program = p; variables = f.variables })
+        (struct_named p name) name (map shape (map expression_tree arguments.now)))) }
 {
     match scope.structure(name) {
-        Some(place) => Ok(Kind::Pointer(place)),
+        Some((place, fields)) => {
+            told::judge_number(
+                alloc,
+                fields.owning.len(),
+                arguments.len(),
+                name.place,
+                found,
+            )?;
+            judge_field_arguments(alloc, scope, variables, &fields.owning, arguments, found)?;
+            Ok(Kind::Pointer(place))
+        }
         None => {
-            add_unknown(alloc, scope.text, name, found)?;
+            judge_unknown(alloc, scope, variables, name, arguments, found)?;
             Ok(Kind::Unknown)
         }
     }
@@ -57,8 +74,12 @@ fn judge_made(
         (Adds found.old.items found.new.items (made_findings (record { program = p; variables = f.variables }) (made_tree made.now))) }
 {
     match made {
-        Made::Struct { name, .. } => {
-            let kind = judge_structure(alloc, scope, *name, found)?;
+        Made::Struct {
+            name,
+            arguments,
+            ..
+        } => {
+            let kind = judge_structure(alloc, scope, variables, *name, arguments, found)?;
             Ok(kind)
         }
         Made::Array { element, length } => {

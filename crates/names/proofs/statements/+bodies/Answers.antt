@@ -6,7 +6,7 @@ use Rattle.tree.specs.ExpressionTrees.{expression_tree}
 use Rattle.tree.specs.StatementTrees.{statement_tree, statement_row, block_tree, if_tree, test_tree, other_row, case_tree, declare_tree, assign_tree, case_row, switch_tree, CaseTree, IfTree, SwitchTree}
 use Rattle.tree.specs.Values.{call_tree}
 use Rattle.tree.specs.declared.statement as made
-use Rattle.names.specs.Bodies.{inside_of, scope_in, declaration_turn, statement_turn, statements_turn, block_turn, test_turn, others_turn, case_turn, cases_turn, head_of, outside, delete_findings, channel_findings, return_findings}
+use Rattle.names.specs.Bodies.{inside_of, scope_in, declaration_turn, statement_turn, statements_turn, block_turn, test_turn, others_turn, case_turn, cases_turn, head_of, outside, delete_findings, exchange_findings, channel_findings, return_findings}
 use Rattle.names.specs.Cases.{binds_turn, awaited_message, bound_params}
 use Rattle.names.specs.Expressions.{meant, held, truth_findings}
 use Rattle.names.specs.Found.{Adds}
@@ -17,7 +17,7 @@ use Rattle.names.specs.Values.{Alone, Started, call_findings, target_findings, t
 use Rattle.names.specs.Variables.{Frame, Turn, closed, follow}
 use Rattle.names.proofs.BranchLemmas.{last_branch, no_branch, next_test, next_case, case_there, last_case}
 use Rattle.names.proofs.KeepLemmas.{kept, statements_extend, case_extends}
-use Rattle.names.proofs.StatementTwins.{block_is, case_is, if_is, test_is, switch_is, of_declare, of_assign, of_call, of_start, of_delete, of_channel, of_break, of_continue, of_return}
+use Rattle.names.proofs.StatementTwins.{block_is, case_is, if_is, test_is, switch_is, of_declare, of_assign, of_call, of_start, of_delete, of_exchange, of_channel, of_break, of_continue, of_return}
 use Rattle.names.proofs.TurnLemmas.{Ongoing, goes_first, turned_then, adds_before, leaves, on_stays, on_before, on_ends, goes_on, ends}
 use Rattle.names.proofs.statements.+bodies.Goals as goal
 
@@ -159,6 +159,16 @@ judge_statement-returns-in-Delete t c = λ m f around frame.
     let v = c.args.variables.now in
     subst (λ x. OnOk result (Turned text old new v (statement_turn m x f))) (sym (ap statement_tree c.in-Delete.is ∙ of_delete c.in-Delete.name))
     (on_stays result text old new v (delete_findings (scope_in m f) c.in-Delete.name) f frame (c.judge_delete.ensures m.program f around.scope frame))
+
+pub judge_statement-returns-in-Exchange : goal.judge_statement-returns-in-Exchange
+judge_statement-returns-in-Exchange t c = λ m f around frame.
+    let text = m.program.text in
+    let result = c.judge_exchange.result in
+    let old = c.args.found.now.items in
+    let new = c.judge_exchange.new.found.items in
+    let v = c.args.variables.now in
+    subst (λ x. OnOk result (Turned text old new v (statement_turn m x f))) (sym (ap statement_tree c.in-Exchange.is ∙ of_exchange c.in-Exchange.exchange))
+    (on_stays result text old new v (exchange_findings (scope_in m f) c.in-Exchange.exchange.value) f frame (subst (λ (e : made.Exchange.Exchange). OnOk result (Adds old new (exchange_findings (scope_in m f) e))) c.deref-in-Exchange.ensures (c.judge_exchange.ensures m.program f around.scope frame)))
 
 pub judge_statement-returns-in-NewChannel : goal.judge_statement-returns-in-NewChannel
 judge_statement-returns-in-NewChannel t c = λ m f around frame.

@@ -1,0 +1,20 @@
+use Rattle.std.proofs.Common.{◌∙◌, ap, map, subst}
+use Rattle.std.specs.Prelude.{OnOk}
+use Rattle.tree.specs.ExpressionTrees.{expression_tree}
+use Rattle.tree.specs.declared.class.Field.{Field}
+use Rattle.names.specs.Expressions.{InScope}
+use Rattle.names.specs.Found.{Adds}
+use Rattle.names.specs.Kinds.{type_kind}
+use Rattle.names.specs.Shapes.{shape}
+use Rattle.names.specs.Values.{argument_findings}
+use Rattle.names.proofs.PendingLemmas.{enough_kinds}
+use Rattle.names.proofs.arguments.judge_field_arguments.Goals as goal
+
+pub returns : goal.returns
+returns c = λ p f scope frame.
+    let s : InScope = record { program = p; variables = f.variables } in
+    let args = c.args.arguments.now in
+    let es = map shape (map expression_tree args) in
+    subst (λ l. OnOk c.judge_arguments.result (Adds c.args.found.now.items c.judge_arguments.new.found.items l))
+    (ap (λ kinds. argument_findings s kinds es) (c.deref.ensures.value ∙ c.in_ok-kinds.ensures p scope) ∙ enough_kinds expression_tree (λ (x : Field). type_kind p x.kind) s c.args.fields.now args)
+    (c.judge_arguments.ensures p f scope frame)

@@ -1,0 +1,34 @@
+use Rattle.std.proofs.Common.{◌++◌, ap, ◌∙◌, subst}
+use Rattle.std.specs.Prelude.{OnOk}
+use Rattle.names.specs.Bodies.{exchanged_kind, holder_findings}
+use Rattle.names.specs.Expressions.{InScope, meant, held, variable_findings}
+use Rattle.names.specs.Found.{Adds}
+use Rattle.names.specs.Kinds.{agree, unless}
+use Rattle.names.proofs.PassLemmas.{on_adds}
+use Rattle.names.proofs.exchanges.judge_exchange.Goals as goal
+
+pub returns : goal.returns
+returns c = λ p f scope frame.
+    let s : InScope = record { program = p; variables = f.variables } in
+    let e = c.args.exchange in
+    let place = e.given.place in
+    let result = c.ask.result in
+    let old = c.args.found.now.items in
+    let named = c.judge_variable.new.found.items in
+    let judged = c.judge_holder.new.found.items in
+    let used = c.judge_variable-2.new.found.items in
+    let new = c.ask.new.found.items in
+    let holder = c.in_ok-held.ensures.all p f scope frame in
+    let asked = c.in_ok-asked.ensures.all s scope in
+    let given = c.in_ok-given.ensures.all p f scope frame in
+    let kind = exchanged_kind s (held (meant s e.holder)) e.field in
+    let first = variable_findings s e.holder in
+    let second = holder_findings s (held (meant s e.holder)) e.holder e.field in
+    let third = variable_findings s e.given in
+    let last = unless (agree (held (meant s e.given)) kind) place in
+    on_adds result old named new first (second ++ (third ++ last)) holder.found
+    (on_adds result named judged new second (third ++ last) (subst (λ k. Adds named judged (holder_findings s k e.holder e.field)) holder.kind asked.found)
+    (on_adds result judged used new third last given.found
+    (subst (λ k. OnOk result (Adds used new (unless (agree k kind) place))) given.kind
+    (subst (λ k. OnOk result (Adds used new (unless (agree c.in_ok-given.given k) place))) (asked.kind ∙ ap (λ k. exchanged_kind s k e.field) holder.kind)
+    (subst (λ b. OnOk result (Adds used new (unless b place))) c.agrees.ensures c.ask.ensures)))))
