@@ -8,30 +8,33 @@ use Rattle.lemmas.proofs.Lists.{flat_more}
 use Rattle.tree.specs.Trees.{ContractTree, MessageTree, contract_of, contracts_of, definition_tree, item_tree, member_tree}
 use Rattle.tree.specs.declared.item.Item.{Item}
 use Rattle.tree.specs.declared.contract.Member.{Member}
-use Rattle.tree.specs.declared.contract.Param.{Param}
 use Rattle.names.specs.Declarations.{message_among, messages_of}
 use Rattle.names.specs.Program.{Program}
 use Rattle.program.specs.declared.kind.Kind.{Kind}
-use Rattle.resolving.specs.Brought.{brought, held_listed, params_held}
+use Rattle.resolving.specs.Brought.{brought, held_listed}
 use Rattle.program.specs.Programs.{rows}
-use Rattle.resolving.specs.Kinds.{type_held}
 
-held_more : (p : Program) (params : List Param) (i : ℕ) (d : Param) → i < length params
-    → params_held p (take (i + 1) params) ≡ params_held p (take i params) ++ held_listed (type_held p (get_or params i d).kind)
-held_more p params i d lt = ap (params_held p) (take_more params i d lt) ∙ sym (flat_map_more (λ (x : Param). held_listed (type_held p x.kind)) [] (take i params) (get_or params i d))
+-- what these hold, one after another
+abbrev pub all_held : {X : Type 0} → (X → Option Kind) → List X → List Kind
+all_held holds xs = flat_map (λ x. held_listed (holds x)) xs
 
--- one more parameter of the exchange heap
-pub held_some : (p : Program) (params : List Param) (i : ℕ) (d : Param) (held : Kind) (done : List Kind) → i < length params
-    → done ≡ params_held p (take i params) → Some held ≡ type_held p (get_or params i d).kind → done ++ held ∷ [] ≡ params_held p (take (i + 1) params)
-held_some p params i d held done lt before is =
-    ap (λ l. l ++ held ∷ []) before ∙ ap (λ o. params_held p (take i params) ++ held_listed o) is ∙ sym (held_more p params i d lt)
+held_more : {X : Type 0} (holds : X → Option Kind) (xs : List X) (i : ℕ) (d : X) → i < length xs
+    → all_held holds (take (i + 1) xs) ≡ all_held holds (take i xs) ++ held_listed (holds (get_or xs i d))
+held_more holds xs i d lt =
+    ap (all_held holds) (take_more xs i d lt) ∙ sym (flat_map_more (λ x. held_listed (holds x)) [] (take i xs) (get_or xs i d))
+
+-- one more that is of the exchange heap
+pub held_some : {X : Type 0} (holds : X → Option Kind) (xs : List X) (i : ℕ) (d : X) (held : Kind) (done : List Kind) → i < length xs
+    → done ≡ all_held holds (take i xs) → Some held ≡ holds (get_or xs i d) → done ++ held ∷ [] ≡ all_held holds (take (i + 1) xs)
+held_some holds xs i d held done lt before is =
+    ap (λ l. l ++ held ∷ []) before ∙ ap (λ o. all_held holds (take i xs) ++ held_listed o) is ∙ sym (held_more holds xs i d lt)
 
 -- one more that is not
-pub held_none : (p : Program) (params : List Param) (i : ℕ) (d : Param) (done : List Kind) → i < length params
-    → done ≡ params_held p (take i params) → None ≡ type_held p (get_or params i d).kind → done ≡ params_held p (take (i + 1) params)
-held_none p params i d done lt before is =
-    let front = params_held p (take i params) in
-    before ∙ sym (append-nil front) ∙ ap (λ (o : Option Kind). front ++ held_listed o) is ∙ sym (held_more p params i d lt)
+pub held_none : {X : Type 0} (holds : X → Option Kind) (xs : List X) (i : ℕ) (d : X) (done : List Kind) → i < length xs
+    → done ≡ all_held holds (take i xs) → None ≡ holds (get_or xs i d) → done ≡ all_held holds (take (i + 1) xs)
+held_none holds xs i d done lt before is =
+    let front = all_held holds (take i xs) in
+    before ∙ sym (append-nil front) ∙ ap (λ (o : Option Kind). front ++ held_listed o) is ∙ sym (held_more holds xs i d lt)
 
 -- one more row
 pub rows_more : (done more : List (Vec Kind)) (kinds : Vec Kind) (bs : List Kind) → more ≡ done ++ kinds ∷ [] → kinds.items ≡ bs → rows more ≡ rows done ++ bs ∷ []

@@ -1,33 +1,166 @@
--- What structs have in fields that own, item by item.
-use Rattle.std.proofs.Common.{◌≡◌, ℕ, ◌+◌, ◌<◌, ◌≤◌, List, [], ◌++◌, length, map, take, get_or, refl, ap, ◌∙◌}
-use Rattle.std.proofs.lemmas.List.{map-append, take_all}
-use Rattle.lemmas.proofs.Lists.{flat_more}
-use Rattle.tree.specs.Trees.{definition_tree, item_tree}
+-- What structs have in fields that own, field by field and item by item, and the numbers of these fields.
+use Rattle.std.proofs.Common.{◌≡◌, ℕ, zero, suc, ◌+◌, ◌<◌, ◌≤◌, Bool, cond, ltb, List, [], ◌∷◌, ◌++◌, length, map, take, get_or, Option, Some, None, refl, sym, ap, ◌∙◌, arith, append-nil}
+use Rattle.std.specs.Global.{Vec}
+use Rattle.std.specs.Prelude.{option_and_then, option_map, slice_get}
+use Rattle.std.specs.List.{enumerate_from, filter, flat_map}
+use Rattle.std.proofs.Math.Seq.{take-nil}
+use Rattle.std.proofs.lemmas.Bool.{le-ltb, lt-ltb}
+use Rattle.std.proofs.lemmas.List.{flat_map_more, length-append, length-take-le, map-append, take_all, take_more}
+use Rattle.std.proofs.lemmas.List.Elements.{filter-append}
+use Rattle.std.proofs.lemmas.Option.{slice_get-map}
+use Rattle.lemmas.proofs.Lists.{enumerate_push, flat_more}
+use Rattle.source.specs.declared.token.Span.{Span}
+use Rattle.tree.specs.Trees.{DefinitionTree, Contract, Struct, Class, ItemTree, StructTree, definition_tree, item_tree}
 use Rattle.tree.specs.declared.class as made
+use Rattle.tree.specs.declared.class.Field.{Field}
 use Rattle.tree.specs.declared.item.Definition.{Definition}
 use Rattle.tree.specs.declared.item.Definition.TheVariants as definition
 use Rattle.tree.specs.declared.item.Item.{Item}
+use Rattle.names.specs.Declarations.{first_among}
+use Rattle.names.specs.Program.{Program, Numbered, as_struct}
 use Rattle.program.specs.declared.kind.Kind.{Kind}
+use Rattle.resolving.specs.Around.{owning_places, place_listed, places_held, places_in}
+use Rattle.resolving.specs.Brought.{held_listed}
 use Rattle.resolving.specs.Counts.{struct_among, structs_of}
-use Rattle.resolving.specs.Fields.{fields_held}
+use Rattle.resolving.specs.Fields.{field_number, fields_held, owning_before}
+use Rattle.resolving.specs.Kinds.{type_held}
+use Rattle.resolving.specs.Locals.{Local}
+
+-- the place of a field, where it owns
+abbrev owned : Program → ℕ × Field → List ℕ
+owned p x = place_listed x.0 (type_held p x.1.kind)
+
+places_more : (p : Program) (fields : List Field) (i : ℕ) (d : Field) → i < length fields
+    → places_held p (take (i + 1) fields) ≡ places_held p (take i fields) ++ place_listed i (type_held p (get_or fields i d).kind)
+places_more p fields i d lt =
+    let front = take i fields in
+    let next = get_or fields i d in
+    let size = length-take-le i fields (omega (arith, lt)) in
+    let at : 0 + length front ≡ i = omega (arith, size) in
+    ap (places_held p) (take_more fields i d lt)
+    ∙ ap (flat_map (owned p)) (enumerate_push 0 front next ∙ ap (λ k. enumerate_from 0 front ++ (k, next) ∷ []) at)
+    ∙ sym (flat_map_more (owned p) [] (enumerate_from 0 front) (i, next))
+
+-- one more field that owns
+pub place_some : (p : Program) (fields : List Field) (i : ℕ) (d : Field) (held : Kind) (done : List ℕ) → i < length fields
+    → done ≡ places_held p (take i fields) → Some held ≡ type_held p (get_or fields i d).kind → done ++ i ∷ [] ≡ places_held p (take (i + 1) fields)
+place_some p fields i d held done lt before is =
+    ap (λ l. l ++ i ∷ []) before ∙ ap (λ o. places_held p (take i fields) ++ place_listed i o) is ∙ sym (places_more p fields i d lt)
+
+-- one more that does not
+pub place_none : (p : Program) (fields : List Field) (i : ℕ) (d : Field) (done : List ℕ) → i < length fields
+    → done ≡ places_held p (take i fields) → None ≡ type_held p (get_or fields i d).kind → done ≡ places_held p (take (i + 1) fields)
+place_none p fields i d done lt before is =
+    let front = places_held p (take i fields) in
+    before ∙ sym (append-nil front) ∙ ap (λ (o : Option Kind). front ++ place_listed i o) is ∙ sym (places_more p fields i d lt)
 
 -- what the structs among the first so many items have
-abbrev pub first_fields : List Item → ℕ → List (List Kind)
-first_fields xs i = map fields_held (structs_of (map item_tree (take i xs)))
+abbrev pub first_fields : Program → List Item → ℕ → List (List Kind)
+first_fields p xs i = map (λ s. fields_held p s.fields) (structs_of (map item_tree (take i xs)))
+
+-- what a definition has, if it is a struct
+abbrev pub fields_in : Program → DefinitionTree → List (List Kind)
+fields_in p d = map (λ s. fields_held p s.fields) (struct_among d)
 
 -- those of one more item
-pub fields_more : (xs : List Item) (i : ℕ) (x : Item) → i < length xs → x ≡ get_or xs i x
-    → first_fields xs (i + 1) ≡ first_fields xs i ++ map fields_held (struct_among (definition_tree x.definition))
-fields_more xs i x lt is =
-    ap (map fields_held) (flat_more (λ t. struct_among t.definition) item_tree xs i x lt is)
-    ∙ map-append fields_held (structs_of (map item_tree (take i xs))) (struct_among (definition_tree x.definition))
+pub fields_more : (p : Program) (xs : List Item) (i : ℕ) (x : Item) → i < length xs → x ≡ get_or xs i x
+    → first_fields p xs (i + 1) ≡ first_fields p xs i ++ fields_in p (definition_tree x.definition)
+fields_more p xs i x lt is =
+    let has = λ (s : StructTree). fields_held p s.fields in
+    ap (map has) (flat_more (λ t. struct_among t.definition) item_tree xs i x lt is)
+    ∙ map-append has (structs_of (map item_tree (take i xs))) (struct_among (definition_tree x.definition))
 
 -- those of all items
-pub fields_all : (xs : List Item) (i : ℕ) → length xs ≤ i → first_fields xs i ≡ map fields_held (structs_of (map item_tree xs))
-fields_all xs i le = ap (λ l. map fields_held (structs_of (map item_tree l))) (take_all i xs le)
+pub fields_all : (p : Program) (xs : List Item) (i : ℕ) → length xs ≤ i → first_fields p xs i ≡ map (λ s. fields_held p s.fields) (structs_of (map item_tree xs))
+fields_all p xs i le = ap (λ l. map (λ (s : StructTree). fields_held p s.fields) (structs_of (map item_tree l))) (take_all i xs le)
 
--- what is no struct has none
-pub no_struct : (d : Definition) → ((x : made.Struct.Struct) → d ≡ definition.Struct x → ⊥) → [] ≡ map fields_held (struct_among (definition_tree d))
-no_struct (definition.Contract c) none = refl
-no_struct (definition.Struct s) none = absurd (none s refl)
-no_struct (definition.Class c) none = refl
+-- what is no struct has none, and no places
+pub no_struct : (p : Program) (d : Definition) → ((x : made.Struct.Struct) → d ≡ definition.Struct x → ⊥)
+    → ([] ≡ fields_in p (definition_tree d)) × ([] ≡ places_in p (definition_tree d))
+no_struct p (definition.Contract c) none = (refl, refl)
+no_struct p (definition.Struct s) none = absurd (none s refl)
+no_struct p (definition.Class c) none = (refl, refl)
+
+-- how many of these places stand before this one
+abbrev pub before_place : ℕ → List ℕ → ℕ
+before_place place places = length (filter (λ x. ltb x place) places)
+
+before_both : (place : ℕ) (xs ys : List ℕ) → before_place place (xs ++ ys) ≡ before_place place xs + before_place place ys
+before_both place xs ys =
+    let test : ℕ → Bool = λ x. ltb x place in
+    ap length (filter-append test xs ys) ∙ length-append (filter test xs) (filter test ys)
+
+not_before : (n place : ℕ) (o : Option Kind) → place ≤ n → before_place place (place_listed n o) ≡ 0
+not_before n place None le = refl
+not_before n place (Some held) le = ap (λ (b : Bool). length (cond b (n ∷ []) [])) (le-ltb n place le)
+
+one_before : (n place : ℕ) (o : Option Kind) → n < place → before_place place (place_listed n o) ≡ length (held_listed o)
+one_before n place None lt = refl
+one_before n place (Some held) lt = ap (λ (b : Bool). length (cond b (n ∷ []) [])) (lt-ltb n place lt)
+
+-- the places of the fields that own among these, before which so many stand
+abbrev places_from : Program → ℕ → List Field → List ℕ
+places_from p n fields = flat_map (owned p) (enumerate_from n fields)
+
+none_before : (p : Program) (n place : ℕ) (fields : List Field) → place ≤ n → before_place place (places_from p n fields) ≡ 0
+none_before p n place [] le = refl
+none_before p n place (f ∷ fields) le =
+    let o = type_held p f.kind in
+    let here = not_before n place o le in
+    let rest = none_before p (n + 1) place fields (omega (arith, le)) in
+    let both = before_both place (place_listed n o) (places_from p (n + 1) fields) in
+    omega (arith, here, rest, both)
+
+-- As many of them stand before a place as fields that own stand before the field there.
+so_many : (p : Program) (n k : ℕ) (fields : List Field) → before_place (n + k) (places_from p n fields) ≡ length (fields_held p (take k fields))
+so_many p n k [] = sym (ap (λ (l : List Field). length (fields_held p l)) (take-nil k))
+so_many p n zero (f ∷ fields) = none_before p n (n + 0) (f ∷ fields) (omega arith)
+so_many p n (suc k) (f ∷ fields) =
+    let o = type_held p f.kind in
+    let behind = places_from p (n + 1) fields in
+    let place : n + suc k ≡ (n + 1) + k = omega arith in
+    let here = one_before n (n + suc k) o (omega arith) in
+    let rest = ap (λ m. before_place m behind) place ∙ so_many p (n + 1) k fields in
+    let both = before_both (n + suc k) (place_listed n o) behind in
+    let parts = length-append (held_listed o) (fields_held p (take k fields)) in
+    omega (arith, here, rest, both, parts)
+
+-- the number of a field: how many places of fields that own stand before its own
+pub number_is : (p : Program) (k : ℕ) (fields : List Field) → before_place k (places_held p fields) ≡ length (fields_held p (take k fields))
+number_is p k fields =
+    let place : k ≡ 0 + k = omega arith in
+    ap (λ m. before_place m (places_held p fields)) place ∙ so_many p 0 k fields
+
+-- where a field of this name stands in a struct
+abbrev pub place_named : Program → Span → Numbered StructTree → Option ℕ
+place_named p field s = first_among p.text (map (λ f. f.name) s.1.fields) field
+
+-- the number of a field that stands there in a definition
+number_in : (p : Program) (n : ℕ) (field : Span) (place : ℕ) (d : DefinitionTree) → Some place ≡ option_and_then (place_named p field) (option_map (λ x. (n, x)) (as_struct d))
+    → Some (before_place place (places_in p d)) ≡ option_and_then (owning_before p field) (option_map (λ x. (n, x)) (as_struct d))
+number_in p n field place (Contract c) is = cc
+number_in p n field place (Class c) is = cc
+number_in p n field place (Struct s) is =
+    ap Some (number_is p place s.fields) ∙ ap (option_map (λ k. length (fields_held p (take k s.fields)))) is
+
+-- the same of an item, if there is one
+pub number_at : (p : Program) (n : ℕ) (field : Span) (place : ℕ) (row : List ℕ) (o : Option ItemTree) → Some row ≡ option_map (owning_places p) o
+    → Some place ≡ option_and_then (place_named p field) (option_and_then (λ i. option_map (λ x. (n, x)) (as_struct i.definition)) o)
+    → Some (before_place place row) ≡ option_and_then (owning_before p field) (option_and_then (λ i. option_map (λ x. (n, x)) (as_struct i.definition)) o)
+number_at p n field place row None has is = cc
+number_at p n field place row (Some i) has is =
+    let rows : row ≡ owning_places p i = cc in
+    ap (λ r. Some (before_place place r)) rows ∙ number_in p n field place i.definition is
+
+-- the number of a field of what a variable holds, by the kind of the variable
+pub of_kind : (p : Program) (field : Span) (o : Option Local) → option_and_then (λ kind. field_number p kind field) (option_map (λ v. v.kind) o)
+    ≡ option_and_then (λ v. field_number p v.kind field) o
+of_kind p field None = refl
+of_kind p field (Some v) = refl
+
+-- the places that are looked up at an item
+pub row_found : (p : Program) (rows : List (Vec ℕ)) (n : ℕ) (row : Vec ℕ) → map (λ x. x.items) rows ≡ map (owning_places p) p.items → slice_get rows n ≡ Some row
+    → Some row.items ≡ option_map (owning_places p) (slice_get p.items n)
+row_found p rows n row same at =
+    ap (option_map (λ (x : Vec ℕ). x.items)) (sym at) ∙ sym (slice_get-map (λ (x : Vec ℕ). x.items) rows n)
+    ∙ ap (λ l. slice_get l n) same ∙ slice_get-map (owning_places p) p.items n

@@ -11,7 +11,7 @@ use Rattle.names.specs.Program.{Program}
 use Rattle.resolving.specs.Locals.{Frame}
 use Rattle.resolving.specs.Told.{Staying}
 use Rattle.resolving.proofs.BlockLemmas.{IsAlone, alone_as}
-use Rattle.resolving.proofs.StatementTwins.{of_declare, of_assign, of_call, of_start, of_delete, of_channel, of_return}
+use Rattle.resolving.proofs.StatementTwins.{of_declare, of_assign, of_call, of_start, of_delete, of_channel, of_exchange, of_return}
 
 -- none of those that hold others or leave a loop
 pub record IsFlat (s : stated.Statement.Statement) : Type 0 where
@@ -36,6 +36,7 @@ by_layer p own stays f s (layer.Assign a) is flat = alone_as p own stays f (ap s
 by_layer p own stays f s (layer.Call k) is flat = alone_as p own stays f (ap statement_tree (sym is ∙ variants.rolls-Call k) ∙ of_call k) refl
 by_layer p own stays f s (layer.Start w k) is flat = alone_as p own stays f (ap statement_tree (sym is ∙ variants.rolls-Start w k) ∙ of_start w k) refl
 by_layer p own stays f s (layer.Delete w) is flat = alone_as p own stays f (ap statement_tree (sym is ∙ variants.rolls-Delete w) ∙ of_delete w) refl
+by_layer p own stays f s (layer.Exchange e) is flat = alone_as p own stays f (ap statement_tree (sym is ∙ variants.rolls-Exchange e) ∙ of_exchange e) refl
 by_layer p own stays f s (layer.NewChannel n) is flat = alone_as p own stays f (ap statement_tree (sym is ∙ variants.rolls-NewChannel n) ∙ of_channel n) refl
 by_layer p own stays f s (layer.Return w v) is flat = alone_as p own stays f (ap statement_tree (sym is ∙ variants.rolls-Return w v) ∙ of_return w v) refl
 

@@ -72,6 +72,7 @@ statement_extends p class stays (trees.Assign a) f = same_extends f _ refl
 statement_extends p class stays (trees.Call c) f = same_extends f _ refl
 statement_extends p class stays (trees.Start word c) f = same_extends f _ refl
 statement_extends p class stays (trees.Delete name) f = same_extends f _ refl
+statement_extends p class stays (trees.Exchange e) f = same_extends f _ refl
 statement_extends p class stays (trees.NewChannel n) f = same_extends f _ refl
 statement_extends p class stays (trees.If first others) f = same_extends f _ (others_same p class stays others (test_told p class stays first f).frame ∙ test_same p class stays first f)
 statement_extends p class stays (trees.While test) f = same_extends f _ (test_same p class (stays_here f) test f)

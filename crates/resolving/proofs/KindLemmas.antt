@@ -15,10 +15,10 @@ use Rattle.program.specs.declared.contract.State.{State}
 use Rattle.program.specs.declared.number.ContractId.{ContractId}
 use Rattle.program.specs.declared.kind.Kind.{Kind}
 use Rattle.program.specs.declared.kind.Kind.TheVariants.{Struct}
-use Rattle.resolving.specs.Around.{IsAround}
+use Rattle.resolving.specs.Around.{IsTypes}
 use Rattle.resolving.specs.Counts.{contracts_before, structs_before}
 use Rattle.resolving.specs.Kinds.{contract_at, number_at}
-use Rattle.resolving.specs.declared.around.Around.{Around}
+use Rattle.resolving.specs.declared.around.Types.{Types}
 use Rattle.resolving.specs.declared.counts.Before.{Before}
 use Rattle.resolving.proofs.CountLemmas.{count_read, counts_long}
 
@@ -51,8 +51,8 @@ singles f before [] = refl
 singles f before (x ∷ xs) = let rest = singles f (before ++ x ∷ []) xs in omega (arith, rest)
 
 -- no contract stands behind the last item
-pub contract_past : (p : Program) (own : ℕ) (a : Around) (place : ℕ) → IsAround p own a → length a.before.now ≤ place → contract_at p place ≡ None
-contract_past p own a place h past =
+pub contract_past : (p : Program) (t : Types) (place : ℕ) → IsTypes p t → length t.before.now ≤ place → contract_at p place ≡ None
+contract_past p t place h past =
     let contracts = contracts_of p.items in
     let long = ap length h.before ∙ counts_long p.items in
     let many = singles (λ b c. resolved_contract p.text (message_count b) (state_count b) c.name (messages_of c) (states_of c)) [] contracts in
@@ -60,21 +60,21 @@ contract_past p own a place h past =
     slice_get_past (resolved_contracts p.text contracts) (contracts_before p.items place) (omega (arith, many, all))
 
 -- the contract that is looked up by the number that is counted at an item
-pub contract_found : (p : Program) (own : ℕ) (a : Around) (place : ℕ) (b : Before) (contracts : List Contract) (r : Option (Bor Contract)) → IsAround p own a → place < length a.before.now → b ≡ get_or a.before.now place b
-    → contracts ≡ a.resolved.now.contracts.items → LooksUp contracts b.contracts r → option_map (λ c. contract_seen c.now) r ≡ contract_at p place
-contract_found p own a place b contracts r h lt is same found =
+pub contract_found : (p : Program) (t : Types) (place : ℕ) (b : Before) (contracts : List Contract) (r : Option (Bor Contract)) → IsTypes p t → place < length t.before.now → b ≡ get_or t.before.now place b
+    → contracts ≡ t.resolved.now.contracts.items → LooksUp contracts b.contracts r → option_map (λ c. contract_seen c.now) r ≡ contract_at p place
+contract_found p t place b contracts r h lt is same found =
     seen_at contract_seen contracts b.contracts r found
     ∙ ap (λ l. slice_get (map contract_seen l) b.contracts) same
     ∙ ap (λ l. slice_get l b.contracts) h.contracts
-    ∙ ap (λ (x : Before). slice_get (resolved_contracts p.text (contracts_of p.items)) x.contracts) (count_read p.items a.before.now place b h.before lt is)
+    ∙ ap (λ (x : Before). slice_get (resolved_contracts p.text (contracts_of p.items)) x.contracts) (count_read p.items t.before.now place b h.before lt is)
 
 -- its number
-pub number_found : (p : Program) (own : ℕ) (a : Around) (place : ℕ) (b : Before) (contracts : List Contract) (c : Bor Contract) → IsAround p own a → place < length a.before.now → b ≡ get_or a.before.now place b
-    → contracts ≡ a.resolved.now.contracts.items → LooksUp contracts b.contracts (Some c) → Some (record { 0 = b.contracts }) ≡ number_at p place
-number_found p own a place b contracts c h lt is same found =
+pub number_found : (p : Program) (t : Types) (place : ℕ) (b : Before) (contracts : List Contract) (c : Bor Contract) → IsTypes p t → place < length t.before.now → b ≡ get_or t.before.now place b
+    → contracts ≡ t.resolved.now.contracts.items → LooksUp contracts b.contracts (Some c) → Some (record { 0 = b.contracts }) ≡ number_at p place
+number_found p t place b contracts c h lt is same found =
     let number : ℕ → ContractId = λ n. record { 0 = n } in
-    ap (λ (x : Before). Some (number x.contracts)) (count_read p.items a.before.now place b h.before lt is)
-    ∙ ap (option_map (λ s. number (contracts_before p.items place))) (contract_found p own a place b contracts (Some c) h lt is same found)
+    ap (λ (x : Before). Some (number x.contracts)) (count_read p.items t.before.now place b h.before lt is)
+    ∙ ap (option_map (λ s. number (contracts_before p.items place))) (contract_found p t place b contracts (Some c) h lt is same found)
 
 there : {X Y : Type 0} (y : Y) (xs : List X) (n : ℕ) → n < length xs → option_map (λ x. y) (slice_get xs n) ≡ Some y
 there y [] n lt = absurd (omega (arith, lt))
@@ -85,15 +85,15 @@ abbrev struct_of : ℕ → Kind
 struct_of n = Struct (record { 0 = n })
 
 -- no struct stands behind the last item
-pub struct_past : (p : Program) (own : ℕ) (a : Around) (place : ℕ) → IsAround p own a → length a.before.now ≤ place → None ≡ option_map (λ i. struct_of (structs_before p.items place)) (slice_get p.items place)
-struct_past p own a place h past =
+pub struct_past : (p : Program) (t : Types) (place : ℕ) → IsTypes p t → length t.before.now ≤ place → None ≡ option_map (λ i. struct_of (structs_before p.items place)) (slice_get p.items place)
+struct_past p t place h past =
     let long = ap length h.before ∙ counts_long p.items in
     sym (ap (option_map (λ i. struct_of (structs_before p.items place))) (slice_get_past p.items place (omega (arith, past, long))))
 
 -- the number of a struct that is counted at an item
-pub struct_found : (p : Program) (own : ℕ) (a : Around) (place : ℕ) (b : Before) → IsAround p own a → place < length a.before.now → b ≡ get_or a.before.now place b
+pub struct_found : (p : Program) (t : Types) (place : ℕ) (b : Before) → IsTypes p t → place < length t.before.now → b ≡ get_or t.before.now place b
     → Some (struct_of b.structs) ≡ option_map (λ i. struct_of (structs_before p.items place)) (slice_get p.items place)
-struct_found p own a place b h lt is =
+struct_found p t place b h lt is =
     let long = ap length h.before ∙ counts_long p.items in
-    ap (λ (x : Before). Some (struct_of x.structs)) (count_read p.items a.before.now place b h.before lt is)
+    ap (λ (x : Before). Some (struct_of x.structs)) (count_read p.items t.before.now place b h.before lt is)
     ∙ sym (there (struct_of (structs_before p.items place)) p.items place (omega (arith, lt, long)))

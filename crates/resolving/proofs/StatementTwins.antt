@@ -70,6 +70,10 @@ of_start word c = ap statement_tree (sym (variants.rolls-Start word c)) ∙ fold
 pub of_delete : (name : Span) → statement_tree (variants.Delete name) ≡ trees.Delete name
 of_delete name = ap statement_tree (sym (variants.rolls-Delete name)) ∙ folds.fold-roll-Statement StatementTree BlockTree CaseTree IfTree SwitchTree TestTree statement_step block_step case_step if_step switch_step test_step (layer.Delete name)
 
+-- an exchange
+pub of_exchange : (e : Box made.Exchange.Exchange Global) → statement_tree (variants.Exchange e) ≡ trees.Exchange e.value
+of_exchange e = ap statement_tree (sym (variants.rolls-Exchange e)) ∙ folds.fold-roll-Statement StatementTree BlockTree CaseTree IfTree SwitchTree TestTree statement_step block_step case_step if_step switch_step test_step (layer.Exchange e)
+
 -- a new channel
 pub of_channel : (n : Box made.NewChannel.NewChannel Global) → statement_tree (variants.NewChannel n) ≡ trees.NewChannel n.value
 of_channel n = ap statement_tree (sym (variants.rolls-NewChannel n)) ∙ folds.fold-roll-Statement StatementTree BlockTree CaseTree IfTree SwitchTree TestTree statement_step block_step case_step if_step switch_step test_step (layer.NewChannel n)

@@ -1,16 +1,22 @@
 -- What stands round a statement, as the code has it.
-use Rattle.std.specs.Prelude.{◌≡◌, ◌≤◌, ℕ, List, map, length}
-use Rattle.tree.specs.Trees.{ItemTree, contracts_of, item_tree, message_tree, method_tree}
+use Rattle.std.specs.Prelude.{◌≡◌, ◌≤◌, ℕ, List, [], ◌∷◌, map, length, Option, None, Some}
+use Rattle.std.specs.List.{enumerate_from, flat_map}
+use Rattle.tree.specs.Trees.{ItemTree, Contract, Struct, Class, contracts_of, item_tree, message_tree, method_tree}
+use Rattle.tree.specs.Trees.{DefinitionTree}
+use Rattle.tree.specs.declared.class.Field.{Field}
 use Rattle.names.specs.Program.{Program}
 use Rattle.program.specs.Parts.{contract_seen}
 use Rattle.names.specs.Resolution.{resolved_contracts}
 use Rattle.names.specs.Scopes.{IsScope}
+use Rattle.program.specs.declared.kind.Kind.{Kind}
 use Rattle.program.specs.declared.limits.TheConstants.{MOST_METHODS}
 use Rattle.resolving.specs.Callees as model
 use Rattle.resolving.specs.Callees.{all_methods}
 use Rattle.resolving.specs.Messages as messages
 pub use Rattle.resolving.specs.Counts.{counts}
+use Rattle.resolving.specs.Kinds.{type_held}
 use Rattle.resolving.specs.declared.around.Around.{Around}
+use Rattle.resolving.specs.declared.around.Types.{Types}
 use Rattle.resolving.specs.declared.calls.Callee.{Callee}
 use Rattle.resolving.specs.declared.messages.Meant.{Meant}
 
@@ -18,13 +24,36 @@ use Rattle.resolving.specs.declared.messages.Meant.{Meant}
 abbrev pub program_in : List ℕ → List ItemTree → Program
 program_in text items = record { text = text; items = items }
 
--- these are the items of a program, their names, its contracts with their names resolved, what stands before each item, and the
--- place of a class
+-- the place of a field that holds this
+abbrev pub place_listed : ℕ → Option Kind → List ℕ
+place_listed k None = []
+place_listed k (Some held) = k ∷ []
+
+-- the places of the fields that own among these, in order
+abbrev pub places_held : Program → List Field → List ℕ
+places_held p fields = flat_map (λ x. place_listed x.0 (type_held p x.1.kind)) (enumerate_from 0 fields)
+
+-- those of a definition, if it is a struct
+abbrev pub places_in : Program → DefinitionTree → List ℕ
+places_in p (Contract c) = []
+places_in p (Struct s) = places_held p s.fields
+places_in p (Class c) = []
+
+abbrev pub owning_places : Program → ItemTree → List ℕ
+owning_places p i = places_in p i.definition
+
+-- these are the names of a program, its contracts with their names resolved, and what stands before each item
+pub record IsTypes (p : Program) (t : Types) : Type 0 where
+  pub scope : IsScope p t.scope.now
+  pub contracts : map contract_seen t.resolved.now.contracts.items ≡ resolved_contracts p.text (contracts_of p.items)
+  pub before : t.before.now ≡ counts p.items
+
+-- these are the items of a program, what its types are looked up in, the places of the fields that own in each item, and the place
+-- of a class
 pub record IsAround (p : Program) (class : ℕ) (a : Around) : Type 0 where
-  pub scope : IsScope p a.scope.now
+  pub types : IsTypes p a.types
   pub items : map item_tree a.items.now ≡ p.items
-  pub contracts : map contract_seen a.resolved.now.contracts.items ≡ resolved_contracts p.text (contracts_of p.items)
-  pub before : a.before.now ≡ counts p.items
+  pub owning : map (λ x. x.items) a.owning.now ≡ map (owning_places p) p.items
   pub class_is : a.class ≡ class
   pub few : length (all_methods p.items) ≤ MOST_METHODS
 

@@ -1,14 +1,32 @@
--- What structs have in fields that own.
-use Rattle.std.specs.Prelude.{List, [], map}
+-- What structs have in fields that own, and which of these a name means.
+use Rattle.std.specs.Prelude.{ℕ, List, map, length, take, Option, None, option_map, option_and_then}
+use Rattle.std.specs.List.{flat_map}
+use Rattle.source.specs.declared.token.Span.{Span}
 use Rattle.tree.specs.Trees.{StructTree}
-use Rattle.names.specs.Program.{Program}
+use Rattle.tree.specs.declared.class.Field.{Field}
+use Rattle.names.specs.Declarations.{first_among}
+use Rattle.names.specs.Program.{Program, Numbered, as_struct, item_at}
+use Rattle.names.specs.declared.kinds as names
+use Rattle.names.specs.declared.kinds.Kind.TheVariants as name_kind
 use Rattle.program.specs.declared.kind.Kind.{Kind}
+use Rattle.resolving.specs.Brought.{held_listed}
 use Rattle.resolving.specs.Counts.{structs_of}
+use Rattle.resolving.specs.Kinds.{type_held}
 
--- what a struct has in its fields that own: nothing, since each of its fields is a scalar
-abbrev pub fields_held : StructTree → List Kind
-fields_held s = []
+-- what stands for the fields that own among these, in order
+abbrev pub fields_held : Program → List Field → List Kind
+fields_held p fields = flat_map (λ f. held_listed (type_held p f.kind)) fields
 
 -- what each struct of a program has in its fields that own; the number of a struct is its place among these
 abbrev pub structs_told : Program → List (List Kind)
-structs_told p = map fields_held (structs_of p.items)
+structs_told p = map (λ s. fields_held p s.fields) (structs_of p.items)
+
+-- how many fields that own stand before the first one of this name in a struct
+abbrev pub owning_before : Program → Span → Numbered StructTree → Option ℕ
+owning_before p field s = option_map (λ k. length (fields_held p (take k s.1.fields)))
+    (first_among p.text (map (λ f. f.name) s.1.fields) field)
+
+-- the number of a field of what a variable holds, among the fields that own
+abbrev pub field_number : Program → names.Kind.Kind → Span → Option ℕ
+field_number p (name_kind.Pointer n) field = option_and_then (owning_before p field) (item_at as_struct p n)
+field_number p _ field = None

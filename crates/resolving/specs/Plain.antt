@@ -21,9 +21,10 @@ use Rattle.program.specs.Statements.{BlockSeen, TestSeen, OthersSeen, CaseSeen, 
 use Rattle.program.specs.declared.call.Argument.{Argument}
 use Rattle.program.specs.declared.method.Role.TheVariants.{Local}
 use Rattle.program.specs.declared.statement.Action.{Action}
-use Rattle.program.specs.declared.statement.Action.TheVariants.{Nothing, Use, Move, Delete, NewChannel, Return}
+use Rattle.program.specs.declared.statement.Action.TheVariants.{Nothing, Use, Move, Delete, Exchange, NewChannel, Return}
 use Rattle.program.specs.declared.statement.Mention.{Mention}
-use Rattle.resolving.specs.Locals.{Frame, mention, mention_of, declared, next_number, number_of}
+use Rattle.resolving.specs.Fields.{field_number}
+use Rattle.resolving.specs.Locals.{Frame, local_named, mention, mention_of, declared, next_number, number_of}
 use Rattle.resolving.specs.Callees.{Callee, callee, called_name}
 use Rattle.resolving.specs.Kinds.{contract_named, type_held}
 use Rattle.resolving.specs.Messages.{Meant, message_sent, end_contract}
@@ -140,14 +141,34 @@ module _ (p : Program) (class : ℕ) (f : Frame) where
   abbrev pub channel : statement.NewChannel.NewChannel → Action
   channel n = option_map_or (λ a. a) (channel_found n) Nothing
 
-  -- the length of a new array is read
+  -- the length of a new array is read; what is given for fields is a name alone, which reads nothing
   abbrev pub made_reads : MadeTree → List Mention
-  made_reads (values.Struct name left) = []
+  made_reads (values.Struct name left given) = []
   made_reads (values.Array element length) = reads p.text f.locals length
 
-  -- a variable takes a new block; nothing is given for fields, since no struct has one that owns
+  -- what is given for the fields that own of what is made
+  abbrev pub made_arguments : MadeTree → List Mention
+  made_arguments (values.Struct name left given) = payloads given
+  made_arguments (values.Array element length) = []
+
+  -- a variable takes a new block
   abbrev pub new_of : Mention → MadeTree → NewSeen
-  new_of target m = record { reads = made_reads m; target = target; arguments = [] }
+  new_of target m = record { reads = made_reads m; target = target; arguments = made_arguments m }
+
+  -- a variable and the field of this number change places
+  abbrev pub exchange_of : statement.Exchange.Exchange → ℕ → Mention → Mention → Action
+  exchange_of e field holder given = Exchange (record { place = e.word.place; holder = holder; field = field; given = given })
+
+  abbrev pub exchange_by : statement.Exchange.Exchange → ℕ → Option Action
+  exchange_by e field = option_and_then (λ holder. option_map (exchange_of e field holder) (mention p.text f.locals e.given))
+      (mention p.text f.locals e.holder)
+
+  abbrev pub exchange_found : statement.Exchange.Exchange → Option Action
+  exchange_found e = option_and_then (exchange_by e)
+      (option_and_then (λ v. field_number p v.kind e.field) (local_named p.text f.locals e.holder))
+
+  abbrev pub exchanged : statement.Exchange.Exchange → Action
+  exchanged e = option_map_or (λ a. a) (exchange_found e) Nothing
 
   -- a variable of the exchange heap takes a value
   abbrev pub taken : Mention → ValueTree → StatementSeen
@@ -195,6 +216,7 @@ module _ (p : Program) (class : ℕ) (f : Frame) where
   plain_told (stated.Call c) = stated_call c
   plain_told (stated.Start word c) = started c
   plain_told (stated.Delete name) = told [] (deleted (mention p.text f.locals name))
+  plain_told (stated.Exchange e) = told [] (exchanged e)
   plain_told (stated.NewChannel n) = told [] (channel n)
   plain_told (stated.Return word value) = returned word.place value
   plain_told _ = told [] Nothing

@@ -11,16 +11,24 @@ use names::Scope;
 use program::Resolved;
 use tree::Item;
 
-/// The items of the program, their names, its contracts with their names resolved, what stands before each item in the text, and
-/// the place of the class that the statement stands in. There are so few methods and contracts that their numbers fit.
+/// What a type is looked up in: the names of the program, its contracts with their names resolved, and what stands before each
+/// item in the text. There are so few contracts that their numbers fit.
 #[derive(Clone, Copy)]
-pub(crate) struct Around<'s, 'a> {
+pub(crate) struct Types<'s, 'a> {
     pub(crate) scope: &'s Scope<'a>,
-    pub(crate) items: &'a [Item],
     pub(crate) resolved: &'s Resolved,
     pub(crate) before: &'s [Before],
-    pub(crate) class: usize,
-    ghost counted: { before.now ≡ counts (map item_tree items.now) },
     ghost room: { length resolved.now.contracts.items < 2 ^ 32 },
+}
+
+/// The items of the program, what its types are looked up in, for each item the places of its fields that own, and the place of
+/// the class that the statement stands in. There are so few methods that their numbers fit.
+#[derive(Clone, Copy)]
+pub(crate) struct Around<'s, 'a> {
+    pub(crate) types: Types<'s, 'a>,
+    pub(crate) items: &'a [Item],
+    pub(crate) owning: &'s [Vec<usize>],
+    pub(crate) class: usize,
+    ghost counted: { types.before.now ≡ counts (map item_tree items.now) },
     ghost few: { length (all_methods (map item_tree items.now)) ≤ MOST_METHODS },
 }

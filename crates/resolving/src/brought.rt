@@ -5,11 +5,11 @@ ghost use Rattle.std.specs.List.{flat_map};
 ghost use Rattle.tree.specs.Trees.{contract_of, definition_tree, member_tree, message_tree};
 ghost use Rattle.names.specs.Declarations.{message_among, messages_of};
 ghost use Rattle.names.specs.Program.{Program};
-ghost use Rattle.resolving.specs.Around.{IsAround};
+ghost use Rattle.resolving.specs.Around.{IsTypes};
 ghost use Rattle.resolving.specs.Brought.{brought, params_held};
 ghost use Rattle.program.specs.Programs.{rows};
 
-use crate::around::Around;
+use crate::around::Types;
 use crate::kinds::type_held;
 use program::Kind;
 use std::alloc::{AllocError, Global};
@@ -18,14 +18,14 @@ use tree::{Definition, Member, Message, Param};
 /// What stands for the parameters of the exchange heap among these, in order.
 fn params_held(
     alloc: Global,
-    around: &Around<'_, '_>,
+    types: &Types<'_, '_>,
     params: &[Param],
 ) -> Result<Vec<Kind>, AllocError>
-    ensures { (p : Program) (own : ℕ) → IsAround p own around.now → IfOk result (λ kinds. kinds.items ≡ params_held p params.now) }
+    ensures { (p : Program) → IsTypes p types.now → IfOk result (λ kinds. kinds.items ≡ params_held p params.now) }
 {
     let mut kinds = Vec::new(alloc);
     for param in params {
-        if let Some(kind) = type_held(around, param.kind) {
+        if let Some(kind) = type_held(types, param.kind) {
             kinds.push(kind)?;
         }
     }
@@ -35,15 +35,15 @@ fn params_held(
 /// Adds what these messages bring.
 fn add_messages(
     alloc: Global,
-    around: &Around<'_, '_>,
+    types: &Types<'_, '_>,
     messages: &[Message],
     told: &mut Vec<Vec<Kind>>,
 ) -> Result<(), AllocError>
-    ensures { (p : Program) (own : ℕ) → IsAround p own around.now
+    ensures { (p : Program) → IsTypes p types.now
         → OnOk result (rows told.new.items ≡ rows told.old.items ++ map (brought p) (map message_tree messages.now)) }
 {
     for message in messages {
-        told.push(params_held(alloc, around, &message.params)?)?;
+        told.push(params_held(alloc, types, &message.params)?)?;
     }
     Ok(())
 }
@@ -51,16 +51,16 @@ fn add_messages(
 /// Adds what the messages among these members bring.
 fn add_members(
     alloc: Global,
-    around: &Around<'_, '_>,
+    types: &Types<'_, '_>,
     members: &[Member],
     told: &mut Vec<Vec<Kind>>,
 ) -> Result<(), AllocError>
-    ensures { (p : Program) (own : ℕ) → IsAround p own around.now → OnOk result (rows told.new.items
+    ensures { (p : Program) → IsTypes p types.now → OnOk result (rows told.new.items
         ≡ rows told.old.items ++ map (brought p) (flat_map message_among (map member_tree members.now))) }
 {
     for member in members {
         if let Member::Message(message) = member {
-            told.push(params_held(alloc, around, &message.params)?)?;
+            told.push(params_held(alloc, types, &message.params)?)?;
         }
     }
     Ok(())
@@ -69,16 +69,16 @@ fn add_members(
 /// Adds what the messages of a contract bring, in order of the text.
 pub(crate) fn add_brought(
     alloc: Global,
-    around: &Around<'_, '_>,
+    types: &Types<'_, '_>,
     definition: &Definition,
     told: &mut Vec<Vec<Kind>>,
 ) -> Result<(), AllocError>
-    ensures { (p : Program) (own : ℕ) → IsAround p own around.now → OnOk result (rows told.new.items
+    ensures { (p : Program) → IsTypes p types.now → OnOk result (rows told.new.items
         ≡ rows told.old.items ++ map (brought p) (flat_map messages_of (contract_of (definition_tree definition.now)))) }
 {
     if let Definition::Contract(contract) = definition {
-        add_messages(alloc, around, &contract.messages, told)?;
-        add_members(alloc, around, &contract.members, told)?;
+        add_messages(alloc, types, &contract.messages, told)?;
+        add_members(alloc, types, &contract.members, told)?;
     }
     Ok(())
 }

@@ -16,10 +16,11 @@ ghost use Rattle.resolving.specs.Plain as told;
 ghost use Rattle.resolving.specs.Plain.{argument_reads, call_told, given};
 
 use crate::around::Around;
+use crate::given::alone;
 use crate::locals::Locals;
 use crate::methods::methods_of;
 use crate::reads::add_reads;
-use crate::values::{alone, unread};
+use crate::values::unread;
 use program::{Action, Argument, Call, Mention, MethodId, Statement};
 use source::Span;
 use std::alloc::{AllocError, Global};
@@ -42,10 +43,10 @@ fn method_at<'a>(
     ensures { (items : List ItemTree) (own : ℕ) → IsAround (program_in text.now items) own around.now
         → option_map callee_seen result ≡ method_at (program_in text.now items) class name }
 {
-    let place = around.scope.method_place(class, name)?;
+    let place = around.types.scope.method_place(class, name)?;
     let item = around.items.get(class)?;
     let method = methods_of(&item.definition).get(place)?;
-    let before = around.before.get(class)?;
+    let before = around.types.before.get(class)?;
     Some(Callee {
         id: MethodId((before.methods + place) as u32),
         method,
@@ -62,7 +63,7 @@ fn method_of<'a>(
     ensures { (items : List ItemTree) (own : ℕ) → IsAround (program_in text.now items) own around.now
         → option_map callee_seen result ≡ method_of (program_in text.now items) class name }
 {
-    let class = around.scope.class_place(class)?;
+    let class = around.types.scope.class_place(class)?;
     method_at(text, around, class, name)
 }
 

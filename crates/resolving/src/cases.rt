@@ -50,7 +50,7 @@ pub(crate) fn awaited_message<'a>(
         return None;
     };
     let contract = locals.contract(text, name)?;
-    message_named(around, contract, word)
+    message_named(&around.types, contract, word)
 }
 
 /// What a case waits for, with the number of its message.
@@ -88,7 +88,7 @@ fn brought_kind(around: &Around<'_, '_>, param: Option<&Param>) -> names::Kind
     ensures { (p : Program) (own : ℕ) → IsAround p own around.now → result ≡ brought_kind p (option_map (λ x. x.now) param.entry) }
 {
     match param {
-        Some(param) => around.scope.kind(param.kind),
+        Some(param) => around.types.scope.kind(param.kind),
         None => names::Kind::Unknown,
     }
 }
@@ -103,13 +103,13 @@ fn bind_declaration(around: &Around<'_, '_>, param: Option<&Param>, bind: Bind) 
     match bind.kind {
         Some(written) => Declaration {
             name,
-            kind: around.scope.kind(written),
-            held: type_held(around, written),
+            kind: around.types.scope.kind(written),
+            held: type_held(&around.types, written),
             role,
         },
         None => {
             let kind = brought_kind(around, param);
-            let held = kind_held(around, kind, None);
+            let held = kind_held(&around.types, kind, None);
             Declaration {
                 name,
                 kind,

@@ -1,24 +1,96 @@
 //! What structs have in fields that own.
 
-ghost use Rattle.std.specs.Prelude.{◌≡◌, ℕ, IfOk, List, map};
+ghost use Rattle.std.specs.Prelude.{◌≡◌, ℕ, IfOk, List, length, ltb, map};
+ghost use Rattle.std.specs.List.{filter};
 ghost use Rattle.tree.specs.Trees.{item_tree};
+ghost use Rattle.names.specs.Program.{Program};
 ghost use Rattle.program.specs.Programs.{rows};
-ghost use Rattle.resolving.specs.Around.{program_in};
-ghost use Rattle.resolving.specs.Fields.{structs_told};
+ghost use Rattle.resolving.specs.Around.{IsAround, IsTypes, places_held, program_in, owning_places};
+ghost use Rattle.resolving.specs.Fields as model;
+ghost use Rattle.resolving.specs.Fields.{fields_held, structs_told};
 
+use crate::around::{Around, Types};
+use crate::kinds::type_held;
 use program::Kind;
+use source::Span;
 use std::alloc::{AllocError, Global};
-use tree::{Definition, Item};
+use tree::{Definition, Field, Item};
 
-/// What each struct among these items has in its fields that own, in order of the text: nothing, since each of its fields is a scalar.
-pub(crate) fn structs_told(alloc: Global, items: &[Item]) -> Result<Vec<Vec<Kind>>, AllocError>
-    ensures { (text : List ℕ) → IfOk result (λ told. rows told.items ≡ structs_told (program_in text (map item_tree items.now))) }
+/// The fields of a struct that own, in order: what each holds, and how many fields stand before it.
+#[derive(Drop)]
+struct Owning {
+    kinds: Vec<Kind>,
+    places: Vec<usize>,
+}
+
+/// The fields that own among these.
+fn owning_among(
+    alloc: Global,
+    types: &Types<'_, '_>,
+    fields: &[Field],
+) -> Result<Owning, AllocError>
+    ensures { (p : Program) → IsTypes p types.now → IfOk result (λ owning.
+        (owning.kinds.items ≡ fields_held p fields.now) × (owning.places.items ≡ places_held p fields.now)) }
 {
-    let mut told = Vec::new(alloc);
-    for item in items {
-        if let Definition::Struct(_) = item.definition {
-            told.push(Vec::new(alloc))?;
+    let mut kinds = Vec::new(alloc);
+    let mut places = Vec::new(alloc);
+    for (place, field) in fields.iter().enumerate() {
+        if let Some(kind) = type_held(types, field.kind) {
+            kinds.push(kind)?;
+            places.push(place)?;
         }
     }
-    Ok(told)
+    Ok(Owning { kinds, places })
+}
+
+/// The fields that own of a program: what each struct has in them, in order of the text, and their places in each item.
+#[derive(Drop)]
+pub(crate) struct Fields {
+    pub(crate) structs: Vec<Vec<Kind>>,
+    pub(crate) places: Vec<Vec<usize>>,
+}
+
+/// What the structs among these items have in fields that own, and where.
+pub(crate) fn fields_of(
+    alloc: Global,
+    types: &Types<'_, '_>,
+    items: &[Item],
+) -> Result<Fields, AllocError>
+    ensures { (text : List ℕ) → IsTypes (program_in text (map item_tree items.now)) types.now → IfOk result (λ fields.
+        (rows fields.structs.items ≡ structs_told (program_in text (map item_tree items.now)))
+        × (map (λ x. x.items) fields.places.items
+        ≡ map (owning_places (program_in text (map item_tree items.now))) (map item_tree items.now))) }
+{
+    let mut structs = Vec::new(alloc);
+    let mut places = Vec::new(alloc);
+    for item in items {
+        if let Definition::Struct(structure) = &item.definition {
+            let owning = owning_among(alloc, types, &structure.fields)?;
+            structs.push(owning.kinds)?;
+            places.push(owning.places)?;
+        } else {
+            places.push(Vec::new(alloc))?;
+        }
+    }
+    Ok(Fields { structs, places })
+}
+
+/// How many of these places stand before this one.
+fn count_before(places: &[usize], place: usize) -> usize
+    ensures { result ≡ length (filter (λ x. ltb x place) places.now) }
+{
+    places.iter().filter(|before| **before < place).count()
+}
+
+/// The number of a field of what a variable of this kind holds, among the fields that own.
+pub(crate) fn field_number(around: &Around<'_, '_>, kind: names::Kind, field: Span) -> Option<usize>
+    ensures { (p : Program) (own : ℕ) → IsAround p own around.now
+        → result ≡ model.field_number p kind field }
+{
+    let names::Kind::Pointer(item) = kind else {
+        return None;
+    };
+    let place = around.types.scope.field_place(item, field)?;
+    let owning = around.owning.get(item)?;
+    Some(count_before(owning, place))
 }

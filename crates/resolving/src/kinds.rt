@@ -4,67 +4,67 @@ ghost use Rattle.std.specs.Prelude.{◌≡◌, ℕ, None, option_map};
 ghost use Rattle.names.specs.Program.{Program};
 ghost use Rattle.program.specs.Parts.{contract_seen};
 ghost use Rattle.names.specs.declared.kinds.Kind.TheVariants.{Pointer};
-ghost use Rattle.resolving.specs.Around.{IsAround};
+ghost use Rattle.resolving.specs.Around.{IsTypes};
 ghost use Rattle.resolving.specs.Kinds as model;
 
-use crate::around::Around;
+use crate::around::Types;
 use program::{Contract, ContractId, Kind, Side, StateId, StructId};
 use source::Span;
 use tree::{Heap, Type};
 
 /// The contract that is the item at this place.
-pub(crate) fn contract_at<'s>(around: &Around<'s, '_>, place: usize) -> Option<&'s Contract>
-    ensures { (p : Program) (own : ℕ) → IsAround p own around.now
+pub(crate) fn contract_at<'s>(types: &Types<'s, '_>, place: usize) -> Option<&'s Contract>
+    ensures { (p : Program) → IsTypes p types.now
         → option_map (λ c. contract_seen c.now) result ≡ model.contract_at p place }
 {
-    let before = around.before.get(place)?;
-    around.resolved.contracts.get(before.contracts)
+    let before = types.before.get(place)?;
+    types.resolved.contracts.get(before.contracts)
 }
 
 /// The number of the contract that is the item at this place, if it is one.
-fn contract_number(around: &Around<'_, '_>, place: usize) -> Option<ContractId>
-    ensures { (p : Program) (own : ℕ) → IsAround p own around.now → result ≡ model.number_at p place }
+fn contract_number(types: &Types<'_, '_>, place: usize) -> Option<ContractId>
+    ensures { (p : Program) → IsTypes p types.now → result ≡ model.number_at p place }
 {
-    let before = around.before.get(place)?;
-    let _contract = around.resolved.contracts.get(before.contracts)?;
+    let before = types.before.get(place)?;
+    let _contract = types.resolved.contracts.get(before.contracts)?;
     Some(ContractId(before.contracts as u32))
 }
 
 /// The number of the contract of this name.
-pub(crate) fn contract_named(around: &Around<'_, '_>, name: Span) -> Option<ContractId>
-    ensures { (p : Program) (own : ℕ) → IsAround p own around.now → result ≡ model.contract_named p name }
+pub(crate) fn contract_named(types: &Types<'_, '_>, name: Span) -> Option<ContractId>
+    ensures { (p : Program) → IsTypes p types.now → result ≡ model.contract_named p name }
 {
-    let place = around.scope.contract_place(name)?;
-    contract_number(around, place)
+    let place = types.scope.contract_place(name)?;
+    contract_number(types, place)
 }
 
 /// The number of the state of this name.
 fn named_state(
-    around: &Around<'_, '_>,
+    types: &Types<'_, '_>,
     place: usize,
     contract: &Contract,
     name: Span,
 ) -> Option<StateId>
-    ensures { (p : Program) (own : ℕ) → IsAround p own around.now → result ≡ model.named_state p place (contract_seen contract.now) name }
+    ensures { (p : Program) → IsTypes p types.now → result ≡ model.named_state p place (contract_seen contract.now) name }
 {
-    let at = around.scope.state_place(place, name)?;
+    let at = types.scope.state_place(place, name)?;
     let state = contract.states.get(at)?;
     Some(state.id)
 }
 
 /// The state that is written, or else the first one of the contract.
 fn state_of(
-    around: &Around<'_, '_>,
+    types: &Types<'_, '_>,
     place: usize,
     contract: &Contract,
     state: Option<Span>,
 ) -> StateId
-    ensures { (p : Program) (own : ℕ) → IsAround p own around.now → result ≡ model.state_of p place (contract_seen contract.now) state }
+    ensures { (p : Program) → IsTypes p types.now → result ≡ model.state_of p place (contract_seen contract.now) state }
 {
     let Some(name) = state else {
         return contract.first;
     };
-    match named_state(around, place, contract, name) {
+    match named_state(types, place, contract, name) {
         Some(number) => number,
         None => contract.first,
     }
@@ -72,42 +72,42 @@ fn state_of(
 
 /// What an end of a channel holds.
 fn endpoint_held(
-    around: &Around<'_, '_>,
+    types: &Types<'_, '_>,
     place: usize,
     side: Side,
     state: Option<Span>,
 ) -> Option<Kind>
-    ensures { (p : Program) (own : ℕ) → IsAround p own around.now → result ≡ model.endpoint_held p place side state }
+    ensures { (p : Program) → IsTypes p types.now → result ≡ model.endpoint_held p place side state }
 {
-    let number = contract_number(around, place)?;
-    let contract = contract_at(around, place)?;
+    let number = contract_number(types, place)?;
+    let contract = contract_at(types, place)?;
     Some(Kind::Endpoint {
         contract: number,
         side,
-        state: state_of(around, place, contract, state),
+        state: state_of(types, place, contract, state),
     })
 }
 
 /// A struct that is the item at this place.
-fn struct_held(around: &Around<'_, '_>, place: usize) -> Option<Kind>
-    ensures { (p : Program) (own : ℕ) → IsAround p own around.now → result ≡ model.kind_held p (Pointer place) None }
+fn struct_held(types: &Types<'_, '_>, place: usize) -> Option<Kind>
+    ensures { (p : Program) → IsTypes p types.now → result ≡ model.kind_held p (Pointer place) None }
 {
-    let before = around.before.get(place)?;
+    let before = types.before.get(place)?;
     Some(Kind::Struct(StructId(before.structs)))
 }
 
 /// What a variable of this kind holds, where it is of the exchange heap. A type that names a state names this one.
 pub(crate) fn kind_held(
-    around: &Around<'_, '_>,
+    types: &Types<'_, '_>,
     kind: names::Kind,
     state: Option<Span>,
 ) -> Option<Kind>
-    ensures { (p : Program) (own : ℕ) → IsAround p own around.now → result ≡ model.kind_held p kind state }
+    ensures { (p : Program) → IsTypes p types.now → result ≡ model.kind_held p kind state }
 {
     match kind {
-        names::Kind::Pointer(place) => struct_held(around, place),
+        names::Kind::Pointer(place) => struct_held(types, place),
         names::Kind::Array(element) => Some(Kind::Array(element)),
-        names::Kind::Endpoint(side, place) => endpoint_held(around, place, side, state),
+        names::Kind::Endpoint(side, place) => endpoint_held(types, place, side, state),
         names::Kind::Scalar(_) => None,
         names::Kind::Missing => None,
         names::Kind::Unknown => None,
@@ -125,15 +125,15 @@ fn state_in(kind: Type) -> Option<Span>
 }
 
 /// What a variable of this type holds, where it is of the exchange heap.
-pub(crate) fn type_held(around: &Around<'_, '_>, kind: Type) -> Option<Kind>
-    ensures { (p : Program) (own : ℕ) → IsAround p own around.now → result ≡ model.type_held p kind }
+pub(crate) fn type_held(types: &Types<'_, '_>, kind: Type) -> Option<Kind>
+    ensures { (p : Program) → IsTypes p types.now → result ≡ model.type_held p kind }
 {
-    kind_held(around, around.scope.kind(kind), state_in(kind))
+    kind_held(types, types.scope.kind(kind), state_in(kind))
 }
 
 /// What a method gives, where it is of the exchange heap.
-pub(crate) fn result_held(around: &Around<'_, '_>, kind: Option<Type>) -> Option<Kind>
-    ensures { (p : Program) (own : ℕ) → IsAround p own around.now → result ≡ model.result_held p kind }
+pub(crate) fn result_held(types: &Types<'_, '_>, kind: Option<Type>) -> Option<Kind>
+    ensures { (p : Program) → IsTypes p types.now → result ≡ model.result_held p kind }
 {
-    type_held(around, kind?)
+    type_held(types, kind?)
 }

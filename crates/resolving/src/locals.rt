@@ -105,6 +105,15 @@ impl<'a> Locals<'a> {
         })
     }
 
+    /// The kind of the variable that a name means.
+    pub(crate) fn kind(&self, text: &[u8], name: Span) -> Option<names::Kind>
+        ensures { (f : Frame) → IsFrame text.now f self.now
+            → result ≡ option_map (λ v. v.kind) (local_named text.now f.locals name) }
+    {
+        let local = self.find(text, name)?;
+        Some(local.kind)
+    }
+
     /// The place of the contract of the endpoint that a name means.
     pub(crate) fn contract(&self, text: &[u8], name: Span) -> Option<usize>
         ensures { (items : List ItemTree) (f : Frame) → IsFrame text.now f self.now

@@ -2,10 +2,10 @@
 
 ghost use Rattle.std.specs.Prelude.{◌≡◌, ℕ, option_map};
 ghost use Rattle.names.specs.Program.{Program};
-ghost use Rattle.resolving.specs.Around.{IsAround, meant_seen};
+ghost use Rattle.resolving.specs.Around.{IsTypes, meant_seen};
 ghost use Rattle.resolving.specs.Messages as model;
 
-use crate::around::Around;
+use crate::around::Types;
 use crate::kinds::contract_at;
 use program::MessageId;
 use source::Span;
@@ -19,42 +19,42 @@ pub(crate) struct Meant<'a> {
 }
 
 /// The number of the message at this place in the contract that is the item at the first one.
-fn message_number(around: &Around<'_, '_>, contract: usize, place: usize) -> Option<MessageId>
-    ensures { (p : Program) (own : ℕ) → IsAround p own around.now → result ≡ model.message_number p contract place }
+fn message_number(types: &Types<'_, '_>, contract: usize, place: usize) -> Option<MessageId>
+    ensures { (p : Program) → IsTypes p types.now → result ≡ model.message_number p contract place }
 {
-    let numbered = contract_at(around, contract)?.messages.get(place)?;
+    let numbered = contract_at(types, contract)?.messages.get(place)?;
     Some(numbered.id)
 }
 
 /// The message there.
-fn message_there<'a>(around: &Around<'_, 'a>, contract: usize, place: usize) -> Option<Meant<'a>>
-    ensures { (p : Program) (own : ℕ) → IsAround p own around.now → option_map meant_seen result ≡ model.message_there p contract place }
+fn message_there<'a>(types: &Types<'_, 'a>, contract: usize, place: usize) -> Option<Meant<'a>>
+    ensures { (p : Program) → IsTypes p types.now → option_map meant_seen result ≡ model.message_there p contract place }
 {
-    let message = around.scope.message_at(contract, place)?;
-    let id = message_number(around, contract, place)?;
+    let message = types.scope.message_at(contract, place)?;
+    let id = message_number(types, contract, place)?;
     Some(Meant { id, message })
 }
 
 /// The message of this name in the contract that is the item at this place.
 pub(crate) fn message_named<'a>(
-    around: &Around<'_, 'a>,
+    types: &Types<'_, 'a>,
     contract: usize,
     name: Span,
 ) -> Option<Meant<'a>>
-    ensures { (p : Program) (own : ℕ) → IsAround p own around.now → option_map meant_seen result ≡ model.message_named p contract name }
+    ensures { (p : Program) → IsTypes p types.now → option_map meant_seen result ≡ model.message_named p contract name }
 {
-    let place = around.scope.message_place(contract, name)?;
-    message_there(around, contract, place)
+    let place = types.scope.message_place(contract, name)?;
+    message_there(types, contract, place)
 }
 
 /// The message that a word like `SendM` sends, likewise.
 pub(crate) fn message_sent<'a>(
-    around: &Around<'_, 'a>,
+    types: &Types<'_, 'a>,
     contract: usize,
     word: Span,
 ) -> Option<Meant<'a>>
-    ensures { (p : Program) (own : ℕ) → IsAround p own around.now → option_map meant_seen result ≡ model.message_sent p contract word }
+    ensures { (p : Program) → IsTypes p types.now → option_map meant_seen result ≡ model.message_sent p contract word }
 {
-    let place = around.scope.sent_place(contract, word)?;
-    message_there(around, contract, place)
+    let place = types.scope.sent_place(contract, word)?;
+    message_there(types, contract, place)
 }

@@ -20,10 +20,10 @@ ghost use Rattle.resolving.specs.Frames.{IsFrame};
 ghost use Rattle.resolving.specs.Locals.{Frame};
 ghost use Rattle.resolving.specs.Methods.{methods_told, role_of, parameter_declaration, parameters_frame, method_told, takes_some};
 
-use crate::around::Around;
+use crate::around::{Around, Types};
 use crate::brought::add_brought;
 use crate::counts::count_items;
-use crate::fields::structs_told;
+use crate::fields::fields_of;
 use crate::kinds::{result_held, type_held};
 use crate::locals::{Declaration, Locals};
 use crate::statements::tell_statements;
@@ -51,8 +51,8 @@ fn parameter_declaration(around: &Around<'_, '_>, parameter: Parameter) -> Decla
 {
     Declaration {
         name: parameter.name,
-        kind: around.scope.kind(parameter.kind),
-        held: type_held(around, parameter.kind),
+        kind: around.types.scope.kind(parameter.kind),
+        held: type_held(&around.types, parameter.kind),
         role: role_of(parameter),
     }
 }
@@ -105,7 +105,7 @@ fn resolve_method(
         name: method.name.place,
         takes: takes_some(&method.params),
         gives: method.result.is_some(),
-        result: result_held(around, method.result),
+        result: result_held(&around.types, method.result),
         variables: locals.into_variables(),
         statements,
         scope,
@@ -171,24 +171,28 @@ fn resolve_items<'a>(
         ≡ methods_told (program_in text.now (map item_tree items.now))) }
 {
     let before = count_items(alloc, items)?;
-    let structs = structs_told(alloc, items)?;
+    let types = Types {
+        scope,
+        resolved: contracts,
+        before: &before,
+    };
+    let fields = fields_of(alloc, &types, items)?;
     let mut messages = Vec::new(alloc);
     let mut resolved = Vec::new(alloc);
     for (class, item) in items.iter().enumerate() {
         let around = Around {
-            scope,
+            types,
             items,
-            resolved: contracts,
-            before: &before,
+            owning: &fields.places,
             class,
         };
         let methods = methods_of(&item.definition);
-        add_brought(alloc, &around, &item.definition, &mut messages)?;
+        add_brought(alloc, &types, &item.definition, &mut messages)?;
         add_methods(alloc, text, &around, methods, &mut resolved)?;
     }
     Ok(Program {
         messages,
-        structs,
+        structs: fields.structs,
         methods: resolved,
     })
 }

@@ -15,11 +15,13 @@ ghost use Rattle.resolving.specs.Plain.{declaration_of, deleted, written, first_
 
 use crate::around::Around;
 use crate::calls::tell_start;
+use crate::exchanges::exchange_action;
+use crate::given::alone;
 use crate::kinds::type_held;
 use crate::locals::{Declaration, Locals};
 use crate::reads::add_reads;
 use crate::sends::{channel_action, tell_stated};
-use crate::values::{alone, tell_assigned, tell_part, tell_read, unread};
+use crate::values::{tell_assigned, tell_part, tell_read, unread};
 use program::{Action, Mention, Role, Statement};
 use source::Place;
 use std::alloc::{AllocError, Global};
@@ -78,7 +80,7 @@ fn declared_mention(
         → IsFrame text.now f locals.now → result ≡ option_map (mention_of declare.now.name)
         (next_number (type_held (program_in text.now items) declare.now.kind) f) }
 {
-    let variable = locals.next_number(type_held(around, declare.kind))?;
+    let variable = locals.next_number(type_held(&around.types, declare.kind))?;
     Some(Mention {
         variable,
         place: declare.name.place,
@@ -169,6 +171,9 @@ pub(crate) fn tell_plain(
         tree::Statement::Delete(name) => {
             Ok(unread(alloc, deleting(locals.mention(text, *name))))
         }
+        tree::Statement::Exchange(exchange) => {
+            Ok(unread(alloc, exchange_action(text, around, locals, **exchange)))
+        }
         tree::Statement::NewChannel(channel) => {
             Ok(unread(alloc, channel_action(text, around, locals, **channel)))
         }
@@ -185,8 +190,8 @@ fn declaration_of(around: &Around<'_, '_>, declare: &Declare) -> Declaration
 {
     Declaration {
         name: declare.name,
-        kind: around.scope.kind(declare.kind),
-        held: type_held(around, declare.kind),
+        kind: around.types.scope.kind(declare.kind),
+        held: type_held(&around.types, declare.kind),
         role: Role::Local,
     }
 }

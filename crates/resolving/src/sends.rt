@@ -13,32 +13,14 @@ ghost use Rattle.resolving.specs.Plain as told;
 
 use crate::around::Around;
 use crate::calls::{add_argument_reads, tell_call};
+use crate::given::payloads_of;
 use crate::kinds::contract_named;
 use crate::locals::Locals;
 use crate::messages::{Meant, message_sent};
-use crate::values::{add_listed, alone};
 use program::{Action, Channel, Mention, Send, Statement};
 use source::Span;
 use std::alloc::{AllocError, Global};
-use tree::{Call, Expression, NewChannel};
-
-/// What is given for the parameters of a message that are of the exchange heap, in order.
-fn payloads_of(
-    alloc: Global,
-    text: &[u8],
-    locals: &Locals<'_>,
-    arguments: &[Expression],
-) -> Result<Vec<Mention>, AllocError>
-    ensures { (items : List ItemTree) (own : ℕ) (f : Frame) → IsFrame text.now f locals.now → IfOk result
-        (λ list. list.items ≡ told.payloads (program_in text.now items) own f (map expression_tree arguments.now)) }
-{
-    let mut payloads = Vec::new(alloc);
-    for argument in arguments {
-        let mention = alone(text, locals, argument);
-        add_listed(mention, &mut payloads)?;
-    }
-    Ok(payloads)
-}
+use tree::{Call, NewChannel};
 
 /// What a send of this message on this endpoint comes to.
 fn send_of(
@@ -77,7 +59,7 @@ fn sent_by<'a>(
         → option_map meant_seen result ≡ told.meant_by (program_in text.now items) f (call_tree call.now) word }
 {
     let contract = locals.contract(text, call.name)?;
-    message_sent(around, contract, word)
+    message_sent(&around.types, contract, word)
 }
 
 /// What a call that stands alone comes to, if it is a send.
@@ -133,7 +115,7 @@ fn channel_of(
         → IsAround (program_in text.now items) own around.now → IsFrame text.now f locals.now
         → result ≡ told.channel_found (program_in text.now items) own f channel }
 {
-    let contract = contract_named(around, channel.contract)?;
+    let contract = contract_named(&around.types, channel.contract)?;
     let first = locals.mention(text, channel.first)?;
     let second = locals.mention(text, channel.second)?;
     Some(Action::NewChannel(Channel {

@@ -11,12 +11,12 @@ ghost use Rattle.resolving.specs.Around.{IsAround, program_in};
 ghost use Rattle.resolving.specs.Steps.{AddsReads, Tells};
 ghost use Rattle.resolving.specs.Frames.{IsFrame};
 ghost use Rattle.resolving.specs.Locals.{Frame};
-ghost use Rattle.resolving.specs.Reads.{listed, reads};
-ghost use Rattle.resolving.specs.Plain.{told, lone, moved, used, made_reads, new_of, taken, scalar_taken, assigned, part_taken};
+ghost use Rattle.resolving.specs.Reads.{reads};
+ghost use Rattle.resolving.specs.Plain.{told, moved, used, made_reads, made_arguments, new_of, taken, scalar_taken, assigned, part_taken};
 
-use crate::alone::name_alone;
 use crate::around::Around;
 use crate::calls::tell_call;
+use crate::given::{add_listed, alone, payloads_of};
 use crate::locals::Locals;
 use crate::reads::add_reads;
 use program::{Action, Mention, New, Simple, Statement};
@@ -35,15 +35,6 @@ pub(crate) fn unread(alloc: Global, action: Action) -> Statement
     ensures { statement_seen result ≡ told [] action }
 {
     reading(Vec::new(alloc), action)
-}
-
-/// The name that an expression is alone, where it means a variable of the exchange heap.
-pub(crate) fn alone(text: &[u8], locals: &Locals<'_>, expression: &Expression) -> Option<Mention>
-    ensures { (items : List ItemTree) (own : ℕ) (f : Frame) → IsFrame text.now f locals.now
-        → result ≡ lone (program_in text.now items) own f (expression_tree expression.now) }
-{
-    let name = name_alone(expression)?;
-    locals.mention(text, name)
 }
 
 /// The target takes what the source has, if there is a source.
@@ -82,6 +73,22 @@ fn add_made_reads(
     }
 }
 
+/// What is given for the fields that own of what `new` makes.
+fn made_arguments(
+    alloc: Global,
+    text: &[u8],
+    locals: &Locals<'_>,
+    made: &Made,
+) -> Result<Vec<Mention>, AllocError>
+    ensures { (items : List ItemTree) (own : ℕ) (f : Frame) → IsFrame text.now f locals.now → IfOk result
+        (λ given. given.items ≡ made_arguments (program_in text.now items) own f (made_tree made.now)) }
+{
+    match made {
+        Made::Struct { arguments, .. } => payloads_of(alloc, text, locals, arguments),
+        Made::Array { .. } => Ok(Vec::new(alloc)),
+    }
+}
+
 /// Something is made, and this is done with it, behind what was read before.
 fn tell_made(
     text: &[u8],
@@ -97,7 +104,7 @@ fn tell_made(
     Ok(reading(before, action))
 }
 
-/// The target takes a new block. Nothing is given for fields, since no struct has one that owns.
+/// The target takes a new block, for whose fields that own these are given.
 fn tell_new(
     alloc: Global,
     text: &[u8],
@@ -110,11 +117,10 @@ fn tell_new(
 {
     let mut reads = Vec::new(alloc);
     add_made_reads(text, locals, made, &mut reads)?;
-    let arguments = Vec::new(alloc);
     Ok(Statement::New(New {
         reads,
         target,
-        arguments,
+        arguments: made_arguments(alloc, text, locals, made)?,
     }))
 }
 
@@ -195,19 +201,6 @@ pub(crate) fn tell_assigned(
         Some(target) => tell_taken(alloc, text, around, locals, target, value),
         None => tell_scalar(alloc, text, around, locals, value),
     }
-}
-
-/// Adds a variable of the exchange heap, if there is one.
-pub(crate) fn add_listed(
-    mention: Option<Mention>,
-    found: &mut Vec<Mention>,
-) -> Result<(), AllocError>
-    ensures { OnOk result (found.new.items ≡ found.old.items ++ listed mention) }
-{
-    if let Some(mention) = mention {
-        found.push(mention)?;
-    }
-    Ok(())
 }
 
 /// A call gives a scalar that a part of what the variable has takes, behind what its index reads.

@@ -1,9 +1,9 @@
-use Rattle.std.proofs.Common.{◌≡◌, ◌++◌, ℕ}
+use Rattle.std.proofs.Common.{◌≡◌, ◌++◌}
 use Rattle.names.specs.Program.{Program}
-use Rattle.resolving.specs.Around.{IsAround}
+use Rattle.resolving.specs.Around.{IsTypes}
 use Rattle.program.specs.Programs.{rows}
 use Rattle.resolving.proofs.BroughtLemmas.{first_members}
 use Rattle.resolving.proofs.brought.add_members.Given as goal
 
 abbrev pub invariant-loop-member : goal.invariant-loop-member
-invariant-loop-member l = (p : Program) (own : ℕ) → IsAround p own l.around → rows l.told.items ≡ rows l.fn.told.items ++ first_members p l.members l.member-index
+invariant-loop-member l = (p : Program) → IsTypes p l.types → rows l.told.items ≡ rows l.fn.told.items ++ first_members p l.members l.member-index

@@ -11,12 +11,12 @@ use Rattle.resolving.proofs.ItemLemmas.{seen_more}
 use Rattle.resolving.proofs.brought.add_messages.Goals as goal
 
 pub loop-message-preserved : goal.loop-message-preserved
-loop-message-preserved c = λ p own round.
+loop-message-preserved c = λ p round.
     seen_more (λ (kinds : Vec Kind). kinds.items) (λ m. brought p (message_tree m)) c.args.messages.now c.loop-message.message-index c.message-item.result c.args.told.now.items c.loop-message.told.items _ _
-    c.loop-message-test.true c.message-item.is (c.loop-message.invariant p own round) c.in_ok-push.ensures.items (c.in_ok-params_held.ensures p own round ∙ ap (params_held p) c.deref.ensures.value)
+    c.loop-message-test.true c.message-item.is (c.loop-message.invariant p round) c.in_ok-push.ensures.items (c.in_ok-params_held.ensures p round ∙ ap (params_held p) c.deref.ensures.value)
 
 pub returns : goal.returns
-returns c = λ p own round.
+returns c = λ p round.
     let messages = c.args.messages.now in
-    c.loop-message.invariant p own round ∙ ap (λ l. rows c.args.told.now.items ++ l)
+    c.loop-message.invariant p round ∙ ap (λ l. rows c.args.told.now.items ++ l)
     (ap (map (λ (m : tree.Message.Message). brought p (message_tree m))) (take_all c.loop-message.message-index messages c.loop-message-test.false) ∙ sym (map-map (brought p) message_tree messages))

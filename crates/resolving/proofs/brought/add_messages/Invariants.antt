@@ -1,10 +1,10 @@
-use Rattle.std.proofs.Common.{◌≡◌, ◌++◌, ℕ, map, take}
+use Rattle.std.proofs.Common.{◌≡◌, ◌++◌, map, take}
 use Rattle.tree.specs.Trees.{message_tree}
 use Rattle.names.specs.Program.{Program}
-use Rattle.resolving.specs.Around.{IsAround}
+use Rattle.resolving.specs.Around.{IsTypes}
 use Rattle.resolving.specs.Brought.{brought}
 use Rattle.program.specs.Programs.{rows}
 use Rattle.resolving.proofs.brought.add_messages.Given as goal
 
 abbrev pub invariant-loop-message : goal.invariant-loop-message
-invariant-loop-message l = (p : Program) (own : ℕ) → IsAround p own l.around → rows l.told.items ≡ rows l.fn.told.items ++ map (λ m. brought p (message_tree m)) (take l.message-index l.messages)
+invariant-loop-message l = (p : Program) → IsTypes p l.types → rows l.told.items ≡ rows l.fn.told.items ++ map (λ m. brought p (message_tree m)) (take l.message-index l.messages)

@@ -6,6 +6,7 @@ use Rattle.program.specs.declared.kind.Scalar.TheVariants.{Int}
 use Rattle.tree.specs.declared.types.Type.TheVariants.{Scalar}
 use Rattle.program.specs.declared.kind.Kind.{Kind}
 use Rattle.resolving.specs.Brought.{params_held}
+use Rattle.resolving.specs.Kinds.{type_held}
 use Rattle.resolving.proofs.BroughtLemmas.{held_none, held_some}
 use Rattle.resolving.proofs.brought.params_held.Goals as goal
 use Rattle.resolving.proofs.brought.params_held.Goals.{in-Some+in_ok-push, in_default}
@@ -15,16 +16,16 @@ abbrev past : Param
 past = record { kind = Scalar Int; name = record { start = 0; end = 0; place = record { line = 0; col = 0 } } }
 
 pub loop-param-preserved : goal.loop-param-preserved
-loop-param-preserved c = λ p own round.
+loop-param-preserved c = λ p round.
     let params = c.args.params.now in
     let i = c.loop-param.param-index in
     let done = c.loop-param.kinds.items in
     let lt = c.loop-param-test.true in
-    let before = c.loop-param.invariant p own round in
+    let before = c.loop-param.invariant p round in
     elim c.match-type_held.branch [
-      | in-Some+in_ok-push w ↦ ap (λ (k : Vec Kind). k.items) w.kinds-is ∙ w.in_ok-push.ensures.items ∙ held_some p params i past w.in-Some.kind done lt before (w.in-Some.ensures p own round)
-      | in_default w ↦ ap (λ (k : Vec Kind). k.items) w.kinds-is ∙ held_none p params i past done lt before (w.in_default.ensures p own round)
+      | in-Some+in_ok-push w ↦ ap (λ (k : Vec Kind). k.items) w.kinds-is ∙ w.in_ok-push.ensures.items ∙ held_some (λ (x : Param). type_held p x.kind) params i past w.in-Some.kind done lt before (w.in-Some.ensures p round)
+      | in_default w ↦ ap (λ (k : Vec Kind). k.items) w.kinds-is ∙ held_none (λ (x : Param). type_held p x.kind) params i past done lt before (w.in_default.ensures p round)
     ]
 
 pub returns : goal.returns
-returns c = λ p own round. c.loop-param.invariant p own round ∙ ap (params_held p) (take_all c.loop-param.param-index c.args.params.now c.loop-param-test.false)
+returns c = λ p round. c.loop-param.invariant p round ∙ ap (params_held p) (take_all c.loop-param.param-index c.args.params.now c.loop-param-test.false)

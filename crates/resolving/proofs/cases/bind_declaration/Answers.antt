@@ -17,6 +17,6 @@ pub returns-in-None : goal.returns-in-None
 returns-in-None c = λ p own around.
     let name = c.args.bind.name in
     let param = option_map (λ (x : Bor Param). x.now) c.args.param in
-    ap (local name c.brought_kind-kind.result) (c.kind_held-held.ensures p own around)
+    ap (local name c.brought_kind-kind.result) (c.kind_held-held.ensures p around.types)
     ∙ ap (λ k. local name k (kind_held p k None)) (c.brought_kind-kind.ensures p own around)
     ∙ ap (bound_as p param name) (sym c.in-None.is)

@@ -5,16 +5,16 @@ use Rattle.resolving.proofs.KindLemmas.{contract_found, contract_past, number_fo
 use Rattle.resolving.proofs.kinds.contract_number.Goals as goal
 
 pub returns-in_err-before : goal.returns-in_err-before
-returns-in_err-before c = λ p own h.
-    c.from_residual.ensures ∙ sym (ap (option_map (λ k. contract_number p c.args.place)) (contract_past p own c.args.around.now c.args.place h c.in_err-before.ensures.lookup.3))
+returns-in_err-before c = λ p h.
+    c.from_residual.ensures ∙ sym (ap (option_map (λ k. contract_number p c.args.place)) (contract_past p c.args.types.now c.args.place h c.in_err-before.ensures.lookup.3))
 
 pub returns-in_err-_contract : goal.returns-in_err-_contract
-returns-in_err-_contract c = λ p own h.
+returns-in_err-_contract c = λ p h.
     let at = c.in_ok-before.ensures.lookup in
     c.from_residual-in_err-_contract.ensures ∙ ap (option_map (λ k. contract_number p c.args.place))
-    (contract_found p own c.args.around.now c.args.place c.in_ok-before.before.now c.deref.result.now None h at.3.0 at.1 c.deref.ensures.value c.in_err-_contract.ensures.lookup.3)
+    (contract_found p c.args.types.now c.args.place c.in_ok-before.before.now c.deref.result.now None h at.3.0 at.1 c.deref.ensures.value c.in_err-_contract.ensures.lookup.3)
 
 pub returns : goal.returns
-returns c = λ p own h.
+returns c = λ p h.
     let at = c.in_ok-before.ensures.lookup in
-    number_found p own c.args.around.now c.args.place c.in_ok-before.before.now c.deref.result.now c.in_ok-_contract._contract h at.3.0 at.1 c.deref.ensures.value c.in_ok-_contract.ensures.lookup.3
+    number_found p c.args.types.now c.args.place c.in_ok-before.before.now c.deref.result.now c.in_ok-_contract._contract h at.3.0 at.1 c.deref.ensures.value c.in_ok-_contract.ensures.lookup.3

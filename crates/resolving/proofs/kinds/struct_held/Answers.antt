@@ -3,10 +3,10 @@ use Rattle.resolving.proofs.KindLemmas.{struct_found, struct_past}
 use Rattle.resolving.proofs.kinds.struct_held.Goals as goal
 
 pub returns-in_err-before : goal.returns-in_err-before
-returns-in_err-before c = λ p own h.
-    c.from_residual.ensures ∙ struct_past p own c.args.around.now c.args.place h c.in_err-before.ensures.lookup.3
+returns-in_err-before c = λ p h.
+    c.from_residual.ensures ∙ struct_past p c.args.types.now c.args.place h c.in_err-before.ensures.lookup.3
 
 pub returns : goal.returns
-returns c = λ p own h.
+returns c = λ p h.
     let at = c.in_ok-before.ensures.lookup in
-    struct_found p own c.args.around.now c.args.place c.in_ok-before.before.now h at.3.0 at.1
+    struct_found p c.args.types.now c.args.place c.in_ok-before.before.now h at.3.0 at.1

@@ -6,8 +6,8 @@ use Rattle.tree.specs.declared.statement as made
 use Rattle.resolving.specs.Around.{program_in}
 use Rattle.resolving.specs.Kinds.{type_held}
 use Rattle.resolving.specs.Locals.{next_number}
-use Rattle.resolving.specs.Plain.{told, stated_call, started, first_value, written, channel, returned, plain_told}
-use Rattle.resolving.proofs.StatementTwins.{of_declare, of_assign, of_call, of_start, of_channel, of_return}
+use Rattle.resolving.specs.Plain.{told, stated_call, started, first_value, written, channel, exchanged, returned, plain_told}
+use Rattle.resolving.proofs.StatementTwins.{of_declare, of_assign, of_call, of_start, of_channel, of_exchange, of_return}
 use Rattle.resolving.proofs.PlainLemmas.{told_as}
 use Rattle.resolving.proofs.plain.tell_plain.Goals as goal
 
@@ -48,6 +48,13 @@ returns-in-Start c = λ items own around.
     told_as text locals c.tell_start.result (λ f. started p own f (call_tree c.deref-in-Start.result.now)) (λ f. plain_told p own f (statement_tree c.args.statement.now))
     (λ f frame. ap (λ x. started p own f (call_tree x)) c.deref-in-Start.ensures ∙ ap (plain_told p own f) (sym (ap statement_tree c.in-Start.is ∙ of_start c.in-Start.word c.in-Start.call)))
     (c.tell_start.ensures items own around)
+
+pub returns-in-Exchange : goal.returns-in-Exchange
+returns-in-Exchange c = λ items own around. record {
+  all = λ f frame.
+      let p = program_in c.args.text.now items in
+      c.unread-in-Exchange.ensures ∙ ap (told []) (c.exchange_action.ensures items own f around frame) ∙ ap (λ e. told [] (exchanged p own f e)) c.deref-in-Exchange.ensures ∙ ap (plain_told p own f) (sym (ap statement_tree c.in-Exchange.is ∙ of_exchange c.in-Exchange.exchange));
+}
 
 pub returns-in-NewChannel : goal.returns-in-NewChannel
 returns-in-NewChannel c = λ items own around. record {

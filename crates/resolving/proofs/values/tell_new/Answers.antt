@@ -11,7 +11,9 @@ pub returns : goal.returns
 returns c = λ items own. record {
   all = λ f frame.
       let makes = λ (reads : List Mention) (given : List Mention). seen.New (record { reads = reads; target = c.args.target; arguments = given }) in
-      let made = made_reads (program_in c.args.text.now items) own f (made_tree c.args.made.now) in
-      new_is _ ∙ ap (λ reads. makes reads c.new-arguments.result.items) ((c.in_ok-add_made_reads.ensures items own).all f frame)
-      ∙ ap (λ before. makes (before ++ made) c.new-arguments.result.items) c.new-reads.ensures.items ∙ ap (makes made) c.new-arguments.ensures.items;
+      let p = program_in c.args.text.now items in
+      let made = made_reads p own f (made_tree c.args.made.now) in
+      let given = c.in_ok-made_arguments.field-0.items in
+      new_is _ ∙ ap (λ reads. makes reads given) ((c.in_ok-add_made_reads.ensures items own).all f frame)
+      ∙ ap (λ before. makes (before ++ made) given) c.new-reads.ensures.items ∙ ap (makes made) (c.in_ok-made_arguments.ensures items own f frame);
 }

@@ -6,7 +6,7 @@ use Rattle.resolving.specs.Around.{program_in}
 use Rattle.resolving.specs.Reads.{listed}
 use Rattle.resolving.specs.Plain.{payloads}
 use Rattle.resolving.proofs.SendLemmas.{payloads_more}
-use Rattle.resolving.proofs.sends.payloads_of.Goals as goal
+use Rattle.resolving.proofs.given.payloads_of.Goals as goal
 
 pub loop-argument-init : goal.loop-argument-init
 loop-argument-init c = λ items own f frame. c.new-payloads.ensures.items

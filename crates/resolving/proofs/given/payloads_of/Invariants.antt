@@ -5,7 +5,7 @@ use Rattle.resolving.specs.Around.{program_in}
 use Rattle.resolving.specs.Frames.{IsFrame}
 use Rattle.resolving.specs.Locals.{Frame}
 use Rattle.resolving.specs.Plain.{payloads}
-use Rattle.resolving.proofs.sends.payloads_of.Given as goal
+use Rattle.resolving.proofs.given.payloads_of.Given as goal
 
 abbrev pub invariant-loop-argument : goal.invariant-loop-argument
 invariant-loop-argument l = (items : List ItemTree) (own : ℕ) (f : Frame) → IsFrame l.text f l.locals

@@ -1,0 +1,69 @@
+//! What exchanges come to.
+
+ghost use Rattle.std.specs.Prelude.{◌≡◌, ℕ, List, option_and_then};
+ghost use Rattle.tree.specs.Trees.{ItemTree};
+ghost use Rattle.resolving.specs.Around.{IsAround, program_in};
+ghost use Rattle.resolving.specs.Fields as fields;
+ghost use Rattle.resolving.specs.Frames.{IsFrame};
+ghost use Rattle.resolving.specs.Locals.{Frame, local_named};
+ghost use Rattle.resolving.specs.Plain as told;
+
+use crate::around::Around;
+use crate::fields::field_number;
+use crate::locals::Locals;
+use program::Action;
+use tree::Exchange;
+
+/// The number of the field that is exchanged, among those that own.
+fn exchanged_field(
+    text: &[u8],
+    around: &Around<'_, '_>,
+    locals: &Locals<'_>,
+    exchange: Exchange,
+) -> Option<usize>
+    ensures { (items : List ItemTree) (own : ℕ) (f : Frame) → IsAround (program_in text.now items) own around.now
+        → IsFrame text.now f locals.now
+        → result ≡ option_and_then (λ v. fields.field_number (program_in text.now items) v.kind exchange.field)
+        (local_named text.now f.locals exchange.holder) }
+{
+    let kind = locals.kind(text, exchange.holder)?;
+    field_number(around, kind, exchange.field)
+}
+
+/// What an exchange comes to, if its field and its two variables are found.
+fn exchange_of(
+    text: &[u8],
+    around: &Around<'_, '_>,
+    locals: &Locals<'_>,
+    exchange: Exchange,
+) -> Option<Action>
+    ensures { (items : List ItemTree) (own : ℕ) (f : Frame)
+        → IsAround (program_in text.now items) own around.now → IsFrame text.now f locals.now
+        → result ≡ told.exchange_found (program_in text.now items) own f exchange }
+{
+    let field = exchanged_field(text, around, locals, exchange)?;
+    let holder = locals.mention(text, exchange.holder)?;
+    let given = locals.mention(text, exchange.given)?;
+    Some(Action::Exchange(program::Exchange {
+        place: exchange.word.place,
+        holder,
+        field,
+        given,
+    }))
+}
+
+/// What an exchange comes to.
+pub(crate) fn exchange_action(
+    text: &[u8],
+    around: &Around<'_, '_>,
+    locals: &Locals<'_>,
+    exchange: Exchange,
+) -> Action
+    ensures { (items : List ItemTree) (own : ℕ) (f : Frame) → IsAround (program_in text.now items) own around.now
+        → IsFrame text.now f locals.now → result ≡ told.exchanged (program_in text.now items) own f exchange }
+{
+    match exchange_of(text, around, locals, exchange) {
+        Some(action) => action,
+        None => Action::Nothing,
+    }
+}

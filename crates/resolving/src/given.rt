@@ -1,0 +1,56 @@
+//! What is given: names alone of variables of the exchange heap.
+
+ghost use Rattle.std.specs.Prelude.{◌≡◌, ◌++◌, ℕ, List, IfOk, OnOk, map};
+ghost use Rattle.tree.specs.ExpressionTrees.{expression_tree};
+ghost use Rattle.tree.specs.Trees.{ItemTree};
+ghost use Rattle.resolving.specs.Around.{program_in};
+ghost use Rattle.resolving.specs.Frames.{IsFrame};
+ghost use Rattle.resolving.specs.Locals.{Frame};
+ghost use Rattle.resolving.specs.Plain.{lone, payloads};
+ghost use Rattle.resolving.specs.Reads.{listed};
+
+use crate::alone::name_alone;
+use crate::locals::Locals;
+use program::Mention;
+use std::alloc::{AllocError, Global};
+use tree::Expression;
+
+/// The name that an expression is alone, where it means a variable of the exchange heap.
+pub(crate) fn alone(text: &[u8], locals: &Locals<'_>, expression: &Expression) -> Option<Mention>
+    ensures { (items : List ItemTree) (own : ℕ) (f : Frame) → IsFrame text.now f locals.now
+        → result ≡ lone (program_in text.now items) own f (expression_tree expression.now) }
+{
+    let name = name_alone(expression)?;
+    locals.mention(text, name)
+}
+
+/// Adds a variable of the exchange heap, if there is one.
+pub(crate) fn add_listed(
+    mention: Option<Mention>,
+    found: &mut Vec<Mention>,
+) -> Result<(), AllocError>
+    ensures { OnOk result (found.new.items ≡ found.old.items ++ listed mention) }
+{
+    if let Some(mention) = mention {
+        found.push(mention)?;
+    }
+    Ok(())
+}
+
+/// The variables of the exchange heap that these arguments are alone, in order.
+pub(crate) fn payloads_of(
+    alloc: Global,
+    text: &[u8],
+    locals: &Locals<'_>,
+    arguments: &[Expression],
+) -> Result<Vec<Mention>, AllocError>
+    ensures { (items : List ItemTree) (own : ℕ) (f : Frame) → IsFrame text.now f locals.now → IfOk result
+        (λ list. list.items ≡ payloads (program_in text.now items) own f (map expression_tree arguments.now)) }
+{
+    let mut payloads = Vec::new(alloc);
+    for argument in arguments {
+        let mention = alone(text, locals, argument);
+        add_listed(mention, &mut payloads)?;
+    }
+    Ok(payloads)
+}
