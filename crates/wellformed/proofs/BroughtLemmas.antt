@@ -89,14 +89,15 @@ binds_hold p s (x ∷ params) (b ∷ binds) f g within known many none =
     let rest = binds_hold p s params binds next turned.frame within known.1 fewer clean.1 in
     bound_holds p s x b.name b.kind f g (type_known p x.kind known.0) here clean.0 (params_held p params) (binds_told p params binds next).what rest
 
--- what messages bring stands for something
-param_kinds : (p : Program) (x : Param) (o : Option held.Kind.Kind) → type_held p x.kind ≡ o → Each (IsKind (resolved_contracts p.text (contracts_of p.items))) (held_listed o)
-param_kinds p x None is = tt
-param_kinds p x (Some h) is = (held_kind p (type_kind p x.kind) h (record { state = state_in x.kind; is = is }), tt)
+-- what is of a type of the exchange heap stands for something
+pub type_kinds : (p : Program) (t : type_nodes.Type.Type) (o : Option held.Kind.Kind) → type_held p t ≡ o → Each (IsKind (resolved_contracts p.text (contracts_of p.items))) (held_listed o)
+type_kinds p t None is = tt
+type_kinds p t (Some h) is = (held_kind p (type_kind p t) h (record { state = state_in t; is = is }), tt)
 
+-- so does what messages bring
 params_kinds : (p : Program) (params : List Param) → Each (IsKind (resolved_contracts p.text (contracts_of p.items))) (params_held p params)
 params_kinds p [] = tt
-params_kinds p (x ∷ params) = each_append (IsKind (resolved_contracts p.text (contracts_of p.items))) (held_listed (type_held p x.kind)) (params_held p params) (param_kinds p x (type_held p x.kind) refl) (params_kinds p params)
+params_kinds p (x ∷ params) = each_append (IsKind (resolved_contracts p.text (contracts_of p.items))) (held_listed (type_held p x.kind)) (params_held p params) (type_kinds p x.kind (type_held p x.kind) refl) (params_kinds p params)
 
 messages_kinds : (p : Program) (messages : List MessageTree) → Each (Each (IsKind (resolved_contracts p.text (contracts_of p.items)))) (map (brought p) messages)
 messages_kinds p [] = tt

@@ -9,10 +9,12 @@ use Rattle.tree.specs.Expressions.{LevelTree, StepTrees, AtomTree, TargetTree, E
 use Rattle.tree.specs.Operators.{Level, Operators}
 use Rattle.tree.specs.Trees.{StructTree}
 use Rattle.tree.specs.declared.class as made
+use Rattle.tree.specs.declared.types as type_nodes
+use Rattle.tree.specs.declared.types.Type.TheVariants as type
 use Rattle.program.specs.declared.kind.Scalar.TheVariants as scalar
-use Rattle.names.specs.Expressions.{kind_of, place_of, held, meant, expression_findings, whole_findings, field_kind, field_findings, field_named, struct_field_kind, is_length, element_kind, element_findings, variable_findings, mention_findings, asked_number, sign_asked, left_asked, right_asked, signed_kind, joined_kind}
+use Rattle.names.specs.Expressions.{kind_of, place_of, held, meant, expression_findings, whole_findings, field_kind, field_findings, field_named, struct_field_kind, is_length, is_owning, owns, element_kind, element_findings, variable_findings, mention_findings, asked_number, sign_asked, left_asked, right_asked, signed_kind, joined_kind}
 use Rattle.names.specs.Found.{unknown}
-use Rattle.names.specs.Kinds.{is_block, is_number, is_truth, is_unknown, unless}
+use Rattle.names.specs.Kinds.{is_block, is_heap, is_number, is_truth, is_unknown, type_kind, unless}
 use Rattle.names.specs.Program.{Program, Numbered, as_struct, item_at}
 use Rattle.names.specs.Shapes as shapes
 use Rattle.names.specs.Shapes.{Shape, Sign, shape, joined, joint_of, atom_shape}
@@ -69,26 +71,32 @@ length_scalar : (p : Program) (b : Bool) → b ≡ true → IsKnown p (if b then
 length_scalar p true is = (tt, refl)
 length_scalar p false is = absurd (cc)
 
--- a field of a struct
-part_scalar : (p : Program) (g : names.Frame) (o : Option made.Field.Field) → is_some o ≡ true → IsKnown p (struct_field_kind (scope_of p g) o) × (is_block (struct_field_kind (scope_of p g) o) ≡ false)
-part_scalar p g None is = absurd (cc)
-part_scalar p g (Some x) is = (tt, refl)
+-- a field of a struct that does not own
+type_scalar : (p : Program) (t : type_nodes.Type.Type) → is_heap t ≡ false → IsKnown p (type_kind p t) × (is_block (type_kind p t) ≡ false)
+type_scalar p (type.Scalar s) own = (tt, refl)
+type_scalar p (type.Heap h) own = absurd (cc)
+
+part_scalar : (p : Program) (g : names.Frame) (o : Option made.Field.Field) → is_some o ≡ true → is_owning o ≡ false
+    → IsKnown p (struct_field_kind (scope_of p g) o) × (is_block (struct_field_kind (scope_of p g) o) ≡ false)
+part_scalar p g None is own = absurd (cc)
+part_scalar p g (Some x) is own = type_scalar p x.kind own
 
 struct_scalar : (p : Program) (g : names.Frame) (o : Option (Numbered StructTree)) (field : Span) → IsSomeAnd o (λ s. Unit {0})
     → option_map_or (λ x. if is_some (field_named p.text x.1 field) then [] else unknown p.text field ∷ []) o [] ≡ []
+    → option_map_or (λ x. is_owning (field_named p.text x.1 field)) o false ≡ false
     → IsKnown p (option_map_or (λ x. struct_field_kind (scope_of p g) (field_named p.text x.1 field)) o kind.Unknown) × (is_block (option_map_or (λ x. struct_field_kind (scope_of p g) (field_named p.text x.1 field)) o kind.Unknown) ≡ false)
-struct_scalar p g None field known none = absurd known
-struct_scalar p g (Some x) field known none = part_scalar p g (field_named p.text x.1 field) (none_said (is_some (field_named p.text x.1 field)) (unknown p.text field) none)
+struct_scalar p g None field known none own = absurd known
+struct_scalar p g (Some x) field known none own = part_scalar p g (field_named p.text x.1 field) (none_said (is_some (field_named p.text x.1 field)) (unknown p.text field) none) own
 
--- a field, or an element, is a scalar
-pub field_scalar : (p : Program) (g : names.Frame) (k : declared.Kind.Kind) (name field : Span) → IsKnown p k → field_findings (scope_of p g) k name field ≡ []
+-- a field that does not own, or an element, is a scalar
+pub field_scalar : (p : Program) (g : names.Frame) (k : declared.Kind.Kind) (name field : Span) → IsKnown p k → field_findings (scope_of p g) k name field ≡ [] → owns (scope_of p g) k field ≡ false
     → IsKnown p (field_kind (scope_of p g) k field) × (is_block (field_kind (scope_of p g) k field) ≡ false)
-field_scalar p g (kind.Scalar s) name field known none = absurd (cc)
-field_scalar p g (kind.Array element) name field known none = length_scalar p (is_length (scope_of p g) field) (none_said (is_length (scope_of p g) field) (unknown p.text field) none)
-field_scalar p g (kind.Pointer n) name field known none = struct_scalar p g (item_at as_struct p n) field known none
-field_scalar p g (kind.Endpoint side n) name field known none = absurd (cc)
-field_scalar p g kind.Missing name field known none = absurd known
-field_scalar p g kind.Unknown name field known none = absurd known
+field_scalar p g (kind.Scalar s) name field known none own = absurd (cc)
+field_scalar p g (kind.Array element) name field known none own = length_scalar p (is_length (scope_of p g) field) (none_said (is_length (scope_of p g) field) (unknown p.text field) none)
+field_scalar p g (kind.Pointer n) name field known none own = struct_scalar p g (item_at as_struct p n) field known none own
+field_scalar p g (kind.Endpoint side n) name field known none own = absurd (cc)
+field_scalar p g kind.Missing name field known none own = absurd known
+field_scalar p g kind.Unknown name field known none own = absurd known
 
 pub element_scalar : (p : Program) (k : declared.Kind.Kind) (name : Span) → IsKnown p k → element_findings k name ≡ []
     → IsKnown p (element_kind k false) × (is_block (element_kind k false) ≡ false)
@@ -138,8 +146,11 @@ expression_scalar p vs f g standing (shapes.Truth place) none = (tt, refl)
 expression_scalar p vs f g standing (shapes.Mention name) none = mention_scalar p vs f g standing name none
 expression_scalar p vs f g standing (shapes.Field name field) none =
     let s = scope_of p g in
-    let both = both_none (variable_findings s name) (field_findings s (held (meant s name)) name field) none in
-    field_scalar p g (held (meant s name)) name field (held_known p vs f g name standing both.0) both.1
+    let k = held (meant s name) in
+    let both = both_none (variable_findings s name) (field_findings s k name field ++ unless (not (owns s k field)) name.place) none in
+    let inner = both_none (field_findings s k name field) (unless (not (owns s k field)) name.place) both.1 in
+    let own = not-true (owns s k field) (unless_none (not (owns s k field)) name.place inner.1) in
+    field_scalar p g k name field (held_known p vs f g name standing both.0) inner.0 own
 expression_scalar p vs f g standing (shapes.Element name index) none =
     let s = scope_of p g in
     let k = held (meant s name) in

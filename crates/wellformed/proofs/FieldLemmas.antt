@@ -1,31 +1,184 @@
--- What structs have in fields that own: nothing, so it stands for something.
-use Rattle.std.proofs.Common.{◌≡◌, ℕ, zero, suc, List, [], ◌∷◌, map, refl, arith}
+-- What structs have in fields that own: few kinds, which stand for something, by the numbers of structs.
+use Rattle.std.proofs.Common.{◌≡◌, ℕ, zero, suc, ◌+◌, ◌≤◌, List, [], ◌∷◌, ◌++◌, length, map, refl, ap, ◌∙◌, arith, length-append}
+use Rattle.std.proofs.lemmas.List.{length-map}
+use Rattle.std.proofs.lemmas.Option.{slice_get-map}
+use Rattle.std.specs.List.{filter, flat_map}
 use Rattle.std.specs.Option.{option_map_or}
-use Rattle.std.specs.Prelude.{slice_get}
-use Rattle.tree.specs.Trees.{StructTree, contracts_of}
-use Rattle.names.specs.Program.{Program}
+use Rattle.std.specs.Prelude.{Option, None, Some, option_map, slice_get, take}
+use Rattle.source.specs.declared.token.Span.{Span}
+use Rattle.tree.specs.Trees as trees
+use Rattle.tree.specs.Trees.{DefinitionTree, ItemTree, StructTree, contracts_of}
+use Rattle.tree.specs.declared.class.Field.{Field}
+use Rattle.tree.specs.declared.contract.Param.{Param}
+use Rattle.tree.specs.declared.item.Access.{Access}
+use Rattle.tree.specs.declared.types as type_nodes
+use Rattle.tree.specs.declared.types.Type.TheVariants as type
+use Rattle.names.specs.Findings.{definition_findings, program_findings}
+use Rattle.names.specs.Found.{FindingParts, limit_passed}
+use Rattle.names.specs.Kinds.{is_heap, type_kind, type_unknown}
+use Rattle.names.specs.Listed.{past_limit, twice_among}
+use Rattle.names.specs.Methods.{struct_findings}
+use Rattle.names.specs.Program.{Program, as_struct, item_at}
 use Rattle.names.specs.Resolution.{resolved_contracts}
+use Rattle.names.specs.Values.{owning_fields}
+use Rattle.names.specs.declared.kinds as names
 use Rattle.program.specs.Lists.{Each}
-use Rattle.program.specs.WellFormed.{AreFields, field_kinds}
-use Rattle.program.specs.declared.kind.Kind.{Kind}
-use Rattle.program.specs.declared.kind.Kind.TheVariants.{Struct, Array, Endpoint}
-use Rattle.resolving.specs.Counts.{structs_of}
+use Rattle.program.specs.WellFormed.{AreFields, IsKind, field_kinds}
+use Rattle.program.specs.declared.kind as held
+use Rattle.program.specs.declared.limits.TheConstants.{MOST_FIELDS}
+use Rattle.resolving.specs.Brought.{held_listed, params_held}
+use Rattle.resolving.specs.Counts.{struct_among, structs_before, structs_of}
 use Rattle.resolving.specs.Fields.{fields_held, structs_told}
+use Rattle.resolving.specs.Kinds.{type_held}
+use Rattle.wellformed.proofs.BroughtLemmas.{type_kinds}
+use Rattle.wellformed.proofs.KindLemmas.{struct_of}
+use Rattle.wellformed.proofs.ListLemmas.{both_none, each_append}
+use Rattle.wellformed.proofs.MethodNumberLemmas.{Declares, struct_item}
+use Rattle.wellformed.proofs.PlaceLemmas.{each_none, slice_behind}
+use Rattle.wellformed.proofs.ProgramLemmas.{item_clean, items_clean}
 
-structs_kinds : (p : Program) (structs : List StructTree) → Each (AreFields (resolved_contracts p.text (contracts_of p.items))) (map fields_held structs)
-structs_kinds p [] = tt
-structs_kinds p (s ∷ structs) = (record { few = omega arith; kinds_are = tt }, structs_kinds p structs)
+-- what is wrong with the types of the fields of a struct
+abbrev pub types_unknown : Program → List Field → List FindingParts
+types_unknown p fields = flat_map (λ f. type_unknown p f.kind) fields
 
-pub fields_kinds : (p : Program) → Each (AreFields (resolved_contracts p.text (contracts_of p.items))) (structs_told p)
-fields_kinds p = structs_kinds p (structs_of p.items)
+-- nothing is wrong with the structs among items
+struct_none : (p : Program) (d : DefinitionTree) → definition_findings p d ≡ [] → Each (λ s. struct_findings p s ≡ []) (struct_among d)
+struct_none p (trees.Contract c) none = tt
+struct_none p (trees.Struct s) none = (none, tt)
+struct_none p (trees.Class c) none = tt
 
-struct_holds : (structs : List StructTree) (n : ℕ) → option_map_or (λ kinds. kinds) (slice_get (map fields_held structs) n) [] ≡ []
-struct_holds [] n = refl
-struct_holds (s ∷ structs) zero = refl
-struct_holds (s ∷ structs) (suc n) = struct_holds structs n
+structs_none : (p : Program) (items : List ItemTree) → flat_map (λ i. definition_findings p i.definition) items ≡ []
+    → Each (λ s. struct_findings p s ≡ []) (structs_of items)
+structs_none p [] none = tt
+structs_none p (i ∷ items) none =
+    let both = both_none (definition_findings p i.definition) (flat_map (λ x. definition_findings p x.definition) items) none in
+    each_append (λ s. struct_findings p s ≡ []) (struct_among i.definition) (structs_of items) (struct_none p i.definition both.0) (structs_none p items both.1)
 
--- no block has anything in fields that own
-pub none_owned : (p : Program) (k : Kind) → field_kinds (structs_told p) k ≡ []
-none_owned p (Struct n) = struct_holds (structs_of p.items) n.0
-none_owned p (Array element) = refl
-none_owned p (Endpoint contract side state) = refl
+-- a struct with which nothing is wrong has few fields that own, and their types are known
+record IsStruct (p : Program) (s : StructTree) : Type 0 where
+  known : Each (λ f. type_unknown p f.kind ≡ []) s.fields
+  few : length (owning_fields s) ≤ MOST_FIELDS
+
+few_by : {X Y : Type 0} → (f : X → List Y) (xs : List X) (most : ℕ) (finding : (x : X) → f x ≡ [] → ⊥) → option_map_or f (slice_get xs most) [] ≡ [] → length xs ≤ most
+few_by f [] most finding none = omega arith
+few_by f (x ∷ xs) zero finding none = absurd (finding x none)
+few_by f (x ∷ xs) (suc most) finding none = let rest = few_by f xs most finding none in omega (arith, rest)
+
+limit_told : (name : Span) → limit_passed name ∷ [] ≡ [] → ⊥
+limit_told name none = cc
+
+struct_is : (p : Program) (s : StructTree) → struct_findings p s ≡ [] → IsStruct p s
+struct_is p s none =
+    let names = map (λ (f : Field). f.name) (owning_fields s) in
+    let behind = both_none (twice_among p.text (map (λ (f : Field). f.name) s.fields)) (types_unknown p s.fields ++ past_limit MOST_FIELDS names) none in
+    let both = both_none (types_unknown p s.fields) (past_limit MOST_FIELDS names) behind.1 in
+    let few = few_by (λ name. limit_passed name ∷ []) names MOST_FIELDS limit_told both.1 in
+    record {
+      known = each_none (λ f. type_unknown p f.kind) s.fields both.0;
+      few = omega (arith, few, length-map (owning_fields s) (λ (f : Field). f.name));
+    }
+
+-- no more hold something than are of types of the exchange heap
+listed_few : (o : Option held.Kind.Kind) (n m : ℕ) → n ≤ m → length (held_listed o) + n ≤ suc m
+listed_few None n m le = omega (arith, le)
+listed_few (Some h) n m le = omega (arith, le)
+
+held_few : (p : Program) (fields : List Field) → length (fields_held p fields) ≤ length (filter (λ f. is_heap f.kind) fields)
+held_few p [] = omega arith
+held_few p (f ∷ fields) = by f.access f.kind f.name (held_few p fields)
+  where
+    by : (a : Option Access) (t : type_nodes.Type.Type) (n : Span) → length (fields_held p fields) ≤ length (filter (λ g. is_heap g.kind) fields)
+        → length (held_listed (type_held p t) ++ fields_held p fields) ≤ length (filter (λ g. is_heap g.kind) (record { access = a; kind = t; name = n } ∷ fields))
+    by a (type.Scalar s) n le = le
+    by a (type.Heap h) n le =
+        let more = listed_few (type_held p (type.Heap h)) (length (fields_held p fields)) (length (filter (λ g. is_heap g.kind) fields)) le in
+        omega (arith, more, length-append (held_listed (type_held p (type.Heap h))) (fields_held p fields))
+
+-- what a struct has in its fields that own stands for something
+held_kinds : (p : Program) (fields : List Field) → Each (IsKind (resolved_contracts p.text (contracts_of p.items))) (fields_held p fields)
+held_kinds p [] = tt
+held_kinds p (f ∷ fields) = each_append (IsKind (resolved_contracts p.text (contracts_of p.items))) (held_listed (type_held p f.kind)) (fields_held p fields)
+    (type_kinds p f.kind (type_held p f.kind) refl) (held_kinds p fields)
+
+structs_kinds : (p : Program) (structs : List StructTree) → Each (λ s. struct_findings p s ≡ []) structs
+    → Each (AreFields (resolved_contracts p.text (contracts_of p.items))) (map (λ s. fields_held p s.fields) structs)
+structs_kinds p [] none = tt
+structs_kinds p (s ∷ structs) none =
+    let is = struct_is p s none.0 in
+    let few = is.few in
+    (record { few = omega (arith, few, held_few p s.fields); kinds_are = held_kinds p s.fields }, structs_kinds p structs none.1)
+
+pub fields_kinds : (p : Program) → program_findings p ≡ [] → Each (AreFields (resolved_contracts p.text (contracts_of p.items))) (structs_told p)
+fields_kinds p clean = structs_kinds p (structs_of p.items) (structs_none p p.items (items_clean p clean))
+
+-- the types of the fields of a struct are known
+pub fields_clean : (p : Program) (n : ℕ) (s : StructTree) → program_findings p ≡ [] → item_at as_struct p n ≡ Some (n, s)
+    → Each (λ f. type_unknown p f.kind ≡ []) s.fields
+fields_clean p n s clean there =
+    let is = struct_is p s (item_clean p n (trees.Struct s) clean (struct_item p n s there)) in
+    is.known
+
+-- the struct of a number
+struct_there : (items : List ItemTree) (n : ℕ) (i : ItemTree) (s : StructTree) → slice_get items n ≡ Some i → i.definition ≡ trees.Struct s
+    → slice_get (structs_of items) (structs_before items n) ≡ Some s
+struct_there [] n i s there is = cc
+struct_there (j ∷ items) zero i s there is =
+    let same : j ≡ i = cc in
+    ap (λ d. slice_get (struct_among d ++ structs_of items) 0) (ap (λ (x : ItemTree). x.definition) same ∙ is)
+struct_there (j ∷ items) (suc n) i s there is =
+    let own = struct_among j.definition in
+    let on : structs_before (j ∷ items) (suc n) ≡ length own + structs_before items n = length-append own _ in
+    ap (slice_get (own ++ structs_of items)) on ∙ slice_behind own (structs_of items) (structs_before items n) ∙ struct_there items n i s there is
+
+-- what a struct has in its fields that own, by its number
+pub kinds_of_struct : (p : Program) (n : ℕ) (s : StructTree) → item_at as_struct p n ≡ Some (n, s)
+    → field_kinds (structs_told p) (struct_of (structs_before p.items n)) ≡ fields_held p s.fields
+kinds_of_struct p n s there =
+    let d : Declares (slice_get p.items n) (trees.Struct s) = struct_item p n s there in
+    let told = struct_there p.items n d.item s d.at d.is in
+    ap (λ (o : Option (List held.Kind.Kind)). option_map_or (λ kinds. kinds) o [])
+    (slice_get-map (λ x. fields_held p x.fields) (structs_of p.items) (structs_before p.items n) ∙ ap (option_map (λ (x : StructTree). fields_held p x.fields)) told)
+
+-- A field as a parameter of a message: what is given for fields is what is given for these.
+abbrev pub as_param : Field → Param
+as_param f = record { kind = f.kind; name = f.name }
+
+abbrev pub as_params : StructTree → List Param
+as_params s = map as_param (owning_fields s)
+
+pub params_are : (p : Program) (fields : List Field) → params_held p (map as_param (filter (λ f. is_heap f.kind) fields)) ≡ fields_held p fields
+params_are p [] = refl
+params_are p (f ∷ fields) = by f.access f.kind f.name (params_are p fields)
+  where
+    by : (a : Option Access) (t : type_nodes.Type.Type) (n : Span) → params_held p (map as_param (filter (λ g. is_heap g.kind) fields)) ≡ fields_held p fields
+        → params_held p (map as_param (filter (λ g. is_heap g.kind) (record { access = a; kind = t; name = n } ∷ fields))) ≡ held_listed (type_held p t) ++ fields_held p fields
+    by a (type.Scalar s) n more = more
+    by a (type.Heap h) n more = ap (λ (ks : List held.Kind.Kind). held_listed (type_held p (type.Heap h)) ++ ks) more
+
+pub asked_are : (p : Program) (fields : List Field) → map (λ x. type_kind p x.kind) (map as_param fields) ≡ map (λ f. type_kind p f.kind) fields
+asked_are p [] = refl
+asked_are p (f ∷ fields) = ap (λ (ks : List names.Kind.Kind). type_kind p f.kind ∷ ks) (asked_are p fields)
+
+pub params_known : (p : Program) (fields : List Field) → Each (λ f. type_unknown p f.kind ≡ []) fields
+    → Each (λ x. type_unknown p x.kind ≡ []) (map as_param (filter (λ f. is_heap f.kind) fields))
+params_known p [] known = tt
+params_known p (f ∷ fields) known = by f.access f.kind f.name known.0 (params_known p fields known.1)
+  where
+    by : (a : Option Access) (t : type_nodes.Type.Type) (n : Span) → type_unknown p t ≡ [] → Each (λ x. type_unknown p x.kind ≡ []) (map as_param (filter (λ g. is_heap g.kind) fields))
+        → Each (λ x. type_unknown p x.kind ≡ []) (map as_param (filter (λ g. is_heap g.kind) (record { access = a; kind = t; name = n } ∷ fields)))
+    by a (type.Scalar s) n known more = more
+    by a (type.Heap h) n known more = (known, more)
+
+-- What stands in a field of this place is told at the number of those before it that own.
+pub field_at : (p : Program) (fields : List Field) (k : ℕ) (f : Field) (h : held.Kind.Kind) → slice_get fields k ≡ Some f
+    → type_held p f.kind ≡ Some h → slice_get (fields_held p fields) (length (fields_held p (take k fields))) ≡ Some h
+field_at p [] k f h there is = cc
+field_at p (g ∷ fields) zero f h there is =
+    let same : type_held p g.kind ≡ Some h = ap (λ (o : Option Field). option_map_or (λ x. type_held p x.kind) o None) there ∙ is in
+    ap (λ (o : Option held.Kind.Kind). slice_get (held_listed o ++ fields_held p fields) 0) same
+field_at p (g ∷ fields) (suc k) f h there is = by (field_at p fields k f h there is) (type_held p g.kind)
+  where
+    by : slice_get (fields_held p fields) (length (fields_held p (take k fields))) ≡ Some h → (o : Option held.Kind.Kind)
+        → slice_get (held_listed o ++ fields_held p fields) (length (held_listed o ++ fields_held p (take k fields))) ≡ Some h
+    by more None = more
+    by more (Some x) = more

@@ -110,6 +110,7 @@ module _ (p : Program) (class : ℕ) where
     statement_grows stays (trees.Call c) f = same_grows p f _ refl
     statement_grows stays (trees.Start word c) f = same_grows p f _ refl
     statement_grows stays (trees.Delete name) f = same_grows p f _ refl
+    statement_grows stays (trees.Exchange e) f = same_grows p f _ refl
     statement_grows stays (trees.NewChannel n) f = same_grows p f _ refl
     statement_grows stays (trees.If first others) f = grows_then p f _ _ (test_grows stays first f) (others_grow stays others (test_told p class stays first f).frame)
     statement_grows stays (trees.While test) f = test_grows (stays_here f) test f
@@ -153,6 +154,7 @@ module _ (p : Program) (class : ℕ) where
     statement_nests stays (trees.Call c) f n = n
     statement_nests stays (trees.Start word c) f n = n
     statement_nests stays (trees.Delete name) f n = n
+    statement_nests stays (trees.Exchange e) f n = n
     statement_nests stays (trees.NewChannel new) f n = n
     statement_nests stays (trees.If first others) f n = others_nest stays others (test_told p class stays first f).frame (test_nests stays first f n)
     statement_nests stays (trees.While test) f n = test_nests (stays_here f) test f n

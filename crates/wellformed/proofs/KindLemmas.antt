@@ -24,7 +24,7 @@ use Rattle.program.specs.declared.kind.Kind.{Kind}
 use Rattle.program.specs.declared.kind.Kind.TheVariants as holds
 use Rattle.resolving.specs.Counts.{contracts_before, structs_before}
 use Rattle.resolving.specs.Kinds.{contract_at, contract_number, kind_held, state_of}
-use Rattle.program.specs.WellFormed.{is_end, IsKind, IsStateOf, same_type, contract_held}
+use Rattle.program.specs.WellFormed.{IsKind, IsStateOf, same_type, contract_held}
 use Rattle.wellformed.proofs.ContractLemmas.{contract_is_at, state_there}
 use Rattle.wellformed.proofs.Standing.{IsKnown, IsHeld, IsHeldAs}
 use Rattle.wellformed.proofs.TypeLemmas.{item_number, pointer_known, endpoint_known, pointer_block, endpoint_block}
@@ -65,6 +65,20 @@ contract_has p n (Some (k, c)) is some =
 pub contract_known : (p : Program) (n : ℕ) (side : Side) → IsKnown p (kind.Endpoint side n) → HasContract p n
 contract_known p n side known = contract_has p n (item_at as_contract p n) refl known
 
+-- the struct of a pointer whose name is declared
+pub record HasStruct (p : Program) (n : ℕ) : Type 0 where
+  pub tree : StructTree
+  pub is : item_at as_struct p n ≡ Some (n, tree)
+
+struct_has : (p : Program) (n : ℕ) (o : Option (ℕ × StructTree)) → item_at as_struct p n ≡ o → IsSomeAnd o (λ s. Unit {0}) → HasStruct p n
+struct_has p n None is some = absurd some
+struct_has p n (Some (k, s)) is some =
+    let at : n ≡ k = item_number as_struct n (slice_get p.items n) (k, s) is in
+    record { tree = s; is = is ∙ ap (λ m. Some (m, s)) (sym at) }
+
+pub struct_known : (p : Program) (n : ℕ) → IsKnown p (kind.Pointer n) → HasStruct p n
+struct_known p n known = struct_has p n (item_at as_struct p n) refl known
+
 -- a variable of a scalar kind holds nothing of the exchange heap
 pub scalar_holds : (p : Program) (k : declared.Kind.Kind) (state : Option Span) → is_block k ≡ false → kind_held p k state ≡ None
 scalar_holds p (kind.Scalar s) state scalar = refl
@@ -79,7 +93,8 @@ pub record Holding (p : Program) (k : declared.Kind.Kind) (state : Option Span) 
   pub held : Kind
   pub is : kind_held p k state ≡ Some held
 
-abbrev struct_of : ℕ → Kind
+-- a struct by its number
+abbrev pub struct_of : ℕ → Kind
 struct_of n = holds.Struct (record { 0 = n })
 
 pointer_holds : (p : Program) (n : ℕ) (state : Option Span) (o : Option ItemTree) → slice_get p.items n ≡ o → IsSomeAnd {T = ℕ × StructTree} (option_and_then (λ i. option_map (λ x. (n, x)) (as_struct i.definition)) o) (λ s. Unit {0}) → Holding p (kind.Pointer n) state
@@ -131,20 +146,11 @@ mapped_is : {X Y : Type 0} (y z : Y) (o : Option X) → option_map (λ x. y) o �
 mapped_is y z None is = cc
 mapped_is y z (Some x) is = sym (same_Some y z is)
 
-pointer_held : (p : Program) (n : ℕ) (held : Kind) → IsHeld p (kind.Pointer n) held → held ≡ struct_of (structs_before p.items n)
+pub pointer_held : (p : Program) (n : ℕ) (held : Kind) → IsHeld p (kind.Pointer n) held → held ≡ struct_of (structs_before p.items n)
 pointer_held p n held is = mapped_is (struct_of (structs_before p.items n)) held (slice_get p.items n) is.is
 
-array_held : (p : Program) (element : Scalar) (held : Kind) → IsHeld p (kind.Array element) held → held ≡ holds.Array element
+pub array_held : (p : Program) (element : Scalar) (held : Kind) → IsHeld p (kind.Array element) held → held ≡ holds.Array element
 array_held p element held is = sym (same_Some (holds.Array element) held is.is)
-
--- what is like a struct or an array is held as no end of a channel
-pub pointer_no_end : (p : Program) (m : ℕ) (k : declared.Kind.Kind) (held : Kind) → alike (kind.Pointer m) k ≡ true → IsHeld p k held → is_end held ≡ false
-pointer_no_end p m (kind.Pointer n) held fits is = ap is_end (pointer_held p n held is)
-pointer_no_end p m k held fits is = cc
-
-pub array_no_end : (p : Program) (s : Scalar) (k : declared.Kind.Kind) (held : Kind) → alike (kind.Array s) k ≡ true → IsHeld p k held → is_end held ≡ false
-array_no_end p s (kind.Array t) held fits is = ap is_end (array_held p t held is)
-array_no_end p s k held fits is = cc
 
 -- what an end of a channel holds
 pub record HoldsEnd (p : Program) (n : ℕ) (side : Side) (held : Kind) : Type 0 where

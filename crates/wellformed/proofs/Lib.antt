@@ -25,5 +25,6 @@ pub mod HeadLemmas
 pub mod PlainLemmas
 pub mod ReturnLemmas
 pub mod ChannelLemmas
+pub mod ExchangeLemmas
 pub mod StatementLemmas
 pub mod MethodLemmas

@@ -1,5 +1,5 @@
 -- Names in scope, and the variables of the exchange heap that they mention.
-use Rattle.std.proofs.Common.{◌≡◌, ℕ, zero, suc, ◌<◌, true, false, List, [], ◌∷◌, length, map, if◌then◌else◌, refl, sym, ap, ◌∙◌, subst}
+use Rattle.std.proofs.Common.{◌≡◌, ℕ, ◌<◌, true, false, List, [], ◌∷◌, length, map, if◌then◌else◌, refl, sym, ap, ◌∙◌, subst}
 use Rattle.std.proofs.lemmas.Option.{option_and_then_some, slice_get_within}
 use Rattle.std.specs.Prelude.{Option, None, Some, is_some, slice_get, option_map, option_and_then, IsSomeAnd}
 use Rattle.source.specs.declared.token.Span.{Span}
@@ -16,8 +16,8 @@ use Rattle.program.specs.Scopes.{IsInScope}
 use Rattle.program.specs.declared.number.VarId.{VarId}
 use Rattle.program.specs.declared.statement.Mention.{Mention}
 use Rattle.resolving.specs.Locals.{number_of, Local, Frame, local_named, number_named, mention, mention_of}
-use Rattle.program.specs.Lists.{Each}
 use Rattle.wellformed.proofs.KindLemmas.{scalar_holds}
+use Rattle.wellformed.proofs.PlaceLemmas.{each_there}
 use Rattle.wellformed.proofs.ScopeLemmas.{same_named}
 use Rattle.wellformed.proofs.Standing.{IsKnown, IsHeld, IsInside, IsNumbered, AreStanding, Stands, last_of, named, scope_of}
 
@@ -29,15 +29,10 @@ pub record IsMeant (p : Program) (vs : List VariableSeen) (f : Frame) (g : names
   pub stands : Stands p vs (last_of f) local
 
 -- what holds of each variable in scope holds of one that a name means
-element_at : {X : Type 0} → (P : X → Type 0) → (xs : List X) (n : ℕ) (x : X) → Each P xs → slice_get xs n ≡ Some x → P x
-element_at P [] n x each is = absurd (cc)
-element_at P (y ∷ xs) zero x each is = subst P (let same : y ≡ x = cc in same) each.0
-element_at P (y ∷ xs) (suc n) x each is = element_at P xs n x each.1 is
-
 local_stands : (p : Program) (vs : List VariableSeen) (f : Frame) (g : names.Frame) (name : Span) (l : Local) → AreStanding p vs f g
     → local_named p.text f.locals name ≡ Some l → Stands p vs (last_of f) l
 local_stands p vs f g name l standing is =
-    option_and_then_some (slice_get f.locals) (first_among p.text (map (λ x. x.name) f.locals) name) l is (λ n first at. element_at (Stands p vs (last_of f)) f.locals n l standing.locals at)
+    option_and_then_some (slice_get f.locals) (first_among p.text (map (λ x. x.name) f.locals) name) l is (λ n first at. each_there (Stands p vs (last_of f)) f.locals n l standing.locals at)
 
 -- what a name means among the names and kinds in scope is what it means among the variables
 meant_as : (p : Program) (vs : List VariableSeen) (f : Frame) (g : names.Frame) (name : Span) → AreStanding p vs f g

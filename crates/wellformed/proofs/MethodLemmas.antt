@@ -210,6 +210,6 @@ method_fits p class c m place clean there at =
 pub well_formed : (p : Program) → program_findings p ≡ [] → AreWellFormed (resolved_contracts p.text (contracts_of p.items)) (messages_told p) (structs_told p) (methods_told p)
 well_formed p clean = record {
   messages_are = brought_kinds p;
-  structs_are = fields_kinds p;
+  structs_are = fields_kinds p clean;
   methods_are = every_method (IsWellFormed (contracts p) (messages_told p) (structs_told p) (methods_told p)) p (λ class c m place there at. method_fits p class c m place clean there at);
 }

@@ -5,10 +5,10 @@ use Rattle.std.proofs.lemmas.Option.{slice_get-map, some_pair_parts}
 use Rattle.std.specs.List.{enumerate_from, flat_map}
 use Rattle.std.specs.Prelude.{Option, None, Some, option_map, option_and_then, slice_get}
 use Rattle.source.specs.declared.token.Span.{Span}
-use Rattle.tree.specs.Trees.{ItemTree, DefinitionTree, Contract, Struct, Class, ClassTree, ContractTree, MethodTree}
+use Rattle.tree.specs.Trees.{ItemTree, DefinitionTree, Contract, Struct, Class, ClassTree, ContractTree, MethodTree, StructTree}
 use Rattle.names.specs.Declarations.{first_among}
 use Rattle.names.specs.Methods.{methods_in}
-use Rattle.names.specs.Program.{Program, Numbered, as_class, as_contract, class_named, item_at, item_names}
+use Rattle.names.specs.Program.{Program, Numbered, as_class, as_contract, as_struct, class_named, item_at, item_names}
 use Rattle.names.specs.Values.{method_named}
 use Rattle.program.specs.Methods.{MethodSeen}
 use Rattle.resolving.specs.Callees.{Callee, all_methods, method_at, method_of, methods_before, numbered}
@@ -51,6 +51,11 @@ declares_contract n c (Contract x) h = ap Contract (some_pair_parts n n x c h).1
 declares_contract n c (Struct x) h = cc
 declares_contract n c (Class x) h = cc
 
+declares_struct : (n : ℕ) (s : StructTree) (d : DefinitionTree) → numbered_as n (as_struct d) ≡ Some (n, s) → d ≡ Struct s
+declares_struct n s (Contract x) h = cc
+declares_struct n s (Struct x) h = ap Struct (some_pair_parts n n x s h).1
+declares_struct n s (Class x) h = cc
+
 class_in : (n : ℕ) (c : ClassTree) (o : Option ItemTree) → looked_up as_class n o ≡ Some (n, c) → Declares o (Class c)
 class_in n c None h = cc
 class_in n c (Some i) h = record { item = i; at = refl; is = declares_class n c i.definition h }
@@ -59,12 +64,19 @@ contract_in : (n : ℕ) (c : ContractTree) (o : Option ItemTree) → looked_up a
 contract_in n c None h = cc
 contract_in n c (Some i) h = record { item = i; at = refl; is = declares_contract n c i.definition h }
 
--- the item that is this class, and this contract
+struct_in : (n : ℕ) (s : StructTree) (o : Option ItemTree) → looked_up as_struct n o ≡ Some (n, s) → Declares o (Struct s)
+struct_in n s None h = cc
+struct_in n s (Some i) h = record { item = i; at = refl; is = declares_struct n s i.definition h }
+
+-- the item that is this class, this contract, this struct
 pub class_item : (p : Program) (n : ℕ) (c : ClassTree) → item_at as_class p n ≡ Some (n, c) → Declares (slice_get p.items n) (Class c)
 class_item p n c there = class_in n c (slice_get p.items n) there
 
 pub contract_item : (p : Program) (n : ℕ) (c : ContractTree) → item_at as_contract p n ≡ Some (n, c) → Declares (slice_get p.items n) (Contract c)
 contract_item p n c there = contract_in n c (slice_get p.items n) there
+
+pub struct_item : (p : Program) (n : ℕ) (s : StructTree) → item_at as_struct p n ≡ Some (n, s) → Declares (slice_get p.items n) (Struct s)
+struct_item p n s there = struct_in n s (slice_get p.items n) there
 
 -- the class of a name, by its place
 class_at : (p : Program) (n : ℕ) (c : ClassTree) (o : Option ℕ) → option_and_then (item_at as_class p) o ≡ Some (n, c) → item_at as_class p n ≡ Some (n, c)

@@ -1,5 +1,5 @@
 -- What stands at a place of a list.
-use Rattle.std.proofs.Common.{◌≡◌, ℕ, zero, suc, ◌+◌, List, [], ◌∷◌, ◌++◌, length, map, sym, refl, ap, ◌∙◌, arith}
+use Rattle.std.proofs.Common.{◌≡◌, ℕ, zero, suc, ◌+◌, List, [], ◌∷◌, ◌++◌, length, map, sym, refl, ap, ◌∙◌, subst, arith}
 use Rattle.std.specs.List.{flat_map}
 use Rattle.std.specs.Prelude.{Some, slice_get}
 use Rattle.program.specs.Lists.{Each}
@@ -25,6 +25,12 @@ at_seam (y ∷ xs) rest x = at_seam xs rest x
 pub each_placed : {X : Type 0} → (P : X → Type 0) (xs : List X) → ((n : ℕ) (x : X) → slice_get xs n ≡ Some x → P x) → Each P xs
 each_placed P [] at = tt
 each_placed P (x ∷ xs) at = (at zero x refl, each_placed P xs (λ n. at (suc n)))
+
+-- and what has it throughout has it at each place
+pub each_there : {X : Type 0} → (P : X → Type 0) (xs : List X) (n : ℕ) (x : X) → Each P xs → slice_get xs n ≡ Some x → P x
+each_there P [] n x each is = absurd (cc)
+each_there P (y ∷ xs) zero x each is = subst P (let same : y ≡ x = cc in same) each.0
+each_there P (y ∷ xs) (suc n) x each is = each_there P xs n x each.1 is
 
 -- what holds of each of the elements that others are made into
 pub each_mapped : {X Y : Type 0} → (P : Y → Type 0) (f : X → Y) (xs : List X) → Each (λ x. P (f x)) xs → Each P (map f xs)

@@ -1,6 +1,7 @@
 -- Statements that hold no others, and with which nothing is wrong.
-use Rattle.std.proofs.Common.{◌≡◌, ℕ, Bool, true, false, List, [], ◌++◌, length, sym, refl, ap, ◌∙◌, subst}
+use Rattle.std.proofs.Common.{◌≡◌, ℕ, Bool, true, false, not, List, [], ◌++◌, length, sym, refl, ap, ◌∙◌, subst}
 use Rattle.std.specs.Prelude.{Option, None, Some, option_map, slice_get}
+use Rattle.std.proofs.lemmas.Bool.{not-true}
 use Rattle.source.specs.declared.token.Span.{Span}
 use Rattle.tree.specs.Expressions as trees
 use Rattle.tree.specs.Expressions.{TargetTree}
@@ -10,8 +11,8 @@ use Rattle.tree.specs.Trees.{ClassTree}
 use Rattle.tree.specs.Values.{ValueTree}
 use Rattle.tree.specs.declared.types as tree
 use Rattle.names.specs.Bodies.{given_findings}
-use Rattle.names.specs.Expressions.{asked_number, expression_findings, held, meant, place_of, element_findings, element_kind, field_findings, kind_of, number_findings, variable_findings}
-use Rattle.names.specs.Kinds.{is_block, type_kind, type_unknown}
+use Rattle.names.specs.Expressions.{asked_number, expression_findings, held, meant, place_of, element_findings, element_kind, field_findings, kind_of, number_findings, owns, variable_findings}
+use Rattle.names.specs.Kinds.{is_block, type_kind, type_unknown, unless}
 use Rattle.names.specs.Program.{Program}
 use Rattle.names.specs.Shapes.{shape}
 use Rattle.names.specs.Values.{length_findings, target_findings, target_kind, value_findings}
@@ -35,6 +36,7 @@ use Rattle.wellformed.proofs.MentionLemmas.{block_mentioned, held_known, mention
 use Rattle.wellformed.proofs.KindLemmas.{held_as, known_certain, type_known}
 use Rattle.wellformed.proofs.PlaceLemmas.{at_seam}
 use Rattle.wellformed.proofs.LeadLemmas.{leads_here}
+use Rattle.wellformed.proofs.FindingLemmas.{unless_none}
 use Rattle.wellformed.proofs.ListLemmas.{both_none}
 use Rattle.wellformed.proofs.ScopeLemmas.{block_held}
 use Rattle.wellformed.proofs.Standing.{Around, AreStanding, IsHeldAs, IsKnown, Within, last_of, scope_of}
@@ -70,9 +72,12 @@ assign_fits p t class result s f g (trees.Variable name) value around here stand
     variable_fits p t class result s f g name value (is_block (held (meant (scope_of p g) name))) refl around here standing none given
 assign_fits p t class result s f g (trees.Field name field) value around here standing none given =
     let k = held (meant (scope_of p g) name) in
-    let both = both_none (variable_findings (scope_of p g) name) (field_findings (scope_of p g) k name field ++ length_findings (scope_of p g) k field) none in
-    let fields = both_none (field_findings (scope_of p g) k name field) (length_findings (scope_of p g) k field) both.1 in
-    let scalar = field_scalar p g k name field (held_known p s.variables f g name standing both.0) fields.0 in
+    let own = owns (scope_of p g) k field in
+    let length = length_findings (scope_of p g) k field in
+    let both = both_none (variable_findings (scope_of p g) name) (field_findings (scope_of p g) k name field ++ (length ++ unless (not own) field.place)) none in
+    let fields = both_none (field_findings (scope_of p g) k name field) (length ++ unless (not own) field.place) both.1 in
+    let owning = not-true own (unless_none (not own) field.place (both_none length (unless (not own) field.place) fields.1).1) in
+    let scalar = field_scalar p g k name field (held_known p s.variables f g name standing both.0) fields.0 owning in
     part_taken_fits p t class result s f g (target_kind (scope_of p g) (trees.Field name field)) [] (mention p.text f.locals name) value around standing scalar.0 scalar.1 tt (name_mentioned p s f g standing name) given
 assign_fits p t class result s f g (trees.Element name index) value around here standing none given =
     let k = held (meant (scope_of p g) name) in

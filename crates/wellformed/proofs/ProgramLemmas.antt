@@ -23,12 +23,16 @@ pub use Rattle.wellformed.proofs.ParameterLemmas.{all_claimed, parameters_are}
 use Rattle.wellformed.proofs.PlaceLemmas.{each_none, none_there}
 use Rattle.wellformed.proofs.Standing.{IsMethod}
 
--- nothing is wrong with an item
-item_clean : (p : Program) (n : ℕ) (d : DefinitionTree) → program_findings p ≡ [] → Declares (slice_get p.items n) d → definition_findings p d ≡ []
-item_clean p n d clean there =
+-- nothing is wrong with the items
+pub items_clean : (p : Program) → program_findings p ≡ [] → flat_map (λ i. definition_findings p i.definition) p.items ≡ []
+items_clean p clean =
     let items = flat_map (λ i. definition_findings p i.definition) p.items in
-    let inner = (both_none (counted_findings p) items (both_none (items_findings p) (counted_findings p ++ items) clean).1).1 in
-    sym (ap (definition_findings p) there.is) ∙ none_there (λ i. definition_findings p i.definition) p.items n there.item inner there.at
+    (both_none (counted_findings p) items (both_none (items_findings p) (counted_findings p ++ items) clean).1).1
+
+-- nor with one of them
+pub item_clean : (p : Program) (n : ℕ) (d : DefinitionTree) → program_findings p ≡ [] → Declares (slice_get p.items n) d → definition_findings p d ≡ []
+item_clean p n d clean there =
+    sym (ap (definition_findings p) there.is) ∙ none_there (λ i. definition_findings p i.definition) p.items n there.item (items_clean p clean) there.at
 
 -- nothing is wrong with a method of a class
 pub method_clean : (p : Program) (class : ℕ) (c : ClassTree) (m : MethodTree) (place : ℕ) → program_findings p ≡ [] → item_at as_class p class ≡ Some (class, c)

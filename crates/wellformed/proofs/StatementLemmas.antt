@@ -35,6 +35,7 @@ use Rattle.wellformed.proofs.HeadLemmas.{head_fits}
 use Rattle.wellformed.proofs.KindLemmas.{heap_block, held_as, type_known}
 use Rattle.wellformed.proofs.ListLemmas.{both_none}
 use Rattle.wellformed.proofs.ChannelLemmas.{channel_fits}
+use Rattle.wellformed.proofs.ExchangeLemmas.{exchange_fits}
 use Rattle.wellformed.proofs.PlainLemmas.{assign_fits, declare_fits, delete_fits}
 use Rattle.wellformed.proofs.ReturnLemmas.{call_stated_fits, return_fits, start_fits}
 use Rattle.wellformed.proofs.LeadLemmas.{goes_back, grown, grows_none, grows_on, leads_here, leads_then}
@@ -164,6 +165,7 @@ mutual
   statement_goes m class s around stays (trees.Call c) f g standing staying within none = stands_still m.program s (statement_told m.program class stays (trees.Call c) f).what f g staying.scope (call_stated_fits m.program m.class class m.result s f g c around standing none) standing
   statement_goes m class s around stays (trees.Start word c) f g standing staying within none = stands_still m.program s (statement_told m.program class stays (trees.Start word c) f).what f g staying.scope (start_fits m.program m.class class m.result s f g c word around standing none) standing
   statement_goes m class s around stays (trees.Delete name) f g standing staying within none = stands_still m.program s (statement_told m.program class stays (trees.Delete name) f).what f g staying.scope (tt, delete_fits m.program s f g standing name) standing
+  statement_goes m class s around stays (trees.Exchange e) f g standing staying within none = stands_still m.program s (statement_told m.program class stays (trees.Exchange e) f).what f g staying.scope (tt, exchange_fits m.program m.class class m.result s f g e around staying.scope standing none) standing
   statement_goes m class s around stays (trees.NewChannel n) f g standing staying within none = stands_still m.program s (statement_told m.program class stays (trees.NewChannel n) f).what f g staying.scope (tt, channel_fits m.program m.class class m.result s f g n around staying.scope standing none) standing
   statement_goes m class s around stays (trees.If first others) f g standing staying within none =
       let p = m.program in

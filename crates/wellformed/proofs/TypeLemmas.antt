@@ -3,12 +3,12 @@ use Rattle.std.proofs.Common.{◌≡◌, ℕ, Bool, true, false, [], ◌∷◌, 
 use Rattle.std.proofs.lemmas.Option.{same_Some}
 use Rattle.std.specs.Prelude.{Option, None, Some, IsSomeAnd, if◌then◌else◌, option_and_then, option_map, slice_get}
 use Rattle.source.specs.declared.token.Span.{Span}
-use Rattle.tree.specs.Trees.{ContractTree, DefinitionTree, ItemTree}
+use Rattle.tree.specs.Trees.{ContractTree, DefinitionTree, ItemTree, StructTree}
 use Rattle.program.specs.declared.kind.Side.{Side}
 use Rattle.names.specs.Declarations.{first_among, is_declared, names_of_states, states_of}
 use Rattle.names.specs.Found.{unknown}
 use Rattle.names.specs.Kinds.{endpoint_kind, endpoint_unknown, is_block, pointer_kind, pointer_unknown}
-use Rattle.names.specs.Program.{Program, as_contract, as_struct, contract_named, item_at, item_names, struct_named}
+use Rattle.names.specs.Program.{Numbered, Program, as_contract, as_struct, contract_named, item_at, item_names, struct_named}
 use Rattle.names.specs.declared.kinds.Kind.TheVariants as kind
 use Rattle.wellformed.proofs.Standing.{IsKnown}
 
@@ -31,6 +31,10 @@ found_itself kind p (Some n) y is = item_itself kind p n y is
 there_is : {X : Type 0} (o : Option X) (x : X) → o ≡ Some x → IsSomeAnd o (λ y. Unit {0})
 there_is None x is = cc
 there_is (Some y) x is = tt
+
+-- the struct that a name means stands at its place
+pub struct_found : (p : Program) (name : Span) (s : Numbered StructTree) → struct_named p name ≡ Some s → item_at as_struct p s.0 ≡ Some (s.0, s.1)
+struct_found p name s named = found_itself as_struct p (first_among p.text (item_names p) name) s named
 
 -- the kind of a type whose names are declared is known
 pub pointer_known : (p : Program) (name : Span) (o : Option _) → struct_named p name ≡ o → pointer_unknown p.text o name ≡ [] → IsKnown p (pointer_kind o)

@@ -1,41 +1,48 @@
 -- Values that variables and parts of blocks take.
-use Rattle.std.proofs.Common.{◌≡◌, ℕ, Bool, true, false, not, List, [], ◌++◌, length, sym, refl, ap, ◌∙◌, subst, ◌⊎◌, inl, inr}
+use Rattle.std.proofs.Common.{◌≡◌, ℕ, Bool, true, false, not, List, [], ◌++◌, length, map, sym, refl, ap, ◌∙◌, subst, ◌⊎◌, inl, inr}
 use Rattle.std.specs.Option.{option_map_or}
 use Rattle.std.specs.Prelude.{Option, None, Some, option_map, slice_get, IsSomeAnd}
-use Rattle.std.proofs.lemmas.Bool.{not-true}
+use Rattle.std.proofs.lemmas.Bool.{eqb-true, not-true}
+use Rattle.std.proofs.lemmas.List.{length-map}
 use Rattle.source.specs.declared.token.Span.{Span}
+use Rattle.tree.specs.Expressions.{ExpressionTree}
 use Rattle.tree.specs.Trees.{ClassTree, MethodTree, StructTree}
 use Rattle.tree.specs.Values as values
 use Rattle.tree.specs.Values.{CallTree, MadeTree, NewTree, ValueTree}
 use Rattle.tree.specs.declared.types as tree
-use Rattle.names.specs.Kinds.{agree, alike, is_block, is_silent, pointer_kind, pointer_unknown, type_kind, unless}
+use Rattle.names.specs.Kinds.{agree, alike, is_block, is_silent, pointer_kind, type_kind, unless}
 use Rattle.names.specs.Methods.{result_unknown}
-use Rattle.names.specs.Program.{Numbered, Program, struct_named}
-use Rattle.names.specs.Values.{made_findings, made_kind, new_findings, value_findings}
+use Rattle.names.specs.Findings.{program_findings}
+use Rattle.names.specs.Program.{Numbered, Program, as_struct, item_at, struct_named}
+use Rattle.names.specs.Shapes.{shape}
+use Rattle.names.specs.Values.{argument_findings, fields_asked, made_findings, made_kind, new_findings, number_of_arguments, owning_fields, struct_made_findings, value_findings}
 use Rattle.names.specs.Variables as names
 use Rattle.names.specs.declared.kinds as declared
 use Rattle.names.specs.declared.kinds.Kind.TheVariants as kind
 use Rattle.program.specs.declared.kind.Kind.{Kind}
+use Rattle.program.specs.declared.kind.Scalar.{Scalar}
 use Rattle.program.specs.Methods.{VariableSeen}
 use Rattle.program.specs.Statements.{Call}
 use Rattle.program.specs.declared.statement.Action.TheVariants as does
 use Rattle.program.specs.declared.statement.Mention.{Mention}
-use Rattle.resolving.specs.Fields.{structs_told}
+use Rattle.resolving.specs.Counts.{structs_before}
+use Rattle.resolving.specs.Fields.{fields_held, structs_told}
 use Rattle.resolving.specs.Kinds.{result_held, state_in}
 use Rattle.resolving.specs.Locals.{Frame}
-use Rattle.resolving.specs.Plain.{call_of, called, lone, made_reads, moved, new_of, part_taken, scalar_taken, taken, told, used}
+use Rattle.resolving.specs.Plain.{call_of, called, lone, made_arguments, made_reads, moved, new_of, part_taken, payloads, scalar_taken, taken, told, used}
 use Rattle.resolving.specs.Reads.{listed, reads}
 use Rattle.program.specs.Lists.{Each}
 use Rattle.program.specs.WellFormed.{HoldAll, Holds, IsAction, IsIn, IsMention, IsNew, IsStatement, IsTaken, Setting, field_kinds, is_end}
-use Rattle.wellformed.proofs.ArgumentLemmas.{asked_block, asked_known, holds_there}
+use Rattle.wellformed.proofs.ArgumentLemmas.{asked_block, asked_known, holds_there, payloads_given}
 use Rattle.wellformed.proofs.CallLemmas.{CallsMethod, call_fits, call_means}
 use Rattle.wellformed.proofs.ExpressionLemmas.{reads_within}
 use Rattle.wellformed.proofs.SendLemmas.{SendsMessage}
-use Rattle.wellformed.proofs.KindLemmas.{Holding, agree_alike, alike_block, alike_held, alike_sym, array_no_end, block_holds, known_loud, loud_left, pointer_no_end, scalar_holds, type_known}
-use Rattle.wellformed.proofs.FieldLemmas.{none_owned}
-use Rattle.wellformed.proofs.FindingLemmas.{unless_none}
+use Rattle.wellformed.proofs.KindLemmas.{Holding, agree_alike, alike_block, alike_held, alike_sym, array_held, block_holds, known_loud, loud_left, pointer_held, scalar_holds, struct_of, type_known}
+use Rattle.wellformed.proofs.FieldLemmas.{as_params, asked_are, fields_clean, kinds_of_struct, params_are, params_known}
+use Rattle.wellformed.proofs.FindingLemmas.{as_many, unless_none}
 use Rattle.wellformed.proofs.ListLemmas.{both_none, each_append}
 use Rattle.wellformed.proofs.ProgramLemmas.{result_clean}
+use Rattle.wellformed.proofs.TypeLemmas.{struct_found}
 use Rattle.wellformed.proofs.Standing.{Around, AreStanding, IsHeld, IsKnown, scope_of}
 
 -- whether what a method gives fits a kind that is asked
@@ -113,7 +120,7 @@ asked_call p t class result s f g k c around standing none =
 
 -- what a new block reads
 made_within : (p : Program) (class : ℕ) (s : Setting) (f : Frame) (g : names.Frame) → AreStanding p s.variables f g → (m : MadeTree) → Each (IsMention s) (made_reads p class f m)
-made_within p class s f g standing (values.Struct name left) = tt
+made_within p class s f g standing (values.Struct name left given) = tt
 made_within p class s f g standing (values.Array element length) = reads_within p s.variables f g standing length
 
 move_fits : (s : Setting) (target : Mention) (v : VariableSeen) (o : Option Mention) (source : Mention) → o ≡ Some source → slice_get s.variables target.variable.0 ≡ Some v → Holds s v.kind source.variable
@@ -121,20 +128,50 @@ move_fits : (s : Setting) (target : Mention) (v : VariableSeen) (o : Option Ment
 move_fits s target v o source is there holds inside =
     subst (λ x. IsAction s (moved target x)) (sym is) (inside, subst (λ x. IsSomeAnd x (λ w. Holds s w.kind source.variable)) (sym there) holds)
 
--- what takes a new struct or array is no end of a channel
-struct_no_end : (p : Program) (name : Span) (o : Option (Numbered StructTree)) (k : declared.Kind.Kind) (held : Kind) → IsKnown p k → pointer_unknown p.text o name ≡ []
-    → agree (pointer_kind o) k ≡ true → IsHeld p k held → is_end held ≡ false
-struct_no_end p name None k held known none fits is = cc
-struct_no_end p name (Some x) k held known none fits is = pointer_no_end p x.0 k held (loud_left (is_silent k) (alike (kind.Pointer x.0) k) (known_loud p k known) fits) is
+-- what takes a new block is no end of a channel, and what is given is of the kinds that the block has in its fields that own
+abbrev pub IsMade : Setting → Kind → List Mention → Type 0
+IsMade s held given = (is_end held ≡ false) × HoldAll s (field_kinds s.structs held) (map (λ m. m.variable) given)
 
-made_no_end : (p : Program) (g : names.Frame) (m : MadeTree) (k : declared.Kind.Kind) (held : Kind) → IsKnown p k → made_findings (scope_of p g) m ≡ []
-    → agree (made_kind (scope_of p g) m) k ≡ true → IsHeld p k held → is_end held ≡ false
-made_no_end p g (values.Struct name left) k held known none fits is = struct_no_end p name (struct_named p name) k held known none fits is
-made_no_end p g (values.Array element length) k held known none fits is = array_no_end p element k held (loud_left (is_silent k) (alike (kind.Array element) k) (known_loud p k known) fits) is
+-- a kind that is like a pointer is one to the same struct
+pointer_made : (p : Program) (n : ℕ) (k : declared.Kind.Kind) (held : Kind) → alike (kind.Pointer n) k ≡ true → IsHeld p k held → held ≡ struct_of (structs_before p.items n)
+pointer_made p n (kind.Pointer m) held fits is = pointer_held p m held is ∙ ap (λ x. struct_of (structs_before p.items x)) (sym (eqb-true n m fits))
+pointer_made p n k held fits is = cc
 
--- nothing is given for fields, since no block has one that owns
-given_none : (p : Program) (s : Setting) (k : Kind) → s.structs ≡ structs_told p → HoldAll s (field_kinds s.structs k) []
-given_none p s k is = subst (λ kinds. HoldAll s kinds []) (sym (ap (λ structs. field_kinds structs k) is ∙ none_owned p k)) tt
+array_made : (p : Program) (s : Setting) (element : Scalar) (k : declared.Kind.Kind) (held : Kind) → alike (kind.Array element) k ≡ true → IsHeld p k held → IsMade s held []
+array_made p s element (kind.Array e) held fits is = subst (λ h. IsMade s h []) (sym (array_held p e held is)) (refl, tt)
+array_made p s element k held fits is = cc
+
+-- what is given for a new struct
+given_fits : (p : Program) (class : ℕ) (s : Setting) (f : Frame) (g : names.Frame) (x : Numbered StructTree) (name : Span) (given : List ExpressionTree) → program_findings p ≡ [] → AreStanding p s.variables f g
+    → item_at as_struct p x.0 ≡ Some (x.0, x.1) → struct_made_findings (scope_of p g) (Some x) name (map shape given) ≡ [] → HoldAll s (fields_held p x.1.fields) (map (λ m. m.variable) (payloads p class f given))
+given_fits p class s f g x name given clean standing there none =
+    let asked = fields_asked p x.1 in
+    let params = as_params x.1 in
+    let both = both_none (number_of_arguments asked (map shape given) name.place) (argument_findings (scope_of p g) asked (map shape given)) none in
+    let many = as_many asked (map shape given) name.place both.0 ∙ length-map given shape in
+    let same : map (λ y. type_kind p y.kind) params ≡ asked = asked_are p (owning_fields x.1) in
+    let as_many_params : length params ≡ length given = sym (length-map params (λ y. type_kind p y.kind)) ∙ ap length same ∙ many in
+    let known = params_known p x.1.fields (fields_clean p x.0 x.1 clean there) in
+    let found = subst (λ ks. argument_findings (scope_of p g) ks (map shape given) ≡ []) (sym same) both.1 in
+    subst (λ ks. HoldAll s ks (map (λ m. m.variable) (payloads p class f given))) (params_are p x.1.fields) (payloads_given p class s f g standing params given known as_many_params found)
+
+struct_made : (p : Program) (class : ℕ) (s : Setting) (f : Frame) (g : names.Frame) (k : declared.Kind.Kind) (held : Kind) (o : Option (Numbered StructTree)) (name : Span) (given : List ExpressionTree)
+    → program_findings p ≡ [] → s.structs ≡ structs_told p → AreStanding p s.variables f g → struct_named p name ≡ o → IsKnown p k → struct_made_findings (scope_of p g) o name (map shape given) ≡ []
+    → agree (pointer_kind o) k ≡ true → IsHeld p k held → IsMade s held (payloads p class f given)
+struct_made p class s f g k held None name given clean structs standing named known none fits is = cc
+struct_made p class s f g k held (Some x) name given clean structs standing named known none fits is =
+    let there = struct_found p name x named in
+    let same = pointer_made p x.0 k held (loud_left (is_silent k) (alike (kind.Pointer x.0) k) (known_loud p k known) fits) is in
+    let kinds = ap (λ l. field_kinds l (struct_of (structs_before p.items x.0))) structs ∙ kinds_of_struct p x.0 x.1 there in
+    let holds = given_fits p class s f g x name given clean standing there none in
+    subst (λ h. IsMade s h (payloads p class f given)) (sym same) (refl, subst (λ ks. HoldAll s ks (map (λ m. m.variable) (payloads p class f given))) (sym kinds) holds)
+
+made_fits : (p : Program) (class : ℕ) (s : Setting) (f : Frame) (g : names.Frame) (k : declared.Kind.Kind) (held : Kind) (m : MadeTree) → program_findings p ≡ [] → s.structs ≡ structs_told p
+    → AreStanding p s.variables f g → IsKnown p k → made_findings (scope_of p g) m ≡ [] → agree (made_kind (scope_of p g) m) k ≡ true → IsHeld p k held → IsMade s held (made_arguments p class f m)
+made_fits p class s f g k held (values.Struct name left given) clean structs standing known none fits is =
+    struct_made p class s f g k held (struct_named p name) name given clean structs standing refl known none fits is
+made_fits p class s f g k held (values.Array element length) clean structs standing known none fits is =
+    array_made p s element k held (loud_left (is_silent k) (alike (kind.Array element) k) (known_loud p k known) fits) is
 
 -- a variable takes a new block
 new_fits : (p : Program) (t : ClassTree) (class : ℕ) (result : Option tree.Type.Type) (s : Setting) (f : Frame) (g : names.Frame) (k : declared.Kind.Kind) (target : Mention) (v : VariableSeen) (n : NewTree)
@@ -146,8 +183,8 @@ new_fits p t class result s f g k target v n around standing known there holds i
     record {
       reads = made_within p class s f g standing n.made;
       in_scope = inside;
-      taken = subst (λ o. IsSomeAnd o (λ x. (is_end x.kind ≡ false) × HoldAll s (field_kinds s.structs x.kind) [])) (sym there)
-          (made_no_end p g n.made k v.kind known both.0 fits holds, given_none p s v.kind around.structs_are);
+      taken = subst (λ o. IsSomeAnd o (λ x. IsMade s x.kind (made_arguments p class f n.made))) (sym there)
+          (made_fits p class s f g k v.kind n.made around.clean around.structs_are standing known both.0 fits holds);
     }
 
 -- a variable of the exchange heap takes a value
