@@ -9,7 +9,7 @@ import tempfile
 
 TOP = pathlib.Path(__file__).resolve().parent.parent
 VIM, CODE = TOP / 'editors' / 'vim', TOP / 'editors' / 'vscode'
-NAMES = ['ping', 'Int', 'exp', 'Sender', 'newer', 'in_', '_state', 'channelclosed', 'If', 'one1', 'Length', 'exchange']
+NAMES = ['ping', 'Int', 'exp', 'Sender', 'newer', 'in_', '_state', 'channelclosed', 'If', 'one1', 'Length', 'exchanged']
 # Only colours that a grammar gives to words of the language count, not those of numbers, sends and signs.
 FINDING = ('/some where/a b.sg', '12', '5', 'A01', 'note not owned')
 

@@ -30,6 +30,12 @@ def put(name, line, text):
     return lines[:line - 1] + [text] + lines[line - 1:]
 
 
+def without(name, line):
+    """The program without the line of this number."""
+    lines = lines_of(name)
+    return lines[:line - 1] + lines[line:]
+
+
 def with_piece(name, line, word):
     """The program with the piece of the tour that has this word put before the line of this number."""
     return put(name, line, ''.join(piece for piece in PIECES if word in piece))
@@ -42,9 +48,10 @@ REPAIRS = {
     'used_after_sent': (exchanged, 20, 'ok: 1 contracts, 2 methods\n'),
     'missing_case': (functools.partial(with_piece, word='numbers.Done'), 28, 'ok: 1 contracts, 3 methods\n'),
     'leak_on_one_way': (functools.partial(put, text='            delete sheet;\n'), 74, 'ok: 1 contracts, 3 methods\n'),
+    'reply_spent': (without, 28, 'ok: 2 contracts, 3 methods\n'),
 }
 ENTRIES = {'note': 'Desk.Write', 'state_forgotten': 'Street.Main', 'used_after_sent': 'Desk.Main', 'missing_case': 'Adder.Main',
-           'leak_on_one_way': 'Mill.Main'}
+           'leak_on_one_way': 'Mill.Main', 'reply_spent': 'Office.Main'}
 WALKS, EVENTS = 4, 40
 
 

@@ -40,6 +40,23 @@ const READS_WHAT_IT_SENT_ANSWER: &str =
     "steps 3\nstop: fault F1 at 9:9 in process 0\nprocess 0 at 9:9, frames 1\nblock 0 Put.Imp S owner process 0 queue [X(2)]
 block 1 Put.Exp E owner process 0 queue []\nblock 2 D owner queue 0\n";
 
+/// What a field holds changes places with another block, which goes with the block of the field.
+const EXCHANGES: &str = "rep struct D { int n; }
+rep struct B { int n; D* in ExHeap d; }
+class K {
+static void Main() {
+D* in ExHeap p = new[ExHeap] D();
+B* in ExHeap b = new[ExHeap] B(p);
+p = new[ExHeap] D();
+exchange(b.d, p);
+delete p;
+delete b;
+}
+}";
+
+const EXCHANGES_ANSWER: &str = "steps 4\nstop: end of schedule\nprocess 0 at 9:8, frames 1
+block 0 D owner process 0\nblock 1 B owner process 0 holds [2]\nblock 2 D owner block 1\n";
+
 const BACKWARDS: &str = "contract A { in message X(); state S: X! -> T; state T: ; }";
 
 /// What a replay of this schedule from `K.Main` answers, and what it writes.
@@ -74,6 +91,9 @@ fn replays_as_worked_out(rt: HostRuntime) -> Result<(), Fail> {
     let (status, bytes) = answer_to(alloc, READS_WHAT_IT_SENT, "0 0\n0 0\n0 0\n0 0\n0 0")?;
     assert!(rt; status == Status::Found);
     assert!(rt; bytes.as_slice() == READS_WHAT_IT_SENT_ANSWER.as_bytes());
+    let (status, bytes) = answer_to(alloc, EXCHANGES, "0 0\n0 0\n0 0\n0 0\n")?;
+    assert!(rt; status == Status::Empty);
+    assert!(rt; bytes.as_slice() == EXCHANGES_ANSWER.as_bytes());
     let (status, bytes) = answer_to(alloc, BACKWARDS, "x")?;
     assert!(rt; status == Status::Found);
     assert!(rt; bytes.as_slice() == b"1:39 C01 X against its direction\nfindings: 1\n".as_slice());
@@ -97,6 +117,7 @@ fn replays_or_wants_memory(rt: HostRuntime) {
     let rows = [
         (SENDS_AN_END, Status::Empty, SENDS_AN_END_ANSWER),
         (READS_WHAT_IT_SENT, Status::Found, READS_WHAT_IT_SENT_ANSWER),
+        (EXCHANGES, Status::Empty, EXCHANGES_ANSWER),
     ];
     for (text, status, answer) in rows.iter() {
         let mut reader = Counted::new(text.as_bytes());

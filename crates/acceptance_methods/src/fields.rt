@@ -1,4 +1,4 @@
-//! A program in numbers whose struct has a field that owns. No text can say so, so it is made by hand: in a loop a new block goes into the
+//! A program in numbers whose struct has a field that owns, made by hand and proved to be well formed: in a loop a new block goes into the
 //! field, and the one that comes out of it is deleted.
 
 ghost use Rattle.std.specs.Prelude.{◌≡◌, [], ◌∷◌, IfOk, length, map};
