@@ -15,7 +15,7 @@ syntax keyword singOwner ExHeap Claims in out
 syntax keyword singConditional if else switch receive
 syntax keyword singLabel case ChannelClosed
 syntax keyword singRepeat while break continue
-syntax keyword singStatement start return delete new NewChannel
+syntax keyword singStatement start return delete exchange new NewChannel
 syntax keyword singBoolean true false
 
 syntax match singNumber '\<\d\+\>'
