@@ -318,9 +318,51 @@ def pass_at_a_place_each(n):
     return one_block(n, 'while(true){}')
 
 
+def eight_fields(names):
+    """Eight owning fields with these names."""
+    return ''.join('D* in ExHeap %s; ' % name for name in names)
+
+
+def news_with_eight_arguments(n):
+    """n new blocks with eight others inside, each freed and made anew, 800 to a method."""
+    names = ['p%d' % k for k in range(8)]
+    filled = 's = new[ExHeap] S(%s); delete s;\n' % ', '.join(names) + ''.join('%s = new[ExHeap] D(); ' % name for name in names) + '\n'
+    head = ', '.join('[Claims] D* in ExHeap %s' % name for name in names)
+    one = 'static void F%d(' + head + ') { S* in ExHeap s;\n' + filled * min(n, 800) + 'while (true) { } }\n'
+    return 'rep struct D { int n; }\nrep struct S { %s}\nclass K {\n' % eight_fields('abcdefgh') + ''.join(
+        one % k for k in range(max(1, n // 800))) + '}\n'
+
+
+def exchanges(n):
+    """n exchanges with the last of eight fields, 16,000 to a method, in a loop."""
+    one = 'static void F%d(bool b, S* in ExHeap s, [Claims] D* in ExHeap p) { while (b) {\n' + 'exchange(s.h, p);\n' * min(
+        n, 16000) + '} delete p; }\n'
+    return 'rep struct D { int n; }\nrep struct S { %s}\nclass K {\n' % eight_fields('abcdefgh') + ''.join(
+        one % k for k in range(max(1, n // 16000))) + '}\n'
+
+
+def struct_of_many_fields(n):
+    """A struct with n fields, the last of which owns, with n new blocks of it and n exchanges, 4,000 to a method."""
+    fields = ''.join('int f%d; ' % k for k in range(n)) + 'D* in ExHeap last;'
+    turn = 's = new[ExHeap] S(p); p = new[ExHeap] D(); exchange(s.last, p); delete s;\n'
+    one = 'static void F%d([Claims] D* in ExHeap p) { S* in ExHeap s;\n' + turn * min(n, 4000) + 'delete p; }\n'
+    return 'rep struct D { int n; }\nrep struct S { %s }\nclass K {\n' % fields + ''.join(one % k for k in range(max(1, n // 4000))) + '}\n'
+
+
+def structs_of_eight_fields(n):
+    """Methods over a struct of eight owning fields each, 4,096 at most, with n exchanges in all."""
+    count = min(n, 4096)
+    struct = 'rep struct S%d { ' + eight_fields('abcdefgh') + '}\n'
+    work = ''.join('exchange(s.%s, p); ' % 'abcdefgh'[k % 8] for k in range(max(1, n // 4096)))
+    one = 'static void M%d(S%d* in ExHeap s, [Claims] D* in ExHeap p) { ' + work + 'delete p; }\n'
+    return 'rep struct D { int n; }\n' + ''.join(struct % k for k in range(count)) + 'class K {\n' + ''.join(
+        one % (k, k) for k in range(count)) + '}\n'
+
+
 LOADS = [path, ring, named_states, messages, contracts_256, comment, line_comments, short_comments, declared_twice, long_names,
          statements, short_statements, else_ifs, long_sum, deep_parentheses, deep_blocks, methods, expressions, turns,
          unknown_names, variables_twice, variables, cases, blocks_of_variables, starts, long_types]
 CHECKED = [reads, small_methods, scalars, many_variables, ways, loops, returns,
            messages_with_cases, sends, endpoints_in_a_switch, calls_with_endpoints, contracts_of_1900_states, many_rows,
-           fail_at_one_place, pass_at_one_place, fail_at_many_places, pass_at_many_places, fail_at_a_place_each, pass_at_a_place_each]
+           fail_at_one_place, pass_at_one_place, fail_at_many_places, pass_at_many_places, fail_at_a_place_each, pass_at_a_place_each,
+           news_with_eight_arguments, exchanges, struct_of_many_fields, structs_of_eight_fields]

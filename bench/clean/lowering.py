@@ -79,6 +79,8 @@ class Method:
         word, *names = instruction
         if word == 'channel':
             return word, point, self.number(names[0]), self.number(names[1]), names[2]
+        if word == 'exchange':
+            return word, point, self.number(names[0]), names[1], self.number(names[2])
         if word == 'send':
             return word, point, self.number(names[0]), names[1], tuple(map(self.number, names[2]))
         if word in ('call', 'start'):

@@ -1,20 +1,20 @@
 """Programs that are clean because of how they are made, for the runs of `bench/runs`."""
-from clean.tree import BLOCKS, SIDES, Contract, End, Message, Method, other
+from clean.tree import BLOCKS, SIDES, Block, Contract, End, Message, Method, Struct, other
 from clean.talking import Talker
 
 MOST_METHODS = 9
 
 
-def payload(chance, number):
+def payload(chance, number, blocks):
     """What a message brings: scalars, blocks, and endpoints of earlier contracts in their first state."""
     kinds = []
     for _ in range(chance.choice([0, 0, 1, 1, 2])):
         ends = [End(chance.randrange(number), chance.choice(SIDES), 0)] * 3 if number else []
-        kinds.append(chance.choice([None] + BLOCKS + ends))
+        kinds.append(chance.choice([None] + blocks + ends))
     return kinds
 
 
-def contract(chance, number):
+def contract(chance, number, blocks):
     """A sound contract. Edges lead on to later states, or back to the first one from a state whose sender is the other end."""
     count, ends = chance.randint(2, 5), chance.random() < 0.5
     senders = [chance.choice(SIDES) for _ in range(count)]
@@ -28,18 +28,31 @@ def contract(chance, number):
             old = [k for k, message in enumerate(messages) if message.sends == senders[state] and k not in edges]
             if not old or chance.random() < 0.7:
                 old = [len(messages)]
-                messages.append(Message('M%d' % old[0], senders[state], payload(chance, number)))
+                messages.append(Message('M%d' % old[0], senders[state], payload(chance, number, blocks)))
             edges[chance.choice(old)] = chance.choice(targets)
         states.append(edges)
     return Contract('C%d' % number, messages, states, senders)
 
 
+def structs(chance, contracts, count):
+    """Structs whose fields own blocks, endpoints in their first state, and blocks of earlier structs."""
+    made = []
+    for number in range(count):
+        blocks = BLOCKS + [Block(struct.name + '* in ExHeap') for struct in made] * 2
+        ends = [End(chance.randrange(contracts), chance.choice(SIDES), 0) for _ in range(4)]
+        made.append(Struct('Box%d' % number, [chance.choice(blocks + ends) for _ in range(chance.choice([1, 1, 2, 3]))]))
+    return made
+
+
 class Program:
-    """Contracts, methods and their bodies. It begins with K.Main."""
+    """Contracts, structs, methods and their bodies. It begins with K.Main."""
 
     def __init__(self, chance):
         self.chance = chance
-        self.contracts = [contract(chance, number) for number in range(chance.randint(1, 4))]
+        boxes = chance.choice([0, 1, 2, 3])
+        self.blocks = BLOCKS + [Block('Box%d* in ExHeap' % number) for number in range(boxes)] * 2
+        self.contracts = [contract(chance, number, self.blocks) for number in range(chance.randint(1, 4))]
+        self.structs = structs(chance, len(self.contracts), boxes)
         self.methods, self.bodies = [Method('Main', [], None, False)], {}
         for method in self.methods:
             self.bodies[method.name] = Talker(self, method).whole()
@@ -53,7 +66,7 @@ class Program:
         if len(self.methods) >= MOST_METHODS:
             return None
         end = End(self.chance.randrange(len(self.contracts)), self.chance.choice(SIDES), 0)
-        result = self.chance.choice([None, None, 'int', end] + BLOCKS[:2]) if word == 'call' else None
+        result = self.chance.choice([None, None, 'int', end, *self.chance.sample(self.blocks, 2)]) if word == 'call' else None
         parameters = [('p%d' % number, kind, claimed) for number, (kind, claimed) in enumerate(wanted)]
         method = Method('F%d' % len(self.methods), parameters, result, self.chance.random() < 0.5)
         self.methods.append(method)

@@ -1,5 +1,5 @@
 """Writes what a method says along channels: sends, switches, and ways through a contract; and so its whole body."""
-from clean.tree import BLOCKS, SIDES, Body, Case, Condition, Switch, While
+from clean.tree import SIDES, Body, Case, Condition, Switch, While
 from clean.writer import Writer
 
 MOST_ENDS, DEEPEST = 4, 3
@@ -142,8 +142,9 @@ class Talker(Writer):
 
     def statement(self, body):
         """One statement, which may come to nothing where it has nothing to do something with."""
-        kinds = [(2, lambda b: self.new(b, self.chance.choice(BLOCKS))), (2, self.use), (1, self.move), (4, self.calls),
-                 (1, lambda b: self.calls(b, 'start')), (1, self.out_of_loop), (1, self.some_delete)]
+        kinds = [(2, lambda b: self.new(b, self.chance.choice(self.program.blocks))), (2, self.use), (1, self.move),
+                 (4, self.exchange), (4, self.calls), (1, lambda b: self.calls(b, 'start')), (1, self.out_of_loop),
+                 (1, self.some_delete)]
         if self.ends():
             kinds += [(4, self.wait), (4, self.round), (4, self.onward), (4, self.some_send)]
         if len(self.ends()) < MOST_ENDS:

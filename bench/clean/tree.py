@@ -6,6 +6,8 @@ Contract = collections.namedtuple('Contract', 'name messages states senders')
 Method = collections.namedtuple('Method', 'name parameters result scalar')
 End = collections.namedtuple('End', 'contract side state')
 Block = collections.namedtuple('Block', 'name')
+# What a struct has in its owning fields f0, f1, ..; it has a number n too.
+Struct = collections.namedtuple('Struct', 'name fields')
 
 # A statement with its instructions and the variables of the exchange heap that it declares; and those that hold other statements.
 Say = collections.namedtuple('Say', 'text instructions declares')
@@ -38,6 +40,16 @@ def written(kind, contracts, with_state):
         return kind.name
     state = ':S%d' % kind.state if with_state and kind.state else ''
     return '%s.%s%s' % (contracts[kind.contract].name, kind.side, state)
+
+
+def struct_of(kind):
+    """The name of the struct of a block, or None for an array."""
+    return kind.name.split('*')[0] if '*' in kind.name else None
+
+
+def struct_text(struct, contracts):
+    fields = ''.join(' %s f%d;' % (written(kind, contracts, True), number) for number, kind in enumerate(struct.fields))
+    return 'rep struct %s { int n;%s }' % (struct.name, fields)
 
 
 def contract_text(each, contracts):
@@ -94,7 +106,7 @@ def method_text(method, body, contracts):
 
 
 def program_text(program):
-    lines = [STRUCTS]
+    lines = [STRUCTS] + [struct_text(struct, program.contracts) for struct in program.structs]
     for each in program.contracts:
         lines += contract_text(each, program.contracts)
     lines.append('class K {')

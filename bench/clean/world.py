@@ -6,23 +6,25 @@ the program's to say.
 import collections
 
 MODES = ('even', 'bursts', 'first', 'newest')
-WORDS = 'use new channel move delete send switch branch forget call start return'.split()
+WORDS = 'use new exchange channel move delete send switch branch forget call start return'.split()
 ONE = (0,)
 
 
 class World:
-    """Processes as stacks of frames, and of each endpoint its peer, its queue and whether it is freed; and what was met so far.
+    """Processes as stacks of frames; of each block its owner, as it is printed, what its owning fields hold and whether it is freed, and of
+    an endpoint its peer and its queue; and what was met so far.
 
     A process that waits is asleep until something comes at an endpoint of its switch."""
 
     def __init__(self, methods):
         self.methods, self.met = methods, collections.Counter()
-        self.peers, self.queues, self.freed = [], [], []
+        self.peers, self.queues, self.freed, self.owners, self.fields = [], [], [], [], []
         self.stacks, self.ready, self.asleep, self.waits = [], [], set(), {}
         self.does = {word: getattr(self, word) for word in WORDS}
         self.begin(0, [])
 
     def begin(self, number, given):
+        self.hand(given, 'process %d' % len(self.stacks))
         self.ready.append(len(self.stacks))
         self.stacks.append([self.frame(number, given)])
 
@@ -33,11 +35,24 @@ class World:
             variables[parameter] = address
         return [method.code, method.first, variables]
 
-    def block(self, peer):
+    def block(self, process, peer, fields=()):
         self.peers.append(peer)
         self.queues.append([])
         self.freed.append(False)
+        self.owners.append('process %d' % process)
+        self.fields.append(list(fields))
         return len(self.peers) - 1
+
+    def hand(self, addresses, owner):
+        for address in addresses:
+            self.owners[address] = owner
+
+    def taken(self, frame, names):
+        """What these variables have, which have nothing then."""
+        addresses = [frame[2][name] for name in names]
+        for name in names:
+            frame[2][name] = None
+        return addresses
 
     def choices(self, process):
         """The choices with which the next event of a process is a step: none where it waits, and then it sleeps."""
@@ -77,13 +92,23 @@ class World:
     forget = use
 
     def new(self, process, frame, instruction, choice):
-        frame[1] = instruction[1]
-        frame[2][instruction[2]] = self.block(None)
+        _, frame[1], target, *names = instruction
+        given = self.taken(frame, names)
+        frame[2][target] = self.block(process, None, given)
+        self.hand(given, 'block %d' % frame[2][target])
+        self.met['blocks put into new ones'] += len(given)
+
+    def exchange(self, process, frame, instruction, choice):
+        _, frame[1], holder, field, name = instruction
+        fields, given = self.fields[frame[2][holder]], frame[2][name]
+        self.hand([given], 'block %d' % frame[2][holder])
+        self.hand([fields[field]], 'process %d' % process)
+        fields[field], frame[2][name] = given, fields[field]
 
     def channel(self, process, frame, instruction, choice):
         _, frame[1], first, second, first_is_imp = instruction
-        imp = self.block(len(self.peers) + 1)
-        exp = self.block(imp)
+        imp = self.block(process, len(self.peers) + 1)
+        exp = self.block(process, imp)
         frame[2][first], frame[2][second] = (imp, exp) if first_is_imp else (exp, imp)
 
     def move(self, process, frame, instruction, choice):
@@ -92,23 +117,31 @@ class World:
 
     def delete(self, process, frame, instruction, choice):
         _, frame[1], name = instruction
-        address = frame[2][name]
-        frame[2][name], self.freed[address] = None, True
+        inside = self.taken(frame, [name])
+        while inside:
+            self.free(inside.pop(), inside)
+
+    def free(self, address, inside):
+        """Frees a block alone, and adds what is directly inside it."""
+        self.freed[address] = True
         if self.peers[address] is None:
             self.met['a block freed'] += 1
         else:
             self.met['second end deleted' if self.freed[self.peers[address]] else 'first end deleted'] += 1
             self.met['messages left in a deleted queue'] += len(self.queues[address])
             self.wake(self.peers[address])
-        self.queues[address] = []
+        self.met['blocks freed inside others'] += len(self.fields[address])
+        inside += self.fields[address]
+        for _, brought in self.queues[address]:
+            self.hand(brought, 'channel')
+        self.queues[address], self.fields[address] = [], []
 
     def send(self, process, frame, instruction, choice):
         _, frame[1], endpoint, message, given = instruction
         peer = self.peers[frame[2][endpoint]]
-        brought = [frame[2][name] for name in given]
-        for name in given:
-            frame[2][name] = None
+        brought = self.taken(frame, given)
         self.met['blocks sent'] += len(brought)
+        self.hand(brought, 'channel' if self.freed[peer] else 'queue %d' % peer)
         if self.freed[peer]:
             self.met['sent to a deleted end'] += 1
         else:
@@ -122,6 +155,7 @@ class World:
         message, brought = queue.pop(0) if queue else (None, [])
         self.met['received' if message is not None else 'closed'] += 1
         frame[1], bound = cases[endpoints[choice], message]
+        self.hand(brought, 'process %d' % process)
         for name, address in zip(bound, brought):
             frame[2][name] = address
 

@@ -3,9 +3,8 @@
 The writer knows at each place which variables have what. An endpoint that it believes to be in a state is in that state or cut off, since
 what a state allows is allowed of an endpoint that is cut off too. Where ways meet, each gives away what not all of them still have.
 """
-from clean.tree import BLOCKS, SIDES, Block, Body, Condition, End, If, Say, While, written
+from clean.tree import SIDES, Block, Body, Condition, End, If, Say, While, struct_of, written
 
-FIELDS = {'Page': '.n', 'Note': '.m'}
 
 
 class Writer:
@@ -29,6 +28,15 @@ class Writer:
     def blocks(self):
         return [v for v, kind in self.has.items() if isinstance(kind, Block)]
 
+    def scalar_of(self, name):
+        """A scalar field of the block of a variable, or an element."""
+        struct = struct_of(self.has[name])
+        return '[0]' if struct is None else '.m' if struct == 'Note' else '.n'
+
+    def fields_of(self, kind):
+        """What the owning fields of a block hold."""
+        return next((struct.fields for struct in self.program.structs if isinstance(kind, Block) and struct.name == struct_of(kind)), [])
+
     def free(self, names):
         """Those that may be given away or brought to another state."""
         return [v for v in names if v not in self.lent and v not in self.frozen]
@@ -44,7 +52,8 @@ class Writer:
         if not names or self.chance.random() < 0.5:
             return self.chance.choice(['n', str(self.chance.randint(0, 9)), 'n + 1']), []
         name = self.chance.choice(names)
-        return name + (FIELDS.get(self.has[name].name[:4]) or self.chance.choice(['.Length', '[0]'])), [('use', name)]
+        array = struct_of(self.has[name]) is None
+        return name + (self.chance.choice(['.Length', '[0]']) if array else self.scalar_of(name)), [('use', name)]
 
     def condition(self):
         if self.chance.random() < 0.1:
@@ -52,17 +61,34 @@ class Writer:
         text, reads = self.read()
         return Condition('%s %s %d' % (text, self.chance.choice(['<', '==', '>=']), self.chance.randint(0, 9)), reads, None)
 
-    def new(self, body, kind, name=None):
+    def new(self, body, kind, name=None, but=()):
+        """A new block in a variable, filled with what is there but for some variables, or with what is made for it."""
+        given = []
+        for field in self.fields_of(kind):
+            given.append(self.made(body, field, given + list(but)))
         text, reads = self.read()
-        value = 'new[ExHeap] %s()' % kind.name[:4] if '*' in kind.name else 'new[ExHeap] %s[%s]' % (kind.name.split('[')[0], text)
-        reads = [] if '*' in kind.name else reads
+        if struct_of(kind):
+            value, reads = 'new[ExHeap] %s(%s)' % (struct_of(kind), ', '.join(given)), []
+        else:
+            value = 'new[ExHeap] %s[%s]' % (kind.name.split('[')[0], text)
+        for gone in given:
+            del self.has[gone]
         if name:
-            self.say(body, '%s = %s;' % (name, value), *reads, ('new', name))
+            self.say(body, '%s = %s;' % (name, value), *reads, ('new', name, *given))
         else:
             name = self.fresh()
-            self.say(body, '%s %s = %s;' % (kind.name, name, value), *reads, ('new', name), declares=(name,))
+            self.say(body, '%s %s = %s;' % (kind.name, name, value), *reads, ('new', name, *given), declares=(name,))
         self.has[name] = kind
         return name
+
+    def exchange(self, body):
+        """A field and a variable change places."""
+        holders = [v for v in self.blocks() if self.fields_of(self.has[v])]
+        if holders:
+            holder = self.chance.choice(holders)
+            field, kind = self.chance.choice(list(enumerate(self.fields_of(self.has[holder]))))
+            name = self.made(body, kind, [holder])
+            self.say(body, 'exchange(%s.f%d, %s);' % (holder, field, name), ('exchange', holder, field, name))
 
     def channel(self, body, number):
         names = {'Imp': self.fresh(), 'Exp': self.fresh()}
@@ -80,7 +106,7 @@ class Writer:
         there = [v for v in self.free(self.has) if self.has[v] == kind and v not in but]
         if there and self.chance.random() < 0.6:
             return self.chance.choice(there)
-        return self.new(body, kind) if isinstance(kind, Block) else self.channel(body, kind.contract)[kind.side]
+        return self.new(body, kind, None, but) if isinstance(kind, Block) else self.channel(body, kind.contract)[kind.side]
 
     def delete(self, body, name):
         self.say(body, 'delete %s;' % name, ('delete', name))
@@ -139,7 +165,7 @@ class Writer:
         if not names:
             return
         name = self.chance.choice(names)
-        field = FIELDS.get(self.has[name].name[:4], '[0]')
+        field = self.scalar_of(name)
         text, reads = self.read()
         if self.chance.random() < 0.5:
             self.say(body, '%s%s = %s;' % (name, field, text), *reads, ('use', name))
@@ -192,10 +218,10 @@ class Writer:
 
     def restored(self, body, wanted):
         """What a loop has where it goes round."""
+        for name in [v for v in wanted if v not in self.has]:
+            self.new(body, wanted[name], name, wanted)
         for name in [v for v in self.has if v not in wanted]:
             self.delete(body, name)
-        for name in [v for v in wanted if v not in self.has]:
-            self.new(body, wanted[name], name)
 
     def branch(self, body):
         condition = self.condition()

@@ -12,8 +12,8 @@ pub enum Kind {
     OpenBrace, CloseBrace, OpenParenthesis, CloseParenthesis, OpenBracket, CloseBracket,
     Semicolon, Colon, Comma, Dot, Star, Exclamation, Question, Assign,
     Equal, Unequal, Less, AtMost, Greater, AtLeast, Plus, Minus, And, Or, Arrow,
-    Bool, Break, Byte, Case, Class, ChannelClosed, Claims, Continue, Contract, Delete, Else, Exp, ExHeap, False, If, Imp, In, Int,
-    Internal, Message, New, NewChannel, One, Out, Private, Public, Receive, Rep, Return, Start, State, Static, Struct, Switch, True,
+    Bool, Break, Byte, Case, Class, ChannelClosed, Claims, Continue, Contract, Delete, Else, Exchange, Exp, ExHeap, False, If, Imp, In,
+    Int, Internal, Message, New, NewChannel, One, Out, Private, Public, Receive, Rep, Return, Start, State, Static, Struct, Switch, True,
     Void, While,
     End,
 }
@@ -52,7 +52,8 @@ fn word_kind(word: &[u8]) -> Kind {
     match word {
         b"bool" => Kind::Bool, b"break" => Kind::Break, b"byte" => Kind::Byte, b"case" => Kind::Case, b"class" => Kind::Class,
         b"ChannelClosed" => Kind::ChannelClosed, b"Claims" => Kind::Claims, b"continue" => Kind::Continue,
-        b"contract" => Kind::Contract, b"delete" => Kind::Delete, b"else" => Kind::Else, b"Exp" => Kind::Exp,
+        b"contract" => Kind::Contract, b"delete" => Kind::Delete, b"else" => Kind::Else,
+        b"exchange" => Kind::Exchange, b"Exp" => Kind::Exp,
         b"ExHeap" => Kind::ExHeap, b"false" => Kind::False, b"if" => Kind::If, b"Imp" => Kind::Imp, b"in" => Kind::In,
         b"int" => Kind::Int, b"internal" => Kind::Internal, b"message" => Kind::Message, b"new" => Kind::New,
         b"NewChannel" => Kind::NewChannel, b"one" => Kind::One, b"out" => Kind::Out, b"private" => Kind::Private,

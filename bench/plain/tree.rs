@@ -74,7 +74,7 @@ pub struct Struct<'a> {
 
 pub struct Field<'a> {
     pub access: Option<Access>,
-    pub scalar: Scalar,
+    pub written: Type<'a>,
     pub name: Name<'a>,
 }
 
@@ -131,6 +131,7 @@ pub enum Statement<'a> {
     Call(Call<'a>),
     Start(Call<'a>),
     Delete(Name<'a>),
+    Exchange { holder: Name<'a>, field: Name<'a>, given: Name<'a> },
     NewChannel { contract: Name<'a>, place: Place, first: Name<'a>, second: Name<'a> },
     If { arms: Vec<Arm<'a>>, otherwise: Option<Block<'a>> },
     While(Arm<'a>),
@@ -166,7 +167,7 @@ pub enum Target<'a> {
 pub enum Value<'a> {
     Expression(Expression<'a>),
     Call(Call<'a>),
-    NewStruct { place: Place, name: Name<'a> },
+    NewStruct { place: Place, name: Name<'a>, arguments: Vec<Expression<'a>> },
     NewArray { place: Place, element: Scalar, length: Expression<'a> },
 }
 

@@ -105,6 +105,7 @@ impl<'a> Body<'_, 'a> {
             Statement::Call(call) => self.call_statement(call),
             Statement::Start(call) => self.start(call),
             Statement::Delete(name) => self.delete(*name),
+            Statement::Exchange { holder, field, given } => self.exchange(*holder, *field, *given),
             Statement::NewChannel { contract, first, second, .. } => self.new_channel(*contract, *first, *second),
             Statement::Switch { cases, .. } => self.switch(cases),
             _ => self.control(statement),
@@ -139,6 +140,27 @@ impl<'a> Body<'_, 'a> {
     fn delete(&mut self, name: Name) {
         if self.look_up(name).is_some_and(|variable| variable.typed.is_scalar()) {
             self.findings.wrong_type(name.place);
+        }
+    }
+
+    fn exchange(&mut self, holder: Name, field: Name, given: Name) {
+        let asked = match self.find(holder).map(|variable| variable.typed) {
+            Some(Type::Pointer(_)) => {
+                let typed = self.field(holder, field);
+                if typed.is_scalar() {
+                    self.findings.wrong_type(field.place);
+                }
+                typed
+            }
+            _ => {
+                if self.look_up(holder).is_some_and(|variable| variable.typed != Type::Unknown) {
+                    self.findings.wrong_type(holder.place);
+                }
+                Type::Unknown
+            }
+        };
+        if self.look_up(given).is_some_and(|variable| !variable.typed.agrees(asked)) {
+            self.findings.wrong_type(given.place);
         }
     }
 
@@ -180,7 +202,7 @@ impl<'a> Body<'_, 'a> {
                 let typed = self.field(*name, *field);
                 let array = self.find(*name).is_some_and(|variable| matches!(variable.typed, Type::Array(_)));
                 // The length of an array is read and not written.
-                if array && typed == INT {
+                if array && typed == INT || self.owns(*name, *field) {
                     self.findings.wrong_type(field.place);
                 }
                 typed

@@ -30,14 +30,25 @@ impl<'t, 'a> Body<'t, 'a> {
                 self.number(length);
                 (Type::Array(*element), *place)
             }
-            Value::NewStruct { place, name } => match self.tables.items.get(self.word(name)) {
-                Some(ItemNumber::Struct(number)) => (Type::Pointer(number), *place),
-                _ => return self.findings.unknown(*name),
-            },
+            Value::NewStruct { place, name, arguments } => (self.new_struct(*name, arguments), *place),
         };
         if !typed.agrees(asked) {
             self.findings.wrong_type(place);
         }
+    }
+
+    fn new_struct(&mut self, name: Name<'a>, arguments: &[Expression<'a>]) -> Type {
+        let Some(ItemNumber::Struct(number)) = self.tables.items.get(self.word(name)) else {
+            self.findings.unknown(name);
+            self.arguments(arguments, &[]);
+            return Type::Unknown;
+        };
+        let owning = &self.tables.structs[number].owning;
+        if arguments.len() != owning.len() {
+            self.findings.wrong_number(name);
+        }
+        self.arguments(arguments, owning);
+        Type::Pointer(number)
     }
 
     pub fn return_statement(&mut self, place: Place, value: Option<&Expression<'a>>) {

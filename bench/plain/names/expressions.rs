@@ -53,7 +53,12 @@ impl<'a> Body<'_, 'a> {
             Expression::Truth(..) => BOOL,
             Expression::Bracketed(_, inner) => self.inner(inner),
             Expression::Target(Target::Variable(name)) => self.scalar_variable(*name),
-            Expression::Target(Target::Field(name, field)) => self.field(*name, *field),
+            Expression::Target(Target::Field(name, field)) => {
+                if self.owns(*name, *field) {
+                    self.findings.wrong_type(name.place);
+                }
+                self.field(*name, *field)
+            }
             Expression::Target(Target::Index(name, index)) => self.indexed(*name, index),
             Expression::Prefixed(prefixes, atom) => self.prefixed(prefixes, atom),
             Expression::Chain(first, rest) => self.chain(first, rest),
@@ -74,7 +79,7 @@ impl<'a> Body<'_, 'a> {
             Type::Array(_) => Some(INT).filter(|_| self.word(field) == b"Length"),
             Type::Pointer(number) => {
                 let structure = &self.tables.structs[number];
-                structure.field_names.get(self.word(field)).map(|place| structure.fields[place as usize])
+                structure.field_names.get(self.word(field)).map(|place| structure.fields[place as usize].typed)
             }
             _ => {
                 self.findings.wrong_type(name.place);
@@ -85,6 +90,13 @@ impl<'a> Body<'_, 'a> {
             self.findings.unknown(field);
             Type::Unknown
         })
+    }
+
+    /// Whether a field owns what it holds.
+    pub fn owns(&self, name: Name, field: Name) -> bool {
+        let Some(Type::Pointer(number)) = self.find(name).map(|variable| variable.typed) else { return false };
+        let structure = &self.tables.structs[number];
+        structure.field_names.get(self.word(field)).is_some_and(|place| structure.fields[place as usize].in_heap)
     }
 
     pub fn indexed(&mut self, name: Name, index: &Expression<'a>) -> Type {

@@ -16,6 +16,7 @@ use types::Type;
 
 const MOST_CONTRACTS: usize = 256;
 const MOST_METHODS: usize = 4096;
+const MOST_FIELDS: usize = 8;
 
 #[derive(Clone, Copy)]
 pub enum ItemNumber {
@@ -24,7 +25,7 @@ pub enum ItemNumber {
     Class(usize),
 }
 
-/// A parameter of a message or method; `claims` is true where what is given is given away.
+/// A parameter of a message or method, or a field of a struct; `claims` is true where what is given is given away.
 #[derive(Clone, Copy)]
 pub struct Parameter {
     pub typed: Type,
@@ -34,7 +35,9 @@ pub struct Parameter {
 
 pub struct Struct<'a> {
     pub field_names: Table<'a, u32>,
-    pub fields: Vec<Type>,
+    pub fields: Vec<Parameter>,
+    /// The fields that own what they hold.
+    pub owning: Vec<Parameter>,
 }
 
 /// The methods of a class are numbered through the whole program.
@@ -129,8 +132,12 @@ impl<'a> Tables<'a> {
         Method { node, class, result, parameters, borrows }
     }
 
-    /// Adds what looks names up in the tables: the types of parameters and results, and the edges.
+    /// Adds what looks names up in the tables: the types of fields, parameters and results, and the edges.
     fn complete(&mut self, nodes: &Nodes<'a>, findings: &mut Findings<'a>) {
+        for (number, node) in nodes.structs.iter().enumerate() {
+            let fields = node.fields.iter().map(|field| self.parameter(&field.written, true, findings)).collect();
+            self.structs[number].fill(fields);
+        }
         for (class, node) in nodes.classes.iter().enumerate() {
             for method in &node.methods {
                 let method = self.method(method, class, findings);
@@ -154,7 +161,15 @@ impl<'a> Tables<'a> {
 impl<'a> Struct<'a> {
     fn declare(node: &tree::Struct<'a>, findings: &mut Findings<'a>) -> Struct<'a> {
         let field_names = Table::new(node.fields.iter().map(|field| field.name).zip(0..), findings);
-        Struct { field_names, fields: node.fields.iter().map(|field| Type::Scalar(field.scalar)).collect() }
+        if let Some(field) = node.fields.iter().filter(|field| types::in_heap(&field.written)).nth(MOST_FIELDS) {
+            findings.limit_passed(field.name);
+        }
+        Struct { field_names, fields: Vec::new(), owning: Vec::new() }
+    }
+
+    fn fill(&mut self, fields: Vec<Parameter>) {
+        self.owning = fields.iter().copied().filter(|field| field.in_heap).collect();
+        self.fields = fields;
     }
 }
 

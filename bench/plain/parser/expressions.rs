@@ -126,9 +126,7 @@ impl<'a> Parser<'a> {
         self.expect(Kind::CloseBracket)?;
         if self.peek() == Kind::Identifier {
             let name = self.name()?;
-            self.expect(Kind::OpenParenthesis)?;
-            self.expect(Kind::CloseParenthesis)?;
-            return Ok(Value::NewStruct { place, name });
+            return Ok(Value::NewStruct { place, name, arguments: self.list(Self::expression)? });
         }
         let element = self.scalar()?;
         self.expect(Kind::OpenBracket)?;

@@ -124,10 +124,10 @@ impl<'a> Parser<'a> {
         let mut fields = Vec::new();
         while !self.accept(Kind::CloseBrace) {
             let access = self.access();
-            let scalar = self.scalar()?;
+            let written = self.written_type()?;
             let name = self.name()?;
             self.expect(Kind::Semicolon)?;
-            fields.push(Field { access, scalar, name });
+            fields.push(Field { access, written, name });
         }
         Ok(Struct { name, fields })
     }

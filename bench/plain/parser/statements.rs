@@ -43,17 +43,29 @@ impl<'a> Parser<'a> {
         let place = self.place();
         let kind = self.peek();
         match kind {
-            Kind::Start | Kind::Delete | Kind::Break | Kind::Continue | Kind::Return => self.at += 1,
+            Kind::Start | Kind::Delete | Kind::Exchange | Kind::Break | Kind::Continue | Kind::Return => self.at += 1,
             _ => return Err(Unexpected),
         }
         Ok(match kind {
             Kind::Start => Statement::Start(self.call()?),
             Kind::Delete => Statement::Delete(self.name()?),
+            Kind::Exchange => self.exchange()?,
             Kind::Break => Statement::Break(place),
             Kind::Continue => Statement::Continue(place),
             _ if self.peek() == Kind::Semicolon => Statement::Return { place, value: None },
             _ => Statement::Return { place, value: Some(self.expression()?) },
         })
+    }
+
+    fn exchange(&mut self) -> Parsed<Statement<'a>> {
+        self.expect(Kind::OpenParenthesis)?;
+        let holder = self.name()?;
+        self.expect(Kind::Dot)?;
+        let field = self.name()?;
+        self.expect(Kind::Comma)?;
+        let given = self.name()?;
+        self.expect(Kind::CloseParenthesis)?;
+        Ok(Statement::Exchange { holder, field, given })
     }
 
     fn declaration(&mut self) -> Parsed<Statement<'a>> {
