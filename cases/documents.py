@@ -10,7 +10,7 @@ import subprocess
 
 TOP = pathlib.Path(__file__).resolve().parent.parent
 BLOCK = re.compile(r'^```(sing|text|check|sh)\n(.*?)^```$', re.M | re.S)
-PAGES = [TOP / 'README.md', *sorted(TOP.glob('docs/**/*.md')), *sorted(TOP.glob('*/README.md'))]
+PAGES = [*sorted(TOP.glob('*.md')), *sorted(TOP.glob('docs/**/*.md')), *sorted(TOP.glob('*/README.md'))]
 
 
 def cases(folder):
@@ -53,7 +53,7 @@ def first_page_is_short(_):
     lines = (TOP / 'README.md').read_text().splitlines()
     cells = [cell.strip() for line in lines if line.startswith('|') for cell in line.strip('|').split(' | ')]
     found = ['a cell of %d characters: %s' % (len(cell), cell) for cell in cells if len(cell) > 160]
-    return found + (['%d lines' % len(lines)] if len(lines) > 200 else [])
+    return found + (['%d lines' % len(lines)] if len(lines) > 150 else [])
 
 
 def texts_of_the_tour_are_examples(_):
@@ -81,5 +81,12 @@ def links_lead_somewhere(_):
     return found
 
 
+def theorem_page_is_made(_):
+    """The page of the theorem lists the definitions that the clauses reach, and no more lines than it allows."""
+    ran = subprocess.run([TOP / 'tools' / 'theorem', '--check'], stdin=subprocess.DEVNULL, stdout=subprocess.PIPE, stderr=subprocess.STDOUT,
+                         env=dict(os.environ, PYTHONDONTWRITEBYTECODE='1'))
+    return [] if ran.returncode == 0 else [ran.stdout.decode()]
+
+
 TESTS = commands() + [('documents/' + test.__name__, test) for test in
-                      (first_page_is_short, texts_of_the_tour_are_examples, links_lead_somewhere)]
+                      (first_page_is_short, texts_of_the_tour_are_examples, links_lead_somewhere, theorem_page_is_made)]
