@@ -109,5 +109,17 @@ call writefile([one.lnum . ':' . one.col, one.text, fnamemodify(bufname(one.bufn
     return [] if said == ['7:5', 'A01 note not owned', 'a b.sg', '1'] else ['read as %s' % said]
 
 
+def extension_of_vs_code(program):
+    """The extension shows what `check` prints, an outline, and the page of a code. Its editor is a stub, run by Node if there is one."""
+    if not shutil.which('node'):
+        return []
+    words = ['node', TOP / 'cases' / 'vscode_stub' / 'driver.js', program, TOP / 'examples' / 'note.sg']
+    ran = subprocess.run(words, stdin=subprocess.DEVNULL, stdout=subprocess.PIPE, stderr=subprocess.STDOUT, timeout=60, text=True)
+    page = (TOP / 'docs' / 'codes' / 'A01.md').read_text().splitlines()[0]
+    asked = '7:5 A01 note not owned\nstruct Note, class Desk (method Write)\n%s\n' % page
+    return [] if ran.stdout == asked else ['expected %r, given %r' % (asked, ran.stdout)]
+
+
 TESTS = [('editors/' + test.__name__, test) for test in
-         (words_of_the_pages, words_of_vim, words_of_vs_code, parts_of_vs_code, problems_of_vs_code, colours_of_vim, make_in_vim)]
+         (words_of_the_pages, words_of_vim, words_of_vs_code, parts_of_vs_code, problems_of_vs_code, colours_of_vim, make_in_vim,
+          extension_of_vs_code)]

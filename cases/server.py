@@ -1,0 +1,267 @@
+"""The language server: a client in a script opens, changes and closes texts, and is told just what `check` prints."""
+import json
+import os
+import pathlib
+import re
+import signal
+import subprocess
+import tempfile
+import threading
+import time
+
+TOP = pathlib.Path(__file__).resolve().parent.parent
+FINDING = re.compile(r'(\d+):(\d+) ([A-Z]\d\d) (.*)')
+WAIT = 60  # seconds for an answer that has to come
+
+
+class Client:
+    """A client of the server, which keeps what it is told by notifications."""
+
+    def __init__(self, program, encodings=('utf-8',)):
+        words = [TOP / 'tools' / 'lsp', *(['--program', program] if program else [])]
+        self.server = subprocess.Popen(words, stdin=subprocess.PIPE, stdout=subprocess.PIPE, stderr=subprocess.PIPE,
+                                       env=dict(os.environ, PYTHONDONTWRITEBYTECODE='1'))
+        self.answers, self.published, self.shown, self.news = {}, {}, [], threading.Condition()
+        self.number = 0
+        threading.Thread(target=self.listen, daemon=True).start()
+        self.can = self.ask('initialize', capabilities={'general': {'positionEncodings': list(encodings)}})['result']['capabilities']
+        self.tell('initialized')
+
+    def listen(self):
+        while True:
+            size = None
+            for line in iter(self.server.stdout.readline, b''):
+                if not line.strip():
+                    break
+                name, _, value = line.partition(b':')
+                size = int(value) if name == b'Content-Length' else size
+            body = self.server.stdout.read(size or 0)
+            if not body:
+                return
+            message = json.loads(body)
+            with self.news:
+                params = message.get('params') or {}
+                if message.get('method') == 'textDocument/publishDiagnostics':
+                    self.published[params['uri']] = params
+                elif message.get('method') == 'window/showMessage':
+                    self.shown.append(params['message'])
+                else:
+                    self.answers[message['id']] = message
+                self.news.notify_all()
+
+    def send(self, body):
+        self.server.stdin.write(b'Content-Length: %d\r\n\r\n' % len(body) + body)
+        self.server.stdin.flush()
+
+    def tell(self, method, **params):
+        self.send(json.dumps({'jsonrpc': '2.0', 'method': method, 'params': params}).encode())
+
+    def ask(self, method, **params):
+        self.number += 1
+        self.send(json.dumps({'jsonrpc': '2.0', 'id': self.number, 'method': method, 'params': params}).encode())
+        return self.until(lambda: self.answers.pop(self.number, None))
+
+    def until(self, given):
+        """What is given, as soon as it is not None."""
+        ended = time.monotonic() + WAIT
+        with self.news:
+            while True:
+                it = given()
+                if it is not None:
+                    return it
+                if not self.news.wait(max(0, ended - time.monotonic())) and time.monotonic() >= ended:
+                    raise TimeoutError('the server is silent')
+
+    def open(self, uri, text, version=1):
+        self.tell('textDocument/didOpen', textDocument={'uri': uri, 'languageId': 'sing', 'version': version, 'text': text})
+
+    def change(self, uri, text, version):
+        self.tell('textDocument/didChange', textDocument={'uri': uri, 'version': version}, contentChanges=[{'text': text}])
+
+    def found(self, uri, version):
+        """The diagnostics of this version of a text."""
+        return self.until(lambda: self.published.get(uri) if self.published.get(uri, {}).get('version') == version else None)['diagnostics']
+
+    def at(self, uri, line, character):
+        return {'textDocument': {'uri': uri}, 'position': {'line': line, 'character': character}}
+
+    def end(self):
+        self.ask('shutdown')
+        self.tell('exit')
+        return self.server.wait(WAIT)
+
+
+def with_client(test, **how):
+    def run(program):
+        client = Client(program, **how)
+        try:
+            return test(client, program)
+        finally:
+            client.server.kill()
+            client.server.wait()
+    return run
+
+
+def checked(program, data):
+    """What `check` prints of a text: places, codes and texts."""
+    said = subprocess.run([program, 'check', '/dev/stdin'], input=data, stdout=subprocess.PIPE, check=False).stdout.decode()
+    return [(int(it[1]), int(it[2]), it[3], it[4]) for it in map(FINDING.fullmatch, said.splitlines()) if it]
+
+
+def told(diagnostics, text):
+    """Diagnostics as the program would print them, for a text of which each line ends in LF and that has no byte order mark."""
+    return [(its['range']['start']['line'] + 1, its['range']['start']['character'] + 1, its['code'], its['message']) for its in diagnostics]
+
+
+def unlike(asked, given, of=''):
+    return [] if asked == given else ['%sexpected %r, given %r' % (of and of + ': ', asked, given)]
+
+
+def texts():
+    """The texts of the cases, and of the examples."""
+    return sorted([*TOP.glob('cases/*/*/input.sg'), *TOP.glob('examples/*.sg')])
+
+
+def plain(data):
+    """A text that the protocol can say as it is, and of which it counts the lines as the program does."""
+    try:
+        return not data.startswith(b'\xef\xbb\xbf') and b'\r' not in data and data.decode('utf-8').encode() == data
+    except UnicodeDecodeError:
+        return False
+
+
+def each_text_has_its_findings(client, program):
+    """What the server says of each text of the cases is what `check` prints of it."""
+    found = []
+    for number, path in enumerate(texts()):
+        data = path.read_bytes()
+        if not plain(data) or len(data) > 1 << 20:
+            continue
+        client.open('file:///%d.sg' % number, data.decode())
+        given = told(client.found('file:///%d.sg' % number, 1), data)
+        found += unlike(sorted(checked(program, data)), sorted(given), str(path.relative_to(TOP)))
+        client.tell('textDocument/didClose', textDocument={'uri': 'file:///%d.sg' % number})
+    return found + unlike(0, client.end())
+
+
+NOTE = (TOP / 'examples' / 'note.sg').read_text()
+
+
+def edits_faster_than_runs(client, _):
+    """Of twenty texts that change faster than they are checked, the last change of each is what counts."""
+    uris = ['file:///edit%d.sg' % number for number in range(20)]
+    for uri in uris:
+        client.open(uri, NOTE)
+    for version in range(2, 12):
+        for uri in uris:
+            client.change(uri, NOTE if version % 2 else NOTE.replace('note.pages = 2;', ''), version)
+    found = []
+    for uri in uris:
+        found += unlike(1, len(client.found(uri, 11)))
+        client.tell('textDocument/didSave', textDocument={'uri': uri})
+    for uri in uris:
+        client.tell('textDocument/didClose', textDocument={'uri': uri})
+        client.until(lambda uri=uri: client.published[uri]['diagnostics'] == [] or None)
+    return found + unlike(0, client.end())
+
+
+def columns_are_the_clients(client, _):
+    """Behind letters of two and four bytes, a column counts the units that were agreed on."""
+    client.open('file:///wide.sg', NOTE.replace('    note.pages = 2;', '/* \u00e4 \U0001f600 */ note.pages = 2;'))
+    start = client.found('file:///wide.sg', 1)[0]['range']['start']
+    return unlike({'utf-8': 14, 'utf-16': 11}[client.can['positionEncoding']], start['character']) + unlike(6, start['line'])
+
+
+def other_ends_of_lines(client, _):
+    """CR LF and a mark at the front change no place, and after a CR alone a client counts another line."""
+    found = []
+    for name, text, line in (('crlf', NOTE.replace('\n', '\r\n'), 6), ('mark', '\ufeff' + NOTE, 6), ('cr', NOTE.replace('// ', '/* \r */ // ', 1), 7)):
+        client.open('file:///%s.sg' % name, text)
+        start = client.found('file:///%s.sg' % name, 1)[0]['range']['start']
+        found += unlike({'line': line, 'character': 4}, start, name)
+    return found
+
+
+def pages_and_bounds(client, _):
+    """Where the cursor is on a finding its page is shown, and on a contract's name its bounds."""
+    client.open('file:///note.sg', NOTE)
+    client.found('file:///note.sg', 1)
+    page = client.ask('textDocument/hover', **client.at('file:///note.sg', 6, 5))['result']['contents']['value']
+    found = unlike((TOP / 'docs' / 'codes' / 'A01.md').read_text(), page)
+    client.open('file:///ping.sg', (TOP / 'examples' / 'ping.sg').read_text())
+    lines = (TOP / 'examples' / 'ping.sg').read_text().splitlines()
+    row = next(number for number, line in enumerate(lines) if line.startswith('contract'))
+    said = client.ask('textDocument/hover', **client.at('file:///ping.sg', row, 10))['result']['contents']['value']
+    found += [] if re.fullmatch(r'Bounds of the queues of `\w+`: to Exp \d+, to Imp \d+', said) else [said]
+    return found + unlike(None, client.ask('textDocument/hover', **client.at('file:///note.sg', 0, 0))['result'])
+
+
+def names_lead_to_declarations(client, _):
+    text = (TOP / 'examples' / 'ping.sg').read_text()
+    client.open('file:///ping.sg', text)
+    symbols = client.ask('textDocument/documentSymbol', textDocument={'uri': 'file:///ping.sg'})['result']
+    words = {its['name']: its['selectionRange'] for outer in symbols for its in [outer, *outer['children']]}
+    found = [] if len(words) > 4 else ['few symbols: %r' % words]
+    for name, span in words.items():
+        row = text.splitlines()[span['start']['line']]
+        found += unlike(name, row[span['start']['character']:span['end']['character']])
+    for number, line in enumerate(text.splitlines()):
+        for use in re.finditer(r'\b(%s)\b' % '|'.join(map(re.escape, words)), line.partition('//')[0]):
+            given = client.ask('textDocument/definition', **client.at('file:///ping.sg', number, use.start()))['result'] or []
+            found += [] if any(its['range'] == words[use[1]] for its in given) else ['%d: %s leads to %r' % (number + 1, use[1], given)]
+    return found
+
+
+def refusals(client, _):
+    """What the server does not know, or cannot read, gets the error of the protocol, and it goes on."""
+    found = unlike(-32601, client.ask('textDocument/rename')['error']['code'])
+    found += unlike(-32602, client.ask('textDocument/hover')['error']['code'])
+    client.tell('$/setTrace', value='off')
+    client.send(b'{')
+    found += unlike(-32700, client.until(lambda: client.answers.pop(None, None))['error']['code'])
+    client.send(b'[]')
+    found += unlike(-32600, client.until(lambda: client.answers.pop(None, None))['error']['code'])
+    found += unlike(-32600, client.ask('initialize')['error']['code'])
+    found += unlike(None, client.ask('shutdown')['result'])
+    found += unlike(-32600, client.ask('textDocument/hover')['error']['code'])
+    client.tell('exit')
+    return found + unlike(0, client.server.wait(WAIT))
+
+
+def a_client_that_dies(client, _):
+    client.open('file:///note.sg', NOTE)
+    client.server.stdin.close()
+    return unlike(1, client.server.wait(WAIT))
+
+
+def a_server_that_is_killed(client, program):
+    """A run that goes on ends with its server."""
+    client.open('file:///note.sg', NOTE)
+    client.server.send_signal(signal.SIGTERM)
+    return unlike(128 + signal.SIGTERM, client.server.wait(WAIT))
+
+
+def a_large_text(client, program):
+    text = NOTE + '// ' + 'x' * (4194304 - len(NOTE) - 3)
+    client.open('file:///large.sg', text)
+    return unlike(checked(program, text.encode()), told(client.found('file:///large.sg', 1), text))
+
+
+def not_built(_):
+    """Without a program the user is told so, once."""
+    with tempfile.TemporaryDirectory() as folder:
+        client = Client(os.path.join(folder, 'none'))
+        try:
+            client.open('file:///a.sg', NOTE)
+            client.open('file:///b.sg', NOTE)
+            client.ask('textDocument/documentSymbol', textDocument={'uri': 'file:///b.sg'})
+            return unlike(1, len(client.shown)) + ([] if './build' in client.shown[0] else client.shown)
+        finally:
+            client.server.kill()
+            client.server.wait()
+
+
+TESTS = [('server/' + test.__name__, with_client(test)) for test in
+         (each_text_has_its_findings, edits_faster_than_runs, columns_are_the_clients, other_ends_of_lines, pages_and_bounds,
+          names_lead_to_declarations, refusals, a_client_that_dies, a_server_that_is_killed, a_large_text)]
+TESTS += [('server/columns_of_utf_16', with_client(columns_are_the_clients, encodings=())), ('server/not_built', not_built)]

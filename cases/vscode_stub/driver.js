@@ -1,0 +1,21 @@
+// Starts the extension with a program and a text, and prints what it shows: findings, the outline, and the page at the first finding.
+'use strict';
+
+const Module = require('module');
+const path = require('path');
+
+const resolve = Module._resolveFilename;
+Module._resolveFilename = (name, ...more) => (name === 'vscode' ? path.join(__dirname, 'vscode.js') : resolve(name, ...more));
+const { registered, document } = require('vscode');
+
+const subscriptions = [];
+registered.found = async found => {
+  const [line, column] = found[0].range.ends;
+  for (const it of found) console.log(`${it.range.ends[0] + 1}:${it.range.ends[1] + 1} ${it.code.value} ${it.message}`);
+  const outline = them => them.map(it => `${it.kind} ${it.name}${it.children && it.children.length ? ` (${outline(it.children)})` : ''}`).join(', ');
+  console.log(outline(await registered.symbols.provideDocumentSymbols(document)));
+  const hover = await registered.hover.provideHover(document, { line, character: column });
+  console.log(hover.content.value.split('\n')[0]);
+  subscriptions.forEach(it => it && it.dispose && it.dispose());
+};
+require('../../editors/vscode/extension.js').activate({ subscriptions });

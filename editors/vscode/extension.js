@@ -1,0 +1,131 @@
+// Starts the language server of this repository, tools/lsp, and shows what it says. The protocol's messages are read and written here, so
+// that nothing has to be fetched for the extension.
+'use strict';
+
+const childProcess = require('child_process');
+const fs = require('fs');
+const path = require('path');
+const vscode = require('vscode');
+
+const LANGUAGE = 'sing';
+const SERVER = path.join(fs.realpathSync(__dirname), '..', '..', 'tools', 'lsp');
+const KINDS = { 5: 'Class', 6: 'Method', 11: 'Interface', 22: 'EnumMember', 23: 'Struct', 24: 'Event' };
+
+/** The server as a process: requests with their answers, and notifications in both directions. */
+class Server {
+  constructor(words, notified, ended) {
+    this.child = childProcess.spawn(words[0], words.slice(1), { stdio: ['pipe', 'pipe', 'ignore'] });
+    this.waiting = new Map();
+    this.number = 0;
+    this.data = Buffer.alloc(0);
+    this.notified = notified;
+    this.child.on('error', ended);
+    this.child.on('exit', () => ended(null));
+    this.child.stdin.on('error', () => {}); // a server that has ended says so by 'exit'
+    this.child.stdout.on('data', data => this.take(data));
+  }
+
+  take(data) {
+    this.data = Buffer.concat([this.data, data]);
+    for (;;) {
+      const front = this.data.indexOf('\r\n\r\n');
+      const size = front < 0 ? null : /Content-Length: *(\d+)/i.exec(this.data.toString('latin1', 0, front));
+      if (!size || this.data.length < front + 4 + Number(size[1])) return;
+      const body = this.data.subarray(front + 4, front + 4 + Number(size[1]));
+      this.data = this.data.subarray(front + 4 + Number(size[1]));
+      this.receive(JSON.parse(body.toString('utf8')));
+    }
+  }
+
+  receive(message) {
+    if (message.method) {
+      this.notified(message.method, message.params);
+      return;
+    }
+    const answer = this.waiting.get(message.id);
+    this.waiting.delete(message.id);
+    if (answer) answer(message.error ? null : message.result);
+  }
+
+  write(message) {
+    const body = Buffer.from(JSON.stringify({ jsonrpc: '2.0', ...message }), 'utf8');
+    this.child.stdin.write(`Content-Length: ${body.length}\r\n\r\n`);
+    this.child.stdin.write(body);
+  }
+
+  tell(method, params) {
+    this.write({ method, params });
+  }
+
+  ask(method, params) {
+    const id = (this.number += 1);
+    return new Promise(answer => {
+      this.waiting.set(id, answer);
+      this.write({ id, method, params });
+    });
+  }
+}
+
+const toRange = it => new vscode.Range(it.start.line, it.start.character, it.end.line, it.end.character);
+
+const at = (document, position) => ({
+  textDocument: { uri: document.uri.toString() },
+  position: { line: position.line, character: position.character },
+});
+
+function toDiagnostic(it) {
+  const made = new vscode.Diagnostic(toRange(it.range), it.message, vscode.DiagnosticSeverity.Error);
+  made.source = it.source;
+  made.code = it.codeDescription ? { value: it.code, target: vscode.Uri.parse(it.codeDescription.href) } : it.code;
+  return made;
+}
+
+function toSymbol(it) {
+  const kind = vscode.SymbolKind[KINDS[it.kind]];
+  const made = new vscode.DocumentSymbol(it.name, '', kind, toRange(it.range), toRange(it.selectionRange));
+  made.children = it.children.map(toSymbol);
+  return made;
+}
+
+function activate(context) {
+  const found = vscode.languages.createDiagnosticCollection('singcheck');
+  const asked = vscode.workspace.getConfiguration('singcheck').get('program');
+  const server = new Server(asked ? [SERVER, '--program', asked] : [SERVER], (method, params) => {
+    if (method === 'textDocument/publishDiagnostics') found.set(vscode.Uri.parse(params.uri), params.diagnostics.map(toDiagnostic));
+    if (method === 'window/showMessage') vscode.window.showErrorMessage(params.message);
+  }, error => {
+    found.clear();
+    if (error) vscode.window.showErrorMessage(`singcheck: ${SERVER} cannot be started: ${error.message}`);
+  });
+  const ours = document => document.languageId === LANGUAGE;
+  const open = document => ours(document) && server.tell('textDocument/didOpen', { textDocument: {
+    uri: document.uri.toString(), languageId: LANGUAGE, version: document.version, text: document.getText() } });
+  const named = document => ({ textDocument: { uri: document.uri.toString(), version: document.version } });
+
+  server.ask('initialize', { processId: process.pid, rootUri: null, capabilities: { general: { positionEncodings: ['utf-16'] } } })
+    .then(() => {
+      server.tell('initialized', {});
+      vscode.workspace.textDocuments.forEach(open);
+      context.subscriptions.push(
+        vscode.workspace.onDidOpenTextDocument(open),
+        vscode.workspace.onDidChangeTextDocument(({ document }) => ours(document) && server.tell('textDocument/didChange', {
+          ...named(document), contentChanges: [{ text: document.getText() }] })),
+        vscode.workspace.onDidSaveTextDocument(document => ours(document) && server.tell('textDocument/didSave', named(document))),
+        vscode.workspace.onDidCloseTextDocument(document => ours(document) && server.tell('textDocument/didClose', named(document))),
+        vscode.languages.registerHoverProvider(LANGUAGE, { provideHover: async (document, position) => {
+          const it = await server.ask('textDocument/hover', at(document, position));
+          return it && new vscode.Hover(new vscode.MarkdownString(it.contents.value));
+        } }),
+        vscode.languages.registerDefinitionProvider(LANGUAGE, { provideDefinition: async (document, position) => {
+          const them = await server.ask('textDocument/definition', at(document, position));
+          return (them || []).map(it => new vscode.Location(document.uri, toRange(it.range)));
+        } }),
+        vscode.languages.registerDocumentSymbolProvider(LANGUAGE, { provideDocumentSymbols: async document => {
+          const them = await server.ask('textDocument/documentSymbol', { textDocument: { uri: document.uri.toString() } });
+          return (them || []).map(toSymbol);
+        } }));
+    });
+  context.subscriptions.push(found, { dispose: () => server.ask('shutdown').then(() => server.tell('exit')) });
+}
+
+module.exports = { activate };
