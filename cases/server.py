@@ -175,7 +175,8 @@ def columns_are_the_clients(client, _):
 def other_ends_of_lines(client, _):
     """CR LF and a mark at the front change no place, and after a CR alone a client counts another line."""
     found = []
-    for name, text, line in (('crlf', NOTE.replace('\n', '\r\n'), 6), ('mark', '\ufeff' + NOTE, 6), ('cr', NOTE.replace('// ', '/* \r */ // ', 1), 7)):
+    given = (('crlf', NOTE.replace('\n', '\r\n'), 6), ('mark', '\ufeff' + NOTE, 6), ('cr', NOTE.replace('// ', '/* \r */ // ', 1), 7))
+    for name, text, line in given:
         client.open('file:///%s.sg' % name, text)
         start = client.found('file:///%s.sg' % name, 1)[0]['range']['start']
         found += unlike({'line': line, 'character': 4}, start, name)

@@ -127,7 +127,7 @@ def run_of_a_schedule(program):
 
 
 def text_not_there(_):
-    return differs(run('show', 'nowhere.sg', report=OK), b'', b'show: cannot read nowhere.sg\n', 3)
+    return differs(run('show', 'nowhere.sg', report=OK), b'', b'show: cannot read nowhere.sg: No such file or directory\n', 3)
 
 
 def words_of_show(_):

@@ -1,0 +1,238 @@
+"""Many files at once, and the formats of findings: in each format the findings of every text are those that `check` prints."""
+import collections
+import concurrent.futures
+import functools
+import json
+import os
+import pathlib
+import pty
+import re
+import signal
+import subprocess
+import tempfile
+import time
+import urllib.parse
+
+TOP = pathlib.Path(__file__).resolve().parent.parent
+FINDING = re.compile(r'(\d+):(\d+) ([A-Z]\d\d) (.*)')
+MARK = b'\xef\xbb\xbf'
+
+
+def run(program, *words, tool='check', **more):
+    words = [TOP / 'tools' / tool, *(['--program', program] if tool == 'check' else []), *words]
+    return subprocess.run(words, stdin=more.pop('stdin', subprocess.DEVNULL) if 'input' not in more else None, stdout=subprocess.PIPE,
+                          stderr=subprocess.PIPE, timeout=60, **more)
+
+
+def printed(program, path):
+    said = subprocess.run([program, 'check', path], stdin=subprocess.DEVNULL, stdout=subprocess.PIPE, check=False).stdout.decode()
+    return [(int(it[1]), int(it[2]), it[3], it[4]) for it in map(FINDING.fullmatch, said.splitlines()) if it]
+
+
+def texts():
+    return sorted(str(path.relative_to(TOP)) for folder in ('cases', 'examples') for path in (TOP / folder).rglob('*.sg'))
+
+
+@functools.cache
+def all_printed(program):
+    """What `check` prints of each text, by its name."""
+    names = texts()
+    with concurrent.futures.ThreadPoolExecutor(4) as pool:
+        return dict(zip(names, pool.map(lambda name: printed(program, TOP / name), names)))
+
+
+def characters(name, line, column):
+    """A column in characters for one in bytes."""
+    rows = (TOP / name).read_bytes().removeprefix(MARK).split(b'\n')
+    return len((rows[line - 1] if line <= len(rows) else b'')[:column - 1].decode('utf-8', 'replace')) + 1
+
+
+def unlike(asked, given, of=''):
+    return [] if asked == given else ['%s: expected %r, given %r' % (of, asked, given)]
+
+
+def compared(asked, given):
+    found = collections.defaultdict(list)
+    for name, *finding in given:
+        found[name].append(tuple(finding))
+    return [it for name in asked for it in unlike(asked[name], found[name], name)]
+
+
+def plain_lines(program):
+    ran = run(program, '--format', 'plain', 'cases', 'examples', cwd=TOP)
+    rows = [re.fullmatch(r'([^:]+):(\d+):(\d+): ([A-Z]\d\d) (.*)', line).groups() for line in ran.stdout.decode().splitlines()]
+    return compared(all_printed(program), [(name, int(line), int(column), code, text) for name, line, column, code, text in rows])
+
+
+def json_lines(program):
+    ran = run(program, '--format', 'json', 'cases', 'examples', cwd=TOP)
+    given = [json.loads(line) for line in ran.stdout.decode().splitlines()]
+    keys = {'file', 'line', 'column', 'code', 'text'}
+    found = ['keys %r' % sorted(it) for it in given if set(it) != keys]
+    return found + compared(all_printed(program), [(it['file'], it['line'], it['column'], it['code'], it['text']) for it in given])
+
+
+def commands_of_github(program):
+    """The form is `::error PROPERTY=VALUE,..::TEXT`, in which %, CR and LF are written as %25, %0D and %0A, and : and , in a value too."""
+    ran = run(program, '--format', 'github', 'cases', 'examples', cwd=TOP)
+    given = []
+    for line in ran.stdout.decode().splitlines():
+        it = re.fullmatch(r'::error file=([^,:]+),line=(\d+),col=(\d+),title=([A-Z]\d\d)::((?:[^%]|%25)*)', line)
+        if not it:
+            return ['no command: %r' % line]
+        given.append((urllib.parse.unquote(it[1]), int(it[2]), int(it[3]), it[4], it[5].replace('%25', '%')))
+    asked = {name: [(line, characters(name, line, column), code, text) for line, column, code, text in its]
+             for name, its in all_printed(program).items()}
+    return compared(asked, given)
+
+
+def is_sarif(log):
+    """What SARIF 2.1.0 asks of the parts that are written: the required properties, their types, and that indexes fit."""
+    found = [] if log.get('version') == '2.1.0' and isinstance(log.get('runs'), list) else ['no version 2.1.0, or no runs']
+    for one in log['runs']:
+        driver = one['tool']['driver']
+        found += [] if isinstance(driver['name'], str) else ['no name of the driver']
+        rules = driver.get('rules', [])
+        found += ['a rule twice'] if len({it['id'] for it in rules}) != len(rules) else []
+        found += ['rule %r' % it for it in rules if not isinstance(it['shortDescription']['text'], str)]
+        found += [] if one['columnKind'] in ('utf16CodeUnits', 'unicodeCodePoints') else ['columnKind']
+        ends = one['newlineSequences']
+        found += [] if ends and len(set(ends)) == len(ends) else ['newlineSequences']
+        for it in one['results']:
+            fits = rules[it['ruleIndex']]['id'] == it['ruleId'] and it['level'] in ('none', 'note', 'warning', 'error')
+            place = it['locations'][0]['physicalLocation']
+            fits = fits and isinstance(it['message']['text'], str) and urllib.parse.urlparse(place['artifactLocation']['uri']).scheme == ''
+            fits = fits and place['region']['startLine'] >= 1 and place['region']['startColumn'] >= 1
+            found += [] if fits else ['result %r' % it]
+    return found
+
+
+def sarif(program):
+    ran = run(program, '--format', 'sarif', 'cases', 'examples', cwd=TOP)
+    log = json.loads(ran.stdout)
+    given = []
+    for it in log['runs'][0]['results']:
+        place = it['locations'][0]['physicalLocation']
+        given.append((urllib.parse.unquote(place['artifactLocation']['uri']), place['region']['startLine'], place['region']['startColumn'],
+                      it['ruleId'], it['message']['text']))
+    asked = {name: [(line, characters(name, line, column), code, text) for line, column, code, text in its]
+             for name, its in all_printed(program).items()}
+    return is_sarif(log) + compared(asked, given)
+
+
+def sarif_of_nothing(program):
+    ran = run(program, '--format', 'sarif', 'examples/ping.sg', cwd=TOP)
+    return is_sarif(json.loads(ran.stdout)) + unlike(0, ran.returncode, 'status')
+
+
+def show_has_the_formats(program):
+    """`show` prints in each format what the tool for many files prints."""
+    name = 'examples/note.sg'
+    report = subprocess.run([program, 'check', name], cwd=TOP, stdin=subprocess.DEVNULL, stdout=subprocess.PIPE).stdout
+    found = []
+    for kind in ('plain', 'sarif', 'github', 'json'):
+        asked = run(program, '--format', kind, name, cwd=TOP)
+        given = run(program, '--format', kind, name, tool='show', input=report, cwd=TOP)
+        found += unlike((asked.stdout, 1), (given.stdout, given.returncode), kind)
+    return found
+
+
+def the_worst_status(program):
+    found = unlike(0, run(program, 'examples/ping.sg', cwd=TOP).returncode, 'clean')
+    found += unlike(1, run(program, 'examples/ping.sg', 'examples/note.sg', cwd=TOP).returncode, 'found')
+    ran = run(program, 'examples/note.sg', 'nowhere.sg', cwd=TOP)
+    found += unlike((3, b'examples/note.sg:7:5: A01 note not owned\n'), (ran.returncode, ran.stdout), 'not there')
+    found += [] if b'nowhere.sg' in ran.stderr else ['it does not name the file: %r' % ran.stderr]
+    found += unlike(2, run(program, '--fast', cwd=TOP).returncode, 'an option')
+    found += unlike(2, run(program, '--format', 'xml').returncode, 'xml')
+    with tempfile.TemporaryDirectory() as folder:
+        return found + unlike(70, run(os.path.join(folder, 'none'), 'examples/note.sg', cwd=TOP).returncode, 'not built')
+
+
+def standard_input_and_odd_names(program):
+    note = (TOP / 'examples' / 'note.sg').read_bytes()
+    found = unlike(b'-:7:5: A01 note not owned\n', run(program, '-', input=note).stdout, 'standard input')
+    with tempfile.TemporaryDirectory() as folder:
+        for name in ('-x.sg', 'a b.sg', 'e\x1b[2J.sg', 'c,d:e%.sg'):
+            (pathlib.Path(folder) / name).write_bytes(note)
+        plain = run(program, '--', '-x.sg', 'a b.sg', 'e\x1b[2J.sg', cwd=folder).stdout.decode()
+        asked = ''.join('%s:7:5: A01 note not owned\n' % name for name in ('-x.sg', 'a b.sg', 'e\u241b[2J.sg'))
+        found += unlike(asked, plain, 'names')
+        command = run(program, '--format=github', 'c,d:e%.sg', cwd=folder).stdout
+        found += unlike(b'::error file=c%2Cd%3Ae%25.sg,line=7,col=5,title=A01::note not owned\n', command, 'escapes')
+        report = b'7:5 A01 note not owned\nfindings: 1\n'
+        given = run(program, '--plain', '--', '-x.sg', tool='show', input=report, cwd=folder).stdout
+        return found + unlike(b'-x.sg:7:5: A01 note not owned\n', given, 'show')
+
+
+def ends_as_other_tools(program):
+    """A full disk and a closed stream are status 3, and who reads one line alone ends a tool by the signal: never what says "found"."""
+    note, found = str(TOP / 'examples' / 'note.sg'), []
+    report = b'7:5 A01 note not owned\nfindings: 1\n'
+    for tool, words, data in (('check', ['--program', program, note], b''), ('show', [note], report), ('explain', ['A01'], b'')):
+        command = [TOP / 'tools' / tool, *words]
+        with open('/dev/full', 'wb') as full:
+            ran = subprocess.run(command, input=data, stdout=full, stderr=subprocess.PIPE, timeout=60)
+        is_said = b'cannot write' in ran.stderr and b'Traceback' not in ran.stderr
+        found += unlike((3, True), (ran.returncode, is_said), tool + ' on a full disk')
+        ran = subprocess.run(['sh', '-c', '"$@" >&-', 'sh', *command], input=data, stderr=subprocess.PIPE, timeout=60)
+        found += unlike((3, False), (ran.returncode, b'Traceback' in ran.stderr), tool + ' on a closed stream')
+        ran = subprocess.run(['sh', '-c', '"$@" <&- 2>&-', 'sh', *command], stdout=subprocess.PIPE, timeout=60)
+        found += unlike(3 if tool == 'show' else 1 if tool == 'check' else 0, ran.returncode, tool + ' without input')
+        reads, writes = os.pipe()
+        os.close(reads)
+        ran = subprocess.run(command, input=data, stdout=writes, stderr=subprocess.PIPE, timeout=60)
+        os.close(writes)
+        found += unlike((-signal.SIGPIPE, b''), (ran.returncode, ran.stderr), tool + ' without a reader')
+    waiting = subprocess.Popen([TOP / 'tools' / 'show', note], stdin=subprocess.PIPE, stdout=subprocess.PIPE, stderr=subprocess.PIPE)
+    time.sleep(0.5)
+    waiting.send_signal(signal.SIGINT)
+    said = waiting.communicate(timeout=60)[1]
+    return found + unlike((-signal.SIGINT, b''), (waiting.returncode, said), 'show interrupted')
+
+
+def on_a_terminal(program, columns=40, **more):
+    """What is printed on a terminal of so many columns."""
+    master, slave = pty.openpty()
+    env = {**os.environ, 'COLUMNS': str(columns), 'TERM': 'xterm', **more}
+    env.pop('NO_COLOR', None) if 'NO_COLOR' not in more else None
+    child = subprocess.Popen([TOP / 'tools' / 'check', '--program', program, TOP / 'examples' / 'note.sg'], stdin=subprocess.DEVNULL,
+                             stdout=slave, stderr=slave, env=env)
+    os.close(slave)
+    data = b''
+    while True:
+        try:
+            piece = os.read(master, 65536)
+        except OSError:
+            break
+        if not piece:
+            break
+        data += piece
+    os.close(master)
+    child.wait(60)
+    return data.decode().replace('\r\n', '\n')
+
+
+def colours_and_width(program):
+    coloured = on_a_terminal(program)
+    bare = on_a_terminal(program, NO_COLOR='1')
+    found = [] if '\x1b[' in coloured and '\x1b[' not in bare else ['colours: %r, %r' % (coloured, bare)]
+    found += unlike(bare, re.sub(r'\x1b\[\d+m', '', coloured), 'without colours')
+    wide = [line for line in bare.splitlines()[1:] if len(line) > 40]
+    return found + (['wider than the terminal: %r' % wide] if wide else [])
+
+
+def many_small_files(program):
+    """Two hundred files, each with its finding, in the order of their names."""
+    with tempfile.TemporaryDirectory() as folder:
+        note = (TOP / 'examples' / 'note.sg').read_bytes()
+        for number in range(200):
+            (pathlib.Path(folder) / ('%03d.sg' % number)).write_bytes(note)
+        ran = run(program, cwd=folder)
+    asked = ''.join('%03d.sg:7:5: A01 note not owned\n' % number for number in range(200))
+    return unlike(asked, ran.stdout.decode(), 'files')
+
+
+TESTS = [('formats/' + test.__name__, test) for test in
+         (plain_lines, json_lines, commands_of_github, sarif, sarif_of_nothing, show_has_the_formats, the_worst_status,
+          standard_input_and_odd_names, ends_as_other_tools, colours_and_width, many_small_files)]

@@ -1,0 +1,236 @@
+"""What the tools share: reports of `check` and `bounds`, how a finding is shown, and how a tool ends."""
+import collections
+import functools
+import json
+import os
+import pathlib
+import re
+import shutil
+import signal
+import sys
+import textwrap
+import unicodedata
+import urllib.parse
+
+TOP = pathlib.Path(__file__).resolve().parent.parent
+CODES = TOP / 'docs' / 'codes'
+FINDING = re.compile(r'(\d+):(\d+) ([A-Z]\d\d) (.*)')
+MARK = b'\xef\xbb\xbf'
+WINDOW = 60  # how many bytes of a long line are shown before the place, and how many from there on, unless the terminal is narrower
+NARROWEST = 8
+FORMATS = ('plain', 'sarif', 'github', 'json')
+RED, BLUE, BOLD, OFF = '\x1b[31m', '\x1b[34m', '\x1b[1m', '\x1b[0m'
+
+Finding = collections.namedtuple('Finding', 'line column code text')
+# How wide the output may be (None: as wide as it is), and whether it has colours.
+Style = collections.namedtuple('Style', 'width colours')
+
+
+def parsed(report):
+    """The findings of a report and its other lines, or None if it does not end as a report ends."""
+    lines = report.split('\n')
+    if lines.pop() != '' or not lines:
+        return None
+    findings, others = [], []
+    for line in lines:
+        match = FINDING.fullmatch(line)
+        if match:
+            findings.append(Finding(int(match[1]), int(match[2]), match[3], match[4]))
+        else:
+            others.append(line)
+    whole = lines[-1] == 'findings: %d' % len(findings) if findings else lines[-1].startswith('ok: ')
+    return (findings, others) if whole else None
+
+
+def shown(character):
+    """A character that a terminal may be given: one that moves the cursor or turns the direction of the line is replaced."""
+    if character == '\t':
+        return '    '
+    if unicodedata.category(character) not in ('Cc', 'Cf', 'Cs', 'Zl', 'Zp'):
+        return character
+    number = ord(character)
+    return chr(0x2400 + number) if number < 32 else '\u2421' if number == 127 else '\ufffd'
+
+
+def visible(data):
+    text = data.decode('utf-8', 'replace')
+    return text if text.isascii() and text.isprintable() else ''.join(map(shown, text))
+
+
+def visible_name(name):
+    """A file name that may be printed: what a terminal would obey is replaced."""
+    return name if name.isascii() and name.isprintable() else ''.join(map(shown, name))
+
+
+def width(text):
+    """How many columns of a terminal a text takes."""
+    if text.isascii():
+        return len(text)
+    flat = (character for character in text if unicodedata.category(character) not in ('Mn', 'Me'))
+    return sum(2 if unicodedata.east_asian_width(character) in 'WF' else 1 for character in flat)
+
+
+def boundary(line, at):
+    """The first byte of the character to which this byte belongs. UTF-8 has at most three more."""
+    if at >= len(line):
+        return at
+    back = next((k for k in range(min(3, at) + 1) if line[at - k] & 0xC0 != 0x80), 0)
+    return at - back
+
+
+def excerpt(line, column, window=WINDOW):
+    """What is shown of a line, and how far to the right the caret is. Columns count bytes. Only what is shown is copied, since a long line
+    may have a finding at each place."""
+    size = len(line) - line.endswith(b'\r')
+    at = min(column - 1, size)
+    start, end = boundary(line, max(0, at - window)), min(boundary(line, at + window), size)
+    front = ('..' if start else '') + visible(line[start:at])
+    return front + visible(line[at:end]) + ('..' if end < size else ''), width(front)
+
+
+@functools.lru_cache(maxsize=None)
+def repair(code):
+    """The line of the code's page that begins with `Repair:`, or None if there is no page."""
+    page = CODES / (code + '.md')
+    lines = page.read_text(encoding='utf-8').splitlines() if page.exists() else []
+    return next((line[len('Repair: '):] for line in lines if line.startswith('Repair: ')), None)
+
+
+@functools.lru_cache(maxsize=None)
+def title(code):
+    """The title of the code's page, without the code."""
+    page = CODES / (code + '.md')
+    return page.read_text(encoding='utf-8').splitlines()[0].lstrip('# ').partition(': ')[2] if page.exists() else code
+
+
+def heading(name, finding):
+    return '%s:%d:%d: %s %s' % (visible_name(name), *finding)
+
+
+def painted(colour, text, style):
+    return colour + text + OFF if style.colours else text
+
+
+def wrapped(front, text, style):
+    """A text after this front, in lines that fit."""
+    if style.width is None:
+        return [front + text]
+    room = max(style.width - len(front), NARROWEST)
+    lines = textwrap.wrap(text, room, break_on_hyphens=False) or ['']
+    return [front + lines[0]] + [' ' * len(front) + line for line in lines[1:]]
+
+
+def described(name, lines, finding, style=Style(None, False)):
+    """The lines that are printed for a finding."""
+    number = str(finding.line)
+    gutter = ' ' * len(number)
+    said = [painted(BOLD, heading(name, finding), style)]
+    if finding.line <= len(lines) and finding.column <= len(lines[finding.line - 1]) + 1:
+        room = WINDOW if style.width is None else min(WINDOW, max(NARROWEST, (style.width - len(number) - 7) // 2))
+        line, right = excerpt(lines[finding.line - 1], finding.column, room)
+        said += [painted(BLUE, gutter + ' |', style), (painted(BLUE, number + ' |', style) + ' ' + line).rstrip(),
+                 painted(BLUE, gutter + ' |', style) + ' ' + ' ' * right + painted(RED, '^', style)]
+    else:
+        said.append(gutter + ' = note: %s has no such place now' % visible_name(name))
+    if repair(finding.code):
+        said += wrapped(gutter + ' = help: ', '%s (tools/explain %s)' % (repair(finding.code), finding.code), style)
+    return said + ['']
+
+
+def text_of(name):
+    """The lines of a text, without a byte order mark, which no column counts."""
+    return lines_of(pathlib.Path(name).read_bytes())
+
+
+def lines_of(data):
+    return (data[len(MARK):] if data.startswith(MARK) else data).split(b'\n')
+
+
+def characters(lines, finding):
+    """The column of a finding in characters in place of bytes, from 1."""
+    line = lines[finding.line - 1] if finding.line <= len(lines) else b''
+    return len(line[:finding.column - 1].decode('utf-8', 'replace')) + 1
+
+
+def as_json(found):
+    """One object a line. The column counts bytes, as the program does."""
+    return [json.dumps({'file': name, 'line': it.line, 'column': it.column, 'code': it.code, 'text': it.text}) for name, _, it in found]
+
+
+def escaped(text, more=''):
+    """A text in a workflow command."""
+    for sign in '%\r\n' + more:
+        text = text.replace(sign, '%%%02X' % ord(sign))
+    return text
+
+
+def as_github(found):
+    """Workflow commands of GitHub, which become annotations of the lines."""
+    return ['::error file=%s,line=%d,col=%d,title=%s::%s' % (escaped(name, ':,'), it.line, characters(lines, it), it.code, escaped(it.text))
+            for name, lines, it in found]
+
+
+def as_sarif(found):
+    """SARIF 2.1.0, for code scanning. Columns count characters, and LF alone ends a line."""
+    codes = sorted({it.code for _, _, it in found})
+    rules = [{'id': code, 'shortDescription': {'text': title(code)}, **({'help': {'text': repair(code)}} if repair(code) else {})}
+             for code in codes]
+    results = [{'ruleId': it.code, 'ruleIndex': codes.index(it.code), 'level': 'error', 'message': {'text': it.text},
+                'locations': [{'physicalLocation': {
+                    'artifactLocation': {'uri': urllib.parse.quote(name, errors='surrogateescape')},
+                    'region': {'startLine': it.line, 'startColumn': characters(lines, it)}}}]} for name, lines, it in found]
+    return [json.dumps({'$schema': 'https://json.schemastore.org/sarif-2.1.0.json', 'version': '2.1.0', 'runs': [{
+        'tool': {'driver': {'name': 'singcheck', 'rules': rules}}, 'columnKind': 'unicodeCodePoints', 'newlineSequences': ['\n'],
+        'results': results}]})]
+
+
+def formatted(kind, found):
+    """The lines of findings in a format. Each finding comes with the name of its file and the lines of its text."""
+    if kind == 'plain':
+        return [heading(name, it) for name, _, it in found]
+    return {'sarif': as_sarif, 'github': as_github, 'json': as_json}[kind](found)
+
+
+def style_of(stream):
+    """How a stream is written to: as wide as a terminal, and with colours if it wants them."""
+    if not stream.isatty():
+        return Style(None, False)
+    return Style(shutil.get_terminal_size().columns, 'NO_COLOR' not in os.environ and os.environ.get('TERM') != 'dumb')
+
+
+def built(asked=None):
+    """The program to run: the one that is asked for, or the built one, or the one built without its proof, or the one that is installed;
+    None if there is none."""
+    for path in [asked] if asked else [TOP / 'out' / 'singcheck', TOP / 'out' / 'unproved', 'singcheck']:
+        found = shutil.which(str(path))
+        if found:
+            return found
+    return None
+
+
+def say(tool, text):
+    if sys.stderr:
+        print('%s: %s' % (tool, text), file=sys.stderr)
+
+
+def failed(tool, text, status):
+    say(tool, text)
+    return status
+
+
+def ended(tool, main):
+    """Runs a tool and ends it as others end: by the signal, if its reader has enough or it is interrupted; with 3 if its output cannot be
+    written."""
+    signal.signal(signal.SIGPIPE, signal.SIG_DFL)
+    signal.signal(signal.SIGINT, signal.SIG_DFL)
+    if not sys.stdout:
+        sys.exit(failed(tool, 'cannot write', 3))
+    for stream in filter(None, (sys.stdout, sys.stderr)):
+        stream.reconfigure(encoding='utf-8', errors='surrogateescape')
+    try:
+        status = main(sys.argv[1:])
+        sys.stdout.flush()
+    except OSError as error:
+        status = failed(tool, 'cannot write: %s' % error.strerror, 3)
+        os.dup2(os.open(os.devnull, os.O_WRONLY), 1)  # what was not written is not tried again
+    sys.exit(status)
