@@ -2,7 +2,6 @@
 import json
 import pathlib
 import re
-import shlex
 import shutil
 import subprocess
 import tempfile
@@ -94,19 +93,23 @@ call writefile(map(range(1, line('$')), 'synIDattr(synID(v:val, col([v:val, "$"]
 
 
 def make_in_vim(program):
-    """`:make` with the program in a repository with a blank in its path, where Vim is there."""
+    """`:make` in a repository with a blank in its path, if there is Vim: the finding, and why a file cannot be read."""
     if not shutil.which('vim'):
         return []
     with tempfile.TemporaryDirectory() as made:
         top = pathlib.Path(made) / 'a repository'
         shutil.copytree(VIM, top / 'editors' / 'vim')
-        (top / 'tools').symlink_to(TOP / 'tools')
-        (top / 'singcheck').write_text('#!/bin/sh\nexec %s "$@"\n' % shlex.quote(program))
-        (top / 'singcheck').chmod(0o755)
+        shutil.copytree(TOP / 'tools', top / 'tools')
+        (top / 'out').mkdir()
+        (top / 'out' / 'singcheck').symlink_to(program)
         said = vim(top / 'editors' / 'vim', (TOP / 'examples/note.sg').read_text(), """silent make!
 let one = getqflist()[0]
-call writefile([one.lnum . ':' . one.col, one.text, fnamemodify(bufname(one.bufnr), ':t'), len(getqflist())], 'said')""")
-    return [] if said == ['7:5', 'A01 note not owned', 'a b.sg', '1'] else ['read as %s' % said]
+call writefile([one.lnum . ':' . one.col, one.text, fnamemodify(bufname(one.bufnr), ':t'), len(getqflist())], 'said')
+call delete(expand('%:p'))
+silent! make!
+call writefile([join(map(getqflist(), 'v:val.text'))], 'said', 'a')""")
+    is_told = len(said) == 5 and 'cannot read' in said[4]
+    return [] if said[:4] == ['7:5', 'A01 note not owned', 'a b.sg', '1'] and is_told else ['read as %s' % said]
 
 
 def extension_of_vs_code(program):

@@ -7,10 +7,8 @@ if exists(':CompilerSet') != 2
   command -nargs=* CompilerSet setlocal <args>
 endif
 
-" The repository, in which this file lies in editors/vim/compiler.
+" The repository: this file is in editors/vim/compiler.
 let s:top = fnamemodify(resolve(expand('<sfile>:p')), ':h:h:h:h')
-let s:check = escape(shellescape(s:top . '/singcheck'), '%#') . ' check %:p:S'
-let s:show = escape(shellescape(s:top . '/tools/show'), '%#') . ' --plain %:p:S'
-" `:make` takes a bare | for the end of its command.
-execute 'CompilerSet makeprg=' . escape(s:check . ' \| ' . s:show, ' \|"')
+let s:check = escape(shellescape(s:top . '/tools/check'), '%#') . ' --format plain -- %:p:S'
+execute 'CompilerSet makeprg=' . escape(s:check, ' \|"')
 CompilerSet errorformat=%f:%l:%c:\ %m
