@@ -1,7 +1,7 @@
 -- The variables of a frame, one after the other.
 use Rattle.std.proofs.Common.{◌≡◌, ℕ, ◌+◌, ◌<◌, ◌≤◌, true, false, List, [], ◌∷◌, ◌++◌, length, drop, slice_index_or, refl, sym, ap, ◌∙◌, ◌⊎◌, inl, inr, set, Some, None, map, arith}
 use Rattle.std.specs.Prelude.{IfNone, Option, if◌then◌else◌, is_some}
-use Rattle.std.proofs.lemmas.List.{append-nil, append_assoc, at_drop_all, at_drop_more}
+use Rattle.std.proofs.lemmas.List.{append-nil, append_assoc, at_drop_all, at_drop_more, length_push}
 use Rattle.program.specs.Methods.{VariableSeen, variable_seen}
 use Rattle.program.specs.WellFormed.{is_parameter}
 use Rattle.program.specs.declared.call.Argument.{Argument}
@@ -51,10 +51,11 @@ given_for variables arguments = map (λ a. read variables a.mention.variable.0) 
 -- So many variables of a method that begins are filled, with so many arguments.
 pub record Filled (has : List (Option ℕ)) (variables : List Variable) (arguments : List Argument) (done given : ℕ) (so_far : List (Option ℕ)) : Type 0 where
   pub within : given ≤ length arguments
+  pub many : length so_far ≡ done
   pub is : filled (map variable_seen variables) (given_for has arguments) ≡ so_far ++ filled (map variable_seen (drop done variables)) (given_for has (drop given arguments))
 
 pub filled_none : (has : List (Option ℕ)) (variables : List Variable) (arguments : List Argument) → Filled has variables arguments 0 0 []
-filled_none has variables arguments = record { within = omega arith; is = refl }
+filled_none has variables arguments = record { within = omega arith; many = refl; is = refl }
 
 -- one more
 pushed_on : (so_far more xs : List (Option ℕ)) (x : Option ℕ) → more ≡ so_far ++ x ∷ [] → so_far ++ x ∷ xs ≡ more ++ xs
@@ -76,6 +77,7 @@ filled_parameter has variables arguments done given so_far more d e lt some is p
     let rest = map variable_seen (drop (done + 1) variables) in
     record {
       within = omega arith;
+      many = ap length push ∙ (length_push so_far x ∙ ap (λ n. n + 1) h.many);
       is =
           h.is
           ∙ (ap (λ l. so_far ++ l)
@@ -92,6 +94,7 @@ filled_local has variables arguments done given so_far more d lt is push h =
     let rest = map variable_seen (drop (done + 1) variables) in
     record {
       within = h.within;
+      many = ap length push ∙ (length_push so_far None ∙ ap (λ n. n + 1) h.many);
       is =
           h.is
           ∙ (ap (λ l. so_far ++ l)
@@ -107,6 +110,7 @@ filled_past has variables arguments done given so_far more d lt past push h =
     let rest = map variable_seen (drop (done + 1) variables) in
     record {
       within = h.within;
+      many = ap length push ∙ (length_push so_far None ∙ ap (λ n. n + 1) h.many);
       is =
           h.is
           ∙ (ap (λ l. so_far ++ l)

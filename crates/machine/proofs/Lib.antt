@@ -1,3 +1,4 @@
+pub mod BindingLemmas
 pub mod BoundLemmas
 pub mod CallLemmas
 pub mod Chains
@@ -16,6 +17,7 @@ pub mod Holding
 pub mod MakeLemmas
 pub mod PassLemmas
 pub mod ReplayLemmas
+pub mod ReturnLemmas
 pub mod ScopeLemmas
 pub mod SendLemmas
 pub mod SmallRuns
@@ -23,6 +25,7 @@ pub mod StandLemmas
 pub mod StartLemmas
 pub mod StepLemmas
 pub mod SwitchLemmas
+pub mod TakeLemmas
 pub mod WayDown
 pub mod WayKept
 pub mod WayUp

@@ -1,4 +1,5 @@
 pub mod World
+pub mod Bindings
 pub mod BlockViews
 pub mod Heaps
 pub mod Once

@@ -1,10 +1,13 @@
--- What a heap keeps true has at most one proof. The type `Heap` has a ghost field of it, and a ghost field wants that.
-use Rattle.std.specs.Prelude.{◌≡◌, ℕ, ◌==◌, true, false, List}
+-- What a heap keeps true has at most one proof, and so has the order of bindings. The types `Heap` and `Variables` have ghost fields of
+-- these, and a ghost field wants that.
+use Rattle.std.specs.Prelude.{◌≡◌, ℕ, ◌==◌, ◌<◌, true, false, List, length}
 use Rattle.std.proofs.Common.{refl, sym, ap, ◌∙◌, subst, ⊎_elim}
 use Rattle.std.proofs.lemmas.Bool.Decides.{eqb_tells}
 use Rattle.std.proofs.Props.{props}
+use Rattle.machine.specs.Bindings.{AreSorted, variable_at}
 use Rattle.machine.specs.Heaps.{IsBrought, IsCounted, IsHeap, IsHeld, Rooted, top, below, occurs, one_if}
 use Rattle.machine.specs.World.{Block, block_at, is_inside}
+use Rattle.machine.specs.declared.variables.Binding.{Binding}
 use Rattle.machine.specs.declared.worlds.Owner.{Owner}
 use Rattle.machine.specs.declared.worlds.Owner.TheVariants.{Inside}
 
@@ -53,4 +56,16 @@ heap_once bs counts h k = λ i. record {
   counted = counts_once bs counts h.counted k.counted i;
   brought = brought_once bs h.brought k.brought i;
   held = held_once bs h.held k.held i;
+}
+
+rise_once : (bindings : List Binding) → IsProp ((i j : ℕ) → i < j → j < length bindings → variable_at bindings i < variable_at bindings j)
+rise_once bindings = Prim.hlevel props
+
+below_once : (count : ℕ) (bindings : List Binding) → IsProp ((i : ℕ) → i < length bindings → variable_at bindings i < count)
+below_once count bindings = Prim.hlevel props
+
+pub sorted_once : (count : ℕ) (bindings : List Binding) → IsProp (AreSorted count bindings)
+sorted_once count bindings h k = λ i. record {
+  rise = rise_once bindings h.rise k.rise i;
+  below = below_once count bindings h.below k.below i;
 }

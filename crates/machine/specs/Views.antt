@@ -1,12 +1,26 @@
 -- Worlds without where they lie in memory.
-use Rattle.std.specs.Prelude.{List, [], ◌∷◌, Option, Some, None, map, reverse}
+use Rattle.std.specs.Prelude.{ℕ, List, [], ◌∷◌, Option, Some, None, map, reverse}
 pub use Rattle.machine.specs.BlockViews.{held_seen, block_seen, blocks_seen}
+use Rattle.machine.specs.Bindings.{MayTake, variables_in}
 use Rattle.machine.specs.World.{Frame, World}
+use Rattle.machine.specs.declared.variables.Variables.{Variables}
 use Rattle.machine.specs.declared.worlds as made
+
+-- what the variables of a frame have
+abbrev pub variables_seen : Variables → List (Option ℕ)
+variables_seen v = variables_in v.count v.bindings.items
+
+-- a variable may take something without more memory
+abbrev pub Takes : Variables → ℕ → Type 0
+Takes v u = MayTake v.count v.bindings.items u
+
+-- each variable that may take something without more memory still may
+abbrev pub StillTakes : (old new : Variables) → Type 0
+StillTakes old new = (u : ℕ) → Takes old u → Takes new u
 
 -- a frame
 abbrev pub frame_seen : made.Frame.Frame → Frame
-frame_seen f = record { method = f.method.0; point = f.point; variables = f.variables.items }
+frame_seen f = record { method = f.method.0; point = f.point; variables = variables_seen f.variables }
 
 -- the frames of a process: the innermost one, and those that wait, of which the innermost lies last
 abbrev pub stack_of : Option made.Frame.Frame → List made.Frame.Frame → List Frame

@@ -9,13 +9,14 @@ ghost use Rattle.rules.specs.Programs.{seen_of};
 ghost use Rattle.machine.specs.Answers.{Tells, entered_on, on_stack, with_stack};
 ghost use Rattle.machine.specs.Frames.{entered, filled};
 ghost use Rattle.machine.specs.Outcomes.{Bounds};
-ghost use Rattle.machine.specs.Views.{blocks_seen, frame_seen, stack_seen};
+ghost use Rattle.machine.specs.Views.{blocks_seen, frame_seen, stack_seen, variables_seen};
 ghost use Rattle.machine.specs.World as seen;
 ghost use Rattle.machine.specs.World.{read};
 
 use crate::giving::first_fault;
 use crate::halts::Refusal;
-use crate::variables::lets_go;
+use crate::mentions::lets_go;
+use crate::variables::Variables;
 use crate::worlds::{Block, Frame, Process};
 use flow::Calling;
 use program::{Argument, MethodId, Role, Variable};
@@ -38,12 +39,12 @@ fn fill(
     frame: &Frame,
     variables: &[Variable],
     arguments: &[Argument],
-) -> Result<Vec<Option<usize>>, Refusal>
-    ensures filled { IfOk result (λ has. has.items ≡ filled (map variable_seen variables.now)
+) -> Result<Variables, Refusal>
+    ensures filled { IfOk result (λ has. variables_seen has ≡ filled (map variable_seen variables.now)
         (map (λ a. read (frame_seen frame.now).variables a.mention.variable.0) arguments.now)) }
     ensures memory { IfErr result (λ refusal. refusal ≡ Refusal.Memory) }
 {
-    let mut has = Vec::new(alloc);
+    let mut has = Variables::with_capacity(alloc, arguments.len())?;
     let mut given = 0;
     for variable in variables {
         if is_parameter(variable.role) && given < arguments.len() {
@@ -72,7 +73,7 @@ pub(crate) fn enter(
         return Ok(Frame {
             method,
             point: 0,
-            variables: Vec::new(alloc),
+            variables: Variables::new(alloc),
         });
     };
     let variables = fill(alloc, frame, &called.variables, arguments)?;

@@ -11,6 +11,7 @@ mod halts;
 mod heaps;
 mod instructing;
 pub mod laws;
+mod mentions;
 mod owning;
 mod payloads;
 mod placing;
@@ -28,4 +29,5 @@ mod worlds;
 
 pub use halts::{Event, Fault, Halt};
 pub use replaying::{Replayed, replay};
+pub use variables::Variables;
 pub use worlds::{Block, Frame, Held, Owner, Process, World};

@@ -16,9 +16,9 @@ ghost use Rattle.machine.specs.World as seen;
 use crate::giving::addresses;
 use crate::halts::{Fault, Refusal};
 use crate::heaps::Heap;
+use crate::mentions::{kind_at, lets_go};
 use crate::payloads::{are_unsent, payloads_claimed};
 use crate::reading::own;
-use crate::variables::{kind_at, lets_go};
 use crate::worlds::{Block, Frame, Owner};
 use program::{Channel, Kind, Mention, Side, StateId};
 use rules::Program;
@@ -62,6 +62,7 @@ pub(crate) fn new(
     let given = addresses(alloc, frame, &arguments)?;
     let address = heap.blocks().len();
     let kind = kind_at(program, frame.method, making.target.variable);
+    frame.list(making.target)?;
     heap.add(alloc, turn.process, kind, &given)?;
     lets_go(&mut frame.variables, &arguments);
     frame.put(making.target, Some(address));
@@ -175,8 +176,10 @@ pub(crate) fn new_channel(
 {
     let address = heap.blocks().len();
     let state = program.first_state(channel.contract);
-    open(alloc, heap, turn.process, channel, state)?;
     let first_is_imp = is_imp(kind_at(program, frame.method, channel.first.variable));
+    frame.list(channel.first)?;
+    frame.list(channel.second)?;
+    open(alloc, heap, turn.process, channel, state)?;
     let (first, second) = if first_is_imp {
         (address, address + 1)
     } else {

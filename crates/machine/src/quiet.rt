@@ -13,8 +13,8 @@ ghost use Rattle.machine.specs.Views.{blocks_seen, frame_seen};
 ghost use Rattle.machine.specs.World as seen;
 
 use crate::halts::{Fault, Refusal};
+use crate::mentions::forgets;
 use crate::reading::own;
-use crate::variables::forgets;
 use crate::worlds::{Block, Frame};
 use flow::Branches;
 use program::{Forget, Mention};
@@ -58,7 +58,7 @@ pub(crate) fn move_(
     if own(blocks, process, given).is_none() {
         return Err(Refusal::Fault(Fault::F1));
     }
-    frame.put(target, given);
+    frame.take(Some(target), given)?;
     frame.put(source, None);
     frame.point = next;
     Ok(())

@@ -1,6 +1,6 @@
 //! The end of a frame.
 
-ghost use Rattle.std.specs.Prelude.{◌≡◌, IsFalse, IsSome, IsTrue, OnErr, Option};
+ghost use Rattle.std.specs.Prelude.{◌≡◌, [], IfErr, IsFalse, IsSome, IsTrue, OnErr, OnOk, Option};
 ghost use Rattle.program.specs.Programs.{ProgramSeen};
 ghost use Rattle.program.specs.declared.number.VarId.{VarId};
 ghost use Rattle.source.specs.declared.place.Place.{Place};
@@ -8,7 +8,7 @@ ghost use Rattle.flow.specs.Graphs.{Return};
 ghost use Rattle.rules.specs.Programs.{seen_of};
 ghost use Rattle.machine.specs.Answers.{Tells, ended, given_back, on_stack, with_stack, with_variables};
 ghost use Rattle.machine.specs.Outcomes.{Bounds, Faulty};
-ghost use Rattle.machine.specs.Views.{blocks_seen, frame_seen, stack_seen};
+ghost use Rattle.machine.specs.Views.{blocks_seen, frame_seen, stack_of, stack_seen};
 ghost use Rattle.machine.specs.World as seen;
 ghost use Rattle.machine.specs.declared.halts.Fault.TheVariants.{F3};
 
@@ -37,13 +37,21 @@ fn can_give(stack: &Process, blocks: &[Block], process: usize, value: Option<Men
 }
 
 /// The caller's target takes what the innermost frame gives, if it gives something.
-fn give_back(stack: &Process, value: Option<Mention>, target: Option<Mention>, caller: &mut Frame)
-    ensures { frame_seen caller.new ≡ with_variables (frame_seen caller.old)
-        (given_back value target (stack_seen stack.now) (frame_seen caller.old).variables) }
+fn give_back(
+    top: &Option<Frame>,
+    value: Option<Mention>,
+    target: Option<Mention>,
+    caller: &mut Frame,
+) -> Result<(), Refusal>
+    ensures given { OnOk result (frame_seen caller.new ≡ with_variables (frame_seen caller.old)
+        (given_back value target (stack_of top.now []) (frame_seen caller.old).variables)) }
+    ensures same { OnErr result (frame_seen caller.new ≡ frame_seen caller.old) }
+    ensures memory { IfErr result (λ refusal. refusal ≡ Refusal.Memory) }
 {
-    if let (Some(frame), Some(value)) = (&stack.top, value) {
-        caller.take(target, frame.has(value));
+    if let (Some(frame), Some(value)) = (top, value) {
+        caller.take(target, frame.has(value))?;
     }
+    Ok(())
 }
 
 /// The innermost frame ends, and gives what this variable has, if there is one. The frame that waits for it goes on; where none waits,
@@ -61,17 +69,18 @@ pub(crate) fn end(
         (with_stack w process (stack_seen stack.new) (blocks_seen heap.now.blocks.items)) }
     ensures same { OnErr result (stack_seen stack.new ≡ stack_seen stack.old) }
 {
-    let Some(mut caller) = stack.waiting.pop() else {
+    let Some(last) = stack.waiting.len().checked_sub(1) else {
         if !heap.owns_none(process) {
             return Err(Refusal::Fault(Fault::F7));
         }
         stack.top = None;
         return Ok(());
     };
-    let behind = behind_call(program, &caller);
-    give_back(stack, value, behind.target, &mut caller);
+    let caller = &mut stack.waiting[last];
+    let behind = behind_call(program, caller);
+    give_back(&stack.top, value, behind.target, caller)?;
     caller.point = behind.next;
-    stack.top = Some(caller);
+    stack.top = stack.waiting.pop();
     Ok(())
 }
 

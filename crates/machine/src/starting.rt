@@ -13,7 +13,7 @@ ghost use Rattle.machine.specs.declared.worlds.Process.{Process};
 use crate::calling::enter;
 use crate::giving::{addresses, first_fault};
 use crate::halts::Refusal;
-use crate::variables::lets_go;
+use crate::mentions::lets_go;
 use crate::worlds::{Process, World};
 use flow::Starting;
 use program::Argument;

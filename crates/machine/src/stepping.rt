@@ -17,6 +17,7 @@ use crate::heaps::Heap;
 use crate::instructing::{Chosen, choices};
 use crate::placing::place_of;
 use crate::standing::instruction_at;
+use crate::variables::Variables;
 use crate::worlds::{Frame, Process, World};
 use program::MethodId;
 use rules::Program;
@@ -60,7 +61,7 @@ impl World {
         let nobody = Frame {
             method,
             point: 0,
-            variables: Vec::new(alloc),
+            variables: Variables::new(alloc),
         };
         let Ok(begun) = enter(alloc, program, &nobody, method, &[]) else {
             return Err(Memory);

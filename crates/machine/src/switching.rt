@@ -8,6 +8,7 @@ ghost use Rattle.source.specs.declared.place.Place.{Place};
 ghost use Rattle.program.specs.Programs.{ProgramSeen};
 ghost use Rattle.rules.specs.Programs.{seen_of};
 ghost use Rattle.machine.specs.Answers.{IsRefusal, Pass, Tells, on_top};
+ghost use Rattle.machine.specs.Bindings.{AllMayTake};
 ghost use Rattle.machine.specs.Machine.{event_of, receives, receives_at};
 ghost use Rattle.machine.specs.Outcomes.{Bounds, Moved, test};
 ghost use Rattle.machine.specs.Views.{blocks_seen, frame_seen};
@@ -18,8 +19,8 @@ ghost use Rattle.machine.specs.declared.halts.Fault.TheVariants.{F1};
 use crate::edges::state_received;
 use crate::halts::{Fault, Refusal};
 use crate::heaps::Heap;
+use crate::mentions::{bind, list_bound};
 use crate::reading::{front, is_freed, own, peer_of};
-use crate::variables::bind;
 use crate::worlds::{Block, Frame};
 use flow::{Cases, Entrance};
 use program::{Mention, MessageId, VarId};
@@ -90,6 +91,7 @@ fn receive_at(
 )
     requires owned { owns (blocks_seen heap.old.blocks.items) process arrival.at ≡ true }
     requires some { 0 < length (block_at (blocks_seen heap.old.blocks.items) arrival.at).queue }
+    requires takes { AllMayTake frame.old.variables.count frame.old.variables.bindings.items case.now.bound.items }
     ensures { (bound : Bounds) (w : seen.World) (rest : List seen.Frame) (m : MessageHeld) (ms : List MessageHeld) →
         w.blocks ≡ blocks_seen heap.old.blocks.items →
         (block_at (blocks_seen heap.old.blocks.items) arrival.at).queue ≡ m ∷ ms → arrival.message.0 ≡ m.message →
@@ -125,6 +127,7 @@ fn come(
     let Some(case) = cases.find(gate.variable, Some(message)) else {
         return Err(Refusal::Fault(Fault::F5));
     };
+    list_bound(&mut frame.variables, &case.bound)?;
     let arrival = Arrival {
         at: gate.at,
         message,

@@ -1,138 +1,157 @@
-//! The variables of a frame.
+//! What the variables of a frame have.
 
-ghost use Rattle.std.specs.Prelude.{◌≡◌, ◌∷◌, [], set};
-ghost use Rattle.program.specs.Methods.{method_seen};
-ghost use Rattle.program.specs.Scopes.{outer_of};
-ghost use Rattle.rules.specs.Programs.{seen_of};
-ghost use Rattle.rules.specs.Scopes.{declared_between, is_this};
-ghost use Rattle.machine.specs.Answers.{with_variables};
-ghost use Rattle.machine.specs.Frames.{address, bound_to, forgotten, kind_at, variables_of};
-ghost use Rattle.machine.specs.Frames as told;
-ghost use Rattle.machine.specs.Views.{frame_seen};
-ghost use Rattle.machine.specs.World.{let_go, read};
+ghost use Rattle.std.specs.Prelude.{◌≡◌, ◌+◌, ◌++◌, ◌∷◌, ◌<◌, ◌^◌, [], IfErr, IfOk, OnErr, OnOk, Some, set, ℕ};
+ghost use Rattle.machine.specs.Bindings.{AreSorted, IsAt, IsGap, MayTake, address_of, variables_in};
+ghost use Rattle.machine.specs.Once.{sorted_once};
+ghost use Rattle.machine.specs.World.{read};
 
-use crate::worlds::Frame;
-use program::{Argument, Kind, Mention, Method, MethodId, StructId, VarId};
-use rules::Program;
+use program::VarId;
+use std::alloc::{AllocError, Global};
 
-/// Gives a variable this in place of what it has.
-pub(crate) fn put(variables: &mut Vec<Option<usize>>, v: VarId, x: Option<usize>)
-    ensures { variables.new.items ≡ set variables.old.items v.0 x }
-{
-    if v.0 < variables.len() {
-        variables[v.0] = x;
-    }
+/// A variable and the address that it has, if any. It takes 16 bytes; an `Option` of the address would make it 24.
+#[derive(Clone, Copy)]
+pub(crate) struct Binding {
+    has_address: bool,
+    variable: u32,
+    address: usize,
 }
 
-impl Frame {
-    /// What a variable has.
-    pub(crate) fn has(&self, v: Mention) -> Option<usize>
-        ensures { result ≡ read (frame_seen self.now).variables v.variable.0 }
+impl Binding {
+    /// The binding of a variable that has this.
+    fn new(variable: u32, x: Option<usize>) -> Binding
+        ensures variable { result.variable ≡ variable }
+        ensures has { address_of result ≡ x }
     {
-        match self.variables.get(v.variable.0) {
-            Some(x) => *x,
-            None => None,
+        match x {
+            Some(address) => Binding {
+                has_address: true,
+                variable,
+                address,
+            },
+            None => Binding {
+                has_address: false,
+                variable,
+                address: 0,
+            },
         }
     }
 
-    /// The address in a variable; 0 where there is none, which a test has ruled out.
-    pub(crate) fn address(&self, v: Mention) -> usize
-        ensures { result ≡ address (read (frame_seen self.now).variables v.variable.0) }
+    /// What the variable has.
+    fn has(self) -> Option<usize>
+        ensures { result ≡ address_of self }
     {
-        self.has(v).unwrap_or(0)
-    }
-
-    /// Gives a variable this in place of what it has.
-    pub(crate) fn put(&mut self, v: Mention, x: Option<usize>)
-        ensures { frame_seen self.new ≡ with_variables (frame_seen self.old) (set (frame_seen self.old).variables v.variable.0 x) }
-    {
-        put(&mut self.variables, v.variable, x);
-    }
-
-    /// Gives a variable this in place of what it has, if there is such a variable.
-    pub(crate) fn take(&mut self, target: Option<Mention>, x: Option<usize>)
-        ensures { frame_seen self.new ≡ with_variables (frame_seen self.old) (told.put (frame_seen self.old).variables target x) }
-    {
-        if let Some(v) = target {
-            self.put(v, x);
+        if self.has_address {
+            Some(self.address)
+        } else {
+            None
         }
     }
 }
 
-/// What a variable of a method holds.
-pub(crate) fn kind_at(program: &Program, method: MethodId, v: VarId) -> Kind
-    ensures { result ≡ kind_at (variables_of (seen_of program.now) method.0) v.0 }
-{
-    if let Some(method) = program.methods().get(method.0 as usize) {
-        if let Some(variable) = method.variables.get(v.0) {
-            return variable.kind;
+/// What each exchange-heap variable of a method has: an address, or nothing.
+///
+/// Only variables that were ever given something take memory. Such a variable has a binding and keeps it when it is emptied, so giving it
+/// something again takes no memory. The bindings are sorted by variable.
+#[derive(Drop)]
+pub struct Variables {
+    count: usize,
+    bindings: Vec<Binding>,
+    ghost kept: { AreSorted count bindings.items } by { sorted_once _ _ },
+}
+
+impl Variables {
+    /// No variables.
+    pub(crate) fn new(alloc: Global) -> Variables
+        ensures none { variables_in result.count result.bindings.items ≡ [] }
+        ensures count { result.count ≡ 0 }
+    {
+        Variables {
+            count: 0,
+            bindings: Vec::new(alloc),
         }
     }
-    Kind::Struct(StructId(0))
-}
 
-/// The variable of the exchange heap before this one in scope.
-fn outer_of(method: &Method, variable: VarId) -> Option<VarId>
-    ensures { result ≡ outer_of (method_seen method.now).variables variable }
-{
-    method.variables.get(variable.0)?.outer
-}
-
-/// Whether the second is there and the same variable.
-fn is_this(variable: VarId, other: Option<VarId>) -> bool
-    ensures { result ≡ is_this variable other }
-{
-    match other {
-        Some(other) => variable.0 == other.0,
-        None => false,
+    /// No variables, with memory for just this many bindings.
+    pub(crate) fn with_capacity(alloc: Global, most: usize) -> Result<Variables, AllocError>
+        ensures none { IfOk result (λ v. variables_in v.count v.bindings.items ≡ []) }
+        ensures count { IfOk result (λ v. v.count ≡ 0) }
+    {
+        Ok(Variables {
+            count: 0,
+            bindings: Vec::with_capacity(alloc, most)?,
+        })
     }
-}
 
-/// These variables go out of scope.
-pub(crate) fn forgets(
-    variables: &mut Vec<Option<usize>>,
-    method: &Method,
-    outer: Option<VarId>,
-    last: Option<VarId>,
-)
-    ensures { variables.new.items ≡ forgotten variables.old.items (declared_between (method_seen method.now) outer last) }
-{
-    let mut at = last;
-    for _ in 0..method.variables.len() {
-        let Some(variable) = at else {
-            return;
+    /// Adds a variable, which has this.
+    pub(crate) fn push(&mut self, x: Option<usize>) -> Result<(), AllocError>
+        requires fits { self.old.count + 1 < 2 ^ 64 }
+        ensures more { OnOk result (variables_in self.new.count self.new.bindings.items
+            ≡ variables_in self.old.count self.old.bindings.items ++ x ∷ []) }
+        ensures count { OnOk result (self.new.count ≡ self.old.count + 1) }
+    {
+        let Some(address) = x else {
+            self.count += 1;
+            return Ok(());
         };
-        if is_this(variable, outer) {
-            return;
+        let Ok(variable) = u32::try_from(self.count) else {
+            return Err(AllocError);
+        };
+        let last = self.bindings.len();
+        self.bindings
+            .insert(last, Binding::new(variable, Some(address)))?;
+        self.count += 1;
+        Ok(())
+    }
+
+    /// The index of a variable's binding. `Err` is the index at which to insert one.
+    fn search(&self, v: VarId) -> Result<usize, usize>
+        ensures found { IfOk result (IsAt self.now.bindings.items v.0) }
+        ensures absent { IfErr result (IsGap self.now.bindings.items v.0) }
+    {
+        self.bindings
+            .binary_search_by_key(&v.0, |binding| binding.variable as usize)
+    }
+
+    /// What a variable has.
+    pub(crate) fn has(&self, v: VarId) -> Option<usize>
+        ensures { result ≡ read (variables_in self.now.count self.now.bindings.items) v.0 }
+    {
+        match self.search(v) {
+            Ok(at) => self.bindings[at].has(),
+            Err(_) => None,
         }
-        put(variables, variable, None);
-        at = outer_of(method, variable);
     }
-}
 
-/// What is claimed of an argument is gone.
-fn lets_one_go(variables: &mut Vec<Option<usize>>, argument: Argument)
-    ensures { variables.new.items ≡ let_go variables.old.items (argument ∷ []) }
-{
-    if argument.claimed {
-        put(variables, argument.mention.variable, None);
+    /// Makes a binding for a variable that has none, so that `put` may give it something. Does nothing for a number that no variable has.
+    ///
+    /// `Err` if memory was refused, or if the number needs more than 32 bits, which that of no variable does.
+    pub(crate) fn list(&mut self, v: VarId) -> Result<(), AllocError>
+        ensures same { variables_in self.new.count self.new.bindings.items ≡ variables_in self.old.count self.old.bindings.items }
+        ensures takes { OnOk result (MayTake self.new.count self.new.bindings.items v.0) }
+        ensures still { (u : ℕ) → MayTake self.old.count self.old.bindings.items u → MayTake self.new.count self.new.bindings.items u }
+    {
+        if v.0 >= self.count {
+            return Ok(());
+        }
+        let Err(at) = self.search(v) else {
+            return Ok(());
+        };
+        let Ok(variable) = u32::try_from(v.0) else {
+            return Err(AllocError);
+        };
+        self.bindings.insert(at, Binding::new(variable, None))?;
+        Ok(())
     }
-}
 
-/// What is claimed of arguments is gone.
-pub(crate) fn lets_go(variables: &mut Vec<Option<usize>>, arguments: &[Argument])
-    ensures { variables.new.items ≡ let_go variables.old.items arguments.now }
-{
-    for argument in arguments {
-        lets_one_go(variables, *argument);
-    }
-}
-
-/// The variables that a case binds take what its message brings.
-pub(crate) fn bind(variables: &mut Vec<Option<usize>>, bound: &[VarId], payload: &[usize])
-    ensures { variables.new.items ≡ bound_to variables.old.items bound.now payload.now }
-{
-    for number in 0..bound.len().min(payload.len()) {
-        put(variables, bound[number], Some(payload[number]));
+    /// Replaces what a variable has. It takes no memory: before a variable is given an address, `list` makes its binding.
+    pub(crate) fn put(&mut self, v: VarId, x: Option<usize>)
+        requires takes { (a : ℕ) → x ≡ Some a → MayTake self.old.count self.old.bindings.items v.0 }
+        ensures put { variables_in self.new.count self.new.bindings.items
+            ≡ set (variables_in self.old.count self.old.bindings.items) v.0 x }
+        ensures still { (u : ℕ) → MayTake self.old.count self.old.bindings.items u → MayTake self.new.count self.new.bindings.items u }
+    {
+        if let Ok(at) = self.search(v) {
+            self.bindings[at] = Binding::new(self.bindings[at].variable, x);
+        }
     }
 }

@@ -1,6 +1,7 @@
 //! Worlds as they lie in memory.
 
 use crate::heaps::Heap;
+use crate::variables::Variables;
 use program::{Kind, MessageId, MethodId, StateId};
 use std::collections::VecDeque;
 
@@ -38,12 +39,12 @@ pub struct Block {
     pub fields: Vec<usize>,
 }
 
-/// A method at a point, and for each of its variables of the exchange heap the address of the block that it has, if it has one.
+/// A method at a point, and what its variables of the exchange heap have: the address of a block, or nothing.
 #[derive(Drop)]
 pub struct Frame {
     pub method: MethodId,
     pub point: usize,
-    pub variables: Vec<Option<usize>>,
+    pub variables: Variables,
 }
 
 /// A process: its innermost frame, none where it has ended, and those that wait for it, the innermost last.

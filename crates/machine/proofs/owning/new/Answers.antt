@@ -1,7 +1,9 @@
-use Rattle.std.proofs.Common.{◌≡◌, ◌∙◌, ap, sym, length}
+use Rattle.std.proofs.Common.{◌≡◌, ◌∙◌, Some, ap, set, sym, length}
+use Rattle.machine.specs.Answers.{with_variables}
 use Rattle.machine.specs.Frames.{addresses, payloads_claimed}
 use Rattle.machine.specs.Outcomes.{Moved}
-use Rattle.machine.specs.Views.{blocks_seen, frame_seen}
+use Rattle.machine.specs.Views.{blocks_seen, frame_seen, variables_seen}
+use Rattle.machine.specs.World.{Frame, let_go}
 use Rattle.machine.specs.declared.halts.Fault.TheVariants.{F3}
 use Rattle.machine.proofs.CallLemmas.{memory_tells, passed_on}
 use Rattle.machine.proofs.ChangeLemmas.{seen_length}
@@ -10,7 +12,7 @@ use Rattle.machine.proofs.owning.new.Goals as goal
 
 pub returns-then-not-are_unsent-clause-tells : goal.returns-then-not-are_unsent-clause-tells
 returns-then-not-are_unsent-clause-tells c = λ bound w rest is.
-    tests_fail w.blocks (blocks_seen c.blocks-2.result.now) c.args.turn.process c.args.frame.now.variables.items
+    tests_fail w.blocks (blocks_seen c.blocks-2.result.now) c.args.turn.process (variables_seen c.args.frame.now.variables)
     (is ∙ ap blocks_seen (sym c.blocks-2.ensures)) (payloads_claimed c.args.making.now.arguments.now) F3 _
     (c.are_unsent.ensures.fault c.if-not-are_unsent.true)
 
@@ -19,7 +21,7 @@ returns-in_err-arguments-clause-tells c = λ bound w rest is.
     let x = c.in_err-arguments.field-0.0 in
     memory_tells _ c.from_residual.result x _ _ _ (passed_on _ c.from_residual.result x c.from_residual.ensures.1)
     c.in_err-arguments.ensures.memory
-    (tests_pass w.blocks (blocks_seen c.blocks-2.result.now) c.args.turn.process c.args.frame.now.variables.items
+    (tests_pass w.blocks (blocks_seen c.blocks-2.result.now) c.args.turn.process (variables_seen c.args.frame.now.variables)
     (is ∙ ap blocks_seen (sym c.blocks-2.ensures)) (payloads_claimed c.args.making.now.arguments.now) _
     (c.are_unsent.ensures.pass c.if-not-are_unsent.false))
 
@@ -28,13 +30,13 @@ returns-in_err-given-clause-tells c = λ bound w rest is.
     let x = c.in_err-given.field-0.0 in
     let r = c.from_residual-in_err-given.result in
     memory_tells _ r x _ _ _ (passed_on _ r x c.from_residual-in_err-given.ensures.1) c.in_err-given.ensures.memory
-    (tests_pass w.blocks (blocks_seen c.blocks-2.result.now) c.args.turn.process c.args.frame.now.variables.items
+    (tests_pass w.blocks (blocks_seen c.blocks-2.result.now) c.args.turn.process (variables_seen c.args.frame.now.variables)
     (is ∙ ap blocks_seen (sym c.blocks-2.ensures)) (payloads_claimed c.args.making.now.arguments.now) _
     (c.are_unsent.ensures.pass c.if-not-are_unsent.false))
 
 pub add-requires-clause-owned : goal.add-requires-clause-owned
 add-requires-clause-owned c =
-    let variables = c.args.frame.now.variables.items in
+    let variables = (variables_seen c.args.frame.now.variables) in
     let payloads = c.args.making.now.arguments.now in
     let given : c.deref-2.result.now ≡ addresses variables (payloads_claimed payloads) =
     c.deref-2.ensures.value ∙ (c.in_ok-given.ensures.value
@@ -44,7 +46,7 @@ add-requires-clause-owned c =
 
 pub add-requires-clause-once : goal.add-requires-clause-once
 add-requires-clause-once c =
-    let variables = c.args.frame.now.variables.items in
+    let variables = (variables_seen c.args.frame.now.variables) in
     let payloads = c.args.making.now.arguments.now in
     let given : c.deref-2.result.now ≡ addresses variables (payloads_claimed payloads) =
     c.deref-2.ensures.value ∙ (c.in_ok-given.ensures.value
@@ -57,7 +59,16 @@ returns-in_err-add-clause-tells c = λ bound w rest is.
     let x = c.in_err-add.field-0.0 in
     let r = c.from_residual-in_err-add.result in
     memory_tells _ r x _ _ _ (passed_on _ r x c.from_residual-in_err-add.ensures.1) c.in_err-add.ensures.memory
-    (tests_pass w.blocks (blocks_seen c.blocks-2.result.now) c.args.turn.process c.args.frame.now.variables.items
+    (tests_pass w.blocks (blocks_seen c.blocks-2.result.now) c.args.turn.process (variables_seen c.args.frame.now.variables)
+    (is ∙ ap blocks_seen (sym c.blocks-2.ensures)) (payloads_claimed c.args.making.now.arguments.now) _
+    (c.are_unsent.ensures.pass c.if-not-are_unsent.false))
+
+pub returns-in_err-list-clause-tells : goal.returns-in_err-list-clause-tells
+returns-in_err-list-clause-tells c = λ bound w rest is.
+    let x = c.in_err-list.field-0.0 in
+    let r = c.from_residual-in_err-list.result in
+    memory_tells _ r x _ _ _ (passed_on _ r x c.from_residual-in_err-list.ensures.1) c.in_err-list.ensures.memory
+    (tests_pass w.blocks (blocks_seen c.blocks-2.result.now) c.args.turn.process (variables_seen c.args.frame.now.variables)
     (is ∙ ap blocks_seen (sym c.blocks-2.ensures)) (payloads_claimed c.args.making.now.arguments.now) _
     (c.are_unsent.ensures.pass c.if-not-are_unsent.false))
 
@@ -73,6 +84,12 @@ returns-clause-tells c = λ bound w rest is.
     (is ∙ ap blocks_seen (sym c.blocks-2.ensures)) (payloads_claimed payloads) _ (c.are_unsent.ensures.pass c.if-not-are_unsent.false)
     ∙ ap Moved (world_with w.processes c.args.turn.process rest f (frame_seen c.put.new.self) c.args.turn.next
     c.args.making.now.target.variable.0 (length c.blocks-address.result.now) w.blocks (blocks_seen c.add.new.self.blocks.items) (payloads_claimed payloads) c.deref-3.result.now
-    c.deref-2.result.now c.lets_go.new.variables.items _ c.kind_at-kind.result (c.deref-3.ensures.value ∙ arguments) given
-    (ap length c.blocks-address.ensures ∙ (sym (seen_length items) ∙ ap length (sym is))) c.kind_at-kind.ensures c.lets_go.ensures
-    c.put.ensures (c.in_ok-add.ensures.added ∙ ap (blocks_with c.kind_at-kind.result c.args.turn.process c.deref-2.result.now) (sym is)))
+    c.deref-2.result.now (variables_seen c.lets_go.new.variables) _ c.kind_at-kind.result (c.deref-3.ensures.value ∙ arguments) given
+    (ap length c.blocks-address.ensures ∙ (sym (seen_length items) ∙ ap length (sym is))) c.kind_at-kind.ensures
+    (c.lets_go.ensures.gone ∙ ap (λ (x : Frame). let_go x.variables c.deref-3.result.now) c.list.ensures.same)
+    (c.put.ensures.put ∙ ap (λ (x : Frame). with_variables x (set (variables_seen c.lets_go.new.variables) c.args.making.now.target.variable.0
+    (Some (length c.blocks-address.result.now)))) c.list.ensures.same)
+    (c.in_ok-add.ensures.added ∙ ap (blocks_with c.kind_at-kind.result c.args.turn.process c.deref-2.result.now) (sym is)))
+
+pub put-requires : goal.put-requires
+put-requires c = record { takes = λ a e. c.lets_go.ensures.still _ c.in_ok-list.ensures.takes }

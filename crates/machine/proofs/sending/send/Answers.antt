@@ -3,6 +3,7 @@ use Rattle.rules.specs.Programs.{seen_of}
 use Rattle.machine.specs.BlockViews.{blocks_seen}
 use Rattle.machine.specs.Frames.{addresses, payloads_claimed}
 use Rattle.machine.specs.Heaps.{AreOnce, AreOwned}
+use Rattle.machine.specs.Views.{variables_seen}
 use Rattle.machine.proofs.PassLemmas.{pass_once, pass_owned}
 use Rattle.machine.proofs.SendLemmas.{send_moves}
 use Rattle.machine.proofs.sending.send.Goals as goal
@@ -11,7 +12,7 @@ pub returns-then-not-send-clause-tells : goal.returns-then-not-send-clause-tells
 returns-then-not-send-clause-tells c = λ bound w rest are is.
     let sending = c.args.sending.now in (
       _,
-      send_moves (seen_of c.args.program.now) bound w.blocks (blocks_seen c.blocks-2.result.now) (blocks_seen c.blocks-3.result.now) (blocks_seen c.blocks-4.result.now) c.args.process c.args.frame.now.variables.items
+      send_moves (seen_of c.args.program.now) bound w.blocks (blocks_seen c.blocks-2.result.now) (blocks_seen c.blocks-3.result.now) (blocks_seen c.blocks-4.result.now) c.args.process (variables_seen c.args.frame.now.variables)
           sending.endpoint.variable.0 c.has.result c.in-Some.at sending.message.0 sending.payloads.items c.deref.result.now _
           (is ∙ ap blocks_seen (sym c.blocks-2.ensures)) (is ∙ ap blocks_seen (sym c.blocks-3.ensures)) (is ∙ ap blocks_seen (sym c.blocks-4.ensures)) c.deref.ensures.value
           c.has.ensures c.in-Some.ensures.some c.in-Some.ensures.own (c.are_unsent.ensures.pass c.if-not-are_unsent.false) (c.in_ok-way.ensures.pass bound are),
@@ -19,7 +20,7 @@ returns-then-not-send-clause-tells c = λ bound w rest are is.
 
 pub send-requires-clause-owned : goal.send-requires-clause-owned
 send-requires-clause-owned c =
-    let variables = c.args.frame.now.variables.items in
+    let variables = (variables_seen c.args.frame.now.variables) in
     let blocks = blocks_seen c.blocks-3.result.now in
     let payloads = c.deref.result.now in
     let claimed : c.deref-3.result.now ≡ payloads_claimed payloads = c.deref-3.ensures.value ∙ (c.in_ok-arguments.ensures.arguments ∙ ap payloads_claimed (c.deref-2.ensures.value ∙ sym c.deref.ensures.value)) in
@@ -29,7 +30,7 @@ send-requires-clause-owned c =
 
 pub send-requires-clause-once : goal.send-requires-clause-once
 send-requires-clause-once c =
-    let variables = c.args.frame.now.variables.items in
+    let variables = (variables_seen c.args.frame.now.variables) in
     let blocks = blocks_seen c.blocks-3.result.now in
     let payloads = c.deref.result.now in
     let claimed : c.deref-3.result.now ≡ payloads_claimed payloads = c.deref-3.ensures.value ∙ (c.in_ok-arguments.ensures.arguments ∙ ap payloads_claimed (c.deref-2.ensures.value ∙ sym c.deref.ensures.value)) in

@@ -1,9 +1,9 @@
 use Rattle.std.proofs.Common.{◌≡◌, [], Some, sym, ap, ◌∙◌, subst}
 use Rattle.std.specs.Option.{option_map}
-use Rattle.flow.specs.Cases.{case_for}
+use Rattle.flow.specs.Cases.{case_for, entrance_seen}
 use Rattle.flow.specs.Graphs.{cases_seen}
 use Rattle.rules.specs.Programs.{seen_of}
-use Rattle.machine.specs.Answers.{Tells, front_of, on_top}
+use Rattle.machine.specs.Answers.{Tells, front_of, on_top, with_variables}
 use Rattle.machine.specs.Machine.{receives, receives_at}
 use Rattle.machine.specs.Views.{blocks_seen, frame_seen}
 use Rattle.machine.specs.World.{block_at}
@@ -35,7 +35,8 @@ returns-clause-tells c = λ bound w rest is.
     let ms = there.1 in
     ap (receives p bound w c.args.process f rest cs v at) there.2
     ∙ (ap (λ k. receives_at p bound w c.args.process f rest k at m ms) (ap (λ n. case_for cs v (Some n)) (sym there.3) ∙ sym c.in-Some-find.ensures)
-    ∙ c.receive_at.ensures bound w rest m ms is there.2 there.3)
+    ∙ (ap (λ vs. receives_at p bound w c.args.process (with_variables f vs) rest (Some (entrance_seen c.in-Some-find.case.now)) at m ms) (sym c.list_bound.ensures.same)
+    ∙ c.receive_at.ensures bound w rest m ms is there.2 there.3))
 
 pub receive_at-requires-clause-some : goal.receive_at-requires-clause-some
 receive_at-requires-clause-some c =

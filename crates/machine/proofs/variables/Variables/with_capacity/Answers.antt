@@ -1,0 +1,6 @@
+use Rattle.std.proofs.Common.{refl}
+use Rattle.machine.proofs.BindingLemmas.{variables_none}
+use Rattle.machine.proofs.variables.Variables.with_capacity.Goals as goal
+
+pub returns-clause-none : goal.returns-clause-none
+returns-clause-none c = variables_none _ 0 refl
