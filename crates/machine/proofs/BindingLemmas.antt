@@ -52,7 +52,7 @@ address-insert l v zero b is none q = grind (arith, nat_tests)
 address-insert [] v (suc i) b is none q = grind (arith, nat_tests)
 address-insert (x ∷ l) v (suc i) b is none q = grind (arith, nat_tests, none 0 (omega arith), address-insert l v i b is (none_before_tail x l v i none) q)
 
--- what the first variables have, by what each has
+-- the list of what variables have, by what each has
 pub length_variables : (count : ℕ) (l : List Binding) → length (variables_in count l) ≡ count
 unfolding variables_in
 length_variables count l = length-map-range_with_len (address_in l) 0 count
@@ -79,7 +79,7 @@ set_variables count old new v x after =
       | inr isnt ↦ grind (arith, nat_tests, read_below count old i below, get_or-set_other (variables_in count old) v i x None)
     ])
 
--- no more variables with no more bindings
+-- no variables
 pub variables_none : (l : List Binding) (count : ℕ) → count ≡ 0 → variables_in count l ≡ []
 unfolding variables_in
 variables_none l count is = ap (λ n. map (address_in l) (range_with_len 0 n)) is

@@ -13,11 +13,11 @@ abbrev pub address_in : List Binding → ℕ → Option ℕ
 address_in [] v = None
 address_in (b ∷ bindings) v = if b.variable == v then address_of b else address_in bindings v
 
--- what the first variables of a method have, this many of them
+-- what the variables with numbers below a count have, in order
 unfoldable pub variables_in : ℕ → List Binding → List (Option ℕ)
 variables_in count bindings = map (address_in bindings) (range_with_len 0 count)
 
--- the binding read past the last one
+-- what is read past the last binding
 abbrev pub no_binding : Binding
 no_binding = record { has_address = false; variable = 0; address = 0 }
 
@@ -25,7 +25,7 @@ no_binding = record { has_address = false; variable = 0; address = 0 }
 abbrev pub variable_at : List Binding → ℕ → ℕ
 variable_at bindings i = let b = get_or bindings i no_binding in b.variable
 
--- The variables rise, so none has two bindings, and each is below the number of variables.
+-- The variables of the bindings rise, so none has two bindings, and each number is below the count.
 pub record AreSorted (count : ℕ) (bindings : List Binding) : Type 0 where
   pub rise : (i j : ℕ) → i < j → j < length bindings → variable_at bindings i < variable_at bindings j
   pub below : (i : ℕ) → i < length bindings → variable_at bindings i < count
