@@ -13,3 +13,6 @@ pub mod WholeLemmas
 pub mod SearchLemmas
 pub mod EachLemmas
 pub mod RowLemmas
+pub mod FrontLemmas
+pub mod TrailLemmas
+pub mod FailureLemmas

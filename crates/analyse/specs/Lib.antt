@@ -1,4 +1,5 @@
 pub mod Cells
+pub mod Fronts
 pub mod Kept
 pub mod Names
 pub mod Noted
@@ -7,5 +8,8 @@ pub mod Remembering
 pub mod RowKeys
 pub mod Searches
 pub mod Tasks
+pub mod Told
+pub mod Traces
+pub mod Trails
 pub mod Verdicts
 pub mod Workers

@@ -19,11 +19,16 @@ mod seen;
 mod site;
 mod stopped;
 mod task;
+mod told;
+mod tracing;
+mod trail;
 mod verdict;
 mod worker;
 
 pub use all_tasks::{give_up_all, tasks};
 pub use analysing::{MOST_PAIRS, analyse};
 pub use task::Task;
+pub use tracing::trails_of;
+pub use trail::{Failure, Trails};
 pub use verdict::Verdict;
 pub use worker::Worker;
