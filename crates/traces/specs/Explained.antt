@@ -1,0 +1,52 @@
+-- Why something is found in a method.
+use Rattle.std.specs.Prelude.{◌≡◌, ◌++◌, ◌∷◌, [], ℕ, List, IsSomeAnd, map, slice_get, codes}
+use Rattle.std.specs.Fmt.{decimal}
+use Rattle.source.specs.Findings.{FindingParts, finding_parts}
+use Rattle.program.specs.Methods.{MethodSeen}
+use Rattle.program.specs.Programs.{ProgramSeen}
+use Rattle.flow.specs.Lowering.{graph_of}
+use Rattle.rules.specs.Breaches.{breach_in}
+use Rattle.rules.specs.Outcomes.{Pair}
+use Rattle.rules.specs.Steps.{entry_of, outcome}
+use Rattle.rules.specs.declared.breach.Breach.{Breach}
+use Rattle.analyse.specs.Traces.{IsTrace}
+use Rattle.analyse.specs.Verdicts.{HasTooMany, place_of_method, too_many_pairs}
+use Rattle.analyse.specs.declared.analysing.TheConstants.{MOST_PAIRS}
+use Rattle.traces.specs.Lines.{LineSeen, line, line_seen, path_lines, start_lines}
+use Rattle.traces.specs.Watched.{watched}
+use Rattle.traces.specs.declared.line.Explained.{Explained}
+
+-- a finding, and what is told of it
+pub record ExplainedSeen : Type 0 where
+  pub finding : FindingParts
+  pub lines : List LineSeen
+
+abbrev pub explained_seen : Explained → ExplainedSeen
+explained_seen e = record { finding = finding_parts e.finding; lines = map line_seen e.lines.items }
+
+-- the lines of a path from the first pair to where a step of the method fails so
+abbrev pub trace_lines : ProgramSeen → MethodSeen → Breach → (first : Pair) → (steps : List Pair) → (at : Pair) → List LineSeen
+trace_lines p m breach first steps at =
+    let about = watched breach.reason (slice_get (graph_of m).instructions at.0) in
+    start_lines p m about first.1 ++ path_lines p m about (first ∷ steps)
+
+-- a shortest path leads to where a step fails with the finding, and its lines are told
+pub record HasTrace (p : ProgramSeen) (method : ℕ) (e : ExplainedSeen) : Type 0 where
+  pub breach : Breach
+  pub says : breach_in p method breach ≡ e.finding
+  pub steps : List Pair
+  pub trace : IsTrace (outcome p method) (entry_of p method) e.finding steps
+  pub told : IsSomeAnd (slice_get p.methods method) (λ m. e.lines ≡ trace_lines p m breach (entry_of p method) steps trace.at)
+
+-- that too many pairs are reached has no path: how many may be is told at the method's name
+abbrev pub many_lines : ProgramSeen → ℕ → List LineSeen
+many_lines p method = line (place_of_method p method) (codes "more than " ++ (decimal MOST_PAIRS ++ codes " pairs are reached")) ∷ []
+
+pub record HasNoTrace (p : ProgramSeen) (method : ℕ) (e : ExplainedSeen) : Type 0 where
+  pub many : HasTooMany p method
+  pub is : e.finding ≡ too_many_pairs (place_of_method p method)
+  pub told : e.lines ≡ many_lines p method
+
+pub data IsExplained (p : ProgramSeen) (method : ℕ) (e : ExplainedSeen) : Type 0 where
+  ByTrace : HasTrace p method e → IsExplained p method e
+  ByCount : HasNoTrace p method e → IsExplained p method e

@@ -1,0 +1,4 @@
+pub mod Explained
+pub mod Lines
+pub mod Steps
+pub mod Watched

@@ -1,0 +1,27 @@
+-- For proofs within the crate: the pairs of a step, and the cases of a switch that were told.
+use Rattle.std.specs.Prelude.{◌≡◌, List, [], ◌∷◌, ◌++◌, Option, Some, None, map}
+use Rattle.flow.specs.Cases.{EntranceSeen}
+use Rattle.program.specs.Methods.{MethodSeen}
+use Rattle.program.specs.Programs.{ProgramSeen}
+use Rattle.rules.specs.Outcomes.{Pair}
+use Rattle.rules.specs.Rows.{leaves_of}
+use Rattle.source.specs.declared.place.Place.{Place}
+use Rattle.traces.specs.Lines.{LineSeen, case_lines, line_seen}
+use Rattle.traces.specs.declared.line.Line.{Line}
+use Rattle.traces.specs.declared.step.Step.{Step}
+
+abbrev pub step_before : Step → Pair
+step_before s = (s.point, leaves_of s.before.now)
+
+abbrev pub step_after : Step → Pair
+step_after s = (s.next, leaves_of s.after.now)
+
+-- where the first of some cases stands, if there is one
+abbrev pub first_place : List EntranceSeen → Option Place
+first_place [] = None
+first_place (c ∷ cases) = Some c.endpoint.place
+
+-- behind these lines these cases were told, the first of which stands there
+pub record HasCases (p : ProgramSeen) (m : MethodSeen) (before : List LineSeen) (taken : List EntranceSeen) (place : Option Place) (added : List Line) : Type 0 where
+  pub lines : map line_seen added ≡ before ++ case_lines p m taken
+  pub first : place ≡ first_place taken

@@ -1,0 +1,161 @@
+//! The choices that steps make.
+
+ghost use Rattle.std.specs.Prelude.{◌≡◌, ◌++◌, ◌∷◌, [], IfOk, List, OnOk, map};
+ghost use Rattle.flow.specs.Cases.{EntranceSeen, entrance_seen};
+ghost use Rattle.flow.specs.Graphs.{cases_seen, instruction_seen};
+ghost use Rattle.program.specs.Methods.{method_seen};
+ghost use Rattle.rules.specs.Programs.{seen_of};
+ghost use Rattle.traces.specs.Lines as told;
+ghost use Rattle.traces.specs.Lines.{LineSeen, line_seen};
+ghost use Rattle.traces.specs.Steps.{HasCases, step_after, step_before};
+
+use crate::changes::leaf_of;
+use crate::line::{Line, line_of};
+use crate::step::Step;
+use crate::teller::Teller;
+use flow::{Branches, Cases, Entrance, Instr};
+use program::{Awaited, Mention, VarId};
+use source::{Memory, Place};
+
+impl Teller<'_> {
+    /// Adds the choice that a step makes, if it makes one, and gives the place where a switch went on.
+    pub(crate) fn add_choice(
+        &self,
+        instr: &Instr,
+        step: &Step<'_>,
+        lines: &mut Vec<Line>,
+    ) -> Result<Place, Memory>
+        ensures lines { OnOk result (map line_seen lines.new.items ≡ map line_seen lines.old.items
+            ++ told.choice (seen_of self.now.program.now) (method_seen self.now.method.now) (instruction_seen instr.now)
+            (step_before step.now) (step_after step.now)) }
+        ensures came { IfOk result (λ came. came ≡ told.came_at (seen_of self.now.program.now) (method_seen self.now.method.now)
+            (instruction_seen instr.now) (step_before step.now) (step_after step.now)) }
+    {
+        match instr {
+            Instr::Branch { place, branches } => {
+                self.add_branch(*place, *branches, step.next, lines)?;
+            }
+            Instr::Switch { place, cases } => return self.add_cases(*place, cases, step, lines),
+            Instr::Use { .. } | Instr::New { .. } | Instr::NewChannel { .. } => {}
+            Instr::Move { .. } | Instr::Delete { .. } | Instr::Exchange { .. } => {}
+            Instr::Forget { .. } | Instr::Send(_) | Instr::Call(_) | Instr::Start(_) => {}
+            Instr::Return(_) | Instr::Stop { .. } => {}
+        }
+        Ok(self.method.close)
+    }
+
+    /// Adds whether a condition was true or false, unless it goes on at one point in any case.
+    fn add_branch(
+        &self,
+        place: Place,
+        branches: Branches,
+        next: usize,
+        lines: &mut Vec<Line>,
+    ) -> Result<(), Memory>
+        ensures { OnOk result (map line_seen lines.new.items ≡ map line_seen lines.old.items ++ told.branch_lines place branches next) }
+    {
+        let Branches::Either { inside, past } = branches else {
+            return Ok(());
+        };
+        if inside == past {
+            return Ok(());
+        }
+        let way: &[u8] = if next == inside { b"true" } else { b"false" };
+        lines.push(line_of(self.alloc, place, b"condition ", way, b"")?)?;
+        Ok(())
+    }
+
+    /// Adds the case by which a step of a switch led on, or all that lead there, and gives the place of the first; where there is none,
+    /// that of the switch.
+    fn add_cases(
+        &self,
+        place: Place,
+        cases: &Cases,
+        step: &Step<'_>,
+        lines: &mut Vec<Line>,
+    ) -> Result<Place, Memory>
+        ensures lines { OnOk result (map line_seen lines.new.items ≡ map line_seen lines.old.items
+            ++ told.case_lines (seen_of self.now.program.now) (method_seen self.now.method.now)
+            (told.cases_taken (seen_of self.now.program.now) (method_seen self.now.method.now) (cases_seen cases.now)
+            (step_before step.now) (step_after step.now))) }
+        ensures place { IfOk result (λ at. at ≡ told.case_place (seen_of self.now.program.now) (method_seen self.now.method.now) place
+            (told.cases_taken (seen_of self.now.program.now) (method_seen self.now.method.now) (cases_seen cases.now)
+            (step_before step.now) (step_after step.now))) }
+    {
+        let mut first = None;
+        for case in cases.list() {
+            if !self.came_by(cases.endpoints(), step, case) {
+                continue;
+            }
+            self.add_taken(case, &mut first, lines)?;
+        }
+        Ok(first.unwrap_or(place))
+    }
+
+    /// Adds a case that was taken, behind others if there are some. The place is that of the first.
+    fn add_taken(
+        &self,
+        case: &Entrance,
+        first: &mut Option<Place>,
+        lines: &mut Vec<Line>,
+    ) -> Result<(), Memory>
+        ensures { OnOk result ((before : List LineSeen) (taken : List EntranceSeen)
+            → HasCases (seen_of self.now.program.now) (method_seen self.now.method.now) before taken first.old lines.old.items
+            → HasCases (seen_of self.now.program.now) (method_seen self.now.method.now) before (taken ++ entrance_seen case.now ∷ [])
+            first.new lines.new.items) }
+    {
+        match first {
+            None => {
+                self.add_case(b"case ", case, lines)?;
+                *first = Some(case.endpoint.place);
+                Ok(())
+            }
+            Some(_) => self.add_case(b"or case ", case, lines),
+        }
+    }
+
+    /// Adds a case.
+    fn add_case(&self, front: &[u8], case: &Entrance, lines: &mut Vec<Line>) -> Result<(), Memory>
+        ensures { OnOk result (map line_seen lines.new.items ≡ map line_seen lines.old.items
+            ++ told.case_line (seen_of self.now.program.now) (method_seen self.now.method.now) front.now (entrance_seen case.now) ∷ []) }
+    {
+        let endpoint = case.endpoint;
+        let mut text = Vec::new(self.alloc);
+        text.extend_from_slice(front)?;
+        text.extend_from_slice(self.name_of(endpoint.variable))?;
+        text.extend_from_slice(b".")?;
+        text.extend_from_slice(self.awaited_name(endpoint.variable, case.awaited))?;
+        lines.push(Line {
+            place: endpoint.place,
+            text,
+        })?;
+        Ok(())
+    }
+
+    /// How what is awaited at an endpoint is written.
+    fn awaited_name(&self, endpoint: VarId, awaited: Awaited) -> &[u8]
+        ensures { result.now ≡ told.awaited_name (seen_of self.now.program.now) (method_seen self.now.method.now) endpoint.0 awaited }
+    {
+        match awaited {
+            Awaited::Message(message) => self.message_name(endpoint, message),
+            Awaited::Closed => b"ChannelClosed",
+        }
+    }
+
+    /// Whether a step led on by a case: it goes on there, the case's endpoint has what its message or close leaves, and the other
+    /// endpoints have what they had.
+    fn came_by(&self, endpoints: &[Mention], step: &Step<'_>, case: &Entrance) -> bool
+        ensures { result ≡ told.came_by (seen_of self.now.program.now) (method_seen self.now.method.now) endpoints.now
+            (step_before step.now) (step_after step.now) (entrance_seen case.now) }
+    {
+        if case.next != step.next {
+            return false;
+        }
+        let own = case.endpoint.variable;
+        let left = self.awaited_leaf(own, case.awaited, leaf_of(step.before.leaves(), own));
+        if left != leaf_of(step.after.leaves(), own) {
+            return false;
+        }
+        step.keeps_others(endpoints, own)
+    }
+}

@@ -1,0 +1,196 @@
+//! What instructions change of the variables that are watched.
+
+ghost use Rattle.std.specs.Prelude.{◌≡◌, ◌++◌, ◌∷◌, [], IfOk, None, OnOk, map};
+ghost use Rattle.flow.specs.Graphs.{Call, New, instruction_seen};
+ghost use Rattle.flow.specs.declared.graph.Instr.TheVariants as instr;
+ghost use Rattle.program.specs.Methods.{method_seen};
+ghost use Rattle.rules.specs.Programs.{seen_of};
+ghost use Rattle.rules.specs.Rows.{leaf_at, leaves_of};
+ghost use Rattle.rules.specs.declared.row.Leaf.TheVariants.{Nothing};
+ghost use Rattle.traces.specs.Lines as told;
+ghost use Rattle.traces.specs.Lines.{line, line_seen};
+ghost use Rattle.traces.specs.Steps.{step_after, step_before};
+
+use crate::line::{Line, line_of};
+use crate::step::Step;
+use crate::teller::Teller;
+use flow::{Instr, Sending};
+use program::{Mention, VarId};
+use rules::{Leaf, Row};
+use source::{Memory, Place};
+
+/// What a variable has in a row: nothing, where there is no such variable.
+pub(crate) fn leaf_of(leaves: &[Leaf], variable: VarId) -> Leaf
+    ensures { result ≡ leaf_at leaves.now variable.0 }
+{
+    match leaves.get(variable.0) {
+        Some(leaf) => *leaf,
+        None => Leaf::Nothing,
+    }
+}
+
+impl Teller<'_> {
+    /// That a variable has this, at a place.
+    pub(crate) fn has(&self, place: Place, variable: VarId, leaf: Leaf) -> Result<Line, Memory>
+        ensures { IfOk result (λ it. line_seen it
+            ≡ line place (told.has (seen_of self.now.program.now) (method_seen self.now.method.now) variable.0 leaf)) }
+    {
+        let name = self.name_of(variable);
+        match leaf {
+            Leaf::Nothing => line_of(self.alloc, place, name, b" has nothing", b""),
+            Leaf::Block => line_of(self.alloc, place, name, b" has a block", b""),
+            Leaf::CutOff => line_of(self.alloc, place, name, b" is cut off", b""),
+            Leaf::State(state) => {
+                line_of(
+                    self.alloc,
+                    place,
+                    name,
+                    b" in ",
+                    self.state_name(variable, state),
+                )
+            }
+        }
+    }
+
+    /// That the one takes the other, at a place.
+    fn takes(&self, place: Place, who: &[u8], what: &[u8]) -> Result<Line, Memory>
+        ensures { IfOk result (λ it. line_seen it ≡ line place (told.takes who.now what.now)) }
+    {
+        line_of(self.alloc, place, who, b" takes ", what)
+    }
+
+    /// What comes of a variable that has this behind a new block for the target.
+    fn made(&self, target: Mention, variable: VarId, leaf: Leaf) -> Result<Line, Memory>
+        ensures { IfOk result (λ it. line_seen it ∷ [] ≡ told.change (seen_of self.now.program.now) (method_seen self.now.method.now) target.place
+            (New target [] 0) variable.0 leaf) }
+    {
+        let name = self.name_of(variable);
+        match leaf {
+            Leaf::Nothing => self.takes(target.place, self.name_of(target.variable), name),
+            Leaf::Block | Leaf::CutOff | Leaf::State(_) => {
+                line_of(self.alloc, target.place, name, b" new", b"")
+            }
+        }
+    }
+
+    /// What comes of a variable that has this behind a send.
+    fn sent(&self, sending: &Sending, variable: VarId, leaf: Leaf) -> Result<Line, Memory>
+        ensures { IfOk result (λ it. line_seen it ∷ [] ≡ told.change (seen_of self.now.program.now) (method_seen self.now.method.now)
+            sending.now.place (instruction_seen (instr.Send sending.now)) variable.0 leaf) }
+    {
+        match leaf {
+            Leaf::Nothing => self.goes(sending, variable),
+            Leaf::Block | Leaf::CutOff | Leaf::State(_) => {
+                self.has(sending.place, variable, leaf)
+            }
+        }
+    }
+
+    /// That a variable goes with a message.
+    fn goes(&self, sending: &Sending, variable: VarId) -> Result<Line, Memory>
+        ensures { IfOk result (λ it. line_seen it ∷ [] ≡ told.change (seen_of self.now.program.now) (method_seen self.now.method.now)
+            sending.now.place (instruction_seen (instr.Send sending.now)) variable.0 Nothing) }
+    {
+        let endpoint = sending.endpoint.variable;
+        let mut text = Vec::new(self.alloc);
+        text.extend_from_slice(self.name_of(variable))?;
+        text.extend_from_slice(b" sent as ")?;
+        text.extend_from_slice(self.message_name(endpoint, sending.message))?;
+        text.extend_from_slice(b" on ")?;
+        text.extend_from_slice(self.name_of(endpoint))?;
+        Ok(Line {
+            place: sending.place,
+            text,
+        })
+    }
+
+    /// What comes of a variable that has this behind a call.
+    fn called(&self, place: Place, variable: VarId, leaf: Leaf) -> Result<Line, Memory>
+        ensures { IfOk result (λ it. line_seen it ∷ [] ≡ told.change (seen_of self.now.program.now) (method_seen self.now.method.now)
+            place (Call place (record { 0 = 0 }) [] None 0) variable.0 leaf) }
+    {
+        match leaf {
+            Leaf::Nothing => self.takes(place, b"the call", self.name_of(variable)),
+            Leaf::Block | Leaf::CutOff | Leaf::State(_) => self.has(place, variable, leaf),
+        }
+    }
+
+    /// Adds the line of an instruction behind which a variable has this in place of something else.
+    fn add_change(
+        &self,
+        instr: &Instr,
+        came: Place,
+        variable: VarId,
+        leaf: Leaf,
+        lines: &mut Vec<Line>,
+    ) -> Result<(), Memory>
+        ensures { OnOk result (map line_seen lines.new.items ≡ map line_seen lines.old.items
+            ++ told.change (seen_of self.now.program.now) (method_seen self.now.method.now) came (instruction_seen instr.now) variable.0 leaf) }
+    {
+        let name = self.name_of(variable);
+        let line = match instr {
+            Instr::New { target, .. } => self.made(*target, variable, leaf)?,
+            Instr::Delete { at, .. } => line_of(self.alloc, at.place, name, b" deleted", b"")?,
+            Instr::Exchange { exchange, .. } => self.has(exchange.place, variable, leaf)?,
+            Instr::NewChannel { channel, .. } => self.has(channel.place, variable, leaf)?,
+            Instr::Send(sending) => self.sent(sending, variable, leaf)?,
+            Instr::Switch { .. } => self.has(came, variable, leaf)?,
+            Instr::Call(calling) => self.called(calling.place, variable, leaf)?,
+            Instr::Start(starting) => self.takes(starting.place, b"the process", name)?,
+            Instr::Use { .. } | Instr::Move { .. } | Instr::Branch { .. } => return Ok(()),
+            Instr::Forget { .. } | Instr::Return(_) | Instr::Stop { .. } => return Ok(()),
+        };
+        lines.push(line)?;
+        Ok(())
+    }
+
+    /// Adds what a step changes of what is watched. A switch went on at this place.
+    pub(crate) fn add_changes(
+        &self,
+        instr: &Instr,
+        came: Place,
+        watched: &[VarId],
+        step: &Step<'_>,
+        lines: &mut Vec<Line>,
+    ) -> Result<(), Memory>
+        ensures { OnOk result (map line_seen lines.new.items ≡ map line_seen lines.old.items
+            ++ told.changes (seen_of self.now.program.now) (method_seen self.now.method.now) came (instruction_seen instr.now)
+            (map (λ v. v.0) watched.now) (step_before step.now).1 (step_after step.now).1) }
+    {
+        if let Instr::Move { target, source, .. } = instr {
+            if !step.keeps_all(watched) {
+                let target_name = self.name_of(target.variable);
+                let source_name = self.name_of(source.variable);
+                lines.push(self.takes(target.place, target_name, source_name)?)?;
+            }
+            return Ok(());
+        }
+        for variable in watched {
+            if !step.keeps(*variable) {
+                let leaf = leaf_of(step.after.leaves(), *variable);
+                self.add_change(instr, came, *variable, leaf, lines)?;
+            }
+        }
+        Ok(())
+    }
+
+    /// Adds a line for each watched variable that has something where the method begins.
+    pub(crate) fn add_start(
+        &self,
+        watched: &[VarId],
+        first: &Row,
+        lines: &mut Vec<Line>,
+    ) -> Result<(), Memory>
+        ensures { OnOk result (map line_seen lines.new.items ≡ map line_seen lines.old.items
+            ++ told.start_lines (seen_of self.now.program.now) (method_seen self.now.method.now)
+            (map (λ v. v.0) watched.now) (leaves_of first.now)) }
+    {
+        for variable in watched {
+            let leaf = leaf_of(first.leaves(), *variable);
+            if leaf != Leaf::Nothing {
+                lines.push(self.has(self.method.name, *variable, leaf)?)?;
+            }
+        }
+        Ok(())
+    }
+}

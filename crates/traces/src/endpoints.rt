@@ -1,0 +1,120 @@
+//! Endpoints of a method, by the contracts of its program.
+
+ghost use Rattle.std.specs.Prelude.{◌≡◌, ℕ, option_map};
+ghost use Rattle.contracts.specs.Leaving.{end_on};
+ghost use Rattle.program.specs.Methods.{method_seen};
+ghost use Rattle.program.specs.Programs.{ProgramSeen};
+ghost use Rattle.rules.specs.Endpoints as table;
+ghost use Rattle.rules.specs.Mentions as mentioned;
+ghost use Rattle.rules.specs.Programs.{seen_of};
+ghost use Rattle.traces.specs.Lines as told;
+
+use crate::teller::Teller;
+use program::{Awaited, Kind, MessageId, Side, StateId, VarId};
+use rules::Leaf;
+
+impl Teller<'_> {
+    /// The name of a variable: none, where there is no such variable.
+    pub(crate) fn name_of(&self, variable: VarId) -> &[u8]
+        ensures { result.now ≡ mentioned.name_of (method_seen self.now.method.now) variable.0 }
+    {
+        match self.method.variables.get(variable.0) {
+            Some(variable) => &variable.name,
+            None => &[],
+        }
+    }
+
+    /// What a variable holds, if there is such a variable.
+    fn kind_of(&self, variable: VarId) -> Option<Kind>
+        ensures { result ≡ table.kind_of (method_seen self.now.method.now) variable.0 }
+    {
+        match self.method.variables.get(variable.0) {
+            Some(variable) => Some(variable.kind),
+            None => None,
+        }
+    }
+
+    /// The name of a message of the contract of an endpoint.
+    pub(crate) fn message_name(&self, endpoint: VarId, message: MessageId) -> &[u8]
+        ensures { result.now ≡ table.message_name (seen_of self.now.program.now)
+            (table.kind_of (method_seen self.now.method.now) endpoint.0) message.0 }
+    {
+        let Some(Kind::Endpoint { contract, .. }) = self.kind_of(endpoint) else {
+            return &[];
+        };
+        match self.program.sounds().get(contract.0 as usize) {
+            Some(sound) => sound.message_name(message),
+            None => &[],
+        }
+    }
+
+    /// How a state of the contract of an endpoint is printed.
+    pub(crate) fn state_name(&self, endpoint: VarId, state: u32) -> &[u8]
+        ensures { result.now ≡ told.state_name (seen_of self.now.program.now)
+            (table.kind_of (method_seen self.now.method.now) endpoint.0) state }
+    {
+        let Some(Kind::Endpoint { contract, .. }) = self.kind_of(endpoint) else {
+            return &[];
+        };
+        let Some(contract) = self.program.contracts().get(contract.0 as usize) else {
+            return &[];
+        };
+        let position = state.saturating_sub(contract.first.0);
+        match contract.states.get(position as usize) {
+            Some(state) => contract.state_name(*state),
+            None => &[],
+        }
+    }
+
+    /// What an endpoint that has this has behind what is awaited there.
+    pub(crate) fn awaited_leaf(&self, endpoint: VarId, awaited: Awaited, before: Leaf) -> Leaf
+        ensures { result ≡ told.awaited_leaf (seen_of self.now.program.now) (method_seen self.now.method.now) endpoint.0 awaited before }
+    {
+        let Awaited::Message(message) = awaited else {
+            return Leaf::CutOff;
+        };
+        let Leaf::State(state) = before else {
+            return Leaf::Nothing;
+        };
+        match self.received(endpoint, state, message) {
+            Some(next) => Leaf::State(next.0),
+            None => Leaf::Nothing,
+        }
+    }
+
+    /// Where an endpoint is behind a message that it receives in a state, if it may receive it there.
+    fn received(&self, endpoint: VarId, state: u32, message: MessageId) -> Option<StateId>
+        ensures { option_map (λ q. q.0) result ≡ end_on (table.edges_in (seen_of self.now.program.now)
+            (table.kind_of (method_seen self.now.method.now) endpoint.0) state) message.0 }
+    {
+        self.program
+            .sent(across(self.kind_of(endpoint)), state, message)
+    }
+}
+
+/// What is at the other end of an endpoint: what it sends is what this one receives.
+fn across(kind: Option<Kind>) -> Option<Kind>
+    ensures { (p : ProgramSeen) (state : ℕ) → table.edges_out p result state ≡ table.edges_in p kind state }
+{
+    match kind? {
+        Kind::Endpoint {
+            contract,
+            side: Side::Imp,
+            state,
+        } => Some(Kind::Endpoint {
+            contract,
+            side: Side::Exp,
+            state,
+        }),
+        Kind::Endpoint {
+            contract,
+            side: Side::Exp,
+            state,
+        } => Some(Kind::Endpoint {
+            contract,
+            side: Side::Imp,
+            state,
+        }),
+        Kind::Struct(_) | Kind::Array(_) => None,
+    }
+}

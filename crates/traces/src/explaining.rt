@@ -1,0 +1,164 @@
+//! Findings of a method, each with the lines of a shortest path to it.
+
+ghost use Rattle.std.specs.Prelude.{◌≡◌, ◌<◌, All, Contains, IfOk, IsSomeAnd, List, length, map, slice_get};
+ghost use Rattle.source.specs.Findings.{finding_parts};
+ghost use Rattle.flow.specs.Graphs.{graph_seen};
+ghost use Rattle.flow.specs.Lowering.{graph_of};
+ghost use Rattle.program.specs.Methods.{method_seen};
+ghost use Rattle.rules.specs.Breaches.{breach_in};
+ghost use Rattle.rules.specs.Outcomes.{Pair as PairSeen};
+ghost use Rattle.rules.specs.Programs.{seen_of};
+ghost use Rattle.analyse.specs.Reach.{Differ};
+ghost use Rattle.analyse.specs.Trails.{AreTrails, failures_of, says_all};
+ghost use Rattle.analyse.specs.Verdicts.{HasTooMany, IsMethodVerdict, place_of_method};
+ghost use Rattle.analyse.specs.Workers.{HasSeen, IsWorkerOf, own_of};
+ghost use Rattle.traces.specs.Explained.{IsExplained, explained_seen};
+
+use crate::line::{Explained, line_of};
+use crate::teller::Teller;
+use crate::watching::watched;
+use analyse::{Failure, MOST_PAIRS, Trails, Worker, trails_of};
+use intern::Rows;
+use itoa::Buffer;
+use program::MethodId;
+use rules::{Program, Row};
+use source::{Memory, Place, texts};
+use std::alloc::Global;
+
+/// What is found in a method, each finding once, and why: the lines of a shortest path from the method's entry to where a step fails so.
+/// That too many pairs are reached has no path.
+///
+/// `Memory` is answered where a growth was refused.
+pub fn explain(
+    alloc: Global,
+    program: &Program,
+    method: MethodId,
+    rows: &Rows,
+    worker: &mut Worker,
+) -> Result<Vec<Explained>, Memory>
+    requires there { method.0 < length (seen_of program.now).methods }
+    requires worker { IsWorkerOf rows.now worker.old }
+    ensures worker { IsWorkerOf rows.now worker.new }
+    ensures verdict { IfOk result (λ found. IsMethodVerdict (seen_of program.now) method.0 (map (λ e. finding_parts e.finding) found.items)) }
+    ensures explained { IfOk result (λ found. All (λ e. IsExplained (seen_of program.now) method.0 (explained_seen e)) found.items) }
+{
+    let found = trails_of(alloc, program, method, rows, worker)?;
+    let site = Site {
+        alloc,
+        program,
+        method,
+        rows,
+    };
+    match found {
+        Some(trails) => site.explain_failures(&trails, worker),
+        None => site.explain_too_many(),
+    }
+}
+
+/// What is explained: the failures of a method, whose rows stand in a table.
+#[derive(Clone, Copy)]
+struct Site<'a> {
+    alloc: Global,
+    program: &'a Program,
+    method: MethodId,
+    rows: &'a Rows,
+}
+
+impl Site<'_> {
+    /// Where the name of the method stands.
+    fn place(&self) -> Place
+        requires there { self.now.method.0 < length (seen_of self.now.program.now).methods }
+        ensures { result ≡ place_of_method (seen_of self.now.program.now) self.now.method.0 }
+    {
+        self.program.methods()[self.method.0 as usize].name
+    }
+
+    /// That too many pairs are reached.
+    fn explain_too_many(&self) -> Result<Vec<Explained>, Memory>
+        requires there { self.now.method.0 < length (seen_of self.now.program.now).methods }
+        requires many { HasTooMany (seen_of self.now.program.now) self.now.method.0 }
+        ensures verdict { IfOk result (λ found. IsMethodVerdict (seen_of self.now.program.now) self.now.method.0
+            (map (λ e. finding_parts e.finding) found.items)) }
+        ensures explained { IfOk result (λ found. All (λ e. IsExplained (seen_of self.now.program.now) self.now.method.0 (explained_seen e))
+            found.items) }
+    {
+        let place = self.place();
+        let mut digits = Buffer::new();
+        let most = digits.format(MOST_PAIRS);
+        let line = line_of(
+            self.alloc,
+            place,
+            b"more than ",
+            most.as_bytes(),
+            b" pairs are reached",
+        )?;
+        let mut lines = Vec::new(self.alloc);
+        lines.push(line)?;
+        let finding = texts::too_many_pairs(self.alloc, place)?;
+        let mut found = Vec::new(self.alloc);
+        found.push(Explained { finding, lines })?;
+        Ok(found)
+    }
+
+    /// Why steps of the method fail.
+    fn explain_failures(
+        &self,
+        trails: &Trails,
+        worker: &mut Worker,
+    ) -> Result<Vec<Explained>, Memory>
+        requires there { self.now.method.0 < length (seen_of self.now.program.now).methods }
+        requires worker { IsWorkerOf self.now.rows.now worker.old }
+        requires differ { Differ (own_of worker.old) }
+        requires trails { (pairs : List PairSeen) × HasSeen worker.old pairs
+            × AreTrails (seen_of self.now.program.now) self.now.method.0 pairs trails.now }
+        ensures worker { IsWorkerOf self.now.rows.now worker.new }
+        ensures found { IfOk result (λ found. map (λ e. finding_parts e.finding) found.items
+            ≡ says_all (breach_in (seen_of self.now.program.now) self.now.method.0) trails.now) }
+        ensures explained { IfOk result (λ found. All (λ e. IsExplained (seen_of self.now.program.now) self.now.method.0 (explained_seen e))
+            found.items) }
+    {
+        let mut found = Vec::new(self.alloc);
+        for failure in trails.failures() {
+            found.push(self.explain_failure(trails, *failure, worker)?)?;
+        }
+        Ok(found)
+    }
+
+    /// Why a step of the method fails so.
+    fn explain_failure(
+        &self,
+        trails: &Trails,
+        failure: Failure,
+        worker: &mut Worker,
+    ) -> Result<Explained, Memory>
+        requires there { self.now.method.0 < length (seen_of self.now.program.now).methods }
+        requires worker { IsWorkerOf self.now.rows.now worker.old }
+        requires differ { Differ (own_of worker.old) }
+        requires trails { (pairs : List PairSeen) × HasSeen worker.old pairs
+            × AreTrails (seen_of self.now.program.now) self.now.method.0 pairs trails.now }
+        requires known { Contains (failures_of trails.now) failure }
+        ensures worker { IsWorkerOf self.now.rows.now worker.new }
+        ensures differ { Differ (own_of worker.new) }
+        ensures seen { (pairs : List PairSeen) → HasSeen worker.old pairs → HasSeen worker.new pairs }
+        ensures finding { IfOk result (λ e. finding_parts e.finding
+            ≡ breach_in (seen_of self.now.program.now) self.now.method.0 failure.breach) }
+        ensures explained { IfOk result (λ e. IsExplained (seen_of self.now.program.now) self.now.method.0 (explained_seen e)) }
+    {
+        let teller = Teller {
+            alloc: self.alloc,
+            program: self.program,
+            method: &self.program.methods()[self.method.0 as usize],
+            graph: self.program.graph(self.method),
+        };
+        let finding = self
+            .program
+            .finding(self.alloc, self.method, failure.breach)?;
+        let places = trails.path_to(self.alloc, failure)?;
+        let mut row = Row::empty(self.alloc);
+        let point = worker.read_pair(self.rows, failure.at, &mut row)?;
+        let at = teller.instruction_at(point);
+        let about = watched(self.alloc, failure.breach.reason, at)?;
+        let lines = teller.path_lines(&about, &places, self.rows, worker)?;
+        Ok(Explained { finding, lines })
+    }
+}
