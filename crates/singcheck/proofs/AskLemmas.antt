@@ -12,7 +12,7 @@ use Rattle.clap.proofs.OnLiterals.{clap_on_literals}
 use Rattle.clap.proofs.WalkLemmas.{first_value-rows}
 use Rattle.singcheck.specs.Asking.{Asks, AsksOf, Gives, GivesReplay, IsReplayOf, whole_command}
 use Rattle.singcheck.specs.declared.request.Ask.{Ask}
-use Rattle.singcheck.specs.declared.request.Ask.TheVariants.{Bounds, Check, Replay}
+use Rattle.singcheck.specs.declared.request.Ask.TheVariants.{Bounds, Check, Replay, Why}
 
 whole_is_simple : is_simple whole_command ≡ true
 unfolding clap_on_literals
@@ -40,3 +40,4 @@ pub asks_replay : (words : List Text) (m inner : ArgMatches) (command : App) (as
 asks_replay words m inner command (Replay file entry schedule) is has name rows holds = asks_of words m inner (codes "replay") command (GivesReplay file.now entry.now schedule.now) is has name rows holds
 asks_replay words m inner command (Bounds file) is has name rows holds = absurd holds
 asks_replay words m inner command (Check file workers slots) is has name rows holds = absurd holds
+asks_replay words m inner command (Why file) is has name rows holds = absurd holds

@@ -10,7 +10,10 @@ use Rattle.program.specs.Programs.{ProgramSeen}
 use Rattle.singcheck.specs.Answers.{AreFindings}
 use Rattle.singcheck.specs.Checks.{AreCheckFindings, OfMethods, Checks, HasProgram, IsWrong}
 use Rattle.singcheck.specs.Lines.{clear_line}
-use Rattle.singcheck.specs.Named.{HasNames}
+use Rattle.rules.specs.Programs.{seen_of}
+use Rattle.singcheck.specs.Named.{AreNamed, HasNames, IsBuilt, IsBuiltOf}
+use Rattle.singcheck.specs.declared.programs.Built.{Built}
+use Rattle.singcheck.specs.declared.programs.Built.TheVariants as built
 use Rattle.singcheck.specs.Reports.{IsReport}
 use Rattle.singcheck.specs.Stages.{AreBroken}
 use Rattle.singcheck.specs.declared.fault.Status.{Status}
@@ -65,3 +68,16 @@ clear_is text bytes p found has none are is = record {
   none = λ f w. none_of f (subst (λ l. Contains (map finding_parts l) f) none (are.all f w));
   are = is;
 }
+
+-- what `clear` answers for such a program
+pub clear_ok : (p : ProgramSeen) (found : List Finding) → found ≡ [] → AreExactly (IsWrong p) (map finding_parts found) → (result : Result Report Memory) → IfOk result (λ r. r.bytes.items ≡ clear_line (length p.contracts) (length p.methods)) → IfOk result (λ r. r.status ≡ Empty)
+    → IfOk result (λ r. (text : List ℕ) → HasProgram text p → Checks text r.bytes.items r.status)
+clear_ok p found none are (Ok r) bytes is = λ text has. subst (Checks text r.bytes.items) (sym is) (clear_is text r.bytes.items p found has none are bytes)
+clear_ok p found none are (Err fault) bytes is = tt
+
+-- what a text comes to, from what its names and its contracts come to
+pub built_of : (text : List ℕ) (items : List ItemTree) (p : ProgramSeen) → AreNamed text items p → (b : Built) → IsBuilt p b → IsBuiltOf text b
+built_of text items p named (built.Found findings) broken = unsound_named text items p (map finding_parts findings.items) named.names broken
+built_of text items p named (built.Program program) one =
+    let same = subst (AreNamed text items) (sym one.same) named in
+    record { has = has_program text items (seen_of program) same.names one.sound; few = same.few; safe = one.safe }

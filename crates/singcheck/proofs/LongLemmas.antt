@@ -1,5 +1,5 @@
 -- A text has the answers of as much of it as is read: one that is too long has the fault of its length and no other.
-use Rattle.std.proofs.Common.{◌≡◌, ℕ, ◌+◌, ◌<◌, ◌≤◌, List, length, take, refl, subst, arith, ⊎_elim, length-take}
+use Rattle.std.proofs.Common.{◌≡◌, ℕ, ◌+◌, ◌<◌, ◌≤◌, inl, inr, List, length, take, refl, subst, arith, ⊎_elim, length-take}
 use Rattle.std.proofs.lemmas.Bool.{cases_lt}
 use Rattle.std.proofs.lemmas.List.{take_all}
 use Rattle.source.specs.Faults.{IsFault}
@@ -11,6 +11,7 @@ use Rattle.source.specs.declared.lexer.TheConstants.{MAX_TEXT}
 use Rattle.source.specs.declared.token.Token.{Token}
 use Rattle.singcheck.specs.Answers.{AreFindings, OfText, OfSyntax, OfNames, OfContracts, Answers}
 use Rattle.singcheck.specs.Checks.{AreCheckFindings, Before, OfMethods, Checks}
+use Rattle.singcheck.specs.Explains.{Explains}
 use Rattle.singcheck.specs.declared.fault.Status.{Status}
 use Rattle.singcheck.specs.declared.fault.Status.TheVariants.{Empty, Found}
 use Rattle.singcheck.specs.declared.reading.TheConstants.{MAX_READ}
@@ -55,6 +56,13 @@ checks_long : (text other bytes : List ℕ) (status : Status) → AreLong text o
 checks_long text other bytes Empty long told = no_program text long.one told.has.program.parsed.tokens told.has.program.parsed.lexed
 checks_long text other bytes Found long told = record { found = told.found; are = checked_long text other told.found long told.are; told = told.told }
 
+explains_long : (text other bytes : List ℕ) (status : Status) → AreLong text other → Explains text bytes status → Explains other bytes status
+explains_long text other bytes Empty long told = no_program text long.one told.has.program.parsed.tokens told.has.program.parsed.lexed
+explains_long text other bytes Found long told = elim told [
+  | inl before ↦ inl (record { found = before.found; are = findings_long text other before.found long before.are; told = before.told })
+  | inr reasons ↦ no_program text long.one reasons.has.program.parsed.tokens reasons.has.program.parsed.lexed
+]
+
 -- what holds of the bytes that are read holds of the text, where it holds of all texts too long if of one
 pub of_front : (P : List ℕ → Type 0) (limit most : ℕ) → most ≡ limit + 1 → ((front text : List ℕ) → limit < length front → limit < length text → P front → P text) → (text : List ℕ) → P (take most text) → P text
 of_front P limit most one_more long text told = ⊎_elim
@@ -69,6 +77,11 @@ pub record IsOfFront (answer : List ℕ → List ℕ → Status → Type 0) (mos
 pub answers_of_front : IsOfFront Answers MAX_READ
 answers_of_front = record {
   whole = λ text bytes status. of_front (λ t. Answers t bytes status) MAX_TEXT MAX_READ refl (λ a b x y. answers_long a b bytes status (record { one = x; two = y })) text;
+}
+
+pub explains_of_front : IsOfFront Explains MAX_READ
+explains_of_front = record {
+  whole = λ text bytes status. of_front (λ t. Explains t bytes status) MAX_TEXT MAX_READ refl (λ a b x y. explains_long a b bytes status (record { one = x; two = y })) text;
 }
 
 pub checks_of_front : IsOfFront Checks MAX_READ

@@ -28,20 +28,23 @@ pub verdict_exactly : (p : ProgramSeen) (n : ℕ) (found : List FindingParts) �
 verdict_exactly p n found verdict = record { right = λ f h. (verdict.exactly f).0 h; all = λ f w. (verdict.exactly f).1 w }
 
 -- one more method
-pub of_methods_more : (p : ProgramSeen) (methods : List ℕ) (n : ℕ) (old new : List Finding) → AreOfMethods p methods (map finding_parts old) → AddsVerdict p n old new → AreOfMethods p (methods ++ n ∷ []) (map finding_parts new)
-of_methods_more p methods n old new so_far adds = record {
+pub of_methods_then : (p : ProgramSeen) (methods : List ℕ) (n : ℕ) (old more new : List FindingParts) → AreOfMethods p methods old → AreExactly (IsFoundIn p n) more → new ≡ old ++ more → AreOfMethods p (methods ++ n ∷ []) new
+of_methods_then p methods n old more new so_far exactly added = record {
   right = λ f h. ⊎_elim
       (λ earlier. let r = so_far.right f earlier in (r.0, Contains-append_left methods (n ∷ []) r.0 r.1, r.2))
-      (λ here. (n, Contains-push methods n, adds.exactly.right f here))
-      (Contains-append_cases (map finding_parts old) adds.more f (subst (λ l. Contains l f) adds.added h));
-  all = λ f w. subst (λ l. Contains l f) (sym adds.added) (which f w);
+      (λ here. (n, Contains-push methods n, exactly.right f here))
+      (Contains-append_cases old more f (subst (λ l. Contains l f) added h));
+  all = λ f w. subst (λ l. Contains l f) (sym added) (which f w);
 }
   where
-    which : (f : FindingParts) → IsWrongAmong p (methods ++ n ∷ []) f → Contains (map finding_parts old ++ adds.more) f
+    which : (f : FindingParts) → IsWrongAmong p (methods ++ n ∷ []) f → Contains (old ++ more) f
     which f w = ⊎_elim
-        (λ earlier. Contains-append_left (map finding_parts old) adds.more f (so_far.all f (w.0, earlier, w.2)))
-        (λ (same : n ≡ w.0). Contains-append_right (map finding_parts old) adds.more f (adds.exactly.all f (subst (λ k. IsFoundIn p k f) (sym same) w.2)))
+        (λ earlier. Contains-append_left old more f (so_far.all f (w.0, earlier, w.2)))
+        (λ (same : n ≡ w.0). Contains-append_right old more f (exactly.all f (subst (λ k. IsFoundIn p k f) (sym same) w.2)))
         (Contains-push_cases methods n w.0 w.1)
+
+pub of_methods_more : (p : ProgramSeen) (methods : List ℕ) (n : ℕ) (old new : List Finding) → AreOfMethods p methods (map finding_parts old) → AddsVerdict p n old new → AreOfMethods p (methods ++ n ∷ []) (map finding_parts new)
+of_methods_more p methods n old new so_far adds = of_methods_then p methods n (map finding_parts old) adds.more (map finding_parts new) so_far adds.exactly adds.added
 
 -- no method yet
 pub of_no_methods : (p : ProgramSeen) → AreOfMethods p [] []

@@ -5,7 +5,7 @@ use Rattle.clap.specs.declared.builder.ArgAction.TheVariants.{Set}
 use Rattle.clap.specs.declared.builder.command.Command.{Command}
 use Rattle.clap.specs.declared.builder.command.Command.TheViews.{out-Command}
 use Rattle.singcheck.specs.declared.request.Ask.{Ask}
-use Rattle.singcheck.specs.declared.request.Ask.TheVariants.{Bounds, Check, Replay}
+use Rattle.singcheck.specs.declared.request.Ask.TheVariants.{Bounds, Check, Replay, Why}
 
 -- a text that has to be given
 abbrev pub text_rule : Text → Rule
@@ -31,15 +31,21 @@ check_command = with_rule (with_rule (file_command (codes "check")) (number_rule
 abbrev pub replay_command : App
 replay_command = with_rule (with_rule (file_command (codes "replay")) (text_rule (codes "ENTRY"))) (text_rule (codes "SCHEDULE"))
 
+-- `why FILE`
+abbrev pub why_command : App
+why_command = file_command (codes "why")
+
 -- `singcheck` with nothing yet, where a subcommand has to be given; it has a version
 abbrev pub bare_command : App
 bare_command = record (new_app (codes "singcheck")) {
   top = record (new_app (codes "singcheck")).top { has_version = true; subcommand_required = true; arg_required_else_help = true };
 }
 
--- `singcheck bounds FILE`, `singcheck check FILE` and `singcheck replay FILE ENTRY SCHEDULE`
+-- `singcheck bounds FILE`, `singcheck check FILE`, `singcheck replay FILE ENTRY SCHEDULE` and `singcheck why FILE`
 abbrev pub whole_command : App
-whole_command = with_subcommand (with_subcommand (with_subcommand bare_command bounds_command.top) check_command.top) replay_command.top
+whole_command =
+    with_subcommand (with_subcommand (with_subcommand (with_subcommand bare_command bounds_command.top) check_command.top) replay_command.top)
+    why_command.top
 
 -- a command in memory is this one, and has no arguments that its subcommands share
 pub record IsCommand (app : App) (c : Command) : Type 0 where
@@ -65,6 +71,7 @@ GivesReplay file entry schedule rows =
 abbrev pub Asks : List Text → Ask → Type 0
 Asks words (Bounds file) = AsksOf words (codes "bounds") (λ rows. Gives rows (codes "FILE") file.now)
 Asks words (Check file workers slots) = AsksOf words (codes "check") (λ rows. Gives rows (codes "FILE") file.now)
+Asks words (Why file) = AsksOf words (codes "why") (λ rows. Gives rows (codes "FILE") file.now)
 Asks words (Replay file entry schedule) = AsksOf words (codes "replay") (GivesReplay file.now entry.now schedule.now)
 
 -- the arguments of `replay` give what is asked for

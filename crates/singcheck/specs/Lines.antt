@@ -2,11 +2,16 @@
 use Rattle.std.specs.Prelude.{ℕ, List, ◌++◌, codes}
 use Rattle.std.specs.Fmt.{decimal}
 use Rattle.source.specs.Findings.{FindingParts, code_name}
+use Rattle.traces.specs.Lines.{LineSeen}
 
 -- `LINE:COL CODE text`
 abbrev pub finding_line : FindingParts → List ℕ
 finding_line f = decimal f.place.line ++ codes ":" ++ decimal f.place.col ++ codes " " ++ code_name f.code ++ codes " "
     ++ f.text ++ codes "\n"
+
+-- `  LINE:COL text`
+abbrev pub trace_line : LineSeen → List ℕ
+trace_line l = codes "  " ++ decimal l.place.line ++ codes ":" ++ decimal l.place.col ++ codes " " ++ l.text ++ codes "\n"
 
 -- `findings: N`
 abbrev pub count_line : ℕ → List ℕ

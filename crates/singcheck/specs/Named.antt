@@ -14,6 +14,7 @@ use Rattle.resolving.specs.Methods.{methods_told}
 use Rattle.rules.specs.Programs.{seen_of}
 use Rattle.rules.specs.declared.lowered.Program.{Program}
 use Rattle.singcheck.specs.Answers.{AreFindings, IsProgram}
+use Rattle.singcheck.specs.Checks.{HasProgram}
 use Rattle.singcheck.specs.Entered.{AreCleanSafe}
 use Rattle.singcheck.specs.Stages.{AreBroken}
 use Rattle.singcheck.specs.declared.programs.Built.{Built}
@@ -47,6 +48,17 @@ pub record IsSoundOne (p : ProgramSeen) (program : Program) : Type 0 where
   pub same : seen_of program ≡ p
   pub sound : All (λ c. IsSound c.parts) (seen_of program).contracts
   pub safe : AreCleanSafe (seen_of program)
+
+-- the program of a text, with which nothing is wrong before its methods, and what is known of it
+pub record IsProgramBefore (text : List ℕ) (program : Program) : Type 0 where
+  pub has : HasProgram text (seen_of program)
+  pub few : length (seen_of program).methods ≤ MOST_METHODS
+  pub safe : AreCleanSafe (seen_of program)
+
+-- what is wrong with a text before its methods, or its program where nothing is
+abbrev pub IsBuiltOf : List ℕ → Built → Type 0
+IsBuiltOf text (built.Found findings) = AreFindings text (map finding_parts findings.items)
+IsBuiltOf text (built.Program program) = IsProgramBefore text program
 
 -- what is wrong with the contracts of a program, or the program where nothing is
 abbrev pub IsBuilt : ProgramSeen → Built → Type 0

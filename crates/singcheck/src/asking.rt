@@ -46,6 +46,11 @@ pub fn ask<'a>(alloc: Global, words: &'a [&'a str]) -> Result<Ask<'a>, Error>
             });
         }
     }
+    if let Some(("why", inner)) = matches.subcommand() {
+        if let Some(file) = inner.get_str("FILE") {
+            return Ok(Ask::Why { file });
+        }
+    }
     if let Some(("replay", inner)) = matches.subcommand() {
         if let Some(asked) = replay_asked(inner) {
             return Ok(asked);

@@ -1,32 +1,25 @@
 //! The check of a text, its methods too.
 
 ghost use Rattle.std.specs.Prelude.{◌≡◌, ◌<◌, ◌^◌, true, ℕ, map, length, List, IfOk, IfErr, OnOk};
-ghost use Rattle.source.specs.Findings.{finding_parts};
 ghost use Rattle.rules.specs.Programs.{seen_of};
 ghost use Rattle.sound.specs.Premises.{NothingIsFound};
 ghost use Rattle.singcheck.specs.Checks.{Checks, HasProgram};
 ghost use Rattle.singcheck.specs.CheckFaults.{AreUnfit, Explains, workers_fit, slots_fit};
-ghost use Rattle.singcheck.specs.Reports.{IsReport};
 ghost use Rattle.singcheck.specs.Safety.{IsSafeText};
-ghost use Rattle.singcheck.specs.Stages.{IsProgramOf};
 
 use crate::fault::{CheckFault, Status};
 use crate::laws::one_program;
 use crate::limits::{MOST_SLOTS, MOST_WORKERS};
-use crate::lines::add_clear;
-use crate::programs::{Built, Named, judged_program, named_methods};
-use crate::report::{Report, report_of};
-use crate::stages::{Parsed, parse_text};
+use crate::programs::{Built, program_of};
+use crate::report::{Report, clear, reported};
 use crate::tools::Tools;
 use crate::verdicts::analyse_methods;
 use pool::Gate;
 use rules::Program;
 use shelf::Shelf;
-use source::{Finding, Memory};
-use std::alloc::Global;
+use source::Memory;
 use std::sync::Wait;
 use std::thread::Threads;
-use tree::Tree;
 
 /// Checks a text: the report of the first stage that has findings (the text, its names, its contracts, its methods), with
 /// status `Found`, or the line `ok: C contracts, M methods`, with status `Empty`.
@@ -110,43 +103,9 @@ pub(crate) fn check_text<R: Threads + Wait + Sync, G: Gate>(
     ensures report { IfOk result (λ r. Checks text.now r.bytes.items r.status) }
     ensures safe { IfOk result (λ r. r.status ≡ Status.Empty → IsSafeText text.now) }
 {
-    match parse_text(tools.alloc, text)? {
-        Parsed::Found(findings) => reported(tools.alloc, findings),
-        Parsed::Program(tree) => check_program(tools, text, tree),
-    }
-}
-
-/// The report of findings.
-fn reported(alloc: Global, findings: Vec<Finding>) -> Result<Report, Memory>
-    ensures bytes { IfOk result (λ r. IsReport (map finding_parts findings.items) r.bytes.items) }
-    ensures status { IfOk result (λ r. r.status ≡ Status.Found) }
-{
-    Ok(Report {
-        bytes: report_of(alloc, findings)?,
-        status: Status::Found,
-    })
-}
-
-/// The report of a program.
-fn check_program<R: Threads + Wait + Sync, G: Gate>(
-    tools: &Tools<'_, R, G>,
-    text: &[u8],
-    tree: Tree,
-) -> Result<Report, Memory>
-    requires program { IsProgramOf text.now tree }
-    ensures report { IfOk result (λ r. Checks text.now r.bytes.items r.status) }
-    ensures safe { IfOk result (λ r. r.status ≡ Status.Empty → IsSafeText text.now) }
-{
-    let alloc = tools.alloc;
-    let named = named_methods(alloc, &tree, text)?;
-    drop(tree); // the contracts are judged without it, which spares its memory
-    let methods = match named {
-        Named::Found(findings) => return reported(alloc, findings),
-        Named::Methods(methods) => methods,
-    };
     one_program();
-    match judged_program(alloc, methods)? {
-        Built::Found(findings) => reported(alloc, findings),
+    match program_of(tools.alloc, text)? {
+        Built::Found(findings) => reported(tools.alloc, findings),
         Built::Program(program) => check_methods(tools, &program),
     }
 }
@@ -165,12 +124,5 @@ fn check_methods<R: Threads + Wait + Sync, G: Gate>(
     if !findings.is_empty() {
         return reported(alloc, findings);
     }
-    let mut bytes = Vec::new(alloc);
-    let contracts = program.contracts().len();
-    let methods = program.methods().len();
-    add_clear(&mut bytes, contracts, methods)?;
-    Ok(Report {
-        bytes,
-        status: Status::Empty,
-    })
+    clear(alloc, program)
 }

@@ -2,7 +2,7 @@
 
 ghost use Rattle.std.specs.Prelude.{◌≡◌, codes, false, IfOk};
 ghost use Rattle.clap.specs.Words.{rule_of};
-ghost use Rattle.singcheck.specs.Asking.{text_rule, number_rule, bounds_command, check_command, replay_command, whole_command, IsCommand};
+ghost use Rattle.singcheck.specs.Asking.{text_rule, number_rule, bounds_command, check_command, replay_command, why_command, whole_command, IsCommand};
 
 use clap::{Arg, ArgAction, Command};
 use std::alloc::{AllocError, Global};
@@ -30,6 +30,9 @@ const CHECK_EXAMPLE: &str = "Example: singcheck check --workers 8 examples/shop.
 /// What help says behind the arguments of `replay`.
 const REPLAY_EXAMPLE: &str =
     "Example: singcheck replay examples/shop.sg Street.Main examples/shop.schedule";
+
+/// What help says behind the arguments of `why`.
+const WHY_EXAMPLE: &str = "Example: singcheck why examples/shop.sg";
 
 /// A text that has to be given.
 fn text_of<'a>(alloc: Global, name: &'a str, help: &'a str) -> Arg<'a>
@@ -112,6 +115,16 @@ fn replay_of<'a>(alloc: Global) -> Result<Command<'a>, AllocError>
         ))
 }
 
+/// `why FILE`.
+fn why_of<'a>(alloc: Global) -> Result<Command<'a>, AllocError>
+    ensures { IfOk result (IsCommand why_command) }
+{
+    Command::new(alloc, "why")
+        .about("Prints what is wrong in a program, and how each method gets there")
+        .after_help(WHY_EXAMPLE)
+        .arg(file_of(alloc))
+}
+
 /// The whole command line.
 pub(crate) fn whole_of<'a>(alloc: Global) -> Result<Command<'a>, AllocError>
     ensures { IfOk result (IsCommand whole_command) }
@@ -125,5 +138,6 @@ pub(crate) fn whole_of<'a>(alloc: Global) -> Result<Command<'a>, AllocError>
         .bin_name("singcheck")?
         .subcommand(bounds_of(alloc)?)?
         .subcommand(check_of(alloc)?)?
-        .subcommand(replay_of(alloc)?)
+        .subcommand(replay_of(alloc)?)?
+        .subcommand(why_of(alloc)?)
 }

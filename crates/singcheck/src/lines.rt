@@ -3,10 +3,12 @@
 ghost use Rattle.std.specs.Prelude.{◌≡◌, ◌++◌, OnOk};
 ghost use Rattle.std.specs.Fmt.{decimal};
 ghost use Rattle.source.specs.Findings.{finding_parts};
-ghost use Rattle.singcheck.specs.Lines.{finding_line, count_line, bounds_line, ok_line, clear_line};
+ghost use Rattle.traces.specs.Lines.{line_seen};
+ghost use Rattle.singcheck.specs.Lines.{finding_line, trace_line, count_line, bounds_line, ok_line, clear_line};
 
 use itoa::Buffer;
 use source::{Finding, Memory};
+use traces::Line;
 
 /// Adds a text.
 fn add(answer: &mut Vec<u8>, text: &str) -> Result<(), Memory>
@@ -35,6 +37,19 @@ pub(crate) fn add_finding(answer: &mut Vec<u8>, finding: &Finding) -> Result<(),
     add(answer, finding.code.name())?;
     add(answer, " ")?;
     add(answer, finding.text.as_str())?;
+    add(answer, "\n")
+}
+
+/// Adds a line of a trace: `  LINE:COL text`.
+pub(crate) fn add_line(answer: &mut Vec<u8>, line: &Line) -> Result<(), Memory>
+    ensures { OnOk result (answer.new.items ≡ answer.old.items ++ trace_line (line_seen line.now)) }
+{
+    add(answer, "  ")?;
+    add_number(answer, line.place.line as usize)?;
+    add(answer, ":")?;
+    add_number(answer, line.place.col as usize)?;
+    add(answer, " ")?;
+    answer.extend_from_slice(&line.text)?;
     add(answer, "\n")
 }
 

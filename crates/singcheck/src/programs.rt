@@ -4,10 +4,11 @@ ghost use Rattle.std.specs.Prelude.{◌<◌, ◌^◌, All, IfOk, length};
 ghost use Rattle.tree.specs.Trees.{program_tree};
 ghost use Rattle.program.specs.Parts.{IsWhole};
 ghost use Rattle.program.specs.Programs.{contracts_seen, program_seen};
-ghost use Rattle.singcheck.specs.Named.{IsBuilt, IsNamed};
+ghost use Rattle.singcheck.specs.Named.{IsBuilt, IsBuiltOf, IsNamed};
 ghost use Rattle.singcheck.specs.Stages.{IsProgramOf};
 
 use crate::soundness::{Judgement, judged};
+use crate::stages::{Parsed, parse_text};
 use names::{NameFaults, resolve};
 use program::Methods;
 use rules::Program;
@@ -33,6 +34,22 @@ pub(crate) enum Built {
     Found(Vec<Finding>),
     /// Nothing is: the program.
     Program(Program),
+}
+
+/// The stages of a text before its methods: what the first of them finds that finds something, and where none does the program.
+pub(crate) fn program_of(alloc: Global, text: &[u8]) -> Result<Built, Memory>
+    ensures { IfOk result (IsBuiltOf text.now) }
+{
+    let tree = match parse_text(alloc, text)? {
+        Parsed::Found(findings) => return Ok(Built::Found(findings)),
+        Parsed::Program(tree) => tree,
+    };
+    let named = named_methods(alloc, &tree, text)?;
+    drop(tree); // the contracts are judged without it, which spares its memory
+    match named {
+        Named::Found(findings) => Ok(Built::Found(findings)),
+        Named::Methods(methods) => judged_program(alloc, methods),
+    }
 }
 
 /// The stage of the names. What it answers needs the tree no more.

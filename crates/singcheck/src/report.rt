@@ -1,12 +1,15 @@
 //! The report of findings.
 
-ghost use Rattle.std.specs.Prelude.{◌≡◌, map, IfOk};
+ghost use Rattle.std.specs.Prelude.{◌≡◌, map, length, IfOk};
 ghost use Rattle.source.specs.Findings.{finding_parts};
+ghost use Rattle.rules.specs.Programs.{seen_of};
+ghost use Rattle.singcheck.specs.Lines.{clear_line};
 ghost use Rattle.singcheck.specs.Reports.{IsReport, report_bytes};
 
 use crate::fault::Status;
-use crate::lines::{add_count, add_finding};
+use crate::lines::{add_clear, add_count, add_finding};
 use reports::in_report_order;
+use rules::Program;
 use source::{Finding, Memory};
 use std::alloc::Global;
 
@@ -15,6 +18,33 @@ use std::alloc::Global;
 pub struct Report {
     pub bytes: Vec<u8>,
     pub status: Status,
+}
+
+/// The report of findings.
+pub(crate) fn reported(alloc: Global, findings: Vec<Finding>) -> Result<Report, Memory>
+    ensures bytes { IfOk result (λ r. IsReport (map finding_parts findings.items) r.bytes.items) }
+    ensures status { IfOk result (λ r. r.status ≡ Status.Found) }
+{
+    Ok(Report {
+        bytes: report_of(alloc, findings)?,
+        status: Status::Found,
+    })
+}
+
+/// The answer to a program in which nothing is found.
+pub(crate) fn clear(alloc: Global, program: &Program) -> Result<Report, Memory>
+    ensures bytes { IfOk result (λ r. r.bytes.items
+        ≡ clear_line (length (seen_of program.now).contracts) (length (seen_of program.now).methods)) }
+    ensures status { IfOk result (λ r. r.status ≡ Status.Empty) }
+{
+    let mut bytes = Vec::new(alloc);
+    let contracts = program.contracts().len();
+    let methods = program.methods().len();
+    add_clear(&mut bytes, contracts, methods)?;
+    Ok(Report {
+        bytes,
+        status: Status::Empty,
+    })
 }
 
 /// The report: a line a finding, sorted by line, column, code and text, each once, and then their number.

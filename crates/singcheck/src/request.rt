@@ -13,6 +13,10 @@ pub enum Ask<'a> {
         workers: usize,
         slots: usize,
     },
+    /// What is wrong in this file, and how each method gets there.
+    Why {
+        file: &'a str,
+    },
     /// What the events of a schedule, which stands in a file, come to in this file from an entry, `Class.Method`.
     Replay {
         file: &'a str,

@@ -4,7 +4,7 @@
 use clap::error::ErrorKind;
 use singcheck::{
     Ask, Counted, Input, Open, RunFault, Sink, Status, ask, ending, run_bounds, run_check,
-    run_replay,
+    run_replay, run_why,
 };
 use std::alloc::{AllocError, Global};
 use std::fs::File;
@@ -80,6 +80,7 @@ fn answer<R: AllocGlobal + Files + Print + Eprint + Threads + Wait + Sync, O: Si
                 schedule,
             },
         ) => replayed(rt, file, entry, schedule, output, errors),
+        Ok(Ask::Why { file }) => why(rt, file, output, errors),
         Err(refusal) if refusal.kind() == ErrorKind::OutOfMemory => {
             ending(&RunFault::Memory, "", errors)
         }
@@ -143,6 +144,19 @@ fn replayed<R: AllocGlobal + Files, O: Sink, E: Sink>(
         _ => file,
     };
     status(answered, name, errors)
+}
+
+fn why<R: AllocGlobal + Files, O: Sink, E: Sink>(
+    rt: &R,
+    file: &str,
+    output: &mut O,
+    errors: &mut E,
+) -> u8 {
+    let Ok(text) = fs::open(rt, file) else {
+        return ending(&RunFault::Read(Input::Text), file, errors);
+    };
+    let answered = run_why(rt.alloc(), &mut Counted::new(text), output);
+    status(answered, file, errors)
 }
 
 /// The exit status of a run.

@@ -14,3 +14,7 @@ returns-in-Some-get_str c = asks_of (map (λ w. w.now) c.args.words.now) c.in_ok
 
 pub returns-in-Some-replay_asked : goal.returns-in-Some-replay_asked
 returns-in-Some-replay_asked c = asks_replay (map (λ w. w.now) c.args.words.now) c.in_ok-matches.matches c.in-Some-replay-default.inner.now (app_of c.in_ok-command.command) c.in-Some-replay_asked.asked c.in_ok-command.ensures.same c.in_ok-matches.ensures.ok.2 (sym c.in-Some-replay-default.ensures.name ∙ ap Some c.in-Some-replay-default.is-replay) (sym c.in-Some-replay-default.ensures.rows) c.in-Some-replay_asked.ensures
+
+pub returns-in-Some-get_str-2 : goal.returns-in-Some-get_str-2
+returns-in-Some-get_str-2 c = asks_of (map (λ w. w.now) c.args.words.now) c.in_ok-matches.matches c.in-Some-why-default.inner.now (codes "why") (app_of c.in_ok-command.command) (λ rows. Gives rows (codes "FILE") c.in-Some-get_str-2.file.now) c.in_ok-command.ensures.same c.in_ok-matches.ensures.ok.2 (sym c.in-Some-why-default.ensures.name ∙ ap Some c.in-Some-why-default.is-why) (sym c.in-Some-why-default.ensures.rows)
+    (gives c.in-Some-why-default.inner.now (codes "FILE") c.in-Some-get_str-2.file.now (sym c.in-Some-get_str-2.ensures))

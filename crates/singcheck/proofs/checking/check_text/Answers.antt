@@ -1,16 +1,37 @@
-use Rattle.std.proofs.Common.{map, subst}
+use Rattle.std.proofs.Common.{arith, map, subst}
+use Rattle.std.proofs.lemmas.Result.{IfOk-weaker}
 use Rattle.source.specs.Findings.{finding_parts}
+use Rattle.rules.specs.Programs.{seen_of}
 use Rattle.singcheck.specs.Checks.{Before}
-use Rattle.singcheck.specs.Stages.{IsParsed}
+use Rattle.singcheck.specs.Named.{IsBuiltOf}
 use Rattle.singcheck.specs.Safety.{IsSafeText}
 use Rattle.singcheck.proofs.CheckLemmas.{reported_ok}
-use Rattle.singcheck.proofs.SafetyLemmas.{found_unsafe}
+use Rattle.singcheck.proofs.SafetyLemmas.{found_unsafe, safe_text}
 use Rattle.singcheck.proofs.checking.check_text.Goals as goal
 
 pub returns-in-Found-clause-report : goal.returns-in-Found-clause-report
 returns-in-Found-clause-report g c =
-    reported_ok c.args.text.now (map finding_parts c.in-Found.findings.items) (Before (subst (IsParsed c.args.text.now) c.in-Found.is c.in_ok-findings.ensures))
+    let text = c.args.text.now in
+    reported_ok text (map finding_parts c.in-Found.findings.items) (Before (subst (IsBuiltOf text) c.in-Found.is c.in_ok-findings.ensures))
     c.reported.result c.reported.ensures.bytes c.reported.ensures.status
 
 pub returns-in-Found-clause-safe : goal.returns-in-Found-clause-safe
 returns-in-Found-clause-safe g c = found_unsafe (IsSafeText c.args.text.now) c.reported.result c.reported.ensures.status
+
+pub returns-in-Program-clause-report : goal.returns-in-Program-clause-report
+returns-in-Program-clause-report g c =
+    let text = c.args.text.now in
+    let built = subst (IsBuiltOf text) c.in-Program.is c.in_ok-findings.ensures in
+    IfOk-weaker c.check_methods.result _ _ (λ r told. told text built.has) c.check_methods.ensures.report
+
+pub returns-in-Program-clause-safe : goal.returns-in-Program-clause-safe
+returns-in-Program-clause-safe g c =
+    let text = c.args.text.now in
+    let p = seen_of c.in-Program.program in
+    let built = subst (IsBuiltOf text) c.in-Program.is c.in_ok-findings.ensures in
+    IfOk-weaker c.check_methods.result _ _ (λ r clean empty. safe_text text p (λ q other. c.one_program.ensures text p q built.has other) (clean empty) built.safe) c.check_methods.ensures.clean
+
+pub check_methods-requires-clause-few : goal.check_methods-requires-clause-few
+check_methods-requires-clause-few g c κs within =
+    let built = subst (IsBuiltOf c.args.text.now) c.in-Program.is c.in_ok-findings.ensures in
+    omega (arith, built.few)

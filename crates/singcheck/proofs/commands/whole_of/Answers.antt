@@ -4,7 +4,7 @@ use Rattle.clap.specs.Words.{with_subcommand}
 use Rattle.clap.specs.Simple.{app_of_fields, on_top}
 use Rattle.clap.specs.declared.builder.command.Command.{Command}
 use Rattle.clap.specs.declared.builder.command.Command.TheOpen.{Command-F}
-use Rattle.singcheck.specs.Asking.{IsCommand, bare_command, bounds_command, check_command, replay_command}
+use Rattle.singcheck.specs.Asking.{IsCommand, bare_command, bounds_command, check_command, replay_command, why_command}
 use Rattle.singcheck.proofs.CommandLemmas.{with_command}
 use Rattle.singcheck.proofs.commands.whole_of.Goals as goal
 
@@ -22,4 +22,6 @@ returns c =
     } in
     let first = with_command bare_command bounds_command c.in_ok-bin_name.field-0 c.in_ok-subcommand.field-0 c.in_ok-bounds_of.field-0 bare c.in_ok-bounds_of.ensures c.in_ok-subcommand.ensures in
     let second = with_command (with_subcommand bare_command bounds_command.top) check_command c.in_ok-subcommand.field-0 c.in_ok-subcommand-2.field-0 c.in_ok-check_of.field-0 first c.in_ok-check_of.ensures c.in_ok-subcommand-2.ensures in
-    IfOk-weaker c.subcommand-3.result _ _ (λ r h. with_command (with_subcommand (with_subcommand bare_command bounds_command.top) check_command.top) replay_command c.in_ok-subcommand-2.field-0 r c.in_ok-replay_of.field-0 second c.in_ok-replay_of.ensures h) c.subcommand-3.ensures
+    let two = with_subcommand (with_subcommand bare_command bounds_command.top) check_command.top in
+    let third = with_command two replay_command c.in_ok-subcommand-2.field-0 c.in_ok-subcommand-3.field-0 c.in_ok-replay_of.field-0 second c.in_ok-replay_of.ensures c.in_ok-subcommand-3.ensures in
+    IfOk-weaker c.subcommand-4.result _ _ (λ r h. with_command (with_subcommand two replay_command.top) why_command c.in_ok-subcommand-3.field-0 r c.in_ok-why_of.field-0 third c.in_ok-why_of.ensures h) c.subcommand-4.ensures

@@ -1,0 +1,80 @@
+//! The report with a trace under each finding.
+
+ghost use Rattle.std.specs.Prelude.{◌≡◌, ◌<◌, ◌^◌, ◌↔◌, ◌++◌, All, Contains, IfOk, OnOk, length, map};
+ghost use Rattle.std.specs.List.Sorted.{IsStrictlySortedBy};
+ghost use Rattle.contracts.specs.Conditions.{AreExactly};
+ghost use Rattle.reports.specs.Orders.{report_cmp};
+ghost use Rattle.rules.specs.Programs.{seen_of};
+ghost use Rattle.source.specs.Findings.{FindingParts, finding_parts};
+ghost use Rattle.traces.specs.Explained.{explained_seen};
+ghost use Rattle.traces.specs.declared.line.Explained.{Explained as ExplainedSeen};
+ghost use Rattle.singcheck.specs.Checks.{IsWrong};
+ghost use Rattle.singcheck.specs.Explains.{IsExplainedIn, explained_bytes, explained_lines};
+
+use crate::lines::{add_count, add_finding, add_line};
+use crate::seats::table;
+use analyse::Worker;
+use program::MethodId;
+use rules::Program;
+use source::{Memory, compare};
+use std::alloc::Global;
+use traces::{Explained, explain};
+
+/// How many slots the table of rows has.
+const SLOTS: usize = 65_536;
+
+/// What is found in all methods, and why, in no order.
+///
+/// `Memory` is answered where a growth was refused.
+pub(crate) fn explain_methods(alloc: Global, program: &Program) -> Result<Vec<Explained>, Memory>
+    requires few { length (seen_of program.now).methods < 2 ^ 32 }
+    ensures found { IfOk result (λ found. AreExactly (IsWrong (seen_of program.now)) (map (λ e. finding_parts e.finding) found.items)) }
+    ensures each { IfOk result (λ found. All (λ e. IsExplainedIn (seen_of program.now) (explained_seen e)) found.items) }
+{
+    let (rows, seat) = table(alloc, SLOTS)?;
+    let mut worker = Worker::new(alloc, seat);
+    let mut found = Vec::new(alloc);
+    for number in 0..program.methods().len() as u32 {
+        let mut more = explain(alloc, program, MethodId(number), &rows, &mut worker)?;
+        found.append(&mut more)?;
+    }
+    Ok(found)
+}
+
+/// The same in the order of a report, each finding once.
+///
+/// `Memory` is answered where a growth was refused.
+pub(crate) fn explained_in_order(explained: Vec<Explained>) -> Result<Vec<Explained>, Memory>
+    ensures same { IfOk result (λ listed. (f : FindingParts) → Contains (map (λ e. finding_parts e.finding) listed.items) f
+        ↔ Contains (map (λ e. finding_parts e.finding) explained.items) f) }
+    ensures among { IfOk result (λ listed. (e : ExplainedSeen) → Contains listed.items e → Contains explained.items e) }
+    ensures ordered { IfOk result (λ listed. IsStrictlySortedBy report_cmp (map (λ e. finding_parts e.finding) listed.items)) }
+{
+    let mut listed = explained;
+    listed.sort_by(|a, b| compare(&a.finding, &b.finding))?;
+    listed.dedup_by(|later, earlier| compare(&later.finding, &earlier.finding).is_eq());
+    Ok(listed)
+}
+
+/// A line a finding with its trace under it, as they stand, and then their number.
+pub(crate) fn explained_report(alloc: Global, listed: &[Explained]) -> Result<Vec<u8>, Memory>
+    ensures { IfOk result (λ bytes. bytes.items ≡ explained_bytes (map explained_seen listed.now)) }
+{
+    let mut answer = Vec::new(alloc);
+    for explained in listed {
+        add_explained(&mut answer, explained)?;
+    }
+    add_count(&mut answer, listed.len())?;
+    Ok(answer)
+}
+
+/// Adds the line of a finding and those of its trace.
+fn add_explained(answer: &mut Vec<u8>, explained: &Explained) -> Result<(), Memory>
+    ensures { OnOk result (answer.new.items ≡ answer.old.items ++ explained_lines (explained_seen explained.now)) }
+{
+    add_finding(answer, &explained.finding)?;
+    for line in &explained.lines {
+        add_line(answer, line)?;
+    }
+    Ok(())
+}
