@@ -1,6 +1,7 @@
 """The examples of the documents: each block marked `sing` is a text. A block marked `text` that follows it before the next
-text is what `bounds` prints of it, and one marked `check` what `check` prints. A block marked `sh` has commands, run at the top of
-the repository, and a block marked `text` that follows it is what they print, also on standard error."""
+text is what `bounds` prints of it, one marked `check` what `check` prints, and one marked `why` what `why` prints and, without its
+traces, what `check` prints. A block marked `sh` has commands, run at the top of the repository, and a block marked `text` that follows
+it is what they print, also on standard error."""
 import functools
 import os
 import pathlib
@@ -9,7 +10,9 @@ import shlex
 import subprocess
 
 TOP = pathlib.Path(__file__).resolve().parent.parent
-BLOCK = re.compile(r'^```(sing|text|check|sh)\n(.*?)^```$', re.M | re.S)
+BLOCK = re.compile(r'^```(sing|text|check|why|sh)\n(.*?)^```$', re.M | re.S)
+TRACE = re.compile(r'^  \d+:\d+ .*\n', re.M)
+COMMANDS = {'text': ['bounds'], 'check': ['check'], 'why': ['check', 'why']}
 PAGES = [*sorted(TOP.glob('*.md')), *sorted(TOP.glob('docs/**/*.md')), *sorted(TOP.glob('*/README.md'))]
 
 
@@ -20,11 +23,13 @@ def cases(folder):
         text = None
         for number, block in enumerate(BLOCK.finditer(page.read_text())):
             kind, body = block.groups()
-            if kind in ('text', 'check') and text is not None:
+            for command in COMMANDS.get(kind, []) if text is not None else []:
                 name = '%s_%d.sg' % (page.stem, number)
                 (folder / name).write_text(text)
+                asked = body if command == 'why' else TRACE.sub('', body)
                 status = 1 if '\nfindings: ' in '\n' + body else 0
-                made.append(('documents/' + name, folder, ['check' if kind == 'check' else 'bounds', name], body.encode(), b'', status))
+                named = 'documents/%s%s' % ('why_' if command == 'why' else '', name)
+                made.append((named, folder, [command, name], asked.encode(), b'', status))
             text = body if kind == 'sing' else None
     return made
 
