@@ -1,4 +1,5 @@
-"""Many files at once, and the formats of findings: in each format the findings of every text are those that `check` prints."""
+"""Many files at once, and the formats of findings: in each format the findings of every text are those that `check` prints,
+and with --why the traces that `why` prints."""
 import collections
 import concurrent.futures
 import functools
@@ -104,7 +105,17 @@ def is_sarif(log):
             fits = fits and isinstance(it['message']['text'], str) and urllib.parse.urlparse(place['artifactLocation']['uri']).scheme == ''
             fits = fits and place['region']['startLine'] >= 1 and place['region']['startColumn'] >= 1
             found += [] if fits else ['result %r' % it]
+            found += ['flow %r' % its for its in it.get('codeFlows', []) if not is_flow(its)]
     return found
+
+
+def is_flow(flow):
+    """A code flow has thread flows, each with locations; the location of each is a place with a message."""
+    threads = flow['threadFlows']
+    steps = [step['location'] for thread in threads for step in thread['locations']]
+    regions = [step['physicalLocation']['region'] for step in steps]
+    fits = all(isinstance(step['message']['text'], str) and 'uri' in step['physicalLocation']['artifactLocation'] for step in steps)
+    return fits and all(thread['locations'] for thread in threads) and all(min(region.values()) >= 1 for region in regions) and bool(threads)
 
 
 def sarif(program):
@@ -125,15 +136,72 @@ def sarif_of_nothing(program):
     return is_sarif(json.loads(ran.stdout)) + unlike(0, ran.returncode, 'status')
 
 
+EXPLAINED = ('examples', 'cases/channels', 'cases/text')  # what has traces of all kinds, or none
+
+
+def explained(program, name):
+    """What `why` prints of a text: each finding, and the places and words of its trace."""
+    said = subprocess.run([program, 'why', TOP / name], stdin=subprocess.DEVNULL, stdout=subprocess.PIPE, check=False).stdout.decode()
+    made = []
+    for line in said.splitlines():
+        it, note = FINDING.fullmatch(line), re.fullmatch(r'  (\d+):(\d+) (.*)', line)
+        if it:
+            made.append((int(it[1]), int(it[2]), it[3], it[4], []))
+        elif note:
+            made[-1][4].append((int(note[1]), int(note[2]), note[3]))
+    return made
+
+
+@functools.cache
+def all_explained(program):
+    names = [name for name in texts() if name.startswith(EXPLAINED)]
+    with concurrent.futures.ThreadPoolExecutor(4) as pool:
+        return dict(zip(names, pool.map(lambda name: explained(program, name), names)))
+
+
+def traces_in_json(program):
+    ran = run(program, '--why', '--format', 'json', *EXPLAINED, cwd=TOP)
+    given = [json.loads(line) for line in ran.stdout.decode().splitlines()]
+    found = ['an empty list of %r' % it for it in given if it.get('trace') == []]
+    found += [] if any('trace' in it for it in given) else ['no trace']
+    return found + compared(all_explained(program), [
+        (it['file'], it['line'], it['column'], it['code'], it['text'],
+         [(note['line'], note['column'], note['text']) for note in it.get('trace', [])]) for it in given])
+
+
+def traces_in_sarif(program):
+    """A trace is one flow, whose last place is that of the finding."""
+    log = json.loads(run(program, '--why', '--format', 'sarif', *EXPLAINED, cwd=TOP).stdout)
+    asked = [[(name, line, characters(name, line, column), text) for line, column, text in (*notes, (line, column, text))]
+             for name, its in all_explained(program).items() for line, column, _, text, notes in its if notes]
+    given = []
+    for it in log['runs'][0]['results']:
+        for flow in it.get('codeFlows', []):
+            steps = [its['location'] for its in flow['threadFlows'][0]['locations']]
+            places = [its['physicalLocation'] for its in steps]
+            given.append([(urllib.parse.unquote(place['artifactLocation']['uri']), place['region']['startLine'],
+                           place['region']['startColumn'], its['message']['text']) for its, place in zip(steps, places)])
+    return is_sarif(log) + unlike(sorted(asked), sorted(given))
+
+
+def traces_of_the_note(program):
+    """The example of the first page: line 5 makes the note, and line 6 deletes it."""
+    asked = {'plain': 'examples/note.sg:7:5: A01 note not owned\nexamples/note.sg:5:21: note: note new\n'
+                      'examples/note.sg:6:12: note: note deleted\n',
+             'github': '::error file=examples/note.sg,line=7,col=5,title=A01::note not owned%0A5:21 note new%0A6:12 note deleted\n'}
+    return [it for kind in asked
+            for it in unlike(asked[kind], run(program, '--why', '--format=' + kind, 'examples/note.sg', cwd=TOP).stdout.decode(), kind)]
+
+
 def show_has_the_formats(program):
-    """`show` prints in each format what the tool for many files prints."""
-    name = 'examples/note.sg'
-    report = subprocess.run([program, 'check', name], cwd=TOP, stdin=subprocess.DEVNULL, stdout=subprocess.PIPE).stdout
-    found = []
-    for kind in ('plain', 'sarif', 'github', 'json'):
-        asked = run(program, '--format', kind, name, cwd=TOP)
-        given = run(program, '--format', kind, name, tool='show', input=report, cwd=TOP)
-        found += unlike((asked.stdout, 1), (given.stdout, given.returncode), kind)
+    """`show` prints in each format what the tool for many files prints, of a report with traces too."""
+    name, found = 'examples/note.sg', []
+    for command, words in (('check', []), ('why', ['--why'])):
+        report = subprocess.run([program, command, name], cwd=TOP, stdin=subprocess.DEVNULL, stdout=subprocess.PIPE).stdout
+        for kind in ('plain', 'sarif', 'github', 'json'):
+            asked = run(program, *words, '--format', kind, name, cwd=TOP)
+            given = run(program, '--format', kind, name, tool='show', input=report, cwd=TOP)
+            found += unlike((asked.stdout, 1), (given.stdout, given.returncode), command + ' ' + kind)
     return found
 
 
@@ -145,6 +213,7 @@ def the_worst_status(program):
     found += [] if b'nowhere.sg' in ran.stderr else ['it does not name the file: %r' % ran.stderr]
     found += unlike(2, run(program, '--fast', cwd=TOP).returncode, 'an option')
     found += unlike(2, run(program, '--format', 'xml').returncode, 'xml')
+    found += unlike(2, run(program, '--why=yes', 'examples/note.sg', cwd=TOP).returncode, 'a value of --why')
     with tempfile.TemporaryDirectory() as folder:
         return found + unlike(70, run(os.path.join(folder, 'none'), 'examples/note.sg', cwd=TOP).returncode, 'not built')
 
@@ -191,12 +260,12 @@ def ends_as_other_tools(program):
     return found + unlike((-signal.SIGINT, b''), (waiting.returncode, said), 'show interrupted')
 
 
-def on_a_terminal(program, columns=40, **more):
+def on_a_terminal(program, *words, columns=40, **more):
     """What is printed on a terminal of so many columns."""
     master, slave = pty.openpty()
     env = {**os.environ, 'COLUMNS': str(columns), 'TERM': 'xterm', **more}
     env.pop('NO_COLOR', None) if 'NO_COLOR' not in more else None
-    child = subprocess.Popen([TOP / 'tools' / 'check', '--program', program, TOP / 'examples' / 'note.sg'], stdin=subprocess.DEVNULL,
+    child = subprocess.Popen([TOP / 'tools' / 'check', '--program', program, *words, TOP / 'examples' / 'note.sg'], stdin=subprocess.DEVNULL,
                              stdout=slave, stderr=slave, env=env)
     os.close(slave)
     data = b''
@@ -214,12 +283,15 @@ def on_a_terminal(program, columns=40, **more):
 
 
 def colours_and_width(program):
-    coloured = on_a_terminal(program)
-    bare = on_a_terminal(program, NO_COLOR='1')
-    found = [] if '\x1b[' in coloured and '\x1b[' not in bare else ['colours: %r, %r' % (coloured, bare)]
-    found += unlike(bare, re.sub(r'\x1b\[\d+m', '', coloured), 'without colours')
-    wide = [line for line in bare.splitlines()[1:] if len(line) > 40]
-    return found + (['wider than the terminal: %r' % wide] if wide else [])
+    found = []
+    for words in ([], ['--why']):
+        coloured = on_a_terminal(program, *words)
+        bare = on_a_terminal(program, *words, NO_COLOR='1')
+        found += [] if '\x1b[' in coloured and '\x1b[' not in bare else ['colours: %r, %r' % (coloured, bare)]
+        found += unlike(bare, re.sub(r'\x1b\[\d+m', '', coloured), 'without colours')
+        wide = [line for line in bare.splitlines()[1:] if len(line) > 40]
+        found += ['wider than the terminal: %r' % wide] if wide else []
+    return found
 
 
 def many_small_files(program):
@@ -234,5 +306,6 @@ def many_small_files(program):
 
 
 TESTS = [('formats/' + test.__name__, test) for test in
-         (plain_lines, json_lines, commands_of_github, sarif, sarif_of_nothing, show_has_the_formats, the_worst_status,
-          standard_input_and_odd_names, ends_as_other_tools, colours_and_width, many_small_files)]
+         (plain_lines, json_lines, commands_of_github, sarif, sarif_of_nothing, traces_in_json, traces_in_sarif, traces_of_the_note,
+          show_has_the_formats, the_worst_status, standard_input_and_odd_names, ends_as_other_tools, colours_and_width,
+          many_small_files)]

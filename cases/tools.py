@@ -43,6 +43,28 @@ def a_finding(_):
     return differs(show(text, b'5:12 A01 p not owned\nfindings: 1\n'), asked.encode())
 
 
+TRACED = b'4:1 Z99 here\n  2:3 p new\n  2:6 p sent as X on e\n  3:1 condition true\n  2:3 p new\n9:9 Z99 there\n  8:1 q new\nfindings: 2\n'
+
+
+def a_trace(_):
+    """Under a finding the lines of its trace in the order of the path, each place with a dash and its words. A line is not shown twice in
+    a row. A place that the text lacks is told without a line."""
+    text = b'class K {\n  p e;\nwhile\nend\n'
+    asked = ('a.sg:4:1: Z99 here\n  |\n4 | end\n  | ^\n  |\n2 |   p e;\n  |   - p new\n  |      - p sent as X on e\n'
+             '3 | while\n  | - condition true\n2 |   p e;\n  |   - p new\n\n'
+             'a.sg:9:9: Z99 there\n  = note: a.sg has no such place now\n  |\n  = note: 8:1 q new\n\nfindings: 2\n')
+    plain = ('a.sg:4:1: Z99 here\na.sg:2:3: note: p new\na.sg:2:6: note: p sent as X on e\na.sg:3:1: note: condition true\n'
+             'a.sg:2:3: note: p new\na.sg:9:9: Z99 there\na.sg:8:1: note: q new\n')
+    return differs(show(text, TRACED), asked.encode()) + differs(show(text, TRACED, '--plain'), plain.encode())
+
+
+def a_trace_of_longer_numbers(_):
+    """The numbers of a finding and of its trace stand below each other."""
+    text = b'\n' * 8 + b'p\n' + b'q\n'
+    asked = b'a.sg:9:1: Z99 here\n   |\n 9 | p\n   | ^\n   |\n10 | q\n   | - q new\n\nfindings: 1\n'
+    return differs(show(text, b'9:1 Z99 here\n  10:1 q new\nfindings: 1\n'), asked)
+
+
 def two_findings_plain(_):
     asked = b'a.sg:1:2: Z99 one\na.sg:10:3: Z99 two words\n'
     return differs(show(b'', b'1:2 Z99 one\n10:3 Z99 two words\nfindings: 2\n', '--plain'), asked)
@@ -110,7 +132,7 @@ def bounds(_):
 
 def report_not_whole(_):
     cut = [b'', b'\n', b'1:1 Z99 here\n', b'1:1 Z99 here\nfindings: 2\n', b'1:1 Z99 here\nfindings: 1', b'1:1 Z99 here\nok: 0 contracts\n',
-           b'findings: 1\n', b'Ping: to Exp 1, to Imp 1\n']
+           b'findings: 1\n', b'Ping: to Exp 1, to Imp 1\n', b'1:1 Z99 here\n  1:1 p new\n', b'  1:1 p new\nfindings: 1\n']
     return [found for report in cut for found in differs(show(b'', report), b'', NOT_WHOLE, 3)]
 
 
@@ -118,7 +140,7 @@ def run_of_a_schedule(program):
     """What `replay` prints of a run is no report, be it whole or not. The report that it prints in place of a run is one."""
     words = [program, 'replay', 'examples/hand_over.sg', 'Desk.Main', 'examples/hand_over.schedule']
     printed = subprocess.run(words, cwd=TOP, capture_output=True, timeout=60).stdout
-    refused = b'show: this is a run, printed by replay; a report of check or bounds is asked for\n'
+    refused = b'show: this is a run, printed by replay; a report of check, why or bounds is asked for\n'
     runs = [printed, b'steps 0\nstop: fault F1 at 1:1 in process 0\nprocess 0 at 1:1, frames 1\n', b'steps 12\nstop: ']
     found = [found for report in runs for words in ([], ['--plain']) for found in differs(show(b'', report, *words), b'', refused, 3)]
     words = [program, 'replay', 'input.sg', 'K.Main', '/dev/null']
@@ -159,11 +181,15 @@ def each_code_has_a_page_with_one_repair(_):
 def program_in_front(program):
     example = 'examples/note.sg'
     report = subprocess.run([program, 'check', example], cwd=TOP, capture_output=True, timeout=60).stdout
-    return differs(run('show', '--plain', example, report=report, cwd=TOP), b'examples/note.sg:7:5: A01 note not owned\n')
+    found = differs(run('show', '--plain', example, report=report, cwd=TOP), b'examples/note.sg:7:5: A01 note not owned\n')
+    report = subprocess.run([program, 'why', example], cwd=TOP, capture_output=True, timeout=60).stdout
+    asked = (b'examples/note.sg:7:5: A01 note not owned\nexamples/note.sg:5:21: note: note new\n'
+             b'examples/note.sg:6:12: note: note deleted\n')
+    return found + differs(run('show', '--plain', example, report=report, cwd=TOP), asked)
 
 
 TESTS = [('tools/' + test.__name__, test) for test in
-         (a_finding, two_findings_plain, plain_needs_no_text, tabs, columns_count_bytes, carriage_return, byte_order_mark, end_of_the_text,
+         (a_finding, a_trace, a_trace_of_longer_numbers, two_findings_plain, plain_needs_no_text, tabs, columns_count_bytes, carriage_return, byte_order_mark, end_of_the_text,
           end_of_a_line, what_a_terminal_obeys, long_line, long_line_cut_at_letters, no_such_place, nothing_found, bounds, report_not_whole,
           run_of_a_schedule, text_not_there, words_of_show, each_page_is_printed, words_of_explain, each_code_has_a_page_with_one_repair,
           program_in_front)]

@@ -1,4 +1,4 @@
-"""What the tools share: reports of `check` and `bounds`, how a finding is shown, and how a tool ends."""
+"""What the tools share: reports of `check`, `why` and `bounds`, how a finding is shown, and how a tool ends."""
 import collections
 import functools
 import json
@@ -15,13 +15,16 @@ import urllib.parse
 TOP = pathlib.Path(__file__).resolve().parent.parent
 CODES = TOP / 'docs' / 'codes'
 FINDING = re.compile(r'(\d+):(\d+) ([A-Z]\d\d) (.*)')
+NOTE = re.compile(r'  (\d+):(\d+) (.*)')
 MARK = b'\xef\xbb\xbf'
 WINDOW = 60  # how many bytes of a long line are shown before the place, and how many from there on, unless the terminal is narrower
 NARROWEST = 8
 FORMATS = ('plain', 'sarif', 'github', 'json')
 RED, BLUE, BOLD, OFF = '\x1b[31m', '\x1b[34m', '\x1b[1m', '\x1b[0m'
 
-Finding = collections.namedtuple('Finding', 'line column code text')
+# A finding, with the notes of its trace, which `why` prints below it.
+Finding = collections.namedtuple('Finding', 'line column code text trace')
+Note = collections.namedtuple('Note', 'line column text')
 # How wide the output may be (None: as wide as it is), and whether it has colours.
 Style = collections.namedtuple('Style', 'width colours')
 
@@ -33,9 +36,11 @@ def parsed(report):
         return None
     findings, others = [], []
     for line in lines:
-        match = FINDING.fullmatch(line)
+        match, note = FINDING.fullmatch(line), NOTE.fullmatch(line)
         if match:
-            findings.append(Finding(int(match[1]), int(match[2]), match[3], match[4]))
+            findings.append(Finding(int(match[1]), int(match[2]), match[3], match[4], []))
+        elif note and findings:
+            findings[-1].trace.append(Note(int(note[1]), int(note[2]), note[3]))
         else:
             others.append(line)
     whole = lines[-1] == 'findings: %d' % len(findings) if findings else lines[-1].startswith('ok: ')
@@ -104,7 +109,11 @@ def title(code):
 
 
 def heading(name, finding):
-    return '%s:%d:%d: %s %s' % (visible_name(name), *finding)
+    return '%s:%d:%d: %s %s' % (visible_name(name), *finding[:4])
+
+
+def note_heading(name, note):
+    return '%s:%d:%d: note: %s' % (visible_name(name), *note)
 
 
 def painted(colour, text, style):
@@ -120,18 +129,48 @@ def wrapped(front, text, style):
     return [front + lines[0]] + [' ' * len(front) + line for line in lines[1:]]
 
 
+def is_in(lines, it):
+    """Whether a finding or a note has its place in these lines."""
+    return it.line <= len(lines) and it.column <= len(lines[it.line - 1]) + 1
+
+
+def line_shown(gutter, lines, it, style):
+    """The line of a place as it is shown, and how far to the right the place is."""
+    room = WINDOW if style.width is None else min(WINDOW, max(NARROWEST, (style.width - len(gutter) - 7) // 2))
+    line, right = excerpt(lines[it.line - 1], it.column, room)
+    return (painted(BLUE, str(it.line).rjust(len(gutter)) + ' |', style) + ' ' + line).rstrip(), right
+
+
+def traced(gutter, lines, trace, style):
+    """The lines that are printed for a trace: each line of the text with a mark under each place, and the words of the note."""
+    said, last = [], None
+    bar = painted(BLUE, gutter + ' |', style)
+    for it in trace:
+        if not is_in(lines, it):
+            said += wrapped(gutter + ' = note: ', '%d:%d %s' % it, style)
+            last = None
+            continue
+        line, right = line_shown(gutter, lines, it, style)
+        said += [line] if line != last else []
+        last = line
+        blank = ' ' * (len(gutter) + 3 + right)
+        words = [words[len(blank) + 2:] for words in wrapped(blank + '- ', it.text, style)]
+        said.append(bar + ' ' + ' ' * right + painted(BLUE, '- ' + words[0], style))
+        said += [bar + ' ' + ' ' * (right + 2) + painted(BLUE, more, style) for more in words[1:]]
+    return [bar] + said if said else []
+
+
 def described(name, lines, finding, style=Style(None, False)):
     """The lines that are printed for a finding."""
-    number = str(finding.line)
-    gutter = ' ' * len(number)
+    gutter = ' ' * len(str(max(it.line for it in (finding, *finding.trace))))
     said = [painted(BOLD, heading(name, finding), style)]
-    if finding.line <= len(lines) and finding.column <= len(lines[finding.line - 1]) + 1:
-        room = WINDOW if style.width is None else min(WINDOW, max(NARROWEST, (style.width - len(number) - 7) // 2))
-        line, right = excerpt(lines[finding.line - 1], finding.column, room)
-        said += [painted(BLUE, gutter + ' |', style), (painted(BLUE, number + ' |', style) + ' ' + line).rstrip(),
-                 painted(BLUE, gutter + ' |', style) + ' ' + ' ' * right + painted(RED, '^', style)]
+    if is_in(lines, finding):
+        bar = painted(BLUE, gutter + ' |', style)
+        line, right = line_shown(gutter, lines, finding, style)
+        said += [bar, line, bar + ' ' + ' ' * right + painted(RED, '^', style)]
     else:
         said.append(gutter + ' = note: %s has no such place now' % visible_name(name))
+    said += traced(gutter, lines, finding.trace, style)
     if repair(finding.code):
         said += wrapped(gutter + ' = help: ', '%s (tools/explain %s)' % (repair(finding.code), finding.code), style)
     return said + ['']
@@ -146,15 +185,22 @@ def lines_of(data):
     return (data[len(MARK):] if data.startswith(MARK) else data).split(b'\n')
 
 
-def characters(lines, finding):
-    """The column of a finding in characters in place of bytes, from 1."""
-    line = lines[finding.line - 1] if finding.line <= len(lines) else b''
-    return len(line[:finding.column - 1].decode('utf-8', 'replace')) + 1
+def characters(lines, it):
+    """The column of a finding or a note in characters in place of bytes, from 1."""
+    line = lines[it.line - 1] if it.line <= len(lines) else b''
+    return len(line[:it.column - 1].decode('utf-8', 'replace')) + 1
+
+
+def as_plain(found):
+    """A line for each finding, and one for each note of its trace."""
+    return [line for name, _, it in found for line in [heading(name, it)] + [note_heading(name, note) for note in it.trace]]
 
 
 def as_json(found):
-    """One object a line. The column counts bytes, as the program does."""
-    return [json.dumps({'file': name, 'line': it.line, 'column': it.column, 'code': it.code, 'text': it.text}) for name, _, it in found]
+    """One object a line, with a list of the trace's notes if there is a trace. The column counts bytes, as the program does."""
+    objects = [{'file': name, 'line': it.line, 'column': it.column, 'code': it.code, 'text': it.text,
+                **({'trace': [note._asdict() for note in it.trace]} if it.trace else {})} for name, _, it in found]
+    return [json.dumps(its) for its in objects]
 
 
 def escaped(text, more=''):
@@ -165,9 +211,25 @@ def escaped(text, more=''):
 
 
 def as_github(found):
-    """Workflow commands of GitHub, which become annotations of the lines."""
-    return ['::error file=%s,line=%d,col=%d,title=%s::%s' % (escaped(name, ':,'), it.line, characters(lines, it), it.code, escaped(it.text))
-            for name, lines, it in found]
+    """Workflow commands of GitHub, which become annotations of the lines. The notes of a trace are further lines of the message."""
+    said = []
+    for name, lines, it in found:
+        text = '\n'.join([it.text] + ['%d:%d %s' % note for note in it.trace])
+        place = escaped(name, ':,'), it.line, characters(lines, it)
+        said.append('::error file=%s,line=%d,col=%d,title=%s::%s' % (*place, it.code, escaped(text)))
+    return said
+
+
+def location(name, lines, it):
+    """A place as a location of SARIF."""
+    return {'physicalLocation': {'artifactLocation': {'uri': urllib.parse.quote(name, errors='surrogateescape')},
+                                 'region': {'startLine': it.line, 'startColumn': characters(lines, it)}}}
+
+
+def flow(name, lines, finding):
+    """A trace as the one flow of a result: its notes, and at its end the finding."""
+    steps = [{'location': {**location(name, lines, it), 'message': {'text': it.text}}} for it in (*finding.trace, finding)]
+    return {'codeFlows': [{'threadFlows': [{'locations': steps}]}]} if finding.trace else {}
 
 
 def as_sarif(found):
@@ -176,9 +238,7 @@ def as_sarif(found):
     rules = [{'id': code, 'shortDescription': {'text': title(code)}, **({'help': {'text': repair(code)}} if repair(code) else {})}
              for code in codes]
     results = [{'ruleId': it.code, 'ruleIndex': codes.index(it.code), 'level': 'error', 'message': {'text': it.text},
-                'locations': [{'physicalLocation': {
-                    'artifactLocation': {'uri': urllib.parse.quote(name, errors='surrogateescape')},
-                    'region': {'startLine': it.line, 'startColumn': characters(lines, it)}}}]} for name, lines, it in found]
+                'locations': [location(name, lines, it)], **flow(name, lines, it)} for name, lines, it in found]
     return [json.dumps({'$schema': 'https://json.schemastore.org/sarif-2.1.0.json', 'version': '2.1.0', 'runs': [{
         'tool': {'driver': {'name': 'singcheck', 'rules': rules}}, 'columnKind': 'unicodeCodePoints', 'newlineSequences': ['\n'],
         'results': results}]})]
@@ -186,9 +246,7 @@ def as_sarif(found):
 
 def formatted(kind, found):
     """The lines of findings in a format. Each finding comes with the name of its file and the lines of its text."""
-    if kind == 'plain':
-        return [heading(name, it) for name, _, it in found]
-    return {'sarif': as_sarif, 'github': as_github, 'json': as_json}[kind](found)
+    return {'plain': as_plain, 'sarif': as_sarif, 'github': as_github, 'json': as_json}[kind](found)
 
 
 def style_of(stream):
