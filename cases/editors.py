@@ -93,7 +93,7 @@ call writefile(map(range(1, line('$')), 'synIDattr(synID(v:val, col([v:val, "$"]
 
 
 def make_in_vim(program):
-    """`:make` in a repository with a blank in its path, if there is Vim: the finding, and why a file cannot be read."""
+    """`:make` in a repository with a blank in its path, if there is Vim: the finding, its trace, and why a file cannot be read."""
     if not shutil.which('vim'):
         return []
     with tempfile.TemporaryDirectory() as made:
@@ -105,21 +105,24 @@ def make_in_vim(program):
         said = vim(top / 'editors' / 'vim', (TOP / 'examples/note.sg').read_text(), """silent make!
 let one = getqflist()[0]
 call writefile([one.lnum . ':' . one.col, one.text, fnamemodify(bufname(one.bufnr), ':t'), len(getqflist())], 'said')
+silent make! --why
+call writefile([join(map(getqflist(), 'v:val.lnum . ":" . v:val.col . " " . v:val.text'), ', ')], 'said', 'a')
 call delete(expand('%:p'))
 silent! make!
 call writefile([join(map(getqflist(), 'v:val.text'))], 'said', 'a')""")
-    is_told = len(said) == 5 and 'cannot read' in said[4]
-    return [] if said[:4] == ['7:5', 'A01 note not owned', 'a b.sg', '1'] and is_told else ['read as %s' % said]
+    asked = ['7:5', 'A01 note not owned', 'a b.sg', '1', '7:5 A01 note not owned, 5:21 note: note new, 6:12 note: note deleted']
+    is_told = len(said) == 6 and 'cannot read' in said[5]
+    return [] if said[:5] == asked and is_told else ['read as %s' % said]
 
 
 def extension_of_vs_code(program):
-    """The extension shows what `check` prints, an outline, and the page of a code. Its editor is a stub, run by Node if there is one."""
+    """The extension shows what `why` prints, an outline, and the page of a code. Its editor is a stub, run by Node if there is one."""
     if not shutil.which('node'):
         return []
     words = ['node', TOP / 'cases' / 'vscode_stub' / 'driver.js', program, TOP / 'examples' / 'note.sg']
     ran = subprocess.run(words, stdin=subprocess.DEVNULL, stdout=subprocess.PIPE, stderr=subprocess.STDOUT, timeout=60, text=True)
     page = (TOP / 'docs' / 'codes' / 'A01.md').read_text().splitlines()[0]
-    asked = '7:5 A01 note not owned\nstruct Note, class Desk (method Write)\n%s\n' % page
+    asked = '7:5 A01 note not owned\n  5:21 note new\n  6:12 note deleted\nstruct Note, class Desk (method Write)\n%s\n' % page
     return [] if ran.stdout == asked else ['expected %r, given %r' % (asked, ran.stdout)]
 
 

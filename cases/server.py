@@ -1,4 +1,5 @@
-"""The language server: a client in a script opens, changes and closes texts, and is told just what `check` prints."""
+"""The language server: a client in a script opens, changes and closes texts, and is told just what `check` prints, and with it the
+traces that `why` prints."""
 import json
 import os
 import pathlib
@@ -11,20 +12,23 @@ import time
 
 TOP = pathlib.Path(__file__).resolve().parent.parent
 FINDING = re.compile(r'(\d+):(\d+) ([A-Z]\d\d) (.*)')
+TRACED = re.compile(r'  (\d+):(\d+) (.*)')
 WAIT = 60  # seconds for an answer that has to come
 
 
 class Client:
     """A client of the server, which keeps what it is told by notifications."""
 
-    def __init__(self, program, encodings=('utf-8',)):
+    def __init__(self, program, encodings=('utf-8',), related=False):
         words = [TOP / 'tools' / 'lsp', *(['--program', program] if program else [])]
         self.server = subprocess.Popen(words, stdin=subprocess.PIPE, stdout=subprocess.PIPE, stderr=subprocess.PIPE,
                                        env=dict(os.environ, PYTHONDONTWRITEBYTECODE='1'))
         self.answers, self.published, self.shown, self.news = {}, {}, [], threading.Condition()
         self.number = 0
         threading.Thread(target=self.listen, daemon=True).start()
-        self.can = self.ask('initialize', capabilities={'general': {'positionEncodings': list(encodings)}})['result']['capabilities']
+        shows = {'publishDiagnostics': {'relatedInformation': True}} if related else {}
+        asked = {'general': {'positionEncodings': list(encodings)}, 'textDocument': shows}
+        self.can = self.ask('initialize', capabilities=asked)['result']['capabilities']
         self.tell('initialized')
 
     def listen(self):
@@ -183,12 +187,47 @@ def other_ends_of_lines(client, _):
     return found
 
 
-def pages_and_bounds(client, _):
-    """Where the cursor is on a finding its page is shown, and on a contract's name its bounds."""
+def explained(program, data):
+    """The traces that `why` prints of a text: after the place, code and text of each finding the places and texts of its trace."""
+    said = subprocess.run([program, 'why', '/dev/stdin'], input=data, stdout=subprocess.PIPE, check=False).stdout.decode()
+    made = []
+    for line in said.splitlines():
+        it, note = FINDING.fullmatch(line), TRACED.fullmatch(line)
+        if it:
+            made.append((int(it[1]), int(it[2]), it[3], it[4], []))
+        elif note:
+            made[-1][4].append((int(note[1]), int(note[2]), note[3]))
+    return made
+
+
+def traces_are_related_places(client, program):
+    """A client that can show related places gets the trace of each finding: of a note by hand, and of texts what `why` prints."""
     client.open('file:///note.sg', NOTE)
-    client.found('file:///note.sg', 1)
+    start, deleted = client.found('file:///note.sg', 1)[0]['relatedInformation']
+    found = unlike({'location': {'uri': 'file:///note.sg', 'range': {'start': {'line': 4, 'character': 20}, 'end': {
+        'line': 4, 'character': 24}}}, 'message': 'note new'}, start)
+    found += unlike((5, 11, 'note deleted'), (*deleted['location']['range']['start'].values(), deleted['message']))
     page = client.ask('textDocument/hover', **client.at('file:///note.sg', 6, 5))['result']['contents']['value']
-    found = unlike((TOP / 'docs' / 'codes' / 'A01.md').read_text(), page)
+    found += unlike((TOP / 'docs' / 'codes' / 'A01.md').read_text(), page, 'page')
+    for path in sorted([*TOP.glob('examples/*.sg'), *TOP.glob('cases/channels/*/input.sg')]):
+        uri, data = path.as_uri(), path.read_bytes()
+        client.open(uri, data.decode())
+        diagnostics = client.found(uri, 1)
+        notes = [[(*(it + 1 for it in its['location']['range']['start'].values()), its['message'])
+                  for its in it.get('relatedInformation', [])] for it in diagnostics]
+        given = [(*one, its) for one, its in zip(told(diagnostics, data), notes)]
+        found += unlike(explained(program, data), given, str(path.relative_to(TOP)))
+    return found + unlike(0, client.end())
+
+
+def pages_and_bounds(client, _):
+    """Where the cursor is on a finding its page is shown, after the trace since the client cannot show related places, and on a
+    contract's name its bounds."""
+    client.open('file:///note.sg', NOTE)
+    its = client.found('file:///note.sg', 1)[0]
+    shown = client.ask('textDocument/hover', **client.at('file:///note.sg', 6, 5))['result']['contents']['value']
+    trace = '```text\n7:5 A01 note not owned\n  5:21 note new\n  6:12 note deleted\n```\n\n---\n\n'
+    found = unlike(trace + (TOP / 'docs' / 'codes' / 'A01.md').read_text(), shown) + unlike(False, 'relatedInformation' in its)
     client.open('file:///ping.sg', (TOP / 'examples' / 'ping.sg').read_text())
     lines = (TOP / 'examples' / 'ping.sg').read_text().splitlines()
     row = next(number for number, line in enumerate(lines) if line.startswith('contract'))
@@ -265,4 +304,5 @@ def not_built(_):
 TESTS = [('server/' + test.__name__, with_client(test)) for test in
          (each_text_has_its_findings, edits_faster_than_runs, columns_are_the_clients, other_ends_of_lines, pages_and_bounds,
           names_lead_to_declarations, refusals, a_client_that_dies, a_server_that_is_killed, a_large_text)]
-TESTS += [('server/columns_of_utf_16', with_client(columns_are_the_clients, encodings=())), ('server/not_built', not_built)]
+TESTS += [('server/columns_of_utf_16', with_client(columns_are_the_clients, encodings=())), ('server/not_built', not_built),
+          ('server/traces_are_related_places', with_client(traces_are_related_places, related=True))]

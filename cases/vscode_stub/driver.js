@@ -1,4 +1,5 @@
-// Starts the extension with a program and a text, and prints what it shows: findings, the outline, and the page at the first finding.
+// Starts the extension with a program and a text, and prints what it shows: findings with their traces, the outline, and the page at the
+// first finding.
 'use strict';
 
 const Module = require('module');
@@ -11,7 +12,11 @@ const { registered, document } = require('vscode');
 const subscriptions = [];
 registered.found = async found => {
   const [line, column] = found[0].range.ends;
-  for (const it of found) console.log(`${it.range.ends[0] + 1}:${it.range.ends[1] + 1} ${it.code.value} ${it.message}`);
+  const place = range => `${range.ends[0] + 1}:${range.ends[1] + 1}`;
+  for (const it of found) {
+    console.log(`${place(it.range)} ${it.code.value} ${it.message}`);
+    for (const note of it.relatedInformation) console.log(`  ${place(note.location.range)} ${note.message}`);
+  }
   const outline = them => them.map(it => `${it.kind} ${it.name}${it.children && it.children.length ? ` (${outline(it.children)})` : ''}`).join(', ');
   console.log(outline(await registered.symbols.provideDocumentSymbols(document)));
   const hover = await registered.hover.provideHover(document, { line, character: column });

@@ -17,6 +17,7 @@ module.exports = {
   document,
   Range: function (...given) { this.ends = given; },
   Diagnostic: function (range, message) { Object.assign(this, { range, message }); },
+  DiagnosticRelatedInformation: function (location, message) { Object.assign(this, { location, message }); },
   Hover: function (content) { this.content = content; },
   MarkdownString: function (value) { this.value = value; },
   Location: function (uri, range) { this.range = range; },

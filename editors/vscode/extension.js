@@ -73,8 +73,12 @@ const at = (document, position) => ({
   position: { line: position.line, character: position.character },
 });
 
+const toRelated = it => new vscode.DiagnosticRelatedInformation(
+  new vscode.Location(vscode.Uri.parse(it.location.uri), toRange(it.location.range)), it.message);
+
 function toDiagnostic(it) {
   const made = new vscode.Diagnostic(toRange(it.range), it.message, vscode.DiagnosticSeverity.Error);
+  made.relatedInformation = (it.relatedInformation || []).map(toRelated);
   made.source = it.source;
   made.code = it.codeDescription ? { value: it.code, target: vscode.Uri.parse(it.codeDescription.href) } : it.code;
   return made;
@@ -102,7 +106,8 @@ function activate(context) {
     uri: document.uri.toString(), languageId: LANGUAGE, version: document.version, text: document.getText() } });
   const named = document => ({ textDocument: { uri: document.uri.toString(), version: document.version } });
 
-  server.ask('initialize', { processId: process.pid, rootUri: null, capabilities: { general: { positionEncodings: ['utf-16'] } } })
+  server.ask('initialize', { processId: process.pid, rootUri: null, capabilities: {
+    general: { positionEncodings: ['utf-16'] }, textDocument: { publishDiagnostics: { relatedInformation: true } } } })
     .then(() => {
       server.tell('initialized', {});
       vscode.workspace.textDocuments.forEach(open);

@@ -1,4 +1,4 @@
-" `:make` checks the file of the buffer and puts what is found into the quickfix list.
+" `:make` checks the file of the buffer and puts what is found into the quickfix list, and `:make --why` the trace of each finding too.
 if exists('current_compiler')
   finish
 endif
@@ -9,6 +9,6 @@ endif
 
 " The repository: this file is in editors/vim/compiler.
 let s:top = fnamemodify(resolve(expand('<sfile>:p')), ':h:h:h:h')
-let s:check = escape(shellescape(s:top . '/tools/check'), '%#') . ' --format plain -- %:p:S'
+let s:check = escape(shellescape(s:top . '/tools/check'), '%#') . ' $* --format plain -- %:p:S'
 execute 'CompilerSet makeprg=' . escape(s:check, ' \|"')
 CompilerSet errorformat=%f:%l:%c:\ %m
