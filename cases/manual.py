@@ -37,7 +37,7 @@ def commands_and_options_of_the_help(program):
 
 
 def what_the_help_says(program):
-    said = {command: helped(program, *command.split()) for command in ('', 'bounds', 'check', 'replay')}
+    said = {command: helped(program, *command.split()) for command in ('', 'bounds', 'check', 'replay', 'why')}
     asked = [(command, word) for command in said for word in ('Usage: singcheck %s' % command, 'Example: singcheck %s' % command)]
     asked += [('', word) for word in ['Exit status:'] + ['\n  %d  ' % status for status in range(5)]]
     asked += [('replay', '<FILE> <ENTRY> <SCHEDULE>'), ('replay', 'Class.Method'), ('check', '--workers <N>'), ('check', '--slots <N>')]
