@@ -39,9 +39,33 @@ def kept(*numbers):
     return b''.join(b'16:1 A08 p%d still owned\n' % k for k in numbers)
 
 
+def kept_behind(count):
+    """A method that keeps its block, and so many conditions before, each on a line of its own. On the shortest way none is true."""
+    head = b'rep struct D { int n; }\nclass K {\nstatic void F([Claims] D* in ExHeap p, bool b) { int k;\n'
+    return head + b'if (b) { k = p.n; }\n' * count + b'} }\n'
+
+
+def why_kept_behind(count):
+    """What is told of it."""
+    choices = b''.join(b'  %d:1 condition false\n' % (4 + k) for k in range(count))
+    return b'%d:1 A08 p still owned\n  3:13 p has a block\n' % (4 + count) + choices + b'findings: 1\n'
+
+
 def within(statement):
     """A method with this statement, which stands behind two open brackets."""
     return b'class K { static void F(bool b, int[] in ExHeap a) { ' + statement + b' } }\n'
+
+
+def explained():
+    """Methods at the limit of pairs, and what is told of long paths: (name, text, stdout, status)."""
+    return [
+        ('pairs_20000_explained', uses(19999), b'ok: 0 contracts, 1 methods\n', 0),
+        ('pairs_20001_explained', uses(20000), b'3:13 A14 too many pairs\n  3:13 more than 20000 pairs are reached\nfindings: 1\n', 1),
+        # A path of 19,999 steps, on which nothing is told but what the method begins with.
+        ('steps_19999_explained', uses(19999).replace(b'F(D*', b'F([Claims] D*'),
+         b'5:1 A08 p still owned\n  3:13 p has a block\nfindings: 1\n', 1),
+        ('lines_9999_explained', kept_behind(9998), why_kept_behind(9998), 1),
+    ]
 
 
 def schedules():
@@ -93,7 +117,7 @@ def cases(folder):
         ('variables_1000_checked', variables(1000), b'ok: 0 contracts, 1 methods\n', 0),
     ]
     made = []
-    for command, given in (('bounds', inputs), ('check', checked)):
+    for command, given in (('bounds', inputs), ('check', checked), ('why', explained())):
         for name, text, stdout, status in given:
             (folder / name).write_bytes(text)
             made.append(('large/' + name, folder, [command, name], stdout, b'', status))
