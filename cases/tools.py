@@ -48,7 +48,7 @@ TRACED = b'4:1 Z99 here\n  2:3 p new\n  2:6 p sent as X on e\n  3:1 condition tr
 
 def a_trace(_):
     """Under a finding the lines of its trace in the order of the path, each place with a dash and its words. A line is not shown twice in
-    a row. A place that the text lacks is told without a line."""
+    a row. A place that the text lacks has no line of the text."""
     text = b'class K {\n  p e;\nwhile\nend\n'
     asked = ('a.sg:4:1: Z99 here\n  |\n4 | end\n  | ^\n  |\n2 |   p e;\n  |   - p new\n  |      - p sent as X on e\n'
              '3 | while\n  | - condition true\n2 |   p e;\n  |   - p new\n\n'
