@@ -4,6 +4,7 @@ import json
 import os
 import pathlib
 import re
+import shlex
 import signal
 import subprocess
 import tempfile
@@ -220,6 +221,26 @@ def traces_are_related_places(client, program):
     return found + unlike(0, client.end())
 
 
+def findings_without_traces(program):
+    """If the program does not know `why`, or takes long for it, the findings come from `check`."""
+    found = []
+    for name, answer in (('unknown', 'exit 2'), ('slow', 'exec sleep 600'), ('cut', 'echo "7:5 A01 note not owned"; exit 1')):
+        with tempfile.TemporaryDirectory() as folder:
+            path = pathlib.Path(folder) / 'program'
+            path.write_text('#!/bin/sh\nif [ "$1" = why ]; then %s; fi\nexec %s "$@"\n' % (answer, shlex.quote(program)))
+            path.chmod(0o755)
+            client = Client(str(path), related=True)
+            try:
+                client.open('file:///note.sg', NOTE)
+                its = client.found('file:///note.sg', 1)
+                found += unlike([(7, 5, 'A01', 'note not owned')], told(its, NOTE), name)
+                found += unlike(False, 'relatedInformation' in its[0], name)
+            finally:
+                client.server.kill()
+                client.server.wait()
+    return found
+
+
 def pages_and_bounds(client, _):
     """Where the cursor is on a finding its page is shown, after the trace since the client cannot show related places, and on a
     contract's name its bounds."""
@@ -305,4 +326,5 @@ TESTS = [('server/' + test.__name__, with_client(test)) for test in
          (each_text_has_its_findings, edits_faster_than_runs, columns_are_the_clients, other_ends_of_lines, pages_and_bounds,
           names_lead_to_declarations, refusals, a_client_that_dies, a_server_that_is_killed, a_large_text)]
 TESTS += [('server/columns_of_utf_16', with_client(columns_are_the_clients, encodings=())), ('server/not_built', not_built),
-          ('server/traces_are_related_places', with_client(traces_are_related_places, related=True))]
+          ('server/traces_are_related_places', with_client(traces_are_related_places, related=True)),
+          ('server/findings_without_traces', findings_without_traces)]
