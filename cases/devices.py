@@ -9,6 +9,7 @@ import tempfile
 HERE = pathlib.Path(__file__).resolve().parent
 PING = HERE / 'bounds' / 'ping' / 'input.sg'
 ANSWER = b'Ping: to Exp 1, to Imp 1\nok: 1 contracts\n'
+WHY = HERE / 'why' / 'two_findings_in_a_method' / 'input.sg'
 SERVER = HERE / 'replays' / 'server_waits'
 # What a replay of no events of the server comes to, and what one of its schedule comes to.
 STARTED = b'steps 0\nstop: end of schedule\nprocess 0 at 5:6, frames 1\n'
@@ -19,6 +20,7 @@ CANNOT_WRITE = b'singcheck: cannot write\n'
 WORDS = {
     'bounds': ['bounds', PING],
     'check': ['check', PING],
+    'why': ['why', WHY],
     'replay': ['replay', SERVER / 'input.sg', 'K.Main', SERVER / 'schedule'],
     'help': ['--help'],
     'version': ['--version'],
@@ -141,7 +143,7 @@ def unreadable(program):
         return found + compared(run(program, *WORDS['replay'][:3], path), b'', cannot_read(path), 3)
 
 
-READERS = ('bounds', 'check', 'replay')
+READERS = ('bounds', 'check', 'why', 'replay')
 EACH = {full_device: WORDS, closed_pipe: WORDS, closed_output: WORDS, closed_error: READERS, folder: READERS}
 TESTS = [('devices/%s/%s' % (test.__name__, command), functools.partial(test, command))
          for test, commands in EACH.items() for command in commands]
