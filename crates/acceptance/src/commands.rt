@@ -68,6 +68,16 @@ fn asks_for_a_check_of_a_file(rt: HostRuntime) -> Result<(), Fail> {
 }
 
 #[test]
+fn asks_why(rt: HostRuntime) -> Result<(), Fail> {
+    let words = ["singcheck", "why", "a.sg"];
+    let asked = ask(rt.alloc(), words.as_slice())?;
+    assert!(rt; asked == Ask::Why { file: "a.sg" });
+    let missing = ["singcheck", "why"];
+    assert!(rt; ask(rt.alloc(), missing.as_slice()).is_err());
+    Ok(())
+}
+
+#[test]
 fn asks_for_a_replay(rt: HostRuntime) -> Result<(), Fail> {
     let words = ["singcheck", "replay", "a.sg", "K.Main", "a.txt"];
     let asked = ask(rt.alloc(), words.as_slice())?;

@@ -14,6 +14,8 @@ mod faults;
 #[cfg(test)]
 mod gates;
 #[cfg(test)]
+mod reasons;
+#[cfg(test)]
 mod schedules;
 #[cfg(test)]
 mod sharing;
