@@ -60,6 +60,8 @@ class Search:
                 told.append((*case.place, '%s %s.%s' % (front, self.name(case.endpoint), case.message or 'ChannelClosed')))
             place = taken[0].place
         changed = [v for v in about if before[1][v] != after[1][v]]
+        if made.word == 'move':
+            del changed[1:]  # it changes two variables, and is told once
         return told + [(*place, self.change(made, v, after[1][v])) for v in changed]
 
     def change(self, made, variable, leaf):
