@@ -1,0 +1,3 @@
+pub mod EveryKind
+pub mod Picking
+pub mod Trials
