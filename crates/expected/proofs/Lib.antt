@@ -1,3 +1,4 @@
+pub mod BraceLemmas
 pub mod EveryKind
 pub mod Picking
 pub mod Trials
