@@ -1,12 +1,21 @@
-//! What holds of syntax errors, whatever the code does.
+//! What holds of syntax errors and of words, whatever the code does.
 
-ghost use Rattle.std.specs.Prelude.{◌≤◌, ℕ, List, length};
+ghost use Rattle.std.specs.Prelude.{◌≡◌, ◌≢◌, ◌≤◌, ℕ, List, length, Some};
+ghost use Rattle.source.specs.Pieces.{kind_of};
+ghost use Rattle.source.specs.declared.kind.Kind.{Kind};
+ghost use Rattle.source.specs.declared.kind.Kind.TheVariants.{Name, Number};
 ghost use Rattle.source.specs.declared.token.Token.{Token};
 ghost use Rattle.tree.specs.Programs.{program};
 ghost use Rattle.syntax.specs.Parsing.{IsFirstWrong};
+ghost use Rattle.expected.specs.KindWords.{word_of};
 
 /// The first wrong token of a text is one of its tokens, or the end after the last of them. So the number in `SyntaxFault::At` may be
 /// passed on as a count of tokens.
 pub fn fault_is_within()
     ensures { (tokens : List Token) (k : ℕ) → IsFirstWrong program tokens k → k ≤ length tokens }
+{}
+
+/// The word of each kind but those of names and numbers is read as a token of this kind.
+pub fn words_are_read_back()
+    ensures { (kind : Kind) → kind ≢ Name → kind ≢ Number → kind_of (word_of kind) ≡ Some kind }
 {}

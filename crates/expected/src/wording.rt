@@ -1,0 +1,128 @@
+//! What a person reads of the kinds of tokens that are expected.
+
+ghost use Rattle.std.specs.Prelude.{◌≡◌, ◌++◌, map, filter, not, IfOk, OnOk};
+ghost use Rattle.std.specs.List.{list_all};
+ghost use Rattle.std.specs.String.{string_bytes};
+ghost use Rattle.expected.specs.Grouping.{has, without, items_of};
+ghost use Rattle.expected.specs.KindWords.{word_of};
+ghost use Rattle.expected.specs.Expectations.{following, joined, listed_items, expectation_of};
+ghost use Rattle.expected.specs.declared.groups.TheConstants.{GROUPS};
+
+use crate::groups::{GROUPS, kinds_of_group, word_of_group};
+use crate::words::word_of;
+use source::{Kind, Memory};
+use std::alloc::Global;
+
+/// How many items a text lists. If there are more, it says how many.
+pub const MAX_ITEMS: usize = 8;
+
+/// Whether a kind is one of these.
+fn has(kinds: &[Kind], kind: Kind) -> bool
+    ensures { result ≡ has kinds.now kind }
+{
+    kinds.iter().any(|other| *other == kind)
+}
+
+/// Whether all of `members` are among these kinds.
+fn has_all(kinds: &[Kind], members: &[Kind]) -> bool
+    ensures { result ≡ list_all (has kinds.now) members.now }
+{
+    members.iter().all(|kind| has(kinds, *kind))
+}
+
+/// These kinds, without those of `members`.
+fn without(alloc: Global, members: &[Kind], kinds: &[Kind]) -> Result<Vec<Kind>, Memory>
+    ensures { IfOk result (λ left. left.items ≡ without members.now kinds.now) }
+{
+    let mut left = Vec::new(alloc);
+    for kind in kinds {
+        if !has(members, *kind) {
+            left.push(*kind)?;
+        }
+    }
+    Ok(left)
+}
+
+/// Adds the word of each kind.
+fn add_words(words: &mut Vec<&'static str>, kinds: &[Kind]) -> Result<(), Memory>
+    ensures { OnOk result (map (λ word. word.now) words.new.items
+        ≡ map (λ word. word.now) words.old.items ++ map word_of kinds.now) }
+{
+    for kind in kinds {
+        words.push(word_of(*kind))?;
+    }
+    Ok(())
+}
+
+/// The words for these kinds: those of groups first.
+fn items_for(alloc: Global, kinds: &[Kind]) -> Result<Vec<&'static str>, Memory>
+    ensures { IfOk result (λ words. map (λ word. word.now) words.items ≡ items_of GROUPS kinds.now) }
+{
+    let mut words = Vec::new(alloc);
+    let mut left = Vec::with_capacity(alloc, kinds.len())?;
+    left.extend_from_slice(kinds)?;
+    for group in &GROUPS {
+        let members = kinds_of_group(*group);
+        if has_all(&left, members) {
+            words.push(word_of_group(*group))?;
+            left = without(alloc, members, &left)?;
+        }
+    }
+    add_words(&mut words, &left)?;
+    Ok(words)
+}
+
+/// Adds items after a first one: `, ` before each, but `last` before the last.
+fn add_following(text: &mut String, last: &str, items: &[&'static str]) -> Result<(), Memory>
+    ensures { OnOk result (string_bytes text.new
+        ≡ string_bytes text.old ++ following last.now (map (λ item. item.now) items.now)) }
+{
+    for i in 0..items.len() {
+        text.push_str(if i + 1 == items.len() { last } else { ", " })?;
+        text.push_str(items[i])?;
+    }
+    Ok(())
+}
+
+/// Adds items in a row.
+fn add_joined(text: &mut String, last: &str, items: &[&'static str]) -> Result<(), Memory>
+    ensures { OnOk result (string_bytes text.new
+        ≡ string_bytes text.old ++ joined last.now (map (λ item. item.now) items.now)) }
+{
+    match items {
+        [] => text.push_str("nothing")?,
+        [first, others @ ..] => {
+            text.push_str(first)?;
+            add_following(text, last, others)?;
+        }
+    }
+    Ok(())
+}
+
+/// Adds at most `MAX_ITEMS` items, and how many more there are.
+fn add_listed(alloc: Global, text: &mut String, items: &[&'static str]) -> Result<(), Memory>
+    ensures { OnOk result (string_bytes text.new
+        ≡ string_bytes text.old ++ listed_items (map (λ item. item.now) items.now)) }
+{
+    if items.len() <= MAX_ITEMS {
+        return add_joined(text, " or ", items);
+    }
+    add_joined(text, ", ", &items[..MAX_ITEMS])?;
+    let more = (items.len() - MAX_ITEMS).to_string(alloc)?;
+    text.push_str(", or ")?;
+    text.push_str(more.as_str())?;
+    text.push_str(" more")?;
+    Ok(())
+}
+
+/// What a person reads of the kinds that are expected: `expected ;`, or `expected an operator, ) or ,`. If all kinds of a group are among
+/// them, the group is named in their place. At most `MAX_ITEMS` items are listed, as in `.., or 3 more`. Returns `Memory` if an allocation
+/// is refused.
+pub fn expectation(alloc: Global, kinds: &[Kind]) -> Result<String, Memory>
+    ensures { IfOk result (λ text. string_bytes text ≡ expectation_of kinds.now) }
+{
+    let items = items_for(alloc, kinds)?;
+    let mut text = String::from_str(alloc, "expected ")?;
+    add_listed(alloc, &mut text, &items)?;
+    Ok(text)
+}
