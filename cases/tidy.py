@@ -1,0 +1,86 @@
+"""`tools/tidy` finds nothing new in the repository, and finds each kind of break in a small one that is made for a test."""
+import os
+import pathlib
+import shutil
+import subprocess
+import tempfile
+
+TOP = pathlib.Path(__file__).resolve().parent.parent
+CODE = '''/// Where a thing is.
+pub struct Place;
+pub struct Bare;
+
+/// The sum.
+pub fn sum(a: u8, b: u8, c: u8, d: u8, e: u8, f: &impl Fn(u8, u8) -> u8) -> u8 { 0 }
+
+fn told<T: Into<(u8, u8)>>(a: u8, b: u8, c: u8, d: u8, e: u8, f: T, g: u8)
+    ensures told { a ≡ b }
+{
+%s}
+''' % ('    work();\n' * 39)
+OTHER = '/// Where another is.\n#[derive(Clone)]\npub enum Place {}\n'
+LEMMAS = 'first : (a b : ℕ) → a ≡ b\n    → b ≡ a\nfirst a b e = sym e\n\nT : ℕ → Type 0\nT n = Unit\n'
+AGAIN = 'second : (a b : ℕ)   → a ≡ b → b ≡ a\nsecond a b e = sym e\n\nU : ℕ → Type 0\nU n = Unit\n'
+DEFINITION = 'IsWide : Type 0\nIsWide = %s\n\nIsNot : Type 0\nIsNot = %s\n' % ('x' * 132, 'ℕ' * 132)
+PAGE = 'See `low/src/lib.rt`, `low/src/gone.rt`, `low::sum`, `low::missing`, `out/program` and `NAME/src`.\n'
+FILES = {'crates.txt': 'low:\nhigh: low\n', 'README.md': PAGE, 'crates/low/src/lib.rt': CODE, 'crates/high/src/lib.rt': OTHER,
+         'crates/low/specs/Wide.antt': DEFINITION, 'crates/high/specs/Long.antt': '-- A line.\n' * 401,
+         'crates/low/proofs/Lemmas.antt': LEMMAS, 'crates/high/proofs/Lemmas.antt': AGAIN}
+FOUND = ['crates/low/src/lib.rt:3 no doc comment on Bare, it is public',
+         'crates/low/src/lib.rt:8 long function told, 43 lines', 'crates/low/src/lib.rt:8 many arguments of told, 7 arguments',
+         'crates/low/src/lib.rt:8 bare participle told, name it by a verb or by what it returns',
+         'crates/low/specs/Wide.antt:2 wide line in IsWide, 141 columns', 'crates/high/specs/Long.antt:1 long file, 401 lines',
+         'crates/high/src/lib.rt:3 type Place twice, also crates/low/src/lib.rt:2',
+         'crates/high/proofs/Lemmas.antt:1 lemma second twice, also crates/low/proofs/Lemmas.antt:1',
+         'README.md:1 unknown name low/src/gone.rt, nothing here is called so',
+         'README.md:1 unknown name low::missing, nothing here is called so']
+
+
+def run(top, *words):
+    return subprocess.run([top / 'tools' / 'tidy', *words], stdin=subprocess.DEVNULL, stdout=subprocess.PIPE, stderr=subprocess.STDOUT,
+                          timeout=60, text=True, env=dict(os.environ, PYTHONDONTWRITEBYTECODE='1'))
+
+
+def made(folder, known):
+    """A small repository with the tool and this list."""
+    for name, text in {**FILES, 'tools/tidy.txt': known}.items():
+        (folder / name).parent.mkdir(parents=True, exist_ok=True)
+        (folder / name).write_text(text)
+    shutil.copy(TOP / 'tools' / 'tidy', folder / 'tools' / 'tidy')
+    return folder
+
+
+def unlike(asked, given):
+    return [] if asked == given else ['expected %r, given %r' % (asked, given)]
+
+
+def nothing_new(_):
+    ran = run(TOP)
+    return ran.stdout.splitlines() + unlike(0, ran.returncode)
+
+
+def each_kind_is_found(_):
+    with tempfile.TemporaryDirectory() as folder:
+        ran = run(made(pathlib.Path(folder), ''))
+        return unlike(sorted(FOUND), sorted(ran.stdout.splitlines())) + unlike(1, ran.returncode)
+
+
+def what_is_listed_stays(_):
+    """Of what is listed nothing is said, unless it has no reason or is mended."""
+    known = [line.partition(',')[0].partition(' ') for line in FOUND]
+    known = ['%s %s: a reason' % (place.partition(':')[0], what) for place, _, what in known]
+    found = []
+    for more, asked in (([], []), (['README.md unknown name low/src/lib.rt: gone'],
+                                   ['tools/tidy.txt:12 is out of date: README.md unknown name low/src/lib.rt'])):
+        with tempfile.TemporaryDirectory() as folder:
+            top = made(pathlib.Path(folder), '# What stays.\n' + '\n'.join(known + more))
+            ran = run(top)
+            found += unlike((asked, int(bool(asked))), (ran.stdout.splitlines(), ran.returncode))
+            found += unlike(len(FOUND), sum(line in FOUND for line in run(top, '--all').stdout.splitlines()))
+    with tempfile.TemporaryDirectory() as folder:
+        ran = run(made(pathlib.Path(folder), '\n'.join([known[0].partition(':')[0], *known[1:]])))
+        found += unlike((['tools/tidy.txt:1 has no reason'], 1), (ran.stdout.splitlines(), ran.returncode))
+    return found
+
+
+TESTS = [('tidy/' + test.__name__, test) for test in (nothing_new, each_kind_is_found, what_is_listed_stays)]
