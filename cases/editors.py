@@ -1,5 +1,7 @@
-"""The files of `editors`: each grammar knows the reserved words of the language and no other word, and what is found can be read."""
+"""The files of `editors`: each grammar knows the reserved words of the language and no other word, and what is found can be read. The lines
+of the page are tried in the editors that are there."""
 import json
+import os
 import pathlib
 import re
 import shutil
@@ -11,6 +13,7 @@ VIM, CODE = TOP / 'editors' / 'vim', TOP / 'editors' / 'vscode'
 NAMES = ['ping', 'Int', 'exp', 'Sender', 'newer', 'in_', '_state', 'channelclosed', 'If', 'one1', 'Length', 'exchanged']
 # Only colours that a grammar gives to words of the language count, not those of numbers, sends and signs.
 FINDING = ('/some where/a b.sg', '12', '5', 'A01', 'note not owned')
+PAGE = TOP / 'editors' / 'README.md'
 
 
 def reserved():
@@ -56,12 +59,17 @@ def parts_of_vs_code(_):
     return ['not there: %s' % part for part in found + [path for path in paths if not (CODE / path).exists()]]
 
 
+def block(kind, holds=''):
+    """The block of the page that is marked so and has this text."""
+    return next(it for it in re.findall(r'```%s\n(.*?)```' % kind, PAGE.read_text(), re.S) if holds in it)
+
+
 def problems_of_vs_code(_):
     matcher = json.loads((CODE / 'package.json').read_text())['contributes']['problemMatchers'][0]
     pattern = matcher['pattern']
     match = re.match(pattern['regexp'], '%s:%s:%s: %s %s' % FINDING)
     given = tuple(match[pattern[part]] for part in ('file', 'line', 'column', 'code', 'message'))
-    task = json.loads(re.search(r'```json\n(.*?)```', (TOP / 'editors/README.md').read_text(), re.S)[1])['tasks'][0]
+    task = json.loads(block('json'))['tasks'][0]
     named = task['problemMatcher'] == '$' + matcher['name']
     return ([] if given == FINDING else ['read as %r' % (given,)]) + ([] if named else ['the task names another matcher'])
 
@@ -92,16 +100,21 @@ call writefile(map(range(1, line('$')), 'synIDattr(synID(v:val, col([v:val, "$"]
     return found + ([] if others == ['singComment', 'singComment', '', 'singSend'] else ['others: %s' % others])
 
 
+def repository(top, program):
+    """A copy of the repository that has what editors use, with this program."""
+    for name in ('editors/vim', 'tools', 'docs/codes'):
+        shutil.copytree(TOP / name, top / name)
+    (top / 'out').mkdir()
+    (top / 'out' / 'singcheck').symlink_to(program)
+    return top
+
+
 def make_in_vim(program):
     """`:make` in a repository with a blank in its path, if there is Vim: the finding, its trace, and why a file cannot be read."""
     if not shutil.which('vim'):
         return []
     with tempfile.TemporaryDirectory() as made:
-        top = pathlib.Path(made) / 'a repository'
-        shutil.copytree(VIM, top / 'editors' / 'vim')
-        shutil.copytree(TOP / 'tools', top / 'tools')
-        (top / 'out').mkdir()
-        (top / 'out' / 'singcheck').symlink_to(program)
+        top = repository(pathlib.Path(made) / 'a repository', program)
         said = vim(top / 'editors' / 'vim', (TOP / 'examples/note.sg').read_text(), """silent make!
 let one = getqflist()[0]
 call writefile([one.lnum . ':' . one.col, one.text, fnamemodify(bufname(one.bufnr), ':t'), len(getqflist())], 'said')
@@ -113,6 +126,124 @@ call writefile([join(map(getqflist(), 'v:val.text'))], 'said', 'a')""")
     asked = ['7:5', 'A01 note not owned', 'a b.sg', '1', '7:5 A01 note not owned, 5:21 note: note new, 6:12 note: note deleted']
     is_told = len(said) == 6 and 'cannot read' in said[5]
     return [] if said[:5] == asked and is_told else ['read as %s' % said]
+
+
+NEOVIM = """
+local said = {}
+for _, name in ipairs(vim.fn.glob('*.sg', true, true)) do
+  vim.cmd('edit ' .. name)
+  vim.wait(20000, function() return #vim.diagnostic.get(0) > 0 end, 20)
+  for _, it in ipairs(vim.diagnostic.get(0)) do
+    table.insert(said, string.format('%s:%d:%d: %s %s', name, it.lnum + 1, it.col + 1, it.code, it.message))
+  end
+end
+vim.fn.writefile(said, 'said')
+vim.cmd('qall!')
+"""
+EMACS = """
+(package-initialize)
+(load (expand-file-name "lines.el"))
+(require 'eglot)
+(setq eglot-sync-connect 30 said nil)
+(dolist (name (directory-files "." nil "\\\\.sg$"))
+  (find-file name)
+  (if (eglot-current-server) nil (call-interactively 'eglot))
+  (flymake-start)
+  (let ((end (+ (float-time) 20)))
+    (while (and (< (float-time) end) (null (flymake-diagnostics))) (accept-process-output nil 0.1)))
+  (dolist (it (flymake-diagnostics))
+    (goto-char (flymake-diagnostic-beg it))
+    (let ((column (1+ (- (position-bytes (point)) (position-bytes (line-beginning-position)))))
+          (text (replace-regexp-in-string "^singcheck \\\\[\\\\(.*\\\\)\\\\]: " "\\\\1 " (flymake-diagnostic-text it))))
+      (setq said (cons (format "%s:%d:%d: %s\\n" name (line-number-at-pos) column text) said)))))
+(write-region (apply 'concat said) nil "said")
+(kill-emacs)
+"""
+
+
+def shown_by(program, files, words):
+    """What an editor shows of texts with findings, and what `check` prints of them. The home folder has the repository and these files."""
+    with tempfile.TemporaryDirectory() as made:
+        home = pathlib.Path(made)
+        repository(home / 'singcheck', program)
+        for name, text in files.items():
+            (home / name).parent.mkdir(parents=True, exist_ok=True)
+            (home / name).write_text(text)
+        for name in ('note', 'leak_on_one_way', 'missing_case', 'used_after_sent'):
+            shutil.copy(TOP / 'examples' / (name + '.sg'), home)
+        note = (TOP / 'examples' / 'note.sg').read_text()
+        (home / 'wide.sg').write_text(note.replace('    note.pages', '/* \u00e4 \U0001f600 */ note.pages'))
+        asked = []
+        for name in sorted(path.name for path in home.glob('*.sg')):
+            ran = subprocess.run([program, 'check', name], cwd=home, stdin=subprocess.DEVNULL, stdout=subprocess.PIPE, text=True)
+            asked += re.sub(r'(?m)^(\d+:\d+) ', name + r':\1: ', ran.stdout).splitlines()[:-1]
+        env = {**{name: value for name, value in os.environ.items() if not name.startswith('XDG_')}, 'HOME': made, 'LC_ALL': 'C.UTF-8'}
+        ran = subprocess.run(words, cwd=home, env=env, timeout=120, stdin=subprocess.DEVNULL, stdout=subprocess.PIPE,
+                             stderr=subprocess.STDOUT, text=True)
+        said = (home / 'said').read_text().splitlines() if (home / 'said').exists() else [ran.stdout]
+        return [] if sorted(said) == sorted(asked) and len(asked) > 4 else ['expected %r, given %r' % (sorted(asked), sorted(said))]
+
+
+def findings_in_neovim(program):
+    """With the lines of the page Neovim, if it is there, shows what `check` prints, also after letters that are not ASCII."""
+    if not shutil.which('nvim'):
+        return []
+    files = {'.config/nvim/init.lua': block('lua'), 'shows.lua': NEOVIM}
+    return shown_by(program, files, ['nvim', '--headless', '-c', 'luafile shows.lua'])
+
+
+def findings_in_emacs(program):
+    """The same of Emacs and its client `eglot`."""
+    words = ['emacs', '--batch', '--eval', "(progn (package-initialize) (require 'eglot))"]
+    if not shutil.which('emacs') or subprocess.run(words, stdin=subprocess.DEVNULL, capture_output=True).returncode:
+        return []
+    return shown_by(program, {'lines.el': block('elisp'), 'shows.el': EMACS}, ['emacs', '--batch', '-l', 'shows.el'])
+
+
+def lines_for_helix(_):
+    """The lines are TOML, and name the server that the language asks for."""
+    try:
+        import tomllib
+    except ImportError:
+        return []
+    its = tomllib.loads(block('toml'))
+    language, servers = its['language'][0], its['language-server']
+    fits = language['file-types'] == ['sg'] and [servers[name]['command'][-10:] for name in language['language-servers']] == ['/tools/lsp']
+    return [] if fits else ['read as %r' % its]
+
+
+def hook_before_a_commit(program):
+    """The hook of the page refuses a commit with a finding, also if the file in the folder has none any more, and lets others pass."""
+    if not shutil.which('git'):
+        return []
+    with tempfile.TemporaryDirectory() as made:
+        home, folder = pathlib.Path(made), pathlib.Path(made) / 'a project'
+        repository(home / 'singcheck', program)
+        env = {'HOME': made, 'PATH': os.environ['PATH'], 'GIT_AUTHOR_NAME': 'a', 'GIT_AUTHOR_EMAIL': 'a', 'GIT_COMMITTER_NAME': 'a',
+               'GIT_COMMITTER_EMAIL': 'a', 'PYTHONDONTWRITEBYTECODE': '1'}
+
+        def git(*words):
+            return subprocess.run(['git', *words], cwd=folder, env=env, stdin=subprocess.DEVNULL, stdout=subprocess.PIPE,
+                                  stderr=subprocess.STDOUT, text=True, timeout=60)
+
+        (folder / 'a folder').mkdir(parents=True)
+        git('init', '-q')
+        (folder / '.git/hooks/pre-commit').write_text(block('sh', '#!/bin/sh'))
+        (folder / '.git/hooks/pre-commit').chmod(0o755)
+        (folder / 'a page.txt').write_text('no text of Sing#')
+        (folder / 'ping.sg').write_text((TOP / 'examples/ping.sg').read_text())
+        git('add', '.')
+        found = ['a clean commit is refused'] if git('commit', '-qm', 'one').returncode else []
+        note = (TOP / 'examples/note.sg').read_text()
+        (folder / 'a folder' / '-a note.sg').write_text(note)
+        git('add', '.')
+        (folder / 'a folder' / '-a note.sg').write_text('')
+        ran = git('commit', '-qm', 'two')
+        is_said = 'a folder/-a note.sg:7:5: A01 note not owned' in ran.stdout
+        found += [] if ran.returncode and is_said else ['a finding is committed: %d, %r' % (ran.returncode, ran.stdout)]
+        git('add', '.')
+        (folder / 'a folder' / '-a note.sg').write_text(note)
+        return found + (['a repaired commit is refused'] if git('commit', '-qm', 'three').returncode else [])
 
 
 def extension_of_vs_code(program):
@@ -128,4 +259,4 @@ def extension_of_vs_code(program):
 
 TESTS = [('editors/' + test.__name__, test) for test in
          (words_of_the_pages, words_of_vim, words_of_vs_code, parts_of_vs_code, problems_of_vs_code, colours_of_vim, make_in_vim,
-          extension_of_vs_code)]
+          findings_in_neovim, findings_in_emacs, lines_for_helix, extension_of_vs_code, hook_before_a_commit)]

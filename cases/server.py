@@ -258,19 +258,34 @@ def pages_and_bounds(client, _):
 
 
 def names_lead_to_declarations(client, _):
-    text = (TOP / 'examples' / 'ping.sg').read_text()
-    client.open('file:///ping.sg', text)
-    symbols = client.ask('textDocument/documentSymbol', textDocument={'uri': 'file:///ping.sg'})['result']
-    words = {its['name']: its['selectionRange'] for outer in symbols for its in [outer, *outer['children']]}
-    found = [] if len(words) > 4 else ['few symbols: %r' % words]
-    for name, span in words.items():
-        row = text.splitlines()[span['start']['line']]
-        found += unlike(name, row[span['start']['character']:span['end']['character']])
-    for number, line in enumerate(text.splitlines()):
-        for use in re.finditer(r'\b(%s)\b' % '|'.join(map(re.escape, words)), line.partition('//')[0]):
-            given = client.ask('textDocument/definition', **client.at('file:///ping.sg', number, use.start()))['result'] or []
-            found += [] if any(its['range'] == words[use[1]] for its in given) else ['%d: %s leads to %r' % (number + 1, use[1], given)]
-    return found
+    """Each use of a contract, state, message, struct, class or method leads to its declaration, which is in the outline."""
+    found, kinds = [], set()
+    for path in (TOP / 'examples' / 'ping.sg', TOP / 'examples' / 'hand_over.sg'):
+        uri, text = path.as_uri(), path.read_text()
+        client.open(uri, text)
+        symbols = client.ask('textDocument/documentSymbol', textDocument={'uri': uri})['result']
+        all_symbols = [its for outer in symbols for its in [outer, *outer['children']]]
+        kinds |= {its['kind'] for its in all_symbols}
+        words = {its['name']: its['selectionRange'] for its in all_symbols}
+        for name, span in words.items():
+            row = text.splitlines()[span['start']['line']]
+            found += unlike(name, row[span['start']['character']:span['end']['character']])
+        for number, line in enumerate(text.splitlines()):
+            for use in re.finditer(r'\b(%s)\b' % '|'.join(map(re.escape, words)), line.partition('//')[0]):
+                given = client.ask('textDocument/definition', **client.at(uri, number, use.start()))['result'] or []
+                is_met = any(its == {'uri': uri, 'range': words[use[1]]} for its in given)
+                found += [] if is_met else ['%s:%d: %s leads to %r' % (path.name, number + 1, use[1], given)]
+    return found + unlike({5: 'class', 6: 'method', 11: 'contract', 22: 'state', 23: 'struct', 24: 'message'}.keys(), kinds)
+
+
+def parts_of_a_diagnostic(client, _):
+    """A finding is an error of singcheck with its code, over the word at its place, and with a link to the page of the code."""
+    client.open('file:///note.sg', NOTE)
+    its = client.found('file:///note.sg', 1)[0]
+    page = its.pop('codeDescription')['href']
+    span = {'start': {'line': 6, 'character': 4}, 'end': {'line': 6, 'character': 8}}
+    asked = {'range': span, 'severity': 1, 'code': 'A01', 'source': 'singcheck', 'message': 'note not owned'}
+    return unlike(asked, its) + unlike((TOP / 'docs' / 'codes' / 'A01.md').as_uri(), page)
 
 
 def refusals(client, _):
@@ -295,11 +310,72 @@ def a_client_that_dies(client, _):
     return unlike(1, client.server.wait(WAIT))
 
 
-def a_server_that_is_killed(client, program):
-    """A run that goes on ends with its server."""
-    client.open('file:///note.sg', NOTE)
-    client.server.send_signal(signal.SIGTERM)
-    return unlike(128 + signal.SIGTERM, client.server.wait(WAIT))
+class Slow:
+    """A program that notes its process and does not end."""
+
+    def __enter__(self):
+        self.folder = tempfile.TemporaryDirectory()
+        self.noted = pathlib.Path(self.folder.name) / 'noted'
+        self.program = pathlib.Path(self.folder.name) / 'program'
+        self.program.write_text('#!/bin/sh\necho $$ >>%s\nexec sleep 600\n' % shlex.quote(str(self.noted)))
+        self.program.chmod(0o755)
+        return self
+
+    def __exit__(self, *_):
+        self.folder.cleanup()
+
+    def runs(self, count):
+        """The processes of so many runs, as soon as these have begun."""
+        return awaited(lambda: self.noted.exists() and len(self.noted.read_text().split()) >= count and self.noted.read_text().split())
+
+
+def awaited(given):
+    """What is given, as soon as it is true; at last what is not."""
+    ended = time.monotonic() + WAIT
+    while not given() and time.monotonic() < ended:
+        time.sleep(0.02)
+    return given()
+
+
+def is_over(process):
+    return not pathlib.Path('/proc', process).exists()
+
+
+def an_overtaken_run_is_stopped(_):
+    """The run on an older text ends when a newer one comes, long before its own end, and the last one when the text is closed."""
+    with Slow() as slow:
+        client = Client(str(slow.program))
+        try:
+            client.open('file:///note.sg', NOTE)
+            slow.runs(1)
+            client.change('file:///note.sg', NOTE + '\n', 2)
+            first, last = slow.runs(2)[:2]
+            found = [] if awaited(lambda: is_over(first)) else ['the first run goes on']
+            found += ['the last run is over'] if is_over(last) else []
+            client.tell('textDocument/didClose', textDocument={'uri': 'file:///note.sg'})
+            return found + ([] if awaited(lambda: is_over(last)) else ['a closed text is checked'])
+        finally:
+            client.server.kill()
+            client.server.wait()
+
+
+def a_server_that_is_killed(program):
+    """A server that is told to end stops the run that goes on, and one that is started anew knows the text as it is then."""
+    with Slow() as slow:
+        client = Client(str(slow.program))
+        client.open('file:///note.sg', NOTE)
+        last = slow.runs(1)[0]
+        client.server.send_signal(signal.SIGTERM)
+        found = unlike(128 + signal.SIGTERM, client.server.wait(WAIT))
+        found += [] if awaited(lambda: is_over(last)) else ['the run goes on']
+    for number in (signal.SIGKILL, signal.SIGTERM):
+        client = Client(program)
+        client.open('file:///note.sg', NOTE * 200)
+        client.server.send_signal(number)
+        client.server.wait(WAIT)
+    client = Client(program)
+    client.open('file:///note.sg', NOTE, 7)
+    return found + unlike([(7, 5, 'A01', 'note not owned')], told(client.found('file:///note.sg', 7), NOTE)) + unlike(0, client.end())
 
 
 def a_large_text(client, program):
@@ -323,8 +399,10 @@ def not_built(_):
 
 
 TESTS = [('server/' + test.__name__, with_client(test)) for test in
-         (each_text_has_its_findings, edits_faster_than_runs, columns_are_the_clients, other_ends_of_lines, pages_and_bounds,
-          names_lead_to_declarations, refusals, a_client_that_dies, a_server_that_is_killed, a_large_text)]
+         (each_text_has_its_findings, edits_faster_than_runs, columns_are_the_clients, other_ends_of_lines, parts_of_a_diagnostic,
+          pages_and_bounds, names_lead_to_declarations, refusals, a_client_that_dies, a_large_text)]
 TESTS += [('server/columns_of_utf_16', with_client(columns_are_the_clients, encodings=())), ('server/not_built', not_built),
           ('server/traces_are_related_places', with_client(traces_are_related_places, related=True)),
-          ('server/findings_without_traces', findings_without_traces)]
+          ('server/findings_without_traces', findings_without_traces),
+          ('server/an_overtaken_run_is_stopped', an_overtaken_run_is_stopped),
+          ('server/a_server_that_is_killed', a_server_that_is_killed)]
