@@ -46,7 +46,8 @@ def made(folder, known):
     for name, text in {**FILES, 'tools/tidy.txt': known}.items():
         (folder / name).parent.mkdir(parents=True, exist_ok=True)
         (folder / name).write_text(text)
-    shutil.copy(TOP / 'tools' / 'tidy', folder / 'tools' / 'tidy')
+    for tool in ('tidy', 'reports.py'):
+        shutil.copy(TOP / 'tools' / tool, folder / 'tools' / tool)
     return folder
 
 
