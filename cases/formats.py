@@ -231,7 +231,12 @@ def standard_input_and_odd_names(program):
         found += unlike(b'::error file=c%2Cd%3Ae%25.sg,line=7,col=5,title=A01::note not owned\n', command, 'escapes')
         report = b'7:5 A01 note not owned\nfindings: 1\n'
         given = run(program, '--plain', '--', '-x.sg', tool='show', input=report, cwd=folder).stdout
-        return found + unlike(b'-x.sg:7:5: A01 note not owned\n', given, 'show')
+        found += unlike(b'-x.sg:7:5: A01 note not owned\n', given, 'show')
+        for kind in ('plain', 'sarif', 'github', 'json'):
+            ran = run(program, '--format', kind, '--', 'no\x1b[2J.sg', cwd=folder)
+            is_said = b'cannot read' in ran.stderr and 'no\u241b[2J.sg'.encode() in ran.stderr and b'\x1b' not in ran.stderr
+            found += unlike((3, True), (ran.returncode, is_said), 'not there, ' + kind)
+        return found
 
 
 def ends_as_other_tools(program):
