@@ -311,13 +311,13 @@ def a_client_that_dies(client, _):
 
 
 class Slow:
-    """A program that notes its process and does not end."""
+    """A program that does not know `why`, and of which a `check` notes its process and does not end."""
 
     def __enter__(self):
         self.folder = tempfile.TemporaryDirectory()
         self.noted = pathlib.Path(self.folder.name) / 'noted'
         self.program = pathlib.Path(self.folder.name) / 'program'
-        self.program.write_text('#!/bin/sh\necho $$ >>%s\nexec sleep 600\n' % shlex.quote(str(self.noted)))
+        self.program.write_text('#!/bin/sh\n[ "$1" = check ] || exit 2\necho $$ >>%s\nexec sleep 600\n' % shlex.quote(str(self.noted)))
         self.program.chmod(0o755)
         return self
 
