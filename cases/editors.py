@@ -212,6 +212,23 @@ def lines_for_helix(_):
     return [] if fits else ['read as %r' % its]
 
 
+def commands_of_the_ci(program):
+    """The commands of the page annotate a finding, end with its status, and leave SARIF with its trace."""
+    annotate, scan = re.findall(r'^- run: (.*)$', block('yaml'), re.M)
+    with tempfile.TemporaryDirectory() as made:
+        folder = pathlib.Path(made)
+        repository(folder / 'singcheck', program)
+        (folder / 'src').mkdir()
+        shutil.copy(TOP / 'examples' / 'note.sg', folder / 'src')
+        ran = [subprocess.run(['bash', '-c', command], cwd=folder, stdin=subprocess.DEVNULL, stdout=subprocess.PIPE, text=True)
+               for command in (annotate, scan)]
+        log = json.loads((folder / 'singcheck.sarif').read_text())
+    asked = '::error file=src/note.sg,line=7,col=5,title=A01::note not owned\n'
+    given = [(it.stdout, it.returncode) for it in ran]
+    traced = [len(it['codeFlows'][0]['threadFlows'][0]['locations']) for it in log['runs'][0]['results']]
+    return [] if (given, traced) == ([(asked, 1), ('', 0)], [3]) else ['given %r, traces %r' % (given, traced)]
+
+
 def hook_before_a_commit(program):
     """The hook of the page refuses a commit with a finding, also if the file in the folder has none any more, and lets others pass."""
     if not shutil.which('git'):
@@ -259,4 +276,5 @@ def extension_of_vs_code(program):
 
 TESTS = [('editors/' + test.__name__, test) for test in
          (words_of_the_pages, words_of_vim, words_of_vs_code, parts_of_vs_code, problems_of_vs_code, colours_of_vim, make_in_vim,
-          findings_in_neovim, findings_in_emacs, lines_for_helix, extension_of_vs_code, hook_before_a_commit)]
+          findings_in_neovim, findings_in_emacs, lines_for_helix, extension_of_vs_code, commands_of_the_ci,
+          hook_before_a_commit)]

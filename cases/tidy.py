@@ -22,7 +22,7 @@ OTHER = '/// Where another is.\n#[derive(Clone)]\npub enum Place {}\n'
 LEMMAS = 'first : (a b : ℕ) → a ≡ b\n    → b ≡ a\nfirst a b e = sym e\n\nT : ℕ → Type 0\nT n = Unit\n'
 AGAIN = 'second : (a b : ℕ)   → a ≡ b → b ≡ a\nsecond a b e = sym e\n\nU : ℕ → Type 0\nU n = Unit\n'
 DEFINITION = 'IsWide : Type 0\nIsWide = %s\n\nIsNot : Type 0\nIsNot = %s\n' % ('x' * 132, 'ℕ' * 132)
-PAGE = 'See `low/src/lib.rt`, `low/src/gone.rt`, `low::sum`, `low::missing`, `out/program` and `NAME/src`.\n'
+PAGE = 'See `low/src/lib.rt`, `low/src/gone.rt`, `old/src/lib.rt`, `low::sum`, `low::missing`, `out/program` and `NAME/src/lib.rt`.\n'
 FILES = {'crates.txt': 'low:\nhigh: low\n', 'README.md': PAGE, 'crates/low/src/lib.rt': CODE, 'crates/high/src/lib.rt': OTHER,
          'crates/low/specs/Wide.antt': DEFINITION, 'crates/high/specs/Long.antt': '-- A line.\n' * 401,
          'crates/low/proofs/Lemmas.antt': LEMMAS, 'crates/high/proofs/Lemmas.antt': AGAIN}
@@ -33,6 +33,7 @@ FOUND = ['crates/low/src/lib.rt:3 no doc comment on Bare, it is public',
          'crates/high/src/lib.rt:3 type Place twice, also crates/low/src/lib.rt:2',
          'crates/high/proofs/Lemmas.antt:1 lemma second twice, also crates/low/proofs/Lemmas.antt:1',
          'README.md:1 unknown name low/src/gone.rt, nothing here is called so',
+         'README.md:1 unknown name old/src/lib.rt, nothing here is called so',
          'README.md:1 unknown name low::missing, nothing here is called so']
 
 
@@ -72,7 +73,7 @@ def what_is_listed_stays(_):
     known = ['%s %s: a reason' % (place.partition(':')[0], what) for place, _, what in known]
     found = []
     for more, asked in (([], []), (['README.md unknown name low/src/lib.rt: gone'],
-                                   ['tools/tidy.txt:12 is out of date: README.md unknown name low/src/lib.rt'])):
+                                   ['tools/tidy.txt:%d is out of date: README.md unknown name low/src/lib.rt' % (len(FOUND) + 2)])):
         with tempfile.TemporaryDirectory() as folder:
             top = made(pathlib.Path(folder), '# What stays.\n' + '\n'.join(known + more))
             ran = run(top)
