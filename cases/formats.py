@@ -258,11 +258,20 @@ def ends_as_other_tools(program):
         ran = subprocess.run(command, input=data, stdout=writes, stderr=subprocess.PIPE, timeout=60)
         os.close(writes)
         found += unlike((-signal.SIGPIPE, b''), (ran.returncode, ran.stderr), tool + ' without a reader')
-    waiting = subprocess.Popen([TOP / 'tools' / 'show', note], stdin=subprocess.PIPE, stdout=subprocess.PIPE, stderr=subprocess.PIPE)
-    time.sleep(0.5)
-    waiting.send_signal(signal.SIGINT)
-    said = waiting.communicate(timeout=60)[1]
-    return found + unlike((-signal.SIGINT, b''), (waiting.returncode, said), 'show interrupted')
+    ran = subprocess.run(['sh', '-c', '"$@" - <&-', 'sh', TOP / 'tools' / 'check', '--program', program], capture_output=True, timeout=60)
+    found += unlike((3, b'', b'check: cannot read -: it is closed\n'), (ran.returncode, ran.stdout, ran.stderr), 'closed input')
+    with tempfile.TemporaryDirectory() as folder:
+        slow = pathlib.Path(folder) / 'slow'
+        slow.write_text('#!/bin/sh\nexec sleep 60\n')
+        slow.chmod(0o755)
+        for command in ([TOP / 'tools' / 'show', note], [TOP / 'tools' / 'check', '--program', slow, note]):
+            waiting = subprocess.Popen(command, stdin=subprocess.PIPE, stdout=subprocess.PIPE, stderr=subprocess.PIPE,
+                                       start_new_session=True)
+            time.sleep(0.5)
+            os.killpg(waiting.pid, signal.SIGINT)  # as a terminal does it
+            said = waiting.communicate(timeout=60)[1]
+            found += unlike((-signal.SIGINT, b''), (waiting.returncode, said), command[0].name + ' interrupted')
+    return found
 
 
 def on_a_terminal(program, *words, columns=40, **more):
