@@ -115,7 +115,8 @@ def is_flow(flow):
     steps = [step['location'] for thread in threads for step in thread['locations']]
     regions = [step['physicalLocation']['region'] for step in steps]
     fits = all(isinstance(step['message']['text'], str) and 'uri' in step['physicalLocation']['artifactLocation'] for step in steps)
-    return fits and all(thread['locations'] for thread in threads) and all(min(region.values()) >= 1 for region in regions) and bool(threads)
+    fits = fits and all(min(region.values()) >= 1 for region in regions)
+    return fits and all(thread['locations'] for thread in threads) and bool(threads)
 
 
 def sarif(program):
@@ -279,8 +280,8 @@ def on_a_terminal(program, *words, columns=40, **more):
     master, slave = pty.openpty()
     env = {**os.environ, 'COLUMNS': str(columns), 'TERM': 'xterm', **more}
     env.pop('NO_COLOR', None) if 'NO_COLOR' not in more else None
-    child = subprocess.Popen([TOP / 'tools' / 'check', '--program', program, *words, TOP / 'examples' / 'note.sg'], stdin=subprocess.DEVNULL,
-                             stdout=slave, stderr=slave, env=env)
+    command = [TOP / 'tools' / 'check', '--program', program, *words, TOP / 'examples' / 'note.sg']
+    child = subprocess.Popen(command, stdin=subprocess.DEVNULL, stdout=slave, stderr=slave, env=env)
     os.close(slave)
     data = b''
     while True:

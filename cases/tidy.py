@@ -25,14 +25,14 @@ DEFINITION = 'IsWide : Type 0\nIsWide = %s\n\nIsNot : Type 0\nIsNot = %s\n' % ('
 PAGE = 'See `low/src/lib.rt`, `low/src/gone.rt`, `old/src/lib.rt`, `low::sum`, `low::missing`, `out/program` and `NAME/src/lib.rt`.\n'
 FILES = {'crates.txt': 'low:\nhigh: low\n', 'README.md': PAGE, 'crates/low/src/lib.rt': CODE, 'crates/high/src/lib.rt': OTHER,
          'crates/low/specs/Wide.antt': DEFINITION, 'crates/high/specs/Long.antt': '-- A line.\n' * 401,
-         'crates/low/proofs/Lemmas.antt': LEMMAS, 'crates/high/proofs/Lemmas.antt': AGAIN}
+         'bench/times.py': '# %s\n' % ('ä' * 139), 'crates/low/proofs/Lemmas.antt': LEMMAS, 'crates/high/proofs/Lemmas.antt': AGAIN}
 FOUND = ['crates/low/src/lib.rt:3 no doc comment on Bare, it is public',
          'crates/low/src/lib.rt:8 long function told, 43 lines', 'crates/low/src/lib.rt:8 many arguments of told, 7 arguments',
          'crates/low/src/lib.rt:8 bare participle told, name it by a verb or by what it returns',
          'crates/low/specs/Wide.antt:2 wide line in IsWide, 141 columns', 'crates/high/specs/Long.antt:1 long file, 401 lines',
          'crates/high/src/lib.rt:3 type Place twice, also crates/low/src/lib.rt:2',
          'crates/high/proofs/Lemmas.antt:1 lemma second twice, also crates/low/proofs/Lemmas.antt:1',
-         'README.md:1 unknown name low/src/gone.rt, nothing here is called so',
+         'bench/times.py:1 wide line in a script, 141 columns', 'README.md:1 unknown name low/src/gone.rt, nothing here is called so',
          'README.md:1 unknown name old/src/lib.rt, nothing here is called so',
          'README.md:1 unknown name low::missing, nothing here is called so']
 

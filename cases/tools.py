@@ -189,7 +189,7 @@ def program_in_front(program):
 
 
 TESTS = [('tools/' + test.__name__, test) for test in
-         (a_finding, a_trace, a_trace_of_longer_numbers, two_findings_plain, plain_needs_no_text, tabs, columns_count_bytes, carriage_return,
-          byte_order_mark, end_of_the_text, end_of_a_line, what_a_terminal_obeys, long_line, long_line_cut_at_letters, no_such_place,
-          nothing_found, bounds, report_not_whole, run_of_a_schedule, text_not_there, words_of_show, each_page_is_printed,
+         (a_finding, a_trace, a_trace_of_longer_numbers, two_findings_plain, plain_needs_no_text, tabs, columns_count_bytes,
+          carriage_return, byte_order_mark, end_of_the_text, end_of_a_line, what_a_terminal_obeys, long_line, long_line_cut_at_letters,
+          no_such_place, nothing_found, bounds, report_not_whole, run_of_a_schedule, text_not_there, words_of_show, each_page_is_printed,
           words_of_explain, each_code_has_a_page_with_one_repair, program_in_front)]

@@ -17,7 +17,8 @@ registered.found = async found => {
     console.log(`${place(it.range)} ${it.code.value} ${it.message}`);
     for (const note of it.relatedInformation) console.log(`  ${place(note.location.range)} ${note.message}`);
   }
-  const outline = them => them.map(it => `${it.kind} ${it.name}${it.children && it.children.length ? ` (${outline(it.children)})` : ''}`).join(', ');
+  const within = it => (it.children && it.children.length ? ` (${outline(it.children)})` : '');
+  const outline = them => them.map(it => `${it.kind} ${it.name}${within(it)}`).join(', ');
   console.log(outline(await registered.symbols.provideDocumentSymbols(document)));
   const hover = await registered.hover.provideHover(document, { line, character: column });
   console.log(hover.content.value.split('\n')[0]);
