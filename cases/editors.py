@@ -264,7 +264,8 @@ def hook_before_a_commit(program):
 
 
 def extension_of_vs_code(program):
-    """The extension shows what `why` prints, an outline, and the page of a code. Its editor is a stub, run by Node if there is one."""
+    """The extension shows what `why` prints, an outline, and the page of a code, also after its server was killed. Its editor is a stub,
+    run by Node if there is one."""
     if not shutil.which('node'):
         return []
     words = ['node', TOP / 'cases' / 'vscode_stub' / 'driver.js', program, TOP / 'examples' / 'note.sg']

@@ -1,7 +1,8 @@
-// Starts the extension with a program and a text, and prints what it shows: findings with their traces, the outline, and the page at the
-// first finding.
+// Starts the extension with a program and a text, kills its server as soon as there are findings, and prints what the extension shows when
+// it has started another one: findings with their traces, the outline, and the page at the first finding.
 'use strict';
 
+const childProcess = require('child_process');
 const Module = require('module');
 const path = require('path');
 
@@ -9,8 +10,19 @@ const resolve = Module._resolveFilename;
 Module._resolveFilename = (name, ...more) => (name === 'vscode' ? path.join(__dirname, 'vscode.js') : resolve(name, ...more));
 const { registered, document } = require('vscode');
 
+const spawn = childProcess.spawn;
+const servers = [];
+childProcess.spawn = (...given) => {
+  servers.push(spawn(...given));
+  return servers[servers.length - 1];
+};
+
 const subscriptions = [];
 registered.found = async found => {
+  if (servers.length === 1) {
+    servers[0].kill('SIGKILL');
+    return;
+  }
   const [line, column] = found[0].range.ends;
   const place = range => `${range.ends[0] + 1}:${range.ends[1] + 1}`;
   for (const it of found) {

@@ -9,18 +9,24 @@ const vscode = require('vscode');
 
 const LANGUAGE = 'sing';
 const SERVER = path.join(fs.realpathSync(__dirname), '..', '..', 'tools', 'lsp');
+const STARTS = 5; // how often the server is started, if it ends by itself
 const KINDS = { 5: 'Class', 6: 'Method', 11: 'Interface', 22: 'EnumMember', 23: 'Struct', 24: 'Event' };
 
 /** The server as a process: requests with their answers, and notifications in both directions. */
 class Server {
   constructor(words, notified, ended) {
     this.child = childProcess.spawn(words[0], words.slice(1), { stdio: ['pipe', 'pipe', 'ignore'] });
+    this.over = false;
     this.waiting = new Map();
     this.number = 0;
     this.data = Buffer.alloc(0);
     this.notified = notified;
     this.child.on('error', ended);
-    this.child.on('exit', () => ended(null));
+    this.child.on('exit', () => {
+      this.over = true;
+      this.waiting.forEach(answer => answer(null));
+      ended(null);
+    });
     this.child.stdin.on('error', () => {}); // a server that has ended says so by 'exit'
     this.child.stdout.on('data', data => this.take(data));
   }
@@ -57,7 +63,9 @@ class Server {
     this.write({ method, params });
   }
 
+  /** The result, or null if the server has none or has ended. */
   ask(method, params) {
+    if (this.over) return Promise.resolve(null);
     const id = (this.number += 1);
     return new Promise(answer => {
       this.waiting.set(id, answer);
@@ -94,43 +102,61 @@ function toSymbol(it) {
 function activate(context) {
   const found = vscode.languages.createDiagnosticCollection('singcheck');
   const asked = vscode.workspace.getConfiguration('singcheck').get('program');
-  const server = new Server(asked ? [SERVER, '--program', asked] : [SERVER], (method, params) => {
+  let server = null;
+  let starts = 0;
+  let over = false;
+  const notified = (method, params) => {
     if (method === 'textDocument/publishDiagnostics') found.set(vscode.Uri.parse(params.uri), params.diagnostics.map(toDiagnostic));
     if (method === 'window/showMessage') vscode.window.showErrorMessage(params.message);
-  }, error => {
+  };
+  const ended = error => {
     found.clear();
+    if (over) return;
     if (error) vscode.window.showErrorMessage(`singcheck: ${SERVER} cannot be started: ${error.message}`);
-  });
+    else if (starts < STARTS) start();
+    else vscode.window.showErrorMessage(`singcheck: ${SERVER} has ended ${starts} times, so nothing is checked any more`);
+  };
   const ours = document => document.languageId === LANGUAGE;
   const open = document => ours(document) && server.tell('textDocument/didOpen', { textDocument: {
     uri: document.uri.toString(), languageId: LANGUAGE, version: document.version, text: document.getText() } });
   const named = document => ({ textDocument: { uri: document.uri.toString(), version: document.version } });
 
-  server.ask('initialize', { processId: process.pid, rootUri: null, capabilities: {
-    general: { positionEncodings: ['utf-16'] }, textDocument: { publishDiagnostics: { relatedInformation: true } } } })
-    .then(() => {
-      server.tell('initialized', {});
-      vscode.workspace.textDocuments.forEach(open);
-      context.subscriptions.push(
-        vscode.workspace.onDidOpenTextDocument(open),
-        vscode.workspace.onDidChangeTextDocument(({ document }) => ours(document) && server.tell('textDocument/didChange', {
-          ...named(document), contentChanges: [{ text: document.getText() }] })),
-        vscode.workspace.onDidSaveTextDocument(document => ours(document) && server.tell('textDocument/didSave', named(document))),
-        vscode.workspace.onDidCloseTextDocument(document => ours(document) && server.tell('textDocument/didClose', named(document))),
-        vscode.languages.registerHoverProvider(LANGUAGE, { provideHover: async (document, position) => {
-          const it = await server.ask('textDocument/hover', at(document, position));
-          return it && new vscode.Hover(new vscode.MarkdownString(it.contents.value));
-        } }),
-        vscode.languages.registerDefinitionProvider(LANGUAGE, { provideDefinition: async (document, position) => {
-          const them = await server.ask('textDocument/definition', at(document, position));
-          return (them || []).map(it => new vscode.Location(document.uri, toRange(it.range)));
-        } }),
-        vscode.languages.registerDocumentSymbolProvider(LANGUAGE, { provideDocumentSymbols: async document => {
-          const them = await server.ask('textDocument/documentSymbol', { textDocument: { uri: document.uri.toString() } });
-          return (them || []).map(toSymbol);
-        } }));
-    });
-  context.subscriptions.push(found, { dispose: () => server.ask('shutdown').then(() => server.tell('exit')) });
+  const start = () => {
+    starts += 1;
+    const its = new Server(asked ? [SERVER, '--program', asked] : [SERVER], notified, ended);
+    server = its;
+    its.ask('initialize', { processId: process.pid, rootUri: null, capabilities: {
+      general: { positionEncodings: ['utf-16'] }, textDocument: { publishDiagnostics: { relatedInformation: true } } } })
+      .then(able => {
+        if (!able) return;
+        its.tell('initialized', {});
+        vscode.workspace.textDocuments.forEach(open);
+      });
+  };
+
+  start();
+  context.subscriptions.push(
+    vscode.workspace.onDidOpenTextDocument(open),
+    vscode.workspace.onDidChangeTextDocument(({ document }) => ours(document) && server.tell('textDocument/didChange', {
+      ...named(document), contentChanges: [{ text: document.getText() }] })),
+    vscode.workspace.onDidSaveTextDocument(document => ours(document) && server.tell('textDocument/didSave', named(document))),
+    vscode.workspace.onDidCloseTextDocument(document => ours(document) && server.tell('textDocument/didClose', named(document))),
+    vscode.languages.registerHoverProvider(LANGUAGE, { provideHover: async (document, position) => {
+      const it = await server.ask('textDocument/hover', at(document, position));
+      return it && new vscode.Hover(new vscode.MarkdownString(it.contents.value));
+    } }),
+    vscode.languages.registerDefinitionProvider(LANGUAGE, { provideDefinition: async (document, position) => {
+      const them = await server.ask('textDocument/definition', at(document, position));
+      return (them || []).map(it => new vscode.Location(document.uri, toRange(it.range)));
+    } }),
+    vscode.languages.registerDocumentSymbolProvider(LANGUAGE, { provideDocumentSymbols: async document => {
+      const them = await server.ask('textDocument/documentSymbol', { textDocument: { uri: document.uri.toString() } });
+      return (them || []).map(toSymbol);
+    } }));
+  context.subscriptions.push(found, { dispose: () => {
+    over = true;
+    server.ask('shutdown').then(() => server.tell('exit'));
+  } });
 }
 
 module.exports = { activate };
