@@ -1,7 +1,9 @@
 -- Why something is found in a method.
-use Rattle.std.specs.Prelude.{◌≡◌, ◌++◌, ◌∷◌, [], ℕ, List, IsSomeAnd, map, slice_get, codes}
+use Rattle.std.specs.Prelude.{◌≡◌, ◌++◌, ◌∷◌, [], ℕ, Bool, true, false, List, Option, Some, None, IsSomeAnd, map, slice_get, codes}
 use Rattle.std.specs.Fmt.{decimal}
 use Rattle.source.specs.Findings.{FindingParts, finding_parts}
+use Rattle.source.specs.contracts.place.PlacePartialEq.TheImpl.{eq-value as same_place}
+use Rattle.source.specs.declared.place.Place.{Place}
 use Rattle.program.specs.Methods.{MethodSeen}
 use Rattle.program.specs.Programs.{ProgramSeen}
 use Rattle.flow.specs.Lowering.{graph_of}
@@ -15,14 +17,18 @@ use Rattle.analyse.specs.declared.analysing.TheConstants.{MOST_PAIRS}
 use Rattle.traces.specs.Lines.{LineSeen, line, line_seen, path_lines, start_lines}
 use Rattle.traces.specs.Watched.{watched}
 use Rattle.traces.specs.declared.line.Explained.{Explained}
+use Rattle.traces.specs.declared.line.Line.{Line}
 
 -- a finding, and what is told of it
 pub record ExplainedSeen : Type 0 where
   pub finding : FindingParts
   pub lines : List LineSeen
 
+abbrev pub explained_as : FindingParts → List Line → ExplainedSeen
+explained_as finding lines = record { finding = finding; lines = map line_seen lines }
+
 abbrev pub explained_seen : Explained → ExplainedSeen
-explained_seen e = record { finding = finding_parts e.finding; lines = map line_seen e.lines.items }
+explained_seen e = explained_as (finding_parts e.finding) e.lines.items
 
 -- the lines of a path from the first pair to where a step of the method fails so
 abbrev pub trace_lines : ProgramSeen → MethodSeen → Breach → (first : Pair) → (steps : List Pair) → (at : Pair) → List LineSeen
@@ -50,3 +56,13 @@ pub record HasNoTrace (p : ProgramSeen) (method : ℕ) (e : ExplainedSeen) : Typ
 pub data IsExplained (p : ProgramSeen) (method : ℕ) (e : ExplainedSeen) : Type 0 where
   ByTrace : HasTrace p method e → IsExplained p method e
   ByCount : HasNoTrace p method e → IsExplained p method e
+
+-- whether a trace is asked for of what is found at a place: of everything, unless one place is named
+abbrev pub is_asked : Option Place → Place → Bool
+is_asked None place = true
+is_asked (Some named) place = same_place.it named place
+
+-- a finding is explained if that is asked for, and has no lines otherwise
+pub record IsExplainedIf (named : Option Place) (p : ProgramSeen) (method : ℕ) (e : ExplainedSeen) : Type 0 where
+  pub asked : is_asked named e.finding.place ≡ true → IsExplained p method e
+  pub other : is_asked named e.finding.place ≡ false → e.lines ≡ []

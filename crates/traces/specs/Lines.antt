@@ -4,6 +4,7 @@ use Rattle.std.specs.List.{list_all}
 use Rattle.std.specs.Option.{option_map_or}
 use Rattle.source.specs.declared.place.Place.{Place}
 use Rattle.program.specs.Methods.{MethodSeen}
+use Rattle.program.specs.Parts.{Parts}
 use Rattle.program.specs.Programs.{ProgramSeen}
 use Rattle.program.specs.declared.kind.Kind.{Kind}
 use Rattle.program.specs.declared.kind.Kind.TheVariants.{Endpoint}
@@ -45,10 +46,14 @@ branch_lines place (Only point) next = []
 branch_lines place (Either inside past) next =
     if inside == past then [] else (line place (if next == inside then codes "condition true" else codes "condition false") ∷ [])
 
--- how a state of the contract of an endpoint is printed: states are numbered in a row, from the first one on
+-- how a state of a contract is printed: states are numbered in a row, from the first one on
+abbrev pub name_of_state : Parts → ℕ → List ℕ
+name_of_state parts q = option_map_or (λ s. s.name) (slice_get parts.states (q - parts.first.0)) []
+
+-- the same of the contract of an endpoint
 abbrev pub state_name : ProgramSeen → Option Kind → ℕ → List ℕ
 state_name p (Some (Endpoint contract side state)) q =
-    option_map_or (λ c. option_map_or (λ s. s.name) (slice_get c.parts.states (q - c.parts.first.0)) []) (slice_get p.contracts contract.0) []
+    option_map_or (λ c. name_of_state c.parts q) (slice_get p.contracts contract.0) []
 state_name p _ q = []
 
 -- a variable has what it had

@@ -1,6 +1,6 @@
 //! Findings of a method, each with the lines of a shortest path to it.
 
-ghost use Rattle.std.specs.Prelude.{◌≡◌, ◌<◌, All, Contains, IfOk, IsSomeAnd, List, length, map, slice_get};
+ghost use Rattle.std.specs.Prelude.{◌≡◌, ◌<◌, ◌∷◌, [], true, false, All, Contains, IfOk, IsSomeAnd, List, length, map, slice_get};
 ghost use Rattle.source.specs.Findings.{finding_parts};
 ghost use Rattle.flow.specs.Graphs.{graph_seen};
 ghost use Rattle.flow.specs.Lowering.{graph_of};
@@ -12,9 +12,10 @@ ghost use Rattle.analyse.specs.Reach.{Differ};
 ghost use Rattle.analyse.specs.Trails.{AreTrails, failures_of, says_all};
 ghost use Rattle.analyse.specs.Verdicts.{HasTooMany, IsMethodVerdict, place_of_method};
 ghost use Rattle.analyse.specs.Workers.{HasSeen, IsWorkerOf, own_of};
-ghost use Rattle.traces.specs.Explained.{IsExplained, explained_seen};
+ghost use Rattle.traces.specs.Explained.{HasTrace, IsExplainedIf, explained_as, explained_seen, is_asked, many_lines};
+ghost use Rattle.traces.specs.Lines.{line_seen};
 
-use crate::line::{Explained, line_of};
+use crate::line::{Explained, Line, is_asked, line_of};
 use crate::teller::Teller;
 use crate::watching::watched;
 use analyse::{Failure, MOST_PAIRS, Trails, Worker, trails_of};
@@ -26,13 +27,14 @@ use source::{Memory, Place, texts};
 use std::alloc::Global;
 
 /// What is found in a method, each finding once, and why: the lines of a shortest path from the method's entry to where a step fails so.
-/// That too many pairs are reached has no path.
+/// That too many pairs are reached has no path. If a place is named, only what is found there has lines.
 ///
 /// `Memory` is answered where a growth was refused.
 pub fn explain(
     alloc: Global,
     program: &Program,
     method: MethodId,
+    named: Option<Place>,
     rows: &Rows,
     worker: &mut Worker,
 ) -> Result<Vec<Explained>, Memory>
@@ -40,13 +42,15 @@ pub fn explain(
     requires worker { IsWorkerOf rows.now worker.old }
     ensures worker { IsWorkerOf rows.now worker.new }
     ensures verdict { IfOk result (λ found. IsMethodVerdict (seen_of program.now) method.0 (map (λ e. finding_parts e.finding) found.items)) }
-    ensures explained { IfOk result (λ found. All (λ e. IsExplained (seen_of program.now) method.0 (explained_seen e)) found.items) }
+    ensures explained { IfOk result (λ found.
+        All (λ e. IsExplainedIf named (seen_of program.now) method.0 (explained_seen e)) found.items) }
 {
     let found = trails_of(alloc, program, method, rows, worker)?;
     let site = Site {
         alloc,
         program,
         method,
+        named,
         rows,
     };
     match found {
@@ -55,12 +59,13 @@ pub fn explain(
     }
 }
 
-/// What is explained: the failures of a method, whose rows stand in a table.
+/// What is explained: the failures of a method, whose rows stand in a table, or those of them at a place.
 #[derive(Clone, Copy)]
 struct Site<'a> {
     alloc: Global,
     program: &'a Program,
     method: MethodId,
+    named: Option<Place>,
     rows: &'a Rows,
 }
 
@@ -79,10 +84,36 @@ impl Site<'_> {
         requires many { HasTooMany (seen_of self.now.program.now) self.now.method.0 }
         ensures verdict { IfOk result (λ found. IsMethodVerdict (seen_of self.now.program.now) self.now.method.0
             (map (λ e. finding_parts e.finding) found.items)) }
-        ensures explained { IfOk result (λ found. All (λ e. IsExplained (seen_of self.now.program.now) self.now.method.0 (explained_seen e))
-            found.items) }
+        ensures explained { IfOk result (λ found.
+            All (λ e. IsExplainedIf self.now.named (seen_of self.now.program.now) self.now.method.0 (explained_seen e)) found.items) }
     {
         let place = self.place();
+        let lines = self.count_lines(place)?;
+        let finding = texts::too_many_pairs(self.alloc, place)?;
+        let mut found = Vec::new(self.alloc);
+        found.push(Explained { finding, lines })?;
+        Ok(found)
+    }
+
+    /// The line that says how many pairs may be reached, if it is asked for.
+    fn count_lines(&self, place: Place) -> Result<Vec<Line>, Memory>
+        requires { place ≡ place_of_method (seen_of self.now.program.now) self.now.method.0 }
+        ensures asked { IfOk result (λ lines. is_asked self.now.named place ≡ true
+            → map line_seen lines.items ≡ many_lines (seen_of self.now.program.now) self.now.method.0) }
+        ensures other { IfOk result (λ lines. is_asked self.now.named place ≡ false → lines.items ≡ []) }
+    {
+        let mut lines = Vec::new(self.alloc);
+        if is_asked(self.named, place) {
+            lines.push(self.count_line(place)?)?;
+        }
+        Ok(lines)
+    }
+
+    /// The line that says how many pairs may be reached.
+    fn count_line(&self, place: Place) -> Result<Line, Memory>
+        requires { place ≡ place_of_method (seen_of self.now.program.now) self.now.method.0 }
+        ensures { IfOk result (λ line. line_seen line ∷ [] ≡ many_lines (seen_of self.now.program.now) self.now.method.0) }
+    {
         let mut digits = Buffer::new();
         let most = digits.format(MOST_PAIRS);
         let line = line_of(
@@ -92,12 +123,7 @@ impl Site<'_> {
             most.as_bytes(),
             b" pairs are reached",
         )?;
-        let mut lines = Vec::new(self.alloc);
-        lines.push(line)?;
-        let finding = texts::too_many_pairs(self.alloc, place)?;
-        let mut found = Vec::new(self.alloc);
-        found.push(Explained { finding, lines })?;
-        Ok(found)
+        Ok(line)
     }
 
     /// Why steps of the method fail.
@@ -114,8 +140,8 @@ impl Site<'_> {
         ensures worker { IsWorkerOf self.now.rows.now worker.new }
         ensures found { IfOk result (λ found. map (λ e. finding_parts e.finding) found.items
             ≡ says_all (breach_in (seen_of self.now.program.now) self.now.method.0) trails.now) }
-        ensures explained { IfOk result (λ found. All (λ e. IsExplained (seen_of self.now.program.now) self.now.method.0 (explained_seen e))
-            found.items) }
+        ensures explained { IfOk result (λ found.
+            All (λ e. IsExplainedIf self.now.named (seen_of self.now.program.now) self.now.method.0 (explained_seen e)) found.items) }
     {
         let mut found = Vec::new(self.alloc);
         for failure in trails.failures() {
@@ -124,7 +150,7 @@ impl Site<'_> {
         Ok(found)
     }
 
-    /// Why a step of the method fails so.
+    /// Why a step of the method fails so, if that is asked for.
     fn explain_failure(
         &self,
         trails: &Trails,
@@ -142,7 +168,38 @@ impl Site<'_> {
         ensures seen { (pairs : List PairSeen) → HasSeen worker.old pairs → HasSeen worker.new pairs }
         ensures finding { IfOk result (λ e. finding_parts e.finding
             ≡ breach_in (seen_of self.now.program.now) self.now.method.0 failure.breach) }
-        ensures explained { IfOk result (λ e. IsExplained (seen_of self.now.program.now) self.now.method.0 (explained_seen e)) }
+        ensures explained { IfOk result (λ e.
+            IsExplainedIf self.now.named (seen_of self.now.program.now) self.now.method.0 (explained_seen e)) }
+    {
+        let finding = self
+            .program
+            .finding(self.alloc, self.method, failure.breach)?;
+        let lines = if is_asked(self.named, finding.place) {
+            self.trace_lines(trails, failure, worker)?
+        } else {
+            Vec::new(self.alloc)
+        };
+        Ok(Explained { finding, lines })
+    }
+
+    /// The lines of a shortest path to where a step fails so.
+    fn trace_lines(
+        &self,
+        trails: &Trails,
+        failure: Failure,
+        worker: &mut Worker,
+    ) -> Result<Vec<Line>, Memory>
+        requires there { self.now.method.0 < length (seen_of self.now.program.now).methods }
+        requires worker { IsWorkerOf self.now.rows.now worker.old }
+        requires differ { Differ (own_of worker.old) }
+        requires trails { (pairs : List PairSeen) × HasSeen worker.old pairs
+            × AreTrails (seen_of self.now.program.now) self.now.method.0 pairs trails.now }
+        requires known { Contains (failures_of trails.now) failure }
+        ensures worker { IsWorkerOf self.now.rows.now worker.new }
+        ensures differ { Differ (own_of worker.new) }
+        ensures seen { (pairs : List PairSeen) → HasSeen worker.old pairs → HasSeen worker.new pairs }
+        ensures trace { IfOk result (λ lines. HasTrace (seen_of self.now.program.now) self.now.method.0
+            (explained_as (breach_in (seen_of self.now.program.now) self.now.method.0 failure.breach) lines.items)) }
     {
         let teller = Teller {
             alloc: self.alloc,
@@ -150,15 +207,11 @@ impl Site<'_> {
             method: &self.program.methods()[self.method.0 as usize],
             graph: self.program.graph(self.method),
         };
-        let finding = self
-            .program
-            .finding(self.alloc, self.method, failure.breach)?;
         let places = trails.path_to(self.alloc, failure)?;
         let mut row = Row::empty(self.alloc);
         let point = worker.read_pair(self.rows, failure.at, &mut row)?;
         let at = teller.instruction_at(point);
         let about = watched(self.alloc, failure.breach.reason, at)?;
-        let lines = teller.path_lines(&about, &places, self.rows, worker)?;
-        Ok(Explained { finding, lines })
+        teller.path_lines(&about, &places, self.rows, worker)
     }
 }

@@ -1,6 +1,7 @@
 //! Lines that are told of a finding.
 
 ghost use Rattle.std.specs.Prelude.{◌≡◌, ◌++◌, IfOk};
+ghost use Rattle.traces.specs.Explained.{is_asked};
 
 use source::{Finding, Memory, Place};
 use std::alloc::Global;
@@ -12,11 +13,21 @@ pub struct Line {
     pub text: Vec<u8>,
 }
 
-/// A finding, and the lines of a shortest path to it.
+/// A finding, and the lines that show why it is one.
 #[derive(Drop)]
 pub struct Explained {
     pub finding: Finding,
     pub lines: Vec<Line>,
+}
+
+/// Whether lines are asked for of what is found at this place: everywhere, unless one place is named.
+pub fn is_asked(named: Option<Place>, place: Place) -> bool
+    ensures { result ≡ is_asked named place }
+{
+    match named {
+        Some(named) => named == place,
+        None => true,
+    }
 }
 
 /// A line of these three pieces.

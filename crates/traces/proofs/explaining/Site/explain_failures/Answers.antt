@@ -6,7 +6,7 @@ use Rattle.source.specs.Findings.{finding_parts}
 use Rattle.rules.specs.Breaches.{breach_in}
 use Rattle.rules.specs.Programs.{seen_of}
 use Rattle.analyse.specs.declared.trail.Failure.{Failure}
-use Rattle.traces.specs.Explained.{IsExplained, explained_seen}
+use Rattle.traces.specs.Explained.{IsExplainedIf, explained_seen}
 use Rattle.traces.specs.declared.line.Explained.{Explained}
 use Rattle.traces.proofs.explaining.Site.explain_failures.Goals as goal
 
@@ -21,7 +21,7 @@ loop-failure-preserved c =
     let e = c.in_ok-explain_failure.field-0 in
     let parts = λ (x : Explained). finding_parts x.finding in
     let says = λ (k : Failure). breach_in p n k.breach in
-    let holds = λ (x : Explained). IsExplained p n (explained_seen x) in
+    let holds = λ (x : Explained). IsExplainedIf c.args.self.now.named p n (explained_seen x) in
     record {
       worker = c.explain_failure.ensures.worker;
       differ = c.explain_failure.ensures.differ;

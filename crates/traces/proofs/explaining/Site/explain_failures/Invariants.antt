@@ -6,7 +6,7 @@ use Rattle.rules.specs.Outcomes as outcomes
 use Rattle.rules.specs.Programs.{seen_of}
 use Rattle.analyse.specs.Reach.{Differ}
 use Rattle.analyse.specs.Workers.{HasSeen, IsWorkerOf, own_of}
-use Rattle.traces.specs.Explained.{IsExplained, explained_seen}
+use Rattle.traces.specs.Explained.{IsExplainedIf, explained_seen}
 use Rattle.traces.proofs.explaining.Site.explain_failures.Given as goal
 
 abbrev pub invariant-loop-failure : goal.invariant-loop-failure
@@ -15,5 +15,5 @@ invariant-loop-failure l = record {
   differ : Differ (own_of l.worker);
   seen : (pairs : List outcomes.Pair) → HasSeen l.fn.worker pairs → HasSeen l.worker pairs;
   found : map (λ e. finding_parts e.finding) l.found.items ≡ map (λ k. breach_in (seen_of l.self.program.now) l.self.method.0 k.breach) (take l.failure-index l.failure-items);
-  explained : All (λ e. IsExplained (seen_of l.self.program.now) l.self.method.0 (explained_seen e)) l.found.items;
+  explained : All (λ e. IsExplainedIf l.self.named (seen_of l.self.program.now) l.self.method.0 (explained_seen e)) l.found.items;
 }

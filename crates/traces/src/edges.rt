@@ -1,0 +1,108 @@
+//! Edges of a contract: when they are a walk, and as lines.
+
+ghost use Rattle.std.specs.Prelude.{◌≡◌, ◌≢◌, [], Contains, IfOk, IfSome, map};
+ghost use Rattle.contracts.specs.Walks.{HasSign, IsWalk};
+ghost use Rattle.program.specs.Parts.{contract_parts};
+ghost use Rattle.traces.specs.Lines.{line_seen, name_of_state};
+ghost use Rattle.traces.specs.Shown.{edge_line, name_of_message, sign_text};
+
+use crate::line::{Line, line_of};
+use program::{Contract, Edge, MessageId, Sign, StateId};
+use source::Memory;
+use std::alloc::Global;
+
+/// The edges with these indices, if they are a walk of one sign from a state back to it; otherwise none.
+pub(crate) fn round_of(
+    alloc: Global,
+    edges: &[Edge],
+    indices: &[usize],
+    state: StateId,
+    sign: Sign,
+) -> Result<Vec<Edge>, Memory>
+    ensures { IfOk result (λ walk. walk.items ≢ [] → IsWalk edges.now state walk.items state × HasSign sign walk.items) }
+{
+    let mut walk = Vec::new(alloc);
+    let mut at = state;
+    for index in indices {
+        let Some(edge) = edge_from(edges, *index, at, sign) else {
+            return Ok(Vec::new(alloc));
+        };
+        walk.push(edge)?;
+        at = edge.to;
+    }
+    if at == state {
+        Ok(walk)
+    } else {
+        Ok(Vec::new(alloc))
+    }
+}
+
+/// The edge with this index, if it has the sign and begins in the state.
+pub(crate) fn edge_from(edges: &[Edge], index: usize, state: StateId, sign: Sign) -> Option<Edge>
+    ensures { IfSome result (λ edge. Contains edges.now edge × (edge.from ≡ state) × (edge.sign ≡ sign)) }
+{
+    let edge = edges.get(index).copied()?;
+    if edge.from == state && edge.sign == sign {
+        Some(edge)
+    } else {
+        None
+    }
+}
+
+/// Edges of a contract, each as a line.
+pub(crate) fn edge_lines(
+    alloc: Global,
+    contract: &Contract,
+    edges: &[Edge],
+) -> Result<Vec<Line>, Memory>
+    ensures { IfOk result (λ lines. map line_seen lines.items ≡ map (edge_line (contract_parts contract.now)) edges.now) }
+{
+    let mut lines = Vec::new(alloc);
+    for edge in edges {
+        lines.push(edge_line(alloc, contract, *edge)?)?;
+    }
+    Ok(lines)
+}
+
+/// `M! -> S`, at the message of the edge.
+fn edge_line(alloc: Global, contract: &Contract, edge: Edge) -> Result<Line, Memory>
+    ensures { IfOk result (λ line. line_seen line ≡ edge_line (contract_parts contract.now) edge) }
+{
+    let arrow = match edge.sign {
+        Sign::Send => b"! -> ".as_slice(),
+        Sign::Receive => b"? -> ".as_slice(),
+    };
+    line_of(
+        alloc,
+        edge.place,
+        message_name(contract, edge.message),
+        arrow,
+        state_name(contract, edge.to),
+    )
+}
+
+/// The name of a message of the contract; nothing if there is no such message.
+fn message_name(contract: &Contract, message: MessageId) -> &[u8]
+    ensures { result.now ≡ name_of_message (contract_parts contract.now) message.0 }
+{
+    let first = match contract.messages.first() {
+        Some(first) => first.id.0,
+        None => 0,
+    };
+    let position = message.0.saturating_sub(first);
+    match contract.messages.get(position as usize) {
+        Some(message) => message.name.as_bytes(),
+        None => &[],
+    }
+}
+
+/// How a state of the contract is printed; nothing if there is no such state.
+fn state_name(contract: &Contract, state: StateId) -> &[u8]
+    ensures { result.now ≡ name_of_state (contract_parts contract.now) state.0 }
+{
+    let position = state.0.saturating_sub(contract.first.0);
+    match contract.states.get(position as usize) {
+        Some(state) => contract.state_name(*state),
+        None => &[],
+    }
+}
