@@ -1,7 +1,7 @@
 //! Command lines, and how a run that gave up ends.
 
 use crate::devices::Page;
-use singcheck::{Ask, Input, RunFault, ask, ending};
+use singcheck::{Ask, Input, Place, RunFault, ask, ending};
 use std::test::Fail;
 
 const NEVER: u64 = 0;
@@ -71,9 +71,29 @@ fn asks_for_a_check_of_a_file(rt: HostRuntime) -> Result<(), Fail> {
 fn asks_why(rt: HostRuntime) -> Result<(), Fail> {
     let words = ["singcheck", "why", "a.sg"];
     let asked = ask(rt.alloc(), words.as_slice())?;
-    assert!(rt; asked == Ask::Why { file: "a.sg" });
+    let everything = Ask::Why {
+        file: "a.sg",
+        named: None,
+    };
+    assert!(rt; asked == everything);
     let missing = ["singcheck", "why"];
     assert!(rt; ask(rt.alloc(), missing.as_slice()).is_err());
+    Ok(())
+}
+
+#[test]
+fn asks_why_at_a_place(rt: HostRuntime) -> Result<(), Fail> {
+    let words = ["singcheck", "why", "a.sg", "12:7"];
+    let asked = ask(rt.alloc(), words.as_slice())?;
+    let there = Ask::Why {
+        file: "a.sg",
+        named: Some(Place { line: 12, col: 7 }),
+    };
+    assert!(rt; asked == there);
+    let column_missing = ["singcheck", "why", "a.sg", "12"];
+    assert!(rt; ask(rt.alloc(), column_missing.as_slice()).is_err());
+    let no_number = ["singcheck", "why", "a.sg", "12:x"];
+    assert!(rt; ask(rt.alloc(), no_number.as_slice()).is_err());
     Ok(())
 }
 

@@ -1,7 +1,7 @@
 //! Runs of `why` on worked texts, and on devices and memory that fail.
 
 use crate::devices::{Card, Page, Text};
-use singcheck::{Counted, Input, RunFault, Status, run_why};
+use singcheck::{Counted, Input, Place, RunFault, Status, run_why};
 use std::test::Fail;
 
 const LEFT: &str = "rep struct D { int n; }
@@ -15,28 +15,57 @@ if (b) { delete p; }
 const LEFT_ANSWER: &str =
     "6:1 A08 p still owned\n  4:14 p new\n  5:1 condition false\nfindings: 1\n";
 
+const LEFT_ELSEWHERE: &str = "6:1 A08 p still owned\nfindings: 1\n";
+
 const CLEAN: &str = "class K { static void F() { } }";
 
 const CLEAN_ANSWER: &str = "ok: 0 contracts, 1 methods\n";
 
 const BACKWARDS: &str = "contract A { in message X(); state S: X! -> T; state T: ; }";
 
-const BACKWARDS_ANSWER: &str = "1:39 C01 X against its direction\nfindings: 1\n";
+const BACKWARDS_ANSWER: &str =
+    "1:39 C01 X against its direction\n  1:39 an in message takes ?\nfindings: 1\n";
+
+const ROUND: &str = "contract A { in message X(); state S: X? -> S; }";
+
+const ROUND_ANSWER: &str = "1:36 C04 one direction round S\n  1:39 X? -> S\nfindings: 1\n";
+
+const BOTH: &str =
+    "contract A { in message X(); out message Y(); state S: one { X? -> S; Y! -> S; X? -> S; } }";
+
+const BOTH_ANSWER: &str =
+    "1:53 C03 both directions in S\n  1:71 Y! -> S\n  1:62 X? -> S\n1:53 C04 one direction round S\n  1:71 Y! -> S
+1:80 C02 X twice in a state\n  1:62 X? -> S\nfindings: 3\n";
+
+const CUT: &str = "class K {";
+
+const CUT_ANSWER: &str =
+    "1:10 S05 unexpected end\n  1:10 expected an access word, static or }\n  1:9 { is not closed\nfindings: 1\n";
+
+const CUT_ELSEWHERE: &str = "1:10 S05 unexpected end\nfindings: 1\n";
 
 const NEVER: u64 = 0;
 
 /// This is run with each growth of memory refused in turn: the writer takes none.
 #[test]
 fn reasons_as_worked_out(rt: HostRuntime) {
+    let there = Some(Place { line: 6, col: 1 });
+    let elsewhere = Some(Place { line: 6, col: 2 });
     let rows = [
-        (LEFT, Status::Found, LEFT_ANSWER),
-        (CLEAN, Status::Empty, CLEAN_ANSWER),
-        (BACKWARDS, Status::Found, BACKWARDS_ANSWER),
+        (LEFT, None, Status::Found, LEFT_ANSWER),
+        (LEFT, there, Status::Found, LEFT_ANSWER),
+        (LEFT, elsewhere, Status::Found, LEFT_ELSEWHERE),
+        (CLEAN, None, Status::Empty, CLEAN_ANSWER),
+        (BACKWARDS, None, Status::Found, BACKWARDS_ANSWER),
+        (ROUND, None, Status::Found, ROUND_ANSWER),
+        (BOTH, None, Status::Found, BOTH_ANSWER),
+        (CUT, None, Status::Found, CUT_ANSWER),
+        (CUT, elsewhere, Status::Found, CUT_ELSEWHERE),
     ];
-    for (text, status, answer) in rows.iter() {
+    for (text, named, status, answer) in rows.iter() {
         let mut reader = Counted::new(text.as_bytes());
         let mut writer = Card::new();
-        match run_why(rt.alloc(), &mut reader, &mut writer) {
+        match run_why(rt.alloc(), &mut reader, &mut writer, *named) {
             Ok(answered) => {
                 assert!(rt; answered == *status, "{text}");
                 assert!(rt; writer.taken() == answer.as_bytes(), "{text}");
@@ -53,7 +82,7 @@ fn reasons_as_worked_out(rt: HostRuntime) {
 fn writes_nothing_where_a_read_of_why_fails(rt: HostRuntime) -> Result<(), Fail> {
     let mut reader = Text::new(rt.alloc(), LEFT, 10, 3)?;
     let mut writer = Page::new(rt.alloc(), 100, NEVER);
-    let answered = run_why(rt.alloc(), &mut reader, &mut writer);
+    let answered = run_why(rt.alloc(), &mut reader, &mut writer, None);
     assert!(rt; answered == Err(RunFault::Read(Input::Text)));
     assert!(rt; writer.bytes.is_empty());
     Ok(())
@@ -63,7 +92,7 @@ fn writes_nothing_where_a_read_of_why_fails(rt: HostRuntime) -> Result<(), Fail>
 fn writes_a_beginning_where_a_write_of_why_fails(rt: HostRuntime) -> Result<(), Fail> {
     let mut reader = Text::new(rt.alloc(), LEFT, 100, NEVER)?;
     let mut writer = Page::new(rt.alloc(), 7, 3);
-    let answered = run_why(rt.alloc(), &mut reader, &mut writer);
+    let answered = run_why(rt.alloc(), &mut reader, &mut writer, None);
     assert!(rt; answered == Err(RunFault::Write));
     assert!(rt; LEFT_ANSWER.as_bytes().starts_with(&writer.bytes));
     Ok(())

@@ -6,12 +6,13 @@ use Rattle.source.specs.declared.finding.Finding.{Finding}
 use Rattle.source.specs.declared.fault.Memory.{Memory}
 use Rattle.tree.specs.Trees.{ItemTree}
 use Rattle.contracts.specs.Conditions.{AreExactly, IsSound}
+use Rattle.program.specs.Parts.{ContractSeen}
 use Rattle.program.specs.Programs.{ProgramSeen}
 use Rattle.singcheck.specs.Answers.{AreFindings}
 use Rattle.singcheck.specs.Checks.{AreCheckFindings, OfMethods, Checks, HasProgram, IsWrong}
 use Rattle.singcheck.specs.Lines.{clear_line}
 use Rattle.rules.specs.Programs.{seen_of}
-use Rattle.singcheck.specs.Named.{AreNamed, HasNames, IsBuilt, IsBuiltOf}
+use Rattle.singcheck.specs.Named.{AreBrokenOf, AreNamed, HasNames, IsBuilt, IsBuiltOf}
 use Rattle.singcheck.specs.declared.programs.Built.{Built}
 use Rattle.singcheck.specs.declared.programs.Built.TheVariants as built
 use Rattle.singcheck.specs.Reports.{IsReport}
@@ -35,6 +36,10 @@ reported_ok text found are (Err fault) told is = tt
 -- what is wrong with the contracts of a text
 pub unsound_named : (text : List ℕ) (items : List ItemTree) (p : ProgramSeen) (found : List FindingParts) → HasNames text items p → AreBroken p.contracts found → AreFindings text found
 unsound_named text items p found names broken = unsound text p.contracts found (record { items = items; parsed = names.parsed; clean = names.clean; are = names.contracts }) broken
+
+-- what is wrong with the contracts of a text
+pub broken_findings : (text : List ℕ) (contracts : List ContractSeen) (found : List FindingParts) → AreBrokenOf text contracts found → AreFindings text found
+broken_findings text contracts found are = unsound text contracts found are.resolved are.broken
 
 -- where they are sound, this is the program of the text
 abbrev pub has_program : (text : List ℕ) (items : List ItemTree) (p : ProgramSeen) → HasNames text items p → All (λ c. IsSound c.parts) p.contracts → HasProgram text p
@@ -77,7 +82,13 @@ clear_ok p found none are (Err fault) bytes is = tt
 
 -- what a text comes to, from what its names and its contracts come to
 pub built_of : (text : List ℕ) (items : List ItemTree) (p : ProgramSeen) → AreNamed text items p → (b : Built) → IsBuilt p b → IsBuiltOf text b
-built_of text items p named (built.Found findings) broken = unsound_named text items p (map finding_parts findings.items) named.names broken
+built_of text items p named (built.Found findings) none = absurd none
+built_of text items p named (built.Broken methods findings) is = subst (λ l. AreBrokenOf text l (map finding_parts findings.items)) (sym is.0) (record {
+  resolved = record { items = items; parsed = named.names.parsed; clean = named.names.clean; are = named.names.contracts };
+  whole = named.whole;
+  room = named.room;
+  broken = is.1;
+})
 built_of text items p named (built.Program program) one =
     let same = subst (AreNamed text items) (sym one.same) named in
     record { has = has_program text items (seen_of program) same.names one.sound; few = same.few; safe = one.safe }

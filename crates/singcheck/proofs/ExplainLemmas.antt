@@ -1,5 +1,5 @@
 -- From the findings of methods, each with its trace, to what `why` answers.
-use Rattle.std.proofs.Common.{◌≡◌, ◌↔◌, ℕ, ◌+◌, ◌<◌, ◌≤◌, inl, inr, List, [], ◌∷◌, ◌++◌, length, get_or, map, take, refl, sym, ap, subst, arith, append_assoc, append-nil, ◌∙◌}
+use Rattle.std.proofs.Common.{◌≡◌, ◌↔◌, ℕ, zero, suc, ◌+◌, ◌<◌, ◌≤◌, inl, inr, List, [], ◌∷◌, ◌++◌, Option, length, get_or, map, take, refl, sym, ap, subst, arith, append_assoc, append-nil, ◌∙◌}
 use Rattle.std.specs.Prelude.{◌≢◌, All, Contains, Err, IfOk, Ok, Result}
 use Rattle.std.specs.List.{flat_map}
 use Rattle.std.specs.List.Sorted.{IsStrictlySortedBy}
@@ -10,6 +10,7 @@ use Rattle.std.proofs.lemmas.List.Folds.{flat_map-map}
 use Rattle.std.proofs.lemmas.List.Elements.{All-contains, All-contains_itself, All-map, All-weaker, Contains-append_left, Contains-push}
 use Rattle.source.specs.Findings.{FindingParts, finding_parts}
 use Rattle.source.specs.declared.fault.Memory.{Memory}
+use Rattle.source.specs.declared.place.Place.{Place}
 use Rattle.contracts.specs.Conditions.{AreExactly}
 use Rattle.program.specs.Programs.{ProgramSeen}
 use Rattle.reports.specs.Orders.{report_cmp}
@@ -17,53 +18,114 @@ use Rattle.traces.specs.Explained.{ExplainedSeen, explained_seen}
 use Rattle.traces.specs.Lines.{line_seen}
 use Rattle.traces.specs.declared.line.Explained.{Explained}
 use Rattle.traces.specs.declared.line.Line.{Line}
-use Rattle.singcheck.specs.Answers.{AreFindings}
+use Rattle.program.specs.Parts.{ContractSeen}
+use Rattle.singcheck.specs.Answers.{AreFindings, IsBroken, OfSyntax}
 use Rattle.singcheck.specs.Checks.{HasProgram, IsWrong}
-use Rattle.singcheck.specs.Explains.{Explains, IsExplainedIn, explained_bytes, explained_lines}
-use Rattle.singcheck.specs.Lines.{clear_line, count_line, trace_line}
+use Rattle.singcheck.specs.Explains.{Bare, ByContract, ByTokens, Explains, IsExplainedIn, IsNoted, IsShownIn, explained_bytes, explained_lines}
+use Rattle.singcheck.specs.Lines.{clear_line, count_line, finding_line, trace_line}
+use Rattle.singcheck.specs.Named.{AreBrokenOf}
+use Rattle.singcheck.specs.Unexpected.{IsAskedUnexpected}
 use Rattle.singcheck.specs.Reports.{IsReport}
-use Rattle.singcheck.specs.declared.fault.Status.{Status}
 use Rattle.singcheck.specs.declared.fault.Status.TheVariants.{Empty, Found}
 use Rattle.singcheck.specs.declared.report.Report.{Report}
+use Rattle.analyse.proofs.FoundLemmas.{sorted_one}
 use Rattle.singcheck.proofs.JudgeLemmas.{none_of}
+use Rattle.singcheck.proofs.StageLemmas.{unsound}
+
+explained_view : (xs : List Explained) → map (λ (e : ExplainedSeen). e.finding) (map explained_seen xs) ≡ map (λ (e : Explained). finding_parts e.finding) xs
+explained_view [] = refl
+explained_view (x ∷ xs) = ap (λ l. finding_parts x.finding ∷ l) (explained_view xs)
+
+-- a finding without lines
+abbrev bare : FindingParts → ExplainedSeen
+bare f = record { finding = f; lines = [] }
+
+bare_view : (fs : List FindingParts) → map (λ (e : ExplainedSeen). e.finding) (map bare fs) ≡ fs
+bare_view [] = refl
+bare_view (f ∷ fs) = ap (λ l. f ∷ l) (bare_view fs)
+
+bare_lines : (fs : List FindingParts) → flat_map explained_lines (map bare fs) ≡ flat_map finding_line fs
+bare_lines fs = flat_map-map explained_lines bare fs ∙ ap (λ (each : FindingParts → List ℕ). flat_map each fs) (λ i f. append-nil (finding_line f) i)
 
 -- the report of what is wrong before the methods
-pub explains_before : (text : List ℕ) (found : List FindingParts) → AreFindings text found → (result : Result Report Memory) → IfOk result (λ r. IsReport found r.bytes.items) → IfOk result (λ r. r.status ≡ Found)
-    → IfOk result (λ r. Explains text r.bytes.items r.status)
-explains_before text found are (Ok r) told is = subst (Explains text r.bytes.items) (sym is) (inl (record { found = found; are = are; told = told }))
-explains_before text found are (Err fault) told is = tt
+pub explains_before : (named : Option Place) (text : List ℕ) (found : List FindingParts) → AreFindings text found → (result : Result Report Memory) → IfOk result (λ r. IsReport found r.bytes.items) → IfOk result (λ r. r.status ≡ Found)
+    → IfOk result (λ r. Explains named text r.bytes.items r.status)
+explains_before named text found are (Ok r) told is = subst (Explains named text r.bytes.items) (sym is) (inl (record {
+  found = found;
+  are = are;
+  listed = map bare told.listed;
+  same = subst (AreExactly (Contains found)) (sym (bare_view told.listed)) told.same;
+  each = All-map (IsNoted named text) bare told.listed (λ k d lt. Bare refl);
+  ordered = subst (IsStrictlySortedBy report_cmp) (sym (bare_view told.listed)) told.ordered;
+  is = told.is ∙ ap (λ b. b ++ count_line (length told.listed)) (sym (bare_lines told.listed)) ∙ ap (λ n. flat_map explained_lines (map bare told.listed) ++ count_line n) (sym (length-map told.listed bare));
+}))
+explains_before named text found are (Err fault) told is = tt
+
+-- a token that is not expected
+pub explains_syntax : (named : Option Place) (text bytes : List ℕ) (e : Explained) (listed : List Explained) → IsAskedUnexpected named text (explained_seen e) → listed ≡ e ∷ [] → bytes ≡ explained_bytes (map explained_seen listed) → Explains named text bytes Found
+explains_syntax named text bytes e listed is one bytes_are =
+    let u = is.unexpected in
+    inl (record {
+      found = finding_parts e.finding ∷ [];
+      are = OfSyntax (record { tokens = u.tokens; lexed = u.lexed; number = u.number; wrong = u.wrong; are = ap (λ f. f ∷ []) u.finding });
+      listed = explained_seen e ∷ [];
+      same = record { right = λ f h. h; all = λ f h. h };
+      each = λ k d lt. only k d lt;
+      ordered = sorted_one report_cmp (finding_parts e.finding ∷ []) (finding_parts e.finding) refl;
+      is = bytes_are ∙ ap (λ l. explained_bytes (map explained_seen l)) one;
+    })
+  where
+    only : (k : ℕ) (d : ExplainedSeen) → k < 1 → IsNoted named text (get_or (explained_seen e ∷ []) k d)
+    only zero d lt = ByTokens is
+    only (suc k) d lt = absurd (omega (arith, lt))
+
+-- what is wrong with contracts, in order, with the edges that show it
+pub explains_contracts : (named : Option Place) (text bytes : List ℕ) (contracts : List ContractSeen) (some : List FindingParts) (found listed : List Explained) → AreBrokenOf text contracts some → AreExactly (IsBroken contracts) (map (λ e. finding_parts e.finding) found)
+    → All (λ e. IsShownIn named contracts (explained_seen e)) found
+    → ((f : FindingParts) → Contains (map (λ e. finding_parts e.finding) listed) f ↔ Contains (map (λ e. finding_parts e.finding) found) f) → ((e : Explained) → Contains listed e → Contains found e) → IsStrictlySortedBy report_cmp (map (λ e. finding_parts e.finding) listed)
+    → bytes ≡ explained_bytes (map explained_seen listed) → Explains named text bytes Found
+explains_contracts named text bytes contracts some found listed is are each same among ordered bytes_are = inl (record {
+  found = map (λ e. finding_parts e.finding) found;
+  are = unsound text contracts (map (λ e. finding_parts e.finding) found) is.resolved (record { some = some_found some found is.broken.some is.broken.are are; are = are });
+  listed = map explained_seen listed;
+  same = subst (AreExactly (Contains (map (λ (e : Explained). finding_parts e.finding) found))) (sym (explained_view listed)) (record { right = λ f h. (same f).0 h; all = λ f h. (same f).1 h });
+  each = All-map (IsNoted named text) explained_seen listed
+      (All-weaker (Contains listed) (λ (e : Explained). IsNoted named text (explained_seen e)) (λ e h. ByContract contracts is.resolved (All-contains (λ (x : Explained). IsShownIn named contracts (explained_seen x)) found e each (among e h))) listed (All-contains_itself listed));
+  ordered = subst (IsStrictlySortedBy report_cmp) (sym (explained_view listed)) ordered;
+  is = bytes_are;
+})
+  where
+    some_found : (fs : List FindingParts) (es : List Explained) → fs ≢ [] → AreExactly (IsBroken contracts) fs → AreExactly (IsBroken contracts) (map (λ (e : Explained). finding_parts e.finding) es) → map (λ (e : Explained). finding_parts e.finding) es ≢ []
+    some_found [] es none left right = absurd (none refl)
+    some_found (f ∷ fs) es none left right = λ e. none_of f (subst (λ l. Contains l f) e (right.all f (left.right f (Contains-append_left (f ∷ []) fs f (Contains-push [] f)))))
 
 -- nothing is found
-pub explains_clear : (p : ProgramSeen) (found : List Explained) → found ≡ [] → AreExactly (IsWrong p) (map (λ e. finding_parts e.finding) found) → (result : Result Report Memory) → IfOk result (λ r. r.bytes.items ≡ clear_line (length p.contracts) (length p.methods)) → IfOk result (λ r. r.status ≡ Empty)
-    → IfOk result (λ r. (text : List ℕ) → HasProgram text p → Explains text r.bytes.items r.status)
-explains_clear p found none are (Ok r) bytes is = λ text has. subst (Explains text r.bytes.items) (sym is) (record {
+pub explains_clear : (named : Option Place) (p : ProgramSeen) (found : List Explained) → found ≡ [] → AreExactly (IsWrong p) (map (λ e. finding_parts e.finding) found) → (result : Result Report Memory) → IfOk result (λ r. r.bytes.items ≡ clear_line (length p.contracts) (length p.methods)) → IfOk result (λ r. r.status ≡ Empty)
+    → IfOk result (λ r. (text : List ℕ) → HasProgram text p → Explains named text r.bytes.items r.status)
+explains_clear named p found none are (Ok r) bytes is = λ text has. subst (Explains named text r.bytes.items) (sym is) (record {
   program = p;
   has = has;
   none = λ f w. none_of f (subst (λ l. Contains (map (λ e. finding_parts e.finding) l) f) none (are.all f w));
   are = bytes;
 })
-explains_clear p found none are (Err fault) bytes is = tt
+explains_clear named p found none are (Err fault) bytes is = tt
 
 -- something is: all of it, in order, each with its trace
-pub explains_reasons : (text bytes : List ℕ) (p : ProgramSeen) (found listed : List Explained) → HasProgram text p → found ≢ [] → AreExactly (IsWrong p) (map (λ e. finding_parts e.finding) found) → All (λ e. IsExplainedIn p (explained_seen e)) found
+pub explains_reasons : (named : Option Place) (text bytes : List ℕ) (p : ProgramSeen) (found listed : List Explained) → HasProgram text p → found ≢ [] → AreExactly (IsWrong p) (map (λ e. finding_parts e.finding) found) → All (λ e. IsExplainedIn named p (explained_seen e)) found
     → ((f : FindingParts) → Contains (map (λ e. finding_parts e.finding) listed) f ↔ Contains (map (λ e. finding_parts e.finding) found) f) → ((e : Explained) → Contains listed e → Contains found e) → IsStrictlySortedBy report_cmp (map (λ e. finding_parts e.finding) listed)
-    → bytes ≡ explained_bytes (map explained_seen listed) → Explains text bytes Found
-explains_reasons text bytes p found listed has some are each same among ordered is = inr (record {
+    → bytes ≡ explained_bytes (map explained_seen listed) → Explains named text bytes Found
+explains_reasons named text bytes p found listed has some are each same among ordered is = inr (record {
   program = p;
   has = has;
   listed = map explained_seen listed;
   some = λ none. absurd (some (all_gone found listed (no_mapped listed none) same));
-  are = subst (AreExactly (IsWrong p)) (sym (view listed)) (record { right = λ f h. are.right f ((same f).0 h); all = λ f w. (same f).1 (are.all f w) });
-  each = All-map (IsExplainedIn p) explained_seen listed
-      (All-weaker (Contains listed) (λ (e : Explained). IsExplainedIn p (explained_seen e)) (λ e h. All-contains (λ (x : Explained). IsExplainedIn p (explained_seen x)) found e each (among e h)) listed (All-contains_itself listed));
-  ordered = subst (IsStrictlySortedBy report_cmp) (sym (view listed)) ordered;
+  are = subst (AreExactly (IsWrong p)) (sym (explained_view listed)) (record { right = λ f h. are.right f ((same f).0 h); all = λ f w. (same f).1 (are.all f w) });
+  each = All-map (IsExplainedIn named p) explained_seen listed
+      (All-weaker (Contains listed) (λ (e : Explained). IsExplainedIn named p (explained_seen e)) (λ e h. All-contains (λ (x : Explained). IsExplainedIn named p (explained_seen x)) found e each (among e h)) listed (All-contains_itself listed));
+  ordered = subst (IsStrictlySortedBy report_cmp) (sym (explained_view listed)) ordered;
   is = is;
 })
   where
-    view : (xs : List Explained) → map (λ (e : ExplainedSeen). e.finding) (map explained_seen xs) ≡ map (λ (e : Explained). finding_parts e.finding) xs
-    view [] = refl
-    view (x ∷ xs) = ap (λ l. finding_parts x.finding ∷ l) (view xs)
-
     no_mapped : (xs : List Explained) → map explained_seen xs ≡ [] → xs ≡ []
     no_mapped [] e = refl
     no_mapped (x ∷ xs) e = cc

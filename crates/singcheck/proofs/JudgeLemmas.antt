@@ -42,6 +42,19 @@ adds_is c some parts old new first same broken all = Adds (record {
 pub none_of : (f : FindingParts) → Contains [] f → ⊥
 none_of f c = let below = c.1 in omega arith
 
+-- what is wrong with some contracts, and with one more
+pub broken_more : (contracts : List ContractSeen) (c : ContractSeen) (old more new : List FindingParts) → AreExactly (IsBroken contracts) old → AreExactly (conditions.IsFault c.parts) more → new ≡ old ++ more → AreExactly (IsBroken (contracts ++ c ∷ [])) new
+broken_more contracts c old more new so_far here added = record {
+  right = λ f h. ⊎_elim
+      (λ earlier. let r = so_far.right f earlier in (r.0, Contains-append_left contracts (c ∷ []) r.0 r.1, r.2))
+      (λ its. (c, Contains-push contracts c, here.right f its))
+      (Contains-append_cases old more f (subst (λ l. Contains l f) added h));
+  all = λ f b. subst (λ l. Contains l f) (sym added) (⊎_elim
+      (λ h. Contains-append_left old more f (so_far.all f (b.0, h, b.2)))
+      (λ e. Contains-append_right old more f (here.all f (subst (λ x. conditions.IsFault x.parts f) (sym e) b.2)))
+      (Contains-push_cases contracts c b.0 b.1));
+}
+
 -- one more contract has been judged
 pub judged_more : (contracts : List ContractSeen) (c : ContractSeen) (old new : Judging) → AreJudged contracts old → Judges c old new → AreJudged (contracts ++ c ∷ []) new
 judged_more contracts c old new so_far (Keeps k) = record {
@@ -57,24 +70,14 @@ judged_more contracts c old new so_far (Keeps k) = record {
   kept = λ e. k.kept ∙ ap (λ l. l ++ c.parts ∷ []) (so_far.kept (sym k.same ∙ e)) ∙ sym (map-append (λ (x : ContractSeen). x.parts) contracts (c ∷ []));
 }
 judged_more contracts c old new so_far (Adds a) =
-    let all : (f : FindingParts) → IsBroken (contracts ++ c ∷ []) f → Contains (map finding_parts new.findings.items) f
-    = λ f b. subst (λ l. Contains l f) (sym a.all.added) (⊎_elim
-    (λ h. Contains-append_left (map finding_parts old.findings.items) a.all.more f (so_far.exactly.all f (b.0, h, b.2)))
-    (λ e. Contains-append_right (map finding_parts old.findings.items) a.all.more f (a.all.exactly.all f (subst (λ x. conditions.IsFault x.parts f) (sym e) b.2)))
-    (Contains-push_cases contracts c b.0 b.1)) in
+    let exactly = broken_more contracts c (map finding_parts old.findings.items) a.all.more (map finding_parts new.findings.items) so_far.exactly a.all.exactly a.all.added in
     record {
-      exactly = record {
-        right = λ f h. ⊎_elim
-            (λ earlier. let r = so_far.exactly.right f earlier in (r.0, Contains-append_left contracts (c ∷ []) r.0 r.1, r.2))
-            (λ here. (c, Contains-push contracts c, a.all.exactly.right f here))
-            (Contains-append_cases (map finding_parts old.findings.items) a.all.more f (subst (λ l. Contains l f) a.all.added h));
-        all = all;
-      };
-      kept = λ e. absurd (none_of a.broken.0 (subst (λ l. Contains (map finding_parts l) a.broken.0) e (all a.broken.0 (c, Contains-push contracts c, a.broken.1))));
+      exactly = exactly;
+      kept = λ e. absurd (none_of a.broken.0 (subst (λ l. Contains (map finding_parts l) a.broken.0) e (exactly.all a.broken.0 (c, Contains-push contracts c, a.broken.1))));
     }
 
 -- what stands at a place, and the contracts up to it
-at_turn : (all : List ContractSeen) (n : ℕ) → n < length all → (c : ContractSeen) × (slice_get all n ≡ Some c) × (take (suc n) all ≡ take n all ++ c ∷ [])
+pub at_turn : (all : List ContractSeen) (n : ℕ) → n < length all → (c : ContractSeen) × (slice_get all n ≡ Some c) × (take (suc n) all ≡ take n all ++ c ∷ [])
 at_turn [] n lt = absurd (omega (arith, lt))
 at_turn (x ∷ xs) zero lt = (x, refl, refl)
 at_turn (x ∷ xs) (suc n) lt = let r = at_turn xs n (omega arith) in (r.0, r.1, ap (λ l. x ∷ l) r.2)
@@ -83,6 +86,15 @@ pub judged_turn : (all : List ContractSeen) (n : ℕ) (old new : Judging) → n 
 judged_turn all n old new lt so_far judges =
     let r = at_turn all n lt in
     rw add-one (subst (λ l. AreJudged l new) (sym r.2) (judged_more (take n all) r.0 old new so_far (judges r.0 r.1)))
+
+pub broken_turn : (all : List ContractSeen) (n : ℕ) (old more new : List FindingParts) → n < length all → AreExactly (IsBroken (take n all)) old → ((c : ContractSeen) → slice_get all n ≡ Some c → AreExactly (conditions.IsFault c.parts) more) → new ≡ old ++ more → AreExactly (IsBroken (take (n + 1) all)) new
+broken_turn all n old more new lt so_far here added =
+    let r = at_turn all n lt in
+    rw add-one (subst (λ l. AreExactly (IsBroken l) new) (sym r.2) (broken_more (take n all) r.0 old more new so_far (here r.0 r.1) added))
+
+-- nothing is wrong with no contracts
+pub broken_none : AreExactly (IsBroken []) []
+broken_none = record { right = λ f h. absurd (none_of f h); all = λ f b. absurd (let below = b.1.1 in omega arith) }
 
 pub no_items : (found : List Finding) → length found ≡ 0 → found ≡ []
 no_items [] e = refl

@@ -1,17 +1,20 @@
 -- A text has the answers of as much of it as is read: one that is too long has the fault of its length and no other.
-use Rattle.std.proofs.Common.{◌≡◌, ℕ, ◌+◌, ◌<◌, ◌≤◌, inl, inr, List, length, take, refl, subst, arith, ⊎_elim, length-take}
+use Rattle.std.proofs.Common.{◌≡◌, ℕ, ◌+◌, ◌<◌, ◌≤◌, inl, inr, List, Option, length, take, refl, subst, arith, ⊎_elim, length-take}
 use Rattle.std.proofs.lemmas.Bool.{cases_lt}
 use Rattle.std.proofs.lemmas.List.{take_all}
+use Rattle.std.proofs.lemmas.List.Elements.{All-weaker}
 use Rattle.source.specs.Faults.{IsFault}
 use Rattle.source.specs.Findings.{FindingParts}
 use Rattle.source.specs.Tokens.{AreTokens}
 use Rattle.source.specs.declared.fault.TextFault.{TextFault}
 use Rattle.source.specs.declared.fault.TextFault.TheVariants.{Stray, OpenComment, TooLong, TooDeep, TooLarge, Memory}
 use Rattle.source.specs.declared.lexer.TheConstants.{MAX_TEXT}
+use Rattle.source.specs.declared.place.Place.{Place}
 use Rattle.source.specs.declared.token.Token.{Token}
 use Rattle.singcheck.specs.Answers.{AreFindings, OfText, OfSyntax, OfNames, OfContracts, Answers}
 use Rattle.singcheck.specs.Checks.{AreCheckFindings, Before, OfMethods, Checks}
-use Rattle.singcheck.specs.Explains.{Explains}
+use Rattle.traces.specs.Explained.{ExplainedSeen}
+use Rattle.singcheck.specs.Explains.{Bare, ByContract, ByTokens, Explains, IsNoted}
 use Rattle.singcheck.specs.declared.fault.Status.{Status}
 use Rattle.singcheck.specs.declared.fault.Status.TheVariants.{Empty, Found}
 use Rattle.singcheck.specs.declared.reading.TheConstants.{MAX_READ}
@@ -56,10 +59,23 @@ checks_long : (text other bytes : List ℕ) (status : Status) → AreLong text o
 checks_long text other bytes Empty long told = no_program text long.one told.has.program.parsed.tokens told.has.program.parsed.lexed
 checks_long text other bytes Found long told = record { found = told.found; are = checked_long text other told.found long told.are; told = told.told }
 
-explains_long : (text other bytes : List ℕ) (status : Status) → AreLong text other → Explains text bytes status → Explains other bytes status
-explains_long text other bytes Empty long told = no_program text long.one told.has.program.parsed.tokens told.has.program.parsed.lexed
-explains_long text other bytes Found long told = elim told [
-  | inl before ↦ inl (record { found = before.found; are = findings_long text other before.found long before.are; told = before.told })
+noted_long : (named : Option Place) (text other : List ℕ) → AreLong text other → (e : ExplainedSeen) → IsNoted named text e → IsNoted named other e
+noted_long named text other long e (Bare none) = Bare none
+noted_long named text other long e (ByTokens is) = no_program text long.one is.unexpected.tokens is.unexpected.lexed
+noted_long named text other long e (ByContract contracts resolved shown) = no_program text long.one resolved.parsed.tokens resolved.parsed.lexed
+
+explains_long : (named : Option Place) (text other bytes : List ℕ) (status : Status) → AreLong text other → Explains named text bytes status → Explains named other bytes status
+explains_long named text other bytes Empty long told = no_program text long.one told.has.program.parsed.tokens told.has.program.parsed.lexed
+explains_long named text other bytes Found long told = elim told [
+  | inl before ↦ inl (record {
+    found = before.found;
+    are = findings_long text other before.found long before.are;
+    listed = before.listed;
+    same = before.same;
+    each = All-weaker (IsNoted named text) (IsNoted named other) (noted_long named text other long) before.listed before.each;
+    ordered = before.ordered;
+    is = before.is;
+  })
   | inr reasons ↦ no_program text long.one reasons.has.program.parsed.tokens reasons.has.program.parsed.lexed
 ]
 
@@ -79,9 +95,9 @@ answers_of_front = record {
   whole = λ text bytes status. of_front (λ t. Answers t bytes status) MAX_TEXT MAX_READ refl (λ a b x y. answers_long a b bytes status (record { one = x; two = y })) text;
 }
 
-pub explains_of_front : IsOfFront Explains MAX_READ
-explains_of_front = record {
-  whole = λ text bytes status. of_front (λ t. Explains t bytes status) MAX_TEXT MAX_READ refl (λ a b x y. explains_long a b bytes status (record { one = x; two = y })) text;
+pub explains_of_front : (named : Option Place) → IsOfFront (Explains named) MAX_READ
+explains_of_front named = record {
+  whole = λ text bytes status. of_front (λ t. Explains named t bytes status) MAX_TEXT MAX_READ refl (λ a b x y. explains_long named a b bytes status (record { one = x; two = y })) text;
 }
 
 pub checks_of_front : IsOfFront Checks MAX_READ

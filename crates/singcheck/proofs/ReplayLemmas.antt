@@ -1,6 +1,6 @@
 -- A replay, from what is read to what is written; and why it meets no fault where nothing is found.
-use Rattle.std.proofs.Common.{◌≡◌, ℕ, zero, suc, Bool, true, false, List, [], ◌∷◌, take, Option, Some, None, inl, inr, refl, subst}
-use Rattle.std.specs.Prelude.{◌&&◌, ◌⊎◌, IfSome, IsSomeAnd, not, slice_get}
+use Rattle.std.proofs.Common.{◌≡◌, ℕ, zero, suc, Bool, true, false, List, [], ◌∷◌, take, Option, Some, None, refl, subst}
+use Rattle.std.specs.Prelude.{◌&&◌, IfSome, IsSomeAnd, not, slice_get}
 use Rattle.std.specs.Io.KnownBytes.{Appends}
 use Rattle.source.specs.Findings.{FindingParts}
 use Rattle.source.specs.declared.lexer.TheConstants.{MAX_TEXT}

@@ -1,20 +1,25 @@
--- What `why` answers for a text: the report of `check`, and under each finding of a method why it is one.
-use Rattle.std.specs.Prelude.{◌≡◌, ◌≢◌, ◌<◌, ◌⊎◌, ◌++◌, ℕ, List, [], length, map, All}
+-- What `why` answers for a text: the report of `check`, and under findings of contracts and methods why they are.
+use Rattle.std.specs.Prelude.{◌≡◌, ◌≢◌, ◌<◌, ◌⊎◌, ◌++◌, ℕ, List, [], Option, length, map, All, Contains}
 use Rattle.std.specs.List.{flat_map}
 use Rattle.std.specs.List.Sorted.{IsStrictlySortedBy}
 use Rattle.contracts.specs.Conditions.{AreExactly}
+use Rattle.program.specs.Parts.{ContractSeen}
 use Rattle.program.specs.Programs.{ProgramSeen}
 use Rattle.reports.specs.Orders.{report_cmp}
-use Rattle.traces.specs.Explained.{ExplainedSeen, IsExplained}
-use Rattle.singcheck.specs.Answers.{IsReported}
+use Rattle.source.specs.Findings.{FindingParts}
+use Rattle.source.specs.declared.place.Place.{Place}
+use Rattle.traces.specs.Explained.{ExplainedSeen, IsExplainedIf}
+use Rattle.traces.specs.Shown.{IsShown}
+use Rattle.singcheck.specs.Answers.{AreFindings, IsResolved}
 use Rattle.singcheck.specs.Checks.{HasProgram, IsClear, IsWrong}
+use Rattle.singcheck.specs.Unexpected.{IsAskedUnexpected}
 use Rattle.singcheck.specs.Lines.{count_line, finding_line, trace_line}
 use Rattle.singcheck.specs.declared.fault.Status.{Status}
 use Rattle.singcheck.specs.declared.fault.Status.TheVariants.{Empty, Found}
 
--- it is found in one of the methods, and this is why
-abbrev pub IsExplainedIn : ProgramSeen → ExplainedSeen → Type 0
-IsExplainedIn p e = (n : ℕ) × (n < length p.methods) × IsExplained p n e
+-- it is found in one of the methods, and this is why, if that is asked for
+abbrev pub IsExplainedIn : Option Place → ProgramSeen → ExplainedSeen → Type 0
+IsExplainedIn named p e = (n : ℕ) × (n < length p.methods) × IsExplainedIf named p n e
 
 -- a line for the finding, and its trace under it
 abbrev pub explained_lines : ExplainedSeen → List ℕ
@@ -24,18 +29,40 @@ explained_lines e = finding_line e.finding ++ flat_map trace_line e.lines
 abbrev pub explained_bytes : List ExplainedSeen → List ℕ
 explained_bytes listed = flat_map explained_lines listed ++ count_line (length listed)
 
--- something is wrong in the methods of the text: all of it is listed in the order of a report, each finding once, and why it is one
-pub record AreReasons (text bytes : List ℕ) : Type 0 where
+-- something is wrong in the methods of the text: all of it is listed in the order of a report, each finding once, and why it is one,
+-- or why those at the named place are
+pub record AreReasons (named : Option Place) (text bytes : List ℕ) : Type 0 where
   pub program : ProgramSeen
   pub has : HasProgram text program
   pub listed : List ExplainedSeen
   pub some : listed ≢ []
   pub are : AreExactly (IsWrong program) (map (λ e. e.finding) listed)
-  pub each : All (IsExplainedIn program) listed
+  pub each : All (IsExplainedIn named program) listed
+  pub ordered : IsStrictlySortedBy report_cmp (map (λ e. e.finding) listed)
+  pub is : bytes ≡ explained_bytes listed
+
+-- it has no lines, or those of edges of one of the contracts that show it
+abbrev pub IsShownIn : Option Place → List ContractSeen → ExplainedSeen → Type 0
+IsShownIn named contracts e = (c : ContractSeen) × Contains contracts c × IsShown named c.parts e
+
+-- It is found before the methods. It has no lines; or it is asked for, and is a token that is not expected; or edges of contracts of the
+-- text show it.
+pub data IsNoted (named : Option Place) (text : List ℕ) (e : ExplainedSeen) : Type 0 where
+  Bare : e.lines ≡ [] → IsNoted named text e
+  ByTokens : IsAskedUnexpected named text e → IsNoted named text e
+  ByContract : (contracts : List ContractSeen) → IsResolved text contracts → IsShownIn named contracts e → IsNoted named text e
+
+-- something is wrong before the methods: all that the first stage with findings finds, in the order of a report, each finding once
+pub record AreNoted (named : Option Place) (text bytes : List ℕ) : Type 0 where
+  pub found : List FindingParts
+  pub are : AreFindings text found
+  pub listed : List ExplainedSeen
+  pub same : AreExactly (Contains found) (map (λ e. e.finding) listed)
+  pub each : All (IsNoted named text) listed
   pub ordered : IsStrictlySortedBy report_cmp (map (λ e. e.finding) listed)
   pub is : bytes ≡ explained_bytes listed
 
 -- what `why` answers for a text, and the status
-abbrev pub Explains : List ℕ → List ℕ → Status → Type 0
-Explains text bytes Empty = IsClear text bytes
-Explains text bytes Found = IsReported text bytes ⊎ AreReasons text bytes
+abbrev pub Explains : Option Place → List ℕ → List ℕ → Status → Type 0
+Explains named text bytes Empty = IsClear text bytes
+Explains named text bytes Found = AreNoted named text bytes ⊎ AreReasons named text bytes

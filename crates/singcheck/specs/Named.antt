@@ -1,11 +1,11 @@
 -- For proofs within the crate: what a text comes to before its contracts are judged, and then.
 use Rattle.std.specs.Prelude.{◌≡◌, ◌<◌, ◌≤◌, ◌^◌, ℕ, List, [], length, map, All}
-use Rattle.source.specs.Findings.{finding_parts}
+use Rattle.source.specs.Findings.{FindingParts, finding_parts}
 use Rattle.tree.specs.Trees.{ItemTree, contracts_of}
 use Rattle.names.specs.Findings.{program_findings}
 use Rattle.names.specs.Resolution.{resolved_contracts}
-use Rattle.program.specs.Parts.{IsWhole}
-use Rattle.program.specs.Programs.{ProgramSeen, program_seen}
+use Rattle.program.specs.Parts.{ContractSeen, IsWhole}
+use Rattle.program.specs.Programs.{ProgramSeen, contracts_seen, program_seen}
 use Rattle.program.specs.declared.limits.TheConstants.{MOST_METHODS}
 use Rattle.contracts.specs.Conditions.{IsSound}
 use Rattle.resolving.specs.Brought.{messages_told}
@@ -13,7 +13,7 @@ use Rattle.resolving.specs.Fields.{structs_told}
 use Rattle.resolving.specs.Methods.{methods_told}
 use Rattle.rules.specs.Programs.{seen_of}
 use Rattle.rules.specs.declared.lowered.Program.{Program}
-use Rattle.singcheck.specs.Answers.{AreFindings, IsProgram}
+use Rattle.singcheck.specs.Answers.{AreFindings, IsProgram, IsResolved}
 use Rattle.singcheck.specs.Checks.{HasProgram}
 use Rattle.singcheck.specs.Entered.{AreCleanSafe}
 use Rattle.singcheck.specs.Stages.{AreBroken}
@@ -55,12 +55,21 @@ pub record IsProgramBefore (text : List ℕ) (program : Program) : Type 0 where
   pub few : length (seen_of program).methods ≤ MOST_METHODS
   pub safe : AreCleanSafe (seen_of program)
 
+-- the text is resolved, and this is wrong with its contracts
+pub record AreBrokenOf (text : List ℕ) (contracts : List ContractSeen) (found : List FindingParts) : Type 0 where
+  pub resolved : IsResolved text contracts
+  pub whole : All (λ c. IsWhole c.parts) contracts
+  pub room : length contracts < 2 ^ 32
+  pub broken : AreBroken contracts found
+
 -- what is wrong with a text before its methods, or its program where nothing is
 abbrev pub IsBuiltOf : List ℕ → Built → Type 0
 IsBuiltOf text (built.Found findings) = AreFindings text (map finding_parts findings.items)
+IsBuiltOf text (built.Broken methods findings) = AreBrokenOf text (contracts_seen methods) (map finding_parts findings.items)
 IsBuiltOf text (built.Program program) = IsProgramBefore text program
 
--- what is wrong with the contracts of a program, or the program where nothing is
+-- the methods of a program and what is wrong with its contracts, or the program where nothing is
 abbrev pub IsBuilt : ProgramSeen → Built → Type 0
-IsBuilt p (built.Found findings) = AreBroken p.contracts (map finding_parts findings.items)
+IsBuilt p (built.Found findings) = ⊥
+IsBuilt p (built.Broken methods findings) = (contracts_seen methods ≡ p.contracts) × AreBroken p.contracts (map finding_parts findings.items)
 IsBuilt p (built.Program program) = IsSoundOne p program

@@ -2,12 +2,13 @@
 
 ghost use Rattle.std.specs.Prelude.{map, IfOk, IfSome};
 ghost use Rattle.clap.specs.Words.{found_of, rows_of};
-ghost use Rattle.singcheck.specs.Asking.{Asks, IsReplayOf};
+ghost use Rattle.singcheck.specs.Asking.{Asks, IsPlaceText, IsReplayOf, IsWhyOf, NamesPlace};
 
 use crate::commands::whole_of;
 use crate::request::Ask;
 use clap::error::ErrorKind;
 use clap::{ArgMatches, Error};
+use source::Place;
 use std::alloc::Global;
 
 /// How many workers there are where the command line does not say.
@@ -47,9 +48,11 @@ pub fn ask<'a>(alloc: Global, words: &'a [&'a str]) -> Result<Ask<'a>, Error>
         }
     }
     if let Some(("why", inner)) = matches.subcommand() {
-        if let Some(file) = inner.get_str("FILE") {
-            return Ok(Ask::Why { file });
-        }
+        let asked = why_asked(inner);
+        let Some(asked) = asked else {
+            return Err(command.error(ErrorKind::InvalidValue, "LINE:COL takes two numbers")?);
+        };
+        return Ok(asked);
     }
     if let Some(("replay", inner)) = matches.subcommand() {
         if let Some(asked) = replay_asked(inner) {
@@ -71,6 +74,35 @@ fn replay_asked<'a>(inner: &ArgMatches<'a>) -> Option<Ask<'a>>
         entry,
         schedule,
     })
+}
+
+/// What the arguments of `why` ask for, if the place among them is one.
+fn why_asked<'a>(inner: &ArgMatches<'a>) -> Option<Ask<'a>>
+    ensures { IfSome result (IsWhyOf (rows_of (found_of inner.now))) }
+{
+    let file = inner.get_str("FILE")?;
+    let named = asked_place(inner)?;
+    Some(Ask::Why { file, named })
+}
+
+/// The place that the arguments of `why` name, if they name one. None where what they name is no place.
+fn asked_place(inner: &ArgMatches<'_>) -> Option<Option<Place>>
+    ensures { IfSome result (NamesPlace (rows_of (found_of inner.now))) }
+{
+    match inner.get_str("LINE:COL") {
+        Some(text) => Some(Some(place_of(text)?)),
+        None => Some(None),
+    }
+}
+
+/// The place that a text names: `LINE:COL`.
+fn place_of(text: &str) -> Option<Place>
+    ensures { IfSome result (IsPlaceText text.now) }
+{
+    let (line, col) = text.split_once(':')?;
+    let line = line.parse().ok()?;
+    let col = col.parse().ok()?;
+    Some(Place { line, col })
 }
 
 /// The number that an option has, or this one where the option is not given. None where it is no number that fits.

@@ -106,6 +106,10 @@ pub(crate) fn check_text<R: Threads + Wait + Sync, G: Gate>(
     one_program();
     match program_of(tools.alloc, text)? {
         Built::Found(findings) => reported(tools.alloc, findings),
+        Built::Broken(methods, findings) => {
+            drop(methods); // the report is made without them, which spares their memory
+            reported(tools.alloc, findings)
+        }
         Built::Program(program) => check_methods(tools, &program),
     }
 }

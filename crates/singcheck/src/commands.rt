@@ -2,7 +2,7 @@
 
 ghost use Rattle.std.specs.Prelude.{◌≡◌, codes, false, IfOk};
 ghost use Rattle.clap.specs.Words.{rule_of};
-ghost use Rattle.singcheck.specs.Asking.{text_rule, number_rule, bounds_command, check_command, replay_command, why_command, whole_command, IsCommand};
+ghost use Rattle.singcheck.specs.Asking.{spare_rule, text_rule, number_rule, bounds_command, check_command, replay_command, why_command, whole_command, IsCommand};
 
 use clap::{Arg, ArgAction, Command};
 use std::alloc::{AllocError, Global};
@@ -32,7 +32,7 @@ const REPLAY_EXAMPLE: &str =
     "Example: singcheck replay examples/shop.sg Street.Main examples/shop.schedule";
 
 /// What help says behind the arguments of `why`.
-const WHY_EXAMPLE: &str = "Example: singcheck why examples/shop.sg";
+const WHY_EXAMPLE: &str = "Example: singcheck why examples/note.sg 7:5";
 
 /// A text that has to be given.
 fn text_of<'a>(alloc: Global, name: &'a str, help: &'a str) -> Arg<'a>
@@ -43,6 +43,14 @@ fn text_of<'a>(alloc: Global, name: &'a str, help: &'a str) -> Arg<'a>
         .required(true)
         .help(help)
         .action(ArgAction::Set)
+}
+
+/// A text that need not be given.
+fn spare_of<'a>(alloc: Global, name: &'a str, help: &'a str) -> Arg<'a>
+    ensures rule { rule_of result ≡ spare_rule name.now }
+    ensures local { result.global ≡ false }
+{
+    Arg::new(alloc, name).help(help).action(ArgAction::Set)
 }
 
 /// FILE, which has to be given.
@@ -115,14 +123,19 @@ fn replay_of<'a>(alloc: Global) -> Result<Command<'a>, AllocError>
         ))
 }
 
-/// `why FILE`.
+/// `why FILE [LINE:COL]`.
 fn why_of<'a>(alloc: Global) -> Result<Command<'a>, AllocError>
     ensures { IfOk result (IsCommand why_command) }
 {
     Command::new(alloc, "why")
         .about("Prints what is wrong in a program, and how each method gets there")
         .after_help(WHY_EXAMPLE)
-        .arg(file_of(alloc))
+        .arg(file_of(alloc))?
+        .arg(spare_of(
+            alloc,
+            "LINE:COL",
+            "A place: only findings there get a trace",
+        ))
 }
 
 /// The whole command line.

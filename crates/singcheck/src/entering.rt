@@ -58,6 +58,7 @@ fn enter_program(alloc: Global, text: &[u8], tree: &Tree, entry: &[u8]) -> Resul
     };
     match judged_program(alloc, methods)? {
         Built::Found(findings) => Ok(Entered::Found(findings)),
+        Built::Broken(_, findings) => Ok(Entered::Found(findings)),
         Built::Program(program) => enter_method(alloc, text, tree, program, entry),
     }
 }

@@ -3,45 +3,78 @@
 ghost use Rattle.std.specs.Prelude.{◌≡◌, ◌<◌, ◌^◌, ◌↔◌, ◌++◌, All, Contains, IfOk, OnOk, length, map};
 ghost use Rattle.std.specs.List.Sorted.{IsStrictlySortedBy};
 ghost use Rattle.contracts.specs.Conditions.{AreExactly};
+ghost use Rattle.program.specs.Parts.{IsWhole, contract_seen};
 ghost use Rattle.reports.specs.Orders.{report_cmp};
 ghost use Rattle.rules.specs.Programs.{seen_of};
 ghost use Rattle.source.specs.Findings.{FindingParts, finding_parts};
 ghost use Rattle.traces.specs.Explained.{explained_seen};
 ghost use Rattle.traces.specs.declared.line.Explained.{Explained as ExplainedSeen};
 ghost use Rattle.singcheck.specs.Checks.{IsWrong};
-ghost use Rattle.singcheck.specs.Explains.{IsExplainedIn, explained_bytes, explained_lines};
+ghost use Rattle.singcheck.specs.Answers.{IsBroken};
+ghost use Rattle.singcheck.specs.Explains.{IsExplainedIn, IsShownIn, explained_bytes, explained_lines};
 
 use crate::lines::{add_count, add_finding, add_line};
 use crate::seats::table;
 use analyse::Worker;
-use program::MethodId;
+use contracts::{edges, faults};
+use program::{ContractId, MethodId, Resolved};
 use rules::Program;
-use source::{Memory, compare};
+use source::{Memory, Place, compare};
 use std::alloc::Global;
-use traces::{Explained, explain};
+use traces::{Explained, explain, show_faults};
 
 /// How many slots the table of rows has.
 const SLOTS: usize = 65_536;
 
-/// What is found in all methods, and why, in no order.
+/// What is found in all methods, and why, in no order. If a place is named, only what is found there has a trace.
 ///
 /// `Memory` is answered where a growth was refused.
-pub(crate) fn explain_methods(alloc: Global, program: &Program) -> Result<Vec<Explained>, Memory>
+pub(crate) fn explain_methods(
+    alloc: Global,
+    program: &Program,
+    named: Option<Place>,
+) -> Result<Vec<Explained>, Memory>
     requires few { length (seen_of program.now).methods < 2 ^ 32 }
     ensures found { IfOk result (λ found. AreExactly (IsWrong (seen_of program.now)) (map (λ e. finding_parts e.finding) found.items)) }
-    ensures each { IfOk result (λ found. All (λ e. IsExplainedIn (seen_of program.now) (explained_seen e)) found.items) }
+    ensures each { IfOk result (λ found. All (λ e. IsExplainedIn named (seen_of program.now) (explained_seen e)) found.items) }
 {
     let (rows, seat) = table(alloc, SLOTS)?;
     let mut worker = Worker::new(alloc, seat);
     let mut found = Vec::new(alloc);
     for number in 0..program.methods().len() as u32 {
-        let mut more = explain(alloc, program, MethodId(number), &rows, &mut worker)?;
+        let method = MethodId(number);
+        let mut more = explain(alloc, program, method, named, &rows, &mut worker)?;
         found.append(&mut more)?;
     }
     Ok(found)
 }
 
-/// The same in the order of a report, each finding once.
+/// What is found in all contracts, and edges that show it. If a place is named, only what is found there has lines.
+///
+/// `Memory` is answered where a growth was refused.
+pub(crate) fn explain_contracts(
+    alloc: Global,
+    resolved: &Resolved,
+    named: Option<Place>,
+) -> Result<Vec<Explained>, Memory>
+    requires whole { All (λ c. IsWhole c.parts) (map contract_seen resolved.now.contracts.items) }
+    requires few { length resolved.now.contracts.items < 2 ^ 32 }
+    ensures found { IfOk result (λ found. AreExactly (IsBroken (map contract_seen resolved.now.contracts.items))
+        (map (λ e. finding_parts e.finding) found.items)) }
+    ensures each { IfOk result (λ found.
+        All (λ e. IsShownIn named (map contract_seen resolved.now.contracts.items) (explained_seen e)) found.items) }
+{
+    let mut found = Vec::new(alloc);
+    for number in 0..resolved.contracts.len() as u32 {
+        let contract = edges(resolved, ContractId(number));
+        let broken = faults(alloc, contract)?;
+        let mut more = show_faults(alloc, contract, broken, named)?;
+        found.append(&mut more)?;
+    }
+    Ok(found)
+}
+
+/// Findings with their lines in the order of a report, each finding once.
 ///
 /// `Memory` is answered where a growth was refused.
 pub(crate) fn explained_in_order(explained: Vec<Explained>) -> Result<Vec<Explained>, Memory>

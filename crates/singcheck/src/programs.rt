@@ -30,8 +30,10 @@ pub(crate) enum Named {
 /// What the methods come to, once their contracts are judged.
 #[derive(Drop)]
 pub(crate) enum Built {
-    /// What is wrong with the contracts.
+    /// What is wrong with the text, its tokens or its names.
     Found(Vec<Finding>),
+    /// The methods, and what is wrong with the contracts.
+    Broken(Methods, Vec<Finding>),
     /// Nothing is: the program.
     Program(Program),
 }
@@ -71,7 +73,7 @@ pub(crate) fn judged_program(alloc: Global, methods: Methods) -> Result<Built, M
     ensures { IfOk result (IsBuilt (program_seen methods)) }
 {
     match judged(alloc, methods.contracts())? {
-        Judgement::Found(findings) => Ok(Built::Found(findings)),
+        Judgement::Found(findings) => Ok(Built::Broken(methods, findings)),
         Judgement::Sounds(sounds) => {
             clean_methods_are_safe(&methods, &sounds);
             Ok(Built::Program(Program::new(alloc, methods, sounds)?))

@@ -1,5 +1,7 @@
 //! What a command line can ask for.
 
+use source::Place;
+
 /// What is asked for.
 #[derive(Clone, Copy, Debug, PartialEq, Eq)]
 pub enum Ask<'a> {
@@ -13,9 +15,10 @@ pub enum Ask<'a> {
         workers: usize,
         slots: usize,
     },
-    /// What is wrong in this file, and how each method gets there.
+    /// What is wrong in this file, and how each method gets there; or how it gets to what is wrong at one place.
     Why {
         file: &'a str,
+        named: Option<Place>,
     },
     /// What the events of a schedule, which stands in a file, come to in this file from an entry, `Class.Method`.
     Replay {

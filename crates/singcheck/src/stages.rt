@@ -13,7 +13,7 @@ use crate::soundness::{Judgement, judged};
 use contracts::Sound;
 use names::{NameFaults, resolve};
 use program::Resolved;
-use source::{Finding, Memory, TextFault, Tokens, lex, texts};
+use source::{Finding, Memory, TextFault, Token, Tokens, lex, texts};
 use std::alloc::Global;
 use syntax::{SyntaxFault, parse};
 use tree::Tree;
@@ -88,15 +88,31 @@ fn parse_tokens(alloc: Global, tokens: Tokens) -> Result<Parsed, Memory>
     }
 }
 
-/// The finding of the token of that number, or of the end where there is none.
+/// The finding of the token of that number, or of the end where there is none, as a list.
 fn wrong_at(alloc: Global, tokens: &Tokens, number: usize) -> Result<Vec<Finding>, Memory>
     ensures { (text : List ℕ) → tokens.now.end ≡ place_of (body_of text) → IfOk result (λ found. map finding_parts found.items
         ≡ wrong_token text (slice_get tokens.now.list.items number) ∷ []) }
 {
-    match tokens.list.get(number) {
-        Some(token) => one(alloc, texts::unexpected_token(alloc, token.span.place)?),
-        None => one(alloc, texts::unexpected_end(alloc, tokens.end)?),
+    let finding = finding_at(alloc, tokens, number)?;
+    one(alloc, finding)
+}
+
+/// The finding of the token of that number, or of the end where there is none.
+pub(crate) fn finding_at(alloc: Global, tokens: &Tokens, number: usize) -> Result<Finding, Memory>
+    ensures { (text : List ℕ) → tokens.now.end ≡ place_of (body_of text) → IfOk result (λ finding. finding_parts finding
+        ≡ wrong_token text (slice_get tokens.now.list.items number)) }
+{
+    match token_at(tokens, number) {
+        Some(token) => texts::unexpected_token(alloc, token.span.place),
+        None => texts::unexpected_end(alloc, tokens.end),
     }
+}
+
+/// The token of that number, if there is one.
+pub(crate) fn token_at(tokens: &Tokens, number: usize) -> Option<Token>
+    ensures { result ≡ slice_get tokens.now.list.items number }
+{
+    tokens.list.get(number).copied()
 }
 
 /// The stages of names and contracts. The tree goes before the contracts are judged, which spares its memory.

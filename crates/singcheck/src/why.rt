@@ -1,26 +1,37 @@
 //! Why something is found in a text.
 
-ghost use Rattle.std.specs.Prelude.{◌≡◌, ◌≢◌, ◌<◌, ◌^◌, ℕ, List, IfErr, IfOk, IfSome, IsErrOf, OnOk, OnErr, length};
+ghost use Rattle.std.specs.Prelude.{◌≡◌, ◌≢◌, ◌<◌, ◌^◌, ℕ, All, List, Option, IfErr, IfOk, IfSome, IsErrOf, OnOk, OnErr, length, map};
 ghost use Rattle.std.specs.Io.KnownBytes.{Keeps};
+ghost use Rattle.program.specs.Parts.{IsWhole, contract_seen};
 ghost use Rattle.rules.specs.Programs.{seen_of};
+ghost use Rattle.source.specs.Findings.{FindingParts, finding_parts};
+ghost use Rattle.source.specs.declared.place.Place.{Place as PlaceSeen};
+ghost use Rattle.traces.specs.Explained.{explained_seen};
+ghost use Rattle.singcheck.specs.Answers.{AreFindings};
+ghost use Rattle.singcheck.specs.Unexpected.{IsAskedUnexpected};
 ghost use Rattle.singcheck.specs.Checks.{HasProgram};
 ghost use Rattle.singcheck.specs.Explains.{Explains};
+ghost use Rattle.singcheck.specs.Named.{AreBrokenOf};
 ghost use Rattle.singcheck.specs.RunFaults.{IsBoundsFault};
 ghost use Rattle.singcheck.specs.Runs.{Writes, BeginsAnswer, LeavesRest, TakesAtMost};
 
 use crate::device::{Sink, Source};
-use crate::explaining::{explain_methods, explained_in_order, explained_report};
+use crate::expecting::explain_syntax;
+use crate::explaining::{explain_contracts, explain_methods, explained_in_order, explained_report};
 use crate::fault::{Input, RunFault, Status};
 use crate::programs::{Built, program_of};
 use crate::reading::{MAX_READ, read_text};
 use crate::report::{Report, clear, reported};
 use crate::writing::write_all;
+use program::Resolved;
 use rules::Program;
-use source::Memory;
+use source::{Finding, Memory, Place};
 use std::alloc::Global;
+use traces::Explained;
 
 /// Reads a program text, and writes what `check` reports of it, with a trace under each finding in a method: the choices of a shortest
-/// path through the method to where the finding is, and what the path does to the variables that the finding is about.
+/// path through the method to where the finding is, and what the path does to the variables that the finding is about. Under a finding
+/// in a contract are edges that show it (`traces::show_faults`). If a place is named, only the findings at that place have lines.
 ///
 /// The lines of a trace are `  LINE:COL text`. The status is that of `check`. Methods are looked at one after another, by the calling
 /// thread. At most `MAX_READ` bytes are read, and the rest is left unread. `Read` and `Write` are answered only where that device failed,
@@ -30,11 +41,12 @@ pub fn run_why<R: Source, W: Sink>(
     alloc: Global,
     reader: &mut R,
     writer: &mut W,
+    named: Option<Place>,
 ) -> Result<Status, RunFault>
     ensures written { IfOk result (λ status. IfSome (R.remaining reader.old) (λ text.
-        Writes Explains text (W.contents writer.old) (W.contents writer.new) status)) }
+        Writes (Explains named) text (W.contents writer.old) (W.contents writer.new) status)) }
     ensures begun { IsErrOf result RunFault.Write → IfSome (R.remaining reader.old) (λ text.
-        BeginsAnswer Explains text (W.contents writer.old) (W.contents writer.new)) }
+        BeginsAnswer (Explains named) text (W.contents writer.old) (W.contents writer.new)) }
     ensures rest { OnOk result (LeavesRest MAX_READ (R.remaining reader.old) (R.remaining reader.new)) }
     ensures most { TakesAtMost MAX_READ (R.remaining reader.old) (R.remaining reader.new) }
     ensures read { IsErrOf result (RunFault.Read Input.Text) → R.failed reader.new ≢ R.failed reader.old }
@@ -43,28 +55,73 @@ pub fn run_why<R: Source, W: Sink>(
     ensures fault { IfErr result IsBoundsFault }
 {
     let text = read_text(alloc, reader)?;
-    let answer = why_of(alloc, &text)?;
+    let answer = why_of(alloc, &text, named)?;
     write_all(&answer.bytes, writer)?;
     Ok(answer.status)
 }
 
 /// The answer to a text.
-fn why_of(alloc: Global, text: &[u8]) -> Result<Report, Memory>
-    ensures { IfOk result (λ answer. Explains text.now answer.bytes.items answer.status) }
+fn why_of(alloc: Global, text: &[u8], named: Option<Place>) -> Result<Report, Memory>
+    ensures { IfOk result (λ answer. Explains named text.now answer.bytes.items answer.status) }
 {
     match program_of(alloc, text)? {
-        Built::Found(findings) => reported(alloc, findings),
-        Built::Program(program) => why_methods(alloc, &program),
+        Built::Found(findings) => why_text(alloc, text, findings, named),
+        Built::Broken(methods, _) => why_contracts(alloc, methods.contracts(), named),
+        Built::Program(program) => why_methods(alloc, &program, named),
     }
 }
 
+/// The answer to a text with these findings before its contracts.
+fn why_text(
+    alloc: Global,
+    text: &[u8],
+    findings: Vec<Finding>,
+    named: Option<Place>,
+) -> Result<Report, Memory>
+    requires { AreFindings text.now (map finding_parts findings.items) }
+    ensures { IfOk result (λ answer. Explains named text.now answer.bytes.items answer.status) }
+{
+    match explain_syntax(alloc, text, named)? {
+        Some(explained) => why_syntax(alloc, explained),
+        None => reported(alloc, findings),
+    }
+}
+
+/// The answer to a text with a token that is not expected.
+fn why_syntax(alloc: Global, explained: Explained) -> Result<Report, Memory>
+    ensures { IfOk result (λ answer. (named : Option PlaceSeen) (text : List ℕ)
+        → IsAskedUnexpected named text (explained_seen explained) → Explains named text answer.bytes.items answer.status) }
+{
+    let mut listed = Vec::new(alloc);
+    listed.push(explained)?;
+    Ok(Report {
+        bytes: explained_report(alloc, &listed)?,
+        status: Status::Found,
+    })
+}
+
+/// The answer to a text whose contracts break conditions.
+fn why_contracts(alloc: Global, resolved: &Resolved, named: Option<Place>) -> Result<Report, Memory>
+    requires whole { All (λ c. IsWhole c.parts) (map contract_seen resolved.now.contracts.items) }
+    requires few { length resolved.now.contracts.items < 2 ^ 32 }
+    ensures { IfOk result (λ answer. (text : List ℕ) (found : List FindingParts)
+        → AreBrokenOf text (map contract_seen resolved.now.contracts.items) found → Explains named text answer.bytes.items answer.status) }
+{
+    let found = explain_contracts(alloc, resolved, named)?;
+    let listed = explained_in_order(found)?;
+    Ok(Report {
+        bytes: explained_report(alloc, &listed)?,
+        status: Status::Found,
+    })
+}
+
 /// The answer to a program with which nothing is wrong before its methods.
-fn why_methods(alloc: Global, program: &Program) -> Result<Report, Memory>
+fn why_methods(alloc: Global, program: &Program, named: Option<Place>) -> Result<Report, Memory>
     requires few { length (seen_of program.now).methods < 2 ^ 32 }
     ensures { IfOk result (λ answer. (text : List ℕ) → HasProgram text (seen_of program.now)
-        → Explains text answer.bytes.items answer.status) }
+        → Explains named text answer.bytes.items answer.status) }
 {
-    let found = explain_methods(alloc, program)?;
+    let found = explain_methods(alloc, program, named)?;
     if found.is_empty() {
         return clear(alloc, program);
     }

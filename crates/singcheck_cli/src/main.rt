@@ -3,7 +3,7 @@
 
 use clap::error::ErrorKind;
 use singcheck::{
-    Ask, Counted, Input, Open, RunFault, Sink, Status, ask, ending, run_bounds, run_check,
+    Ask, Counted, Input, Open, Place, RunFault, Sink, Status, ask, ending, run_bounds, run_check,
     run_replay, run_why,
 };
 use std::alloc::{AllocError, Global};
@@ -80,7 +80,7 @@ fn answer<R: AllocGlobal + Files + Print + Eprint + Threads + Wait + Sync, O: Si
                 schedule,
             },
         ) => replayed(rt, file, entry, schedule, output, errors),
-        Ok(Ask::Why { file }) => why(rt, file, output, errors),
+        Ok(Ask::Why { file, named }) => why(rt, file, named, output, errors),
         Err(refusal) if refusal.kind() == ErrorKind::OutOfMemory => {
             ending(&RunFault::Memory, "", errors)
         }
@@ -149,13 +149,14 @@ fn replayed<R: AllocGlobal + Files, O: Sink, E: Sink>(
 fn why<R: AllocGlobal + Files, O: Sink, E: Sink>(
     rt: &R,
     file: &str,
+    named: Option<Place>,
     output: &mut O,
     errors: &mut E,
 ) -> u8 {
     let Ok(text) = fs::open(rt, file) else {
         return ending(&RunFault::Read(Input::Text), file, errors);
     };
-    let answered = run_why(rt.alloc(), &mut Counted::new(text), output);
+    let answered = run_why(rt.alloc(), &mut Counted::new(text), output, named);
     status(answered, file, errors)
 }
 

@@ -1,7 +1,7 @@
 use Rattle.std.proofs.Common.{◌∙◌, map, Some, sym, ap, codes}
 use Rattle.clap.specs.Words.{app_of}
 use Rattle.singcheck.specs.Asking.{Gives}
-use Rattle.singcheck.proofs.AskLemmas.{asks_of, asks_replay, gives}
+use Rattle.singcheck.proofs.AskLemmas.{asks_of, asks_replay, asks_why, gives}
 use Rattle.singcheck.proofs.asking.ask.Goals as goal
 
 pub returns-in-Some : goal.returns-in-Some
@@ -15,6 +15,5 @@ returns-in-Some-get_str c = asks_of (map (λ w. w.now) c.args.words.now) c.in_ok
 pub returns-in-Some-replay_asked : goal.returns-in-Some-replay_asked
 returns-in-Some-replay_asked c = asks_replay (map (λ w. w.now) c.args.words.now) c.in_ok-matches.matches c.in-Some-replay-default.inner.now (app_of c.in_ok-command.command) c.in-Some-replay_asked.asked c.in_ok-command.ensures.same c.in_ok-matches.ensures.ok.2 (sym c.in-Some-replay-default.ensures.name ∙ ap Some c.in-Some-replay-default.is-replay) (sym c.in-Some-replay-default.ensures.rows) c.in-Some-replay_asked.ensures
 
-pub returns-in-Some-get_str-2 : goal.returns-in-Some-get_str-2
-returns-in-Some-get_str-2 c = asks_of (map (λ w. w.now) c.args.words.now) c.in_ok-matches.matches c.in-Some-why-default.inner.now (codes "why") (app_of c.in_ok-command.command) (λ rows. Gives rows (codes "FILE") c.in-Some-get_str-2.file.now) c.in_ok-command.ensures.same c.in_ok-matches.ensures.ok.2 (sym c.in-Some-why-default.ensures.name ∙ ap Some c.in-Some-why-default.is-why) (sym c.in-Some-why-default.ensures.rows)
-    (gives c.in-Some-why-default.inner.now (codes "FILE") c.in-Some-get_str-2.file.now (sym c.in-Some-get_str-2.ensures))
+pub returns-in-Some-why-default : goal.returns-in-Some-why-default
+returns-in-Some-why-default c = asks_why (map (λ w. w.now) c.args.words.now) c.in_ok-matches.matches c.in-Some-why-default.inner.now (app_of c.in_ok-command.command) c.in-Some-asked.asked c.in_ok-command.ensures.same c.in_ok-matches.ensures.ok.2 (sym c.in-Some-why-default.ensures.name ∙ ap Some c.in-Some-why-default.is-why) (sym c.in-Some-why-default.ensures.rows) c.in-Some-asked.ensures

@@ -5,7 +5,7 @@ use Rattle.rules.specs.Programs.{seen_of}
 use Rattle.singcheck.specs.Checks.{Before}
 use Rattle.singcheck.specs.Named.{IsBuiltOf}
 use Rattle.singcheck.specs.Safety.{IsSafeText}
-use Rattle.singcheck.proofs.CheckLemmas.{reported_ok}
+use Rattle.singcheck.proofs.CheckLemmas.{broken_findings, reported_ok}
 use Rattle.singcheck.proofs.SafetyLemmas.{found_unsafe, safe_text}
 use Rattle.singcheck.proofs.checking.check_text.Goals as goal
 
@@ -17,6 +17,16 @@ returns-in-Found-clause-report g c =
 
 pub returns-in-Found-clause-safe : goal.returns-in-Found-clause-safe
 returns-in-Found-clause-safe g c = found_unsafe (IsSafeText c.args.text.now) c.reported.result c.reported.ensures.status
+
+pub returns-in-Broken-clause-report : goal.returns-in-Broken-clause-report
+returns-in-Broken-clause-report g c =
+    let text = c.args.text.now in
+    let found = map finding_parts c.in-Broken.findings.items in
+    let built = subst (IsBuiltOf text) c.in-Broken.is c.in_ok-findings.ensures in
+    reported_ok text found (Before (broken_findings text _ found built)) c.reported-in-Broken.result c.reported-in-Broken.ensures.bytes c.reported-in-Broken.ensures.status
+
+pub returns-in-Broken-clause-safe : goal.returns-in-Broken-clause-safe
+returns-in-Broken-clause-safe g c = found_unsafe (IsSafeText c.args.text.now) c.reported-in-Broken.result c.reported-in-Broken.ensures.status
 
 pub returns-in-Program-clause-report : goal.returns-in-Program-clause-report
 returns-in-Program-clause-report g c =

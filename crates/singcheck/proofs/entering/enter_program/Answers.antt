@@ -27,11 +27,13 @@ pub returns-in-Found : goal.returns-in-Found
 returns-in-Found c = subst (IsNamed c.args.text.now (program_tree c.args.tree.now)) c.in-Found.is c.in_ok-findings.ensures
 
 pub returns-in-Found-2 : goal.returns-in-Found-2
-returns-in-Found-2 c =
+returns-in-Found-2 c = absurd (subst (IsBuilt (program_seen c.in-Methods.methods)) c.in-Found-2.is c.in_ok-findings-2.ensures)
+
+pub returns-in-Broken : goal.returns-in-Broken
+returns-in-Broken c =
     let text = c.args.text.now in
     let items = program_tree c.args.tree.now in
     let p = program_seen c.in-Methods.methods in
-    let found = map finding_parts c.in-Found-2.findings.items in
     let named = subst (IsNamed text items) c.in-Methods.is c.in_ok-findings.ensures in
-    let broken = subst (IsBuilt p) c.in-Found-2.is c.in_ok-findings-2.ensures in
-    unsound_named text items p found named.names broken
+    let built = subst (IsBuilt p) c.in-Broken.is c.in_ok-findings-2.ensures in
+    unsound_named text items p (map finding_parts c.in-Broken.findings.items) named.names built.1

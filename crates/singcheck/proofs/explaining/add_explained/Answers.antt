@@ -1,9 +1,6 @@
-use Rattle.std.proofs.Common.{◌≡◌, ◌++◌, ◌∷◌, [], get_or, take, sym, ap, ◌∙◌, append_assoc, arith}
-use Rattle.std.specs.List.{flat_map}
+use Rattle.std.proofs.Common.{◌++◌, arith}
 use Rattle.source.specs.Findings.{finding_parts}
-use Rattle.traces.specs.Lines.{line_seen}
-use Rattle.traces.specs.declared.line.Line.{Line}
-use Rattle.singcheck.specs.Lines.{finding_line, trace_line}
+use Rattle.singcheck.specs.Lines.{finding_line}
 use Rattle.singcheck.proofs.ExplainLemmas.{lines_end, lines_more}
 use Rattle.singcheck.proofs.explaining.add_explained.Goals as goal
 

@@ -1,4 +1,4 @@
-use Rattle.std.proofs.Common.{◌≡◌, ◌++◌, ◌+◌, ◌<◌, suc, [], length, map, refl, sym, ap, subst, ◌∙◌, arith}
+use Rattle.std.proofs.Common.{◌≡◌, ◌+◌, ◌<◌, suc, [], length, map, sym, ap, subst, ◌∙◌, arith}
 use Rattle.std.specs.List.{All}
 use Rattle.std.proofs.lemmas.List.{length-map, map-append}
 use Rattle.std.proofs.lemmas.List.Elements.{All-append, All-nil, All-weaker}
@@ -7,7 +7,7 @@ use Rattle.program.specs.Methods.{method_seen}
 use Rattle.pool.specs.Counts.{times}
 use Rattle.rules.specs.Programs.{seen_of}
 use Rattle.analyse.specs.Tasks.{numbers_below}
-use Rattle.traces.specs.Explained.{IsExplained, explained_seen}
+use Rattle.traces.specs.Explained.{IsExplainedIf, explained_seen}
 use Rattle.traces.specs.declared.line.Explained.{Explained}
 use Rattle.singcheck.specs.Explains.{IsExplainedIn}
 use Rattle.singcheck.specs.Verdicts.{AreOfMethods}
@@ -21,7 +21,7 @@ loop-number-init c =
     record {
       worker = c.new-worker.ensures.worker c.in_ok-rows.rows c.in_ok-rows.ensures;
       found = subst (λ es. AreOfMethods p [] (map (λ (e : Explained). finding_parts e.finding) es)) (sym none) (of_no_methods p);
-      each = subst (All (λ (e : Explained). IsExplainedIn p (explained_seen e))) (sym none) (All-nil (λ (e : Explained). IsExplainedIn p (explained_seen e)));
+      each = subst (All (λ (e : Explained). IsExplainedIn c.args.named p (explained_seen e))) (sym none) (All-nil (λ (e : Explained). IsExplainedIn c.args.named p (explained_seen e)));
     }
 
 pub loop-number-preserved : goal.loop-number-preserved
@@ -30,7 +30,7 @@ loop-number-preserved c =
     let i = c.loop-number.invariant in
     let n = c.loop-number.number in
     let parts = λ (e : Explained). finding_parts e.finding in
-    let holds = λ (e : Explained). IsExplainedIn p (explained_seen e) in
+    let holds = λ (e : Explained). IsExplainedIn c.args.named p (explained_seen e) in
     let old = c.loop-number.found.items in
     let more = c.in_ok-more.more.items in
     let all = c.in_ok-append.ensures.items in
@@ -41,7 +41,7 @@ loop-number-preserved c =
       found = subst (λ k. AreOfMethods p (numbers_below k) (map parts c.append.new.self.items)) later
           (of_methods_then p (numbers_below n) n (map parts old) (map parts more) (map parts c.append.new.self.items) i.found (verdict_exactly p n (map parts more) c.in_ok-more.ensures.verdict)
           (ap (map parts) all ∙ map-append parts old more));
-      each = subst (All holds) (sym all) (All-append holds old more i.each (All-weaker (λ (e : Explained). IsExplained p n (explained_seen e)) holds (λ e h. (n, below, h)) more c.in_ok-more.ensures.explained));
+      each = subst (All holds) (sym all) (All-append holds old more i.each (All-weaker (λ (e : Explained). IsExplainedIf c.args.named p n (explained_seen e)) holds (λ e h. (n, below, h)) more c.in_ok-more.ensures.explained));
     }
 
 pub returns-clause-found : goal.returns-clause-found

@@ -13,5 +13,5 @@ abbrev pub invariant-loop-number : goal.invariant-loop-number
 invariant-loop-number l = record {
   worker : IsWorkerOf l.rows l.worker;
   found : AreOfMethods (seen_of l.program) (numbers_below l.number) (map (λ e. finding_parts e.finding) l.found.items);
-  each : All (λ e. IsExplainedIn (seen_of l.program) (explained_seen e)) l.found.items;
+  each : All (λ e. IsExplainedIn l.named (seen_of l.program) (explained_seen e)) l.found.items;
 }

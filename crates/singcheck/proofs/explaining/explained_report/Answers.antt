@@ -1,4 +1,4 @@
-use Rattle.std.proofs.Common.{length, arith}
+use Rattle.std.proofs.Common.{arith}
 use Rattle.singcheck.proofs.ExplainLemmas.{report_end}
 use Rattle.singcheck.proofs.explaining.explained_report.Goals as goal
 

@@ -1,4 +1,4 @@
-use Rattle.std.proofs.Common.{◌∙◌, map, ap, sym, subst, length, arith}
+use Rattle.std.proofs.Common.{◌∙◌, map, ap, refl, sym, subst, length, arith}
 use Rattle.std.specs.Prelude.{All}
 use Rattle.std.proofs.lemmas.List.{length-map}
 use Rattle.std.proofs.lemmas.List.Elements.{All-same}
@@ -34,7 +34,7 @@ new-requires c =
 pub returns-in-Found : goal.returns-in-Found
 returns-in-Found c =
     let contracts = map contract_seen c.contracts.result.now.contracts.items in
-    subst (λ l. AreBroken l (map finding_parts c.in-Found.findings.items)) c.contracts.ensures (subst (IsJudgement contracts) c.in-Found.is c.in_ok-findings.ensures)
+    (refl, subst (λ l. AreBroken l (map finding_parts c.in-Found.findings.items)) c.contracts.ensures (subst (IsJudgement contracts) c.in-Found.is c.in_ok-findings.ensures))
 
 pub returns-in_ok-new-in-Sounds : goal.returns-in_ok-new-in-Sounds
 returns-in_ok-new-in-Sounds c =

@@ -1,20 +1,40 @@
-use Rattle.std.proofs.Common.{arith, map, subst}
+use Rattle.std.proofs.Common.{arith, length, map, subst, sym, ap}
+use Rattle.std.proofs.lemmas.List.{length-map}
+use Rattle.std.proofs.lemmas.List.Elements.{All-same}
 use Rattle.std.proofs.lemmas.Result.{IfOk-weaker}
 use Rattle.source.specs.Findings.{finding_parts}
-use Rattle.singcheck.specs.Named.{IsBuiltOf}
-use Rattle.singcheck.proofs.ExplainLemmas.{explains_before}
+use Rattle.program.specs.Parts.{IsWhole, contract_seen}
+use Rattle.program.specs.Programs.{contracts_seen}
+use Rattle.singcheck.specs.Named.{AreBrokenOf, IsBuiltOf}
 use Rattle.singcheck.proofs.why.why_of.Goals as goal
 
-pub returns-in-Found : goal.returns-in-Found
-returns-in-Found c =
-    explains_before c.args.text.now (map finding_parts c.in-Found.findings.items) (subst (IsBuiltOf c.args.text.now) c.in-Found.is c.in_ok-findings.ensures) c.reported.result c.reported.ensures.bytes c.reported.ensures.status
+pub why_text-requires : goal.why_text-requires
+why_text-requires c = subst (IsBuiltOf c.args.text.now) c.in-Found.is c.in_ok-findings.ensures
+
+pub why_contracts-requires : goal.why_contracts-requires
+why_contracts-requires c =
+    let built = subst (IsBuiltOf c.args.text.now) c.in-Broken.is c.in_ok-findings.ensures in
+    let resolved = c.contracts.result.now.contracts.items in
+    let size = length-map resolved contract_seen in
+    let same = ap length c.contracts.ensures in
+    record {
+      whole = All-same (λ s. IsWhole s.parts) (map contract_seen resolved) (contracts_seen c.in-Broken.methods) c.contracts.ensures built.whole;
+      few = omega (arith, size, same, built.room);
+    }
+
+pub returns-in-Broken : goal.returns-in-Broken
+returns-in-Broken c =
+    let text = c.args.text.now in
+    let found = map finding_parts c.in-Broken.field-1.items in
+    let built = subst (IsBuiltOf text) c.in-Broken.is c.in_ok-findings.ensures in
+    IfOk-weaker c.why_contracts.result _ _ (λ r told. told text found (subst (λ l. AreBrokenOf text l found) (sym c.contracts.ensures) built)) c.why_contracts.ensures
 
 pub why_methods-requires : goal.why_methods-requires
 why_methods-requires c =
     let built = subst (IsBuiltOf c.args.text.now) c.in-Program.is c.in_ok-findings.ensures in
     record { few = omega (arith, built.few) }
 
-pub returns-in-Program : goal.returns-in-Program
-returns-in-Program c =
+pub returns : goal.returns
+returns c =
     let built = subst (IsBuiltOf c.args.text.now) c.in-Program.is c.in_ok-findings.ensures in
     IfOk-weaker c.why_methods.result _ _ (λ r told. told c.args.text.now built.has) c.why_methods.ensures

@@ -1,0 +1,64 @@
+-- Why a text is no program: with which tokens it could have gone on.
+use Rattle.std.specs.Prelude.{◌≡◌, ◌↔◌, ◌∷◌, [], ℕ, Bool, true, false, List, Option, Some, None, Contains, take, slice_get, codes, if◌then◌else◌}
+use Rattle.std.specs.Option.{option_map_or}
+use Rattle.source.specs.Marks.{body_of}
+use Rattle.source.specs.Places.{place_of}
+use Rattle.source.specs.Tokens.{AreTokens}
+use Rattle.source.specs.declared.kind.Kind.{Kind}
+use Rattle.source.specs.declared.kind.Kind.TheVariants.{Class, Contract, Internal, Private, Public, Rep, Static}
+use Rattle.source.specs.declared.place.Place.{Place}
+use Rattle.source.specs.declared.token.Span.{Span}
+use Rattle.source.specs.declared.token.Token.{Token}
+use Rattle.syntax.specs.Parsing.{IsFirstWrong}
+use Rattle.tree.specs.Programs.{program}
+use Rattle.expected.specs.Expectations.{expectation_of}
+use Rattle.expected.specs.Expected.{IsExpected, IsSublist}
+use Rattle.expected.specs.OpenBraces.{open_braces}
+use Rattle.expected.specs.declared.kinds.TheConstants.{ALL_KINDS}
+use Rattle.traces.specs.Explained.{ExplainedSeen, is_asked}
+use Rattle.traces.specs.Lines.{LineSeen, line}
+use Rattle.singcheck.specs.Answers.{wrong_token}
+
+-- where a wrong token is, or the end of the text
+abbrev pub wrong_span : Place → Option Token → Span
+wrong_span end (Some token) = token.span
+wrong_span end None = record { start = 0; end = 0; place = end }
+
+-- whether a kind begins a definition or a method
+abbrev pub begins_definition : Kind → Bool
+begins_definition Class = true
+begins_definition Contract = true
+begins_definition Internal = true
+begins_definition Private = true
+begins_definition Public = true
+begins_definition Rep = true
+begins_definition Static = true
+begins_definition _ = false
+
+abbrev pub begins_item : Option Token → Bool
+begins_item None = true
+begins_item (Some token) = begins_definition token.kind
+
+-- If a definition, a method or the end comes too early, a brace is likely not closed: the innermost one that is open.
+abbrev pub likely_brace : List Token → ℕ → Option Span
+likely_brace tokens number = if begins_item (slice_get tokens number) then slice_get (open_braces [] (take number tokens)) 0 else None
+
+abbrev pub brace_lines : List Token → ℕ → List LineSeen
+brace_lines tokens number = option_map_or (λ brace. line brace.place (codes "{ is not closed") ∷ []) (likely_brace tokens number) []
+
+-- The tokens of the text are no program: the first wrong one, or the end; what could have stood there, exactly, and a brace.
+pub record IsUnexpected (text : List ℕ) (e : ExplainedSeen) : Type 0 where
+  pub tokens : List Token
+  pub lexed : AreTokens text tokens
+  pub number : ℕ
+  pub wrong : IsFirstWrong program tokens number
+  pub finding : e.finding ≡ wrong_token text (slice_get tokens number)
+  pub kinds : List Kind
+  pub exact : (kind : Kind) → Contains kinds kind ↔ IsExpected tokens number (wrong_span (place_of (body_of text)) (slice_get tokens number)) kind
+  pub order : IsSublist kinds ALL_KINDS
+  pub lines : e.lines ≡ line e.finding.place (expectation_of kinds) ∷ brace_lines tokens number
+
+-- and it is asked for
+pub record IsAskedUnexpected (named : Option Place) (text : List ℕ) (e : ExplainedSeen) : Type 0 where
+  pub asked : is_asked named e.finding.place ≡ true
+  pub unexpected : IsUnexpected text e

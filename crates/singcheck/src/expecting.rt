@@ -1,0 +1,142 @@
+//! Why a text is no program: with what it could have gone on.
+
+ghost use Rattle.std.specs.Prelude.{◌≡◌, ◌++◌, ◌≤◌, IfOk, IfSome, OnOk, List, ℕ, codes, length, map, slice_get};
+ghost use Rattle.source.specs.Marks.{body_of};
+ghost use Rattle.source.specs.Places.{place_of};
+ghost use Rattle.source.specs.Tokens.{AreTokens};
+ghost use Rattle.syntax.specs.Parsing.{IsFirstWrong};
+ghost use Rattle.tree.specs.Programs.{program};
+ghost use Rattle.traces.specs.Explained.{explained_seen};
+ghost use Rattle.expected.specs.Expectations.{expectation_of};
+ghost use Rattle.traces.specs.Lines.{line, line_seen};
+ghost use Rattle.singcheck.specs.Unexpected.{IsAskedUnexpected, begins_item, brace_lines, likely_brace, wrong_span};
+
+use crate::stages::{finding_at, token_at};
+use expected::{expectation, expected_kinds, fault_is_within, open_brace};
+use source::{Kind, Memory, Place, Span, Token, Tokens, lex};
+use std::alloc::Global;
+use syntax::{SyntaxFault, parse};
+use traces::{Explained, Line, is_asked};
+
+/// The first wrong token of a text, or its end, with the tokens that could have stood there and a brace that is likely not closed. None
+/// if the text has no tokens, if they are a program, or if another place is named.
+///
+/// It takes the time of some 65 parses of the text. `Memory` is answered where a growth was refused.
+pub(crate) fn explain_syntax(
+    alloc: Global,
+    text: &[u8],
+    named: Option<Place>,
+) -> Result<Option<Explained>, Memory>
+    ensures { IfOk result (λ found. IfSome found (λ e. IsAskedUnexpected named text.now (explained_seen e))) }
+{
+    let Ok(tokens) = lex(alloc, text) else {
+        return Ok(None);
+    };
+    match parse(alloc, &tokens) {
+        Ok(_tree) => Ok(None),
+        Err(SyntaxFault::At(number)) => explain_at(alloc, &tokens, number, named),
+        Err(SyntaxFault::Memory) => Err(Memory),
+    }
+}
+
+/// The same, where the first wrong token has this number.
+fn explain_at(
+    alloc: Global,
+    tokens: &Tokens,
+    number: usize,
+    named: Option<Place>,
+) -> Result<Option<Explained>, Memory>
+    requires wrong { IsFirstWrong program tokens.now.list.items number }
+    ensures { (text : List ℕ) → AreTokens text tokens.now.list.items → tokens.now.end ≡ place_of (body_of text)
+        → IfOk result (λ found. IfSome found (λ e. IsAskedUnexpected named text (explained_seen e))) }
+{
+    fault_is_within();
+    let finding = finding_at(alloc, tokens, number)?;
+    if !is_asked(named, finding.place) {
+        return Ok(None);
+    }
+    let kinds = expected_kinds(alloc, tokens, number, span_at(tokens, number))?;
+    let mut lines = Vec::new(alloc);
+    lines.push(expectation_line(alloc, finding.place, &kinds)?)?;
+    add_brace(alloc, tokens, number, &mut lines)?;
+    Ok(Some(Explained { finding, lines }))
+}
+
+/// The line that says that tokens of these kinds are expected there.
+fn expectation_line(alloc: Global, place: Place, kinds: &[Kind]) -> Result<Line, Memory>
+    ensures { IfOk result (λ shown. line_seen shown ≡ line place (expectation_of kinds.now)) }
+{
+    let text = expectation(alloc, kinds)?.into_bytes();
+    Ok(Line { place, text })
+}
+
+/// Where the token with this number is, or the end.
+fn span_at(tokens: &Tokens, number: usize) -> Span
+    ensures { result ≡ wrong_span tokens.now.end (slice_get tokens.now.list.items number) }
+{
+    match token_at(tokens, number) {
+        Some(token) => token.span,
+        None => Span {
+            start: 0,
+            end: 0,
+            place: tokens.end,
+        },
+    }
+}
+
+/// Adds the line of a brace that is likely not closed, if there is one.
+fn add_brace(
+    alloc: Global,
+    tokens: &Tokens,
+    number: usize,
+    lines: &mut Vec<Line>,
+) -> Result<(), Memory>
+    requires within { number ≤ length tokens.now.list.items }
+    ensures { OnOk result (map line_seen lines.new.items
+        ≡ map line_seen lines.old.items ++ brace_lines tokens.now.list.items number) }
+{
+    if let Some(brace) = likely_brace(tokens, number) {
+        lines.push(brace_line(alloc, brace.place)?)?;
+    }
+    Ok(())
+}
+
+/// The line that says that the brace there is not closed.
+fn brace_line(alloc: Global, place: Place) -> Result<Line, Memory>
+    ensures { IfOk result (λ shown. line_seen shown ≡ line place (codes "{ is not closed")) }
+{
+    let mut text = Vec::new(alloc);
+    text.extend_from_slice(b"{ is not closed")?;
+    Ok(Line { place, text })
+}
+
+/// The innermost brace that is open before the token with this number, if that begins a definition or a method, or is the end.
+fn likely_brace(tokens: &Tokens, number: usize) -> Option<Span>
+    requires within { number ≤ length tokens.now.list.items }
+    ensures { result ≡ likely_brace tokens.now.list.items number }
+{
+    if begins_item(token_at(tokens, number)) {
+        open_brace(tokens, number)
+    } else {
+        None
+    }
+}
+
+/// Whether there is no token, or it begins a definition or a method.
+fn begins_item(token: Option<Token>) -> bool
+    ensures { result ≡ begins_item token }
+{
+    match token {
+        None => true,
+        Some(token) => matches!(
+            token.kind,
+            Kind::Class
+                | Kind::Contract
+                | Kind::Internal
+                | Kind::Private
+                | Kind::Public
+                | Kind::Rep
+                | Kind::Static
+        ),
+    }
+}
