@@ -5,7 +5,7 @@ use Rattle.source.specs.declared.finding.Finding.{Finding}
 use Rattle.tree.specs.declared.statement.Bind.{Bind}
 use Rattle.tree.specs.declared.contract.Param.{Param}
 use Rattle.names.specs.Cases.{bind_turn, binds_turn}
-use Rattle.names.specs.Program.{Program}
+use Rattle.declarations.specs.Program.{Program}
 use Rattle.names.specs.Variables.{Frame, Turn, follow}
 use Rattle.names.specs.declared.variables.Variables.{Variables}
 use Rattle.names.proofs.TurnLemmas.{Ongoing}

@@ -11,16 +11,16 @@ use Rattle.tree.specs.Expressions.{LevelTree, AtomTree, StepOf, Chain, Unary}
 use Rattle.tree.specs.Factors.{step_row}
 use Rattle.tree.specs.declared.expression.Prefix.{Prefix}
 use Rattle.names.specs.Expressions.{InScope, kind_of, place_of, signed_kind, sign_asked}
-use Rattle.names.specs.Found.{Adds}
-use Rattle.names.specs.Kinds.{is_unknown}
+use Rattle.declarations.specs.Found.{Adds}
+use Rattle.declarations.specs.Kinds.{is_unknown}
 use Rattle.names.specs.Operands.{IsJudged, Judges, IsJoined, IsSigned}
 use Rattle.names.specs.Shapes.{Shape, Joined, Joint, Signed, joint_of, sign_of, signed, shape, joined, atom_shape}
-use Rattle.names.specs.declared.kinds.Kind.{Kind}
-use Rattle.names.specs.declared.kinds.Kind.TheVariants as kind
+use Rattle.declarations.specs.declared.kinds.Kind.{Kind}
+use Rattle.declarations.specs.declared.kinds.Kind.TheVariants as kind
 use Rattle.names.specs.declared.operands.Operand.{Operand}
-use Rattle.names.specs.declared.scope.Scope.{Scope}
+use Rattle.declarations.specs.declared.scope.Scope.{Scope}
 use Rattle.names.specs.declared.variables.Variables.{Variables}
-use Rattle.names.proofs.AddLemmas.{adds_then}
+use Rattle.declarations.proofs.AddLemmas.{adds_then}
 
 -- what an expression is judged to be
 abbrev judged_as : InScope → Shape → Operand

@@ -9,8 +9,8 @@ use Rattle.tree.specs.Spelling.{optional, placed, word}
 use Rattle.std.proofs.lemmas.Grind.{flat_map-append}
 use Rattle.tree.specs.Trees.{ContractTree, DefinitionTree, Contract, Struct, Class, ItemTree, MemberTree, Message, MessageTree, State, contract_of, contracts_of, program_tree}
 use Rattle.tree.specs.declared.item as tree
-use Rattle.names.specs.Declarations.{message_among, messages_of}
-use Rattle.names.specs.Resolution.{message_count}
+use Rattle.declarations.specs.Declarations.{message_among, messages_of}
+use Rattle.declarations.specs.Resolution.{message_count}
 
 listed_messages : (messages : List MessageTree) → length messages ≤ length (flat_map grammar.message messages)
 listed_messages [] = omega arith

@@ -3,8 +3,8 @@ use Rattle.std.proofs.Common.{◌≡◌, ◌≢◌, List, [], ◌++◌, map, sym
 use Rattle.std.specs.Prelude.{Contains}
 use Rattle.source.specs.declared.finding.Finding.{Finding}
 use Rattle.names.specs.Findings.{program_findings}
-use Rattle.names.specs.Found.{Adds, FindingParts, finding_parts}
-use Rattle.names.specs.Program.{Program}
+use Rattle.declarations.specs.Found.{Adds, FindingParts, finding_parts}
+use Rattle.declarations.specs.Program.{Program}
 use Rattle.names.specs.Resolving.{AreAll}
 
 pub nothing_found : {old new : List Finding} {more : List FindingParts} → old ≡ [] → Adds old new more → new ≡ [] → more ≡ []

@@ -19,10 +19,10 @@ use Rattle.names.specs.Bodies.{head_of, heads_of}
 use Rattle.names.specs.Cases.{Head, same_name, same_awaited, is_closed, case_twice, twice_findings, kind_head_findings, other_head_findings, awaits_too, names_endpoint, awaits_closed}
 use Rattle.names.specs.Expressions.{InScope}
 use Rattle.source.specs.declared.finding.Finding.{Finding}
-use Rattle.names.specs.Found.{Adds}
-use Rattle.names.specs.Kinds.{is_silent}
-use Rattle.names.specs.declared.kinds.Kind.{Kind}
-use Rattle.names.specs.declared.kinds.Kind.TheVariants as kind
+use Rattle.declarations.specs.Found.{Adds}
+use Rattle.declarations.specs.Kinds.{is_silent}
+use Rattle.declarations.specs.declared.kinds.Kind.{Kind}
+use Rattle.declarations.specs.declared.kinds.Kind.TheVariants as kind
 use Rattle.program.specs.declared.kind.Side.{Side}
 use Rattle.names.specs.Heads.{awaiting_of, awaited_word, key_words, head_words, same_message, same_key, key_at, is_before, switch_heads}
 use Rattle.lemmas.specs.Places.{first_position}

@@ -1,12 +1,8 @@
 -- Items, and what they declare within them, place by place.
-use Rattle.std.proofs.Common.{◌≡◌, ℕ, zero, suc, ◌<◌, List, [], ◌∷◌, ◌++◌, length, map, get_or, sym, refl, ap, ◌∙◌, subst, arith}
-use Rattle.std.specs.List.{flat_map}
-use Rattle.std.proofs.lemmas.List.{map-append}
-use Rattle.tree.specs.Trees.{ItemTree, MethodTree, item_tree, definition_tree}
-use Rattle.tree.specs.declared.item as tree
-use Rattle.names.specs.Methods.{methods_in}
-use Rattle.names.specs.Scopes.{AllMembers, AreMembers}
-use Rattle.names.specs.declared.members.Members.{Members}
+use Rattle.std.proofs.Common.{◌≡◌, ℕ, zero, suc, ◌<◌, List, [], ◌∷◌, length, get_or, sym, refl, subst, arith}
+use Rattle.tree.specs.Trees.{ItemTree}
+use Rattle.declarations.specs.Scopes.{AllMembers, AreMembers}
+use Rattle.declarations.specs.declared.members.Members.{Members}
 
 -- the item that stands where these are declared
 pub record Placed (text : List ℕ) (items : List ItemTree) (i : ℕ) (m : Members) : Type 0 where
@@ -29,10 +25,3 @@ as_many text [] [] all = refl
 as_many text [] (n ∷ ms) all = absurd all
 as_many text (j ∷ items) [] all = absurd all
 as_many text (j ∷ items) (n ∷ ms) all = let rest = as_many text items ms all.1 in omega (arith, rest)
-
--- the names of all methods
-pub names_within : (items : List tree.Item.Item) → flat_map (λ i. map (λ (m : MethodTree). m.name) (methods_in (definition_tree i.definition))) items ≡ map (λ (m : MethodTree). m.name) (flat_map (λ (i : ItemTree). methods_in i.definition) (map item_tree items))
-names_within [] = refl
-names_within (i ∷ items) =
-    ap (λ l. map (λ (m : MethodTree). m.name) (methods_in (definition_tree i.definition)) ++ l) (names_within items)
-    ∙ sym (map-append (λ (m : MethodTree). m.name) (methods_in (definition_tree i.definition)) (flat_map (λ (j : ItemTree). methods_in j.definition) (map item_tree items)))

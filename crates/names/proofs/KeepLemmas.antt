@@ -10,9 +10,9 @@ use Rattle.tree.specs.declared.contract as contract_nodes
 use Rattle.tree.specs.declared.types as type_nodes
 use Rattle.names.specs.Bodies.{Surroundings, statement_turn, statements_turn, block_turn, test_turn, others_turn, case_turn, cases_turn, in_loop, in_switch, head_of, heads_of}
 use Rattle.names.specs.Cases.{Head, typed_turn, bind_turn, binds_turn}
-use Rattle.names.specs.Program.{Program}
+use Rattle.declarations.specs.Program.{Program}
 use Rattle.names.specs.Variables.{Variable, Frame, variable_named, declared_variable}
-use Rattle.names.specs.declared.kinds.Kind.{Kind}
+use Rattle.declarations.specs.declared.kinds.Kind.{Kind}
 
 pub record Extends (f g : Frame) : Type 0 where
   pub more : List Variable

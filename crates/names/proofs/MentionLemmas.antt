@@ -5,15 +5,16 @@ use Rattle.source.specs.declared.fault.Memory.{Memory}
 use Rattle.source.specs.declared.finding.Finding.{Finding}
 use Rattle.source.specs.declared.token.Span.{Span}
 use Rattle.tree.specs.Trees.{StructTree}
-use Rattle.names.specs.Expressions.{InScope, struct_field_kind, field_named, field_kind, field_findings}
-use Rattle.names.specs.Found.{unknown}
+use Rattle.names.specs.Expressions.{InScope, struct_field_kind, field_kind, field_findings}
+use Rattle.declarations.specs.Named.{field_named}
+use Rattle.declarations.specs.Found.{unknown}
 use Rattle.names.specs.Mentions.{IsGiven, GivesIn}
-use Rattle.names.specs.Program.{Program, as_struct, item_at}
-use Rattle.names.specs.Scopes.{IsScope, AreFields, IsStruct}
-use Rattle.names.specs.declared.kinds.Kind.{Kind}
-use Rattle.names.specs.declared.kinds.Kind.TheVariants as kind
-use Rattle.names.specs.declared.fields.Fields.{Fields}
-use Rattle.names.specs.declared.scope.Scope.{Scope}
+use Rattle.declarations.specs.Program.{Program, as_struct, item_at}
+use Rattle.declarations.specs.Scopes.{IsScope, AreFields, IsStruct}
+use Rattle.declarations.specs.declared.kinds.Kind.{Kind}
+use Rattle.declarations.specs.declared.kinds.Kind.TheVariants as kind
+use Rattle.declarations.specs.declared.fields.Fields.{Fields}
+use Rattle.declarations.specs.declared.scope.Scope.{Scope}
 
 -- the field of a struct that was found
 abbrev InStruct : InScope → List ℕ → Span → Fields → List Finding → List Finding → Kind → Type 0

@@ -3,13 +3,13 @@ use Rattle.std.proofs.Common.{◌≡◌, ℕ, ◌+◌, ◌<◌, List, [], ◌∷
 use Rattle.std.proofs.lemmas.List.{take_more}
 use Rattle.source.specs.declared.finding.Finding.{Finding}
 use Rattle.tree.specs.declared.class as made
-use Rattle.names.specs.Found.{Adds, FindingParts}
+use Rattle.declarations.specs.Found.{Adds, FindingParts}
 use Rattle.names.specs.Frames.{Turned}
 use Rattle.names.specs.Methods.{parameter_turn, parameters_turn}
-use Rattle.names.specs.Program.{Program}
+use Rattle.declarations.specs.Program.{Program}
 use Rattle.names.specs.Variables.{Frame, Turn, turn, before, follow}
 use Rattle.names.specs.declared.variables.Variables.{Variables}
-use Rattle.names.proofs.AddLemmas.{adds_then}
+use Rattle.declarations.proofs.AddLemmas.{adds_then}
 
 pub turned_before : {text : List ℕ} {old mid new : List Finding} {found : List FindingParts} {v : Variables} {t : Turn} → Adds old mid found → Turned text mid new v t → Turned text old new v (before found t)
 turned_before first second = record { found = adds_then first second.found; frame = second.frame }

@@ -1,21 +1,23 @@
 -- Findings that are added before those of a call that may fail.
-use Rattle.std.proofs.Common.{◌≡◌, [], ℕ, List, ◌++◌, Option, Some, None, refl}
-use Rattle.std.specs.Prelude.{Result, Ok, Err, OnOk}
+use Rattle.std.proofs.Common.{◌≡◌, [], ℕ, List, ◌++◌, Option, Some, None, refl, sym, ap}
+use Rattle.std.specs.Prelude.{Result, Ok, Err, OnOk, option_map}
+use Rattle.std.specs.Option.{option_map_or}
 use Rattle.source.specs.declared.finding.Finding.{Finding}
-use Rattle.tree.specs.Trees.{ClassTree, ContractTree}
-use Rattle.names.specs.Found.{Adds, FindingParts}
-use Rattle.names.specs.Scopes.{AreMethods, IsClass, IsContract, IsDeclared}
-use Rattle.names.specs.declared.members.Methods.{Methods}
+use Rattle.tree.specs.Trees.{ClassTree, StructTree}
+use Rattle.tree.specs.declared.class as made
+use Rattle.declarations.specs.Found.{Adds, FindingParts}
+use Rattle.declarations.specs.Owning.{owning_fields}
+use Rattle.declarations.specs.Scopes.{AreMethods, IsClass}
+use Rattle.declarations.specs.declared.members.Methods.{Methods}
 use Rattle.names.specs.Values.{class_meant, Role, send_findings, argument_findings}
 use Rattle.names.specs.Expressions.{InScope}
-use Rattle.names.specs.Kinds.{is_silent, unless}
+use Rattle.declarations.specs.Kinds.{is_silent, unless}
 use Rattle.names.specs.Shapes.{Shape}
-use Rattle.names.specs.declared.kinds.Kind.{Kind}
-use Rattle.names.specs.declared.members.Declared.{Declared}
-use Rattle.names.specs.declared.kinds.Kind.TheVariants as kind
+use Rattle.declarations.specs.declared.kinds.Kind.{Kind}
+use Rattle.declarations.specs.declared.kinds.Kind.TheVariants as kind
 use Rattle.source.specs.declared.token.Span.{Span}
 use Rattle.program.specs.declared.kind.Side.{Side}
-use Rattle.names.proofs.AddLemmas.{adds_then}
+use Rattle.declarations.proofs.AddLemmas.{adds_then}
 
 pub on_adds : {T E : Type 0} (r : Result T E) (old mid new : List Finding) (a b : List FindingParts) → Adds old mid a → OnOk r (Adds mid new b) → OnOk r (Adds old new (a ++ b))
 on_adds (Ok x) old mid new a b first second = adds_then first second
@@ -34,15 +36,28 @@ no_send s (kind.Endpoint end n) role variable word arguments other = absurd (oth
 no_send s kind.Missing role variable word arguments other = refl
 no_send s kind.Unknown role variable word arguments other = refl
 
--- a contract that was looked up
-pub record Contracted (text : List ℕ) (o : Option (ℕ × ContractTree)) (d : Declared) : Type 0 where
-  pub contract : ℕ × ContractTree
-  pub is : o ≡ Some contract
-  pub declared : IsDeclared text contract.1 d
+-- a struct that was looked up, with its fields that own
+abbrev owning_of : Option (ℕ × StructTree) → Option (ℕ × List made.Field.Field)
+owning_of o = option_map (λ s. (s.0, owning_fields s.1)) o
 
-pub contracted : (text : List ℕ) (o : Option (ℕ × ContractTree)) (n : ℕ) (d : Declared) → IsContract text o (Some (n, d)) → Contracted text o d
-contracted text None n d h = absurd h
-contracted text (Some c) n d h = record { contract = c; is = refl; declared = h.1 }
+pub record Structured (o : Option (ℕ × StructTree)) (place : ℕ) (fields : List made.Field.Field) : Type 0 where
+  pub structure : StructTree
+  pub is : o ≡ Some (place, structure)
+  pub owning : fields ≡ owning_fields structure
+
+pub structured : (o : Option (ℕ × StructTree)) (place : ℕ) (fields : List made.Field.Field) → owning_of o ≡ Some (place, fields) → Structured o place fields
+structured None place fields is = cc
+structured (Some s) place fields is =
+    let here : s.0 ≡ place = ap (λ (o : Option (ℕ × List made.Field.Field)). option_map_or (λ x. x.0) o 0) is in
+    record {
+      structure = s.1;
+      is = ap (λ n. Some (n, s.1)) here;
+      owning = ap (λ (o : Option (ℕ × List made.Field.Field)). option_map_or (λ x. x.1) o []) (sym is);
+    }
+
+pub no_struct : (o : Option (ℕ × StructTree)) → owning_of o ≡ None → o ≡ None
+no_struct None is = refl
+no_struct (Some s) is = cc
 
 -- a class that was looked up
 pub record Classed (text : List ℕ) (o : Option (ℕ × ClassTree)) (m : Methods) : Type 0 where

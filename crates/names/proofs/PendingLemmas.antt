@@ -8,10 +8,10 @@ use Rattle.source.specs.declared.finding.Finding.{Finding}
 use Rattle.tree.specs.Expressions.{ExpressionTree}
 use Rattle.tree.specs.Operators.{Joined, Or}
 use Rattle.names.specs.Expressions.{InScope}
-use Rattle.names.specs.Found.{Adds, FindingParts, finding_parts}
+use Rattle.declarations.specs.Found.{Adds, FindingParts, finding_parts}
 use Rattle.names.specs.Shapes.{Shape, shape}
 use Rattle.names.specs.Values.{argument_asked, argument_findings, wrong_number, number_of_arguments}
-use Rattle.names.specs.declared.kinds.Kind.{Kind}
+use Rattle.declarations.specs.declared.kinds.Kind.{Kind}
 
 -- of all that was to be added, the rest still is
 pub record Pends (old new : List Finding) (all rest : List FindingParts) : Type 0 where

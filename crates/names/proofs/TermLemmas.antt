@@ -12,15 +12,15 @@ use Rattle.tree.specs.declared.expression.FactorOperator.{FactorOperator}
 use Rattle.tree.specs.declared.expression.FactorOperator.TheVariants as operators
 use Rattle.tree.specs.declared.expression.SumOperator.{SumOperator}
 use Rattle.names.specs.Expressions.{InScope, expression_findings}
-use Rattle.names.specs.Found.{Adds}
+use Rattle.declarations.specs.Found.{Adds}
 use Rattle.names.specs.Operands.{IsJudged, Judges, IsJoined, mentioned}
 use Rattle.names.specs.Shapes.{Shape, Joined, Sum, shape, joined}
 use Rattle.names.specs.Terms.{TermShapes, IsJudgedTerms, JudgesTerms, before_findings, behind, first_term, whole, with_factor, with_factors}
 use Rattle.names.specs.declared.operands.Operand.{Operand}
-use Rattle.names.specs.declared.scope.Scope.{Scope}
+use Rattle.declarations.specs.declared.scope.Scope.{Scope}
 use Rattle.names.specs.declared.terms.Terms.{Terms}
 use Rattle.names.specs.declared.variables.Variables.{Variables}
-use Rattle.names.proofs.AddLemmas.{adds_then}
+use Rattle.declarations.proofs.AddLemmas.{adds_then}
 use Rattle.names.proofs.ExpressionNames.{joined_shapes}
 
 -- a term, with what `f` makes of its first factor in that one's place

@@ -2,11 +2,11 @@
 use Rattle.std.proofs.Common.{◌≡◌, ℕ, List, [], ◌++◌, length, map, take, sym, refl, ap, ◌∙◌, subst, append_assoc, append-nil}
 use Rattle.std.specs.Prelude.{Result, Ok, Err, OnOk}
 use Rattle.source.specs.declared.finding.Finding.{Finding}
-use Rattle.names.specs.Found.{Adds, FindingParts, finding_parts}
+use Rattle.declarations.specs.Found.{Adds, FindingParts, finding_parts}
 use Rattle.names.specs.Frames.{IsFrame, Turned}
 use Rattle.names.specs.Variables.{Frame, Turn, turn, before, follow, closed}
 use Rattle.names.specs.declared.variables.Variables.{Variables}
-use Rattle.names.proofs.AddLemmas.{adds_then}
+use Rattle.declarations.proofs.AddLemmas.{adds_then}
 
 -- a piece that declares nothing
 pub stays : {text : List ℕ} {old new : List Finding} {v : Variables} {more : List FindingParts} {f : Frame} → IsFrame text f v → Adds old new more → Turned text old new v (turn more f)

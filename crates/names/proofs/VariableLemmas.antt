@@ -10,17 +10,17 @@ use Rattle.source.specs.declared.fault.Memory.{Memory}
 use Rattle.source.specs.declared.finding.Finding.{Finding}
 use Rattle.source.specs.declared.token.Span.{Span}
 use Rattle.tables.specs.Firsts.{first_of}
-use Rattle.names.specs.Found.{Adds, declared_twice}
+use Rattle.declarations.specs.Found.{Adds, declared_twice}
 use Rattle.names.specs.Frames.{AreApart, IsFrame, Turned, variable_seen, words_in}
 use Rattle.tables.specs.Tables.{IsTable}
 use Rattle.names.specs.Variables as model
 use Rattle.names.specs.Variables.{Frame, Turn, turn, variable_named, entered_variable, past_heap, declared_variable}
 use Rattle.tables.specs.Words.{word_at, words_at, same_word}
-use Rattle.names.specs.declared.kinds.Kind.{Kind}
-use Rattle.names.specs.declared.kinds.Kind.TheVariants as kind
+use Rattle.declarations.specs.declared.kinds.Kind.{Kind}
+use Rattle.declarations.specs.declared.kinds.Kind.TheVariants as kind
 use Rattle.names.specs.declared.variables.Variable.{Variable}
 use Rattle.names.specs.declared.variables.Variables.{Variables}
-use Rattle.names.proofs.AddLemmas.{adds_none, adds_then}
+use Rattle.declarations.proofs.AddLemmas.{adds_none, adds_then}
 
 pub apart_push : (before words : List (List ℕ)) (w : List ℕ) → AreApart before words → first_of (before ++ words) w ≡ None → AreApart before (words ++ w ∷ [])
 apart_push before [] w h new = (subst (λ l. first_of l w ≡ None) (append-nil before) new, tt)

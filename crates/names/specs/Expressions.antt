@@ -1,22 +1,21 @@
 -- The kind of an expression, and what is wrong with the names and kinds in it.
-use Rattle.std.specs.Prelude.{ℕ, Bool, false, ◌||◌, not, List, [], ◌∷◌, ◌++◌, map, codes, if◌then◌else◌}
-use Rattle.std.specs.Prelude.{Option, None, Some, is_some, option_and_then, slice_get}
+use Rattle.std.specs.Prelude.{Bool, false, ◌||◌, not, List, [], ◌∷◌, ◌++◌, codes, if◌then◌else◌}
+use Rattle.std.specs.Prelude.{Option, None, Some, is_some}
 use Rattle.std.specs.Option.{option_map_or}
 use Rattle.source.specs.declared.place.Place.{Place}
 use Rattle.source.specs.declared.token.Span.{Span}
 use Rattle.program.specs.declared.kind.Scalar.TheVariants as scalar
-use Rattle.names.specs.Declarations.{first_among}
-use Rattle.names.specs.Found.{FindingParts, unknown}
-use Rattle.names.specs.Kinds.{is_silent, is_unknown, is_number, is_truth, is_block, is_heap, type_kind, unless}
-use Rattle.names.specs.Program.{Program, as_struct, item_at}
+use Rattle.declarations.specs.Found.{FindingParts, unknown}
+use Rattle.declarations.specs.Named.{field_named}
+use Rattle.declarations.specs.Kinds.{is_silent, is_unknown, is_number, is_truth, is_block, is_heap, type_kind, unless}
+use Rattle.declarations.specs.Program.{Program, as_struct, item_at}
 use Rattle.names.specs.Shapes.{Shape, Number, Truth, Mention, Field, Element, Parens, Signed}
 use Rattle.names.specs.Shapes.{Joined, Joint, Logic, Likeness, Order, Sum, Sign, Denial, Minus}
-use Rattle.tree.specs.Trees.{StructTree}
 use Rattle.tree.specs.declared.class as made
 use Rattle.names.specs.Variables.{Variable, variable_named}
 use Rattle.tables.specs.Words.{word_at, same_word}
-use Rattle.names.specs.declared.kinds.Kind.{Kind}
-use Rattle.names.specs.declared.kinds.Kind.TheVariants as kind
+use Rattle.declarations.specs.declared.kinds.Kind.{Kind}
+use Rattle.declarations.specs.declared.kinds.Kind.TheVariants as kind
 
 -- what is in scope: a program, and variables
 pub record InScope : Type 0 where
@@ -26,10 +25,6 @@ pub record InScope : Type 0 where
 -- the variable that a name means
 abbrev pub meant : InScope → Span → Option Variable
 meant s name = variable_named s.program.text s.variables name
-
--- the first field of this name in a struct
-abbrev pub field_named : List ℕ → StructTree → Span → Option made.Field.Field
-field_named text s name = option_and_then (slice_get s.fields) (first_among text (map (λ f. f.name) s.fields) name)
 
 abbrev pub is_length : InScope → Span → Bool
 is_length s name = same_word (word_at s.program.text name) (codes "Length")

@@ -3,8 +3,8 @@ use Rattle.std.specs.Prelude.{◌≡◌, ℕ, ◌+◌, min, List, [], ◌∷◌,
 use Rattle.source.specs.declared.finding.Finding.{Finding}
 use Rattle.names.specs.Bodies as bodies
 use Rattle.tables.specs.Firsts.{first_of}
-use Rattle.names.specs.Found.{Adds}
-use Rattle.names.specs.Scopes.{IsScope, AreMethods}
+use Rattle.declarations.specs.Found.{Adds}
+use Rattle.declarations.specs.Scopes.{IsScope, AreMethods}
 use Rattle.tables.specs.Tables.{IsTable}
 use Rattle.names.specs.Variables as model
 use Rattle.names.specs.Variables.{Frame, Turn}

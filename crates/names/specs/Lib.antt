@@ -1,16 +1,6 @@
-pub mod Declarations
-pub mod Outlines
-pub mod Scopes
-pub mod Found
-pub mod Listed
-pub mod ContractFindings
 pub mod Findings
-pub mod Numbered
 pub mod Resolving
 pub mod Shapes
-pub mod Program
-pub mod Places
-pub mod Kinds
 pub mod Variables
 pub mod Expressions
 pub mod Values
@@ -22,7 +12,3 @@ pub mod Terms
 pub mod Mentions
 pub mod Methods
 pub mod Heads
-pub mod Resolution
-pub mod Meant
-pub mod Labels
-pub mod Ready

@@ -2,14 +2,14 @@
 use Rattle.std.specs.Prelude.{◌≡◌, List}
 use Rattle.source.specs.declared.finding.Finding.{Finding}
 use Rattle.names.specs.Expressions.{InScope}
-use Rattle.names.specs.Found.{Adds, FindingParts}
+use Rattle.declarations.specs.Found.{Adds, FindingParts}
 use Rattle.names.specs.Frames.{IsFrame}
 use Rattle.names.specs.Operands.{in_frame}
-use Rattle.names.specs.Program.{Program}
-use Rattle.names.specs.Scopes.{IsScope}
+use Rattle.declarations.specs.Program.{Program}
+use Rattle.declarations.specs.Scopes.{IsScope}
 use Rattle.names.specs.Variables.{Frame}
-use Rattle.names.specs.declared.kinds.Kind.{Kind}
-use Rattle.names.specs.declared.scope.Scope.{Scope}
+use Rattle.declarations.specs.declared.kinds.Kind.{Kind}
+use Rattle.declarations.specs.declared.scope.Scope.{Scope}
 use Rattle.names.specs.declared.variables.Variables.{Variables}
 
 -- it is of this kind, and these findings were added

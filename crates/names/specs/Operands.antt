@@ -5,16 +5,16 @@ use Rattle.source.specs.declared.place.Place.{Place}
 use Rattle.source.specs.declared.token.Span.{Span}
 use Rattle.names.specs.Expressions.{InScope, kind_of, place_of, expression_findings, whole_findings}
 use Rattle.names.specs.Expressions.{joined_kind, left_asked, right_asked, signed_kind, sign_asked}
-use Rattle.names.specs.Found.{Adds}
+use Rattle.declarations.specs.Found.{Adds}
 use Rattle.names.specs.Frames.{IsFrame}
-use Rattle.names.specs.Kinds.{is_unknown}
-use Rattle.names.specs.Program.{Program}
-use Rattle.names.specs.Scopes.{IsScope}
+use Rattle.declarations.specs.Kinds.{is_unknown}
+use Rattle.declarations.specs.Program.{Program}
+use Rattle.declarations.specs.Scopes.{IsScope}
 use Rattle.names.specs.Shapes.{Shape, Number, Truth, Mention, Field, Element, Parens, Signed, Joined, Joint, Sign}
 use Rattle.names.specs.Variables.{Frame}
-use Rattle.names.specs.declared.kinds.Kind.TheVariants as kind
+use Rattle.declarations.specs.declared.kinds.Kind.TheVariants as kind
 use Rattle.names.specs.declared.operands.Operand.{Operand}
-use Rattle.names.specs.declared.scope.Scope.{Scope}
+use Rattle.declarations.specs.declared.scope.Scope.{Scope}
 use Rattle.names.specs.declared.variables.Variables.{Variables}
 
 -- what a program and the variables of a frame bring into scope

@@ -5,15 +5,15 @@ use Rattle.tree.specs.Factors.{FactorTree}
 use Rattle.tree.specs.declared.expression.FactorOperator.{FactorOperator}
 use Rattle.tree.specs.declared.expression.FactorOperator.TheVariants as operators
 use Rattle.names.specs.Expressions.{InScope, kind_of, place_of, expression_findings}
-use Rattle.names.specs.Found.{Adds, FindingParts}
+use Rattle.declarations.specs.Found.{Adds, FindingParts}
 use Rattle.names.specs.Frames.{IsFrame}
 use Rattle.names.specs.Operands.{in_frame}
-use Rattle.names.specs.Program.{Program}
-use Rattle.names.specs.Scopes.{IsScope}
+use Rattle.declarations.specs.Program.{Program}
+use Rattle.declarations.specs.Scopes.{IsScope}
 use Rattle.names.specs.Shapes.{Shape, Joined, Sum, shape}
 use Rattle.names.specs.Variables.{Frame}
 use Rattle.names.specs.declared.operands.Operand.{Operand}
-use Rattle.names.specs.declared.scope.Scope.{Scope}
+use Rattle.declarations.specs.declared.scope.Scope.{Scope}
 use Rattle.names.specs.declared.terms.Terms.{Terms}
 use Rattle.names.specs.declared.variables.Variables.{Variables}
 

@@ -2,21 +2,19 @@
 
 ghost use Rattle.std.specs.Prelude.{◌≡◌, map, take, List, OnOk, IfOk, slice_get};
 ghost use Rattle.tree.specs.ExpressionTrees.{expression_tree};
-ghost use Rattle.names.specs.Found.{Adds};
+ghost use Rattle.declarations.specs.Found.{Adds};
 ghost use Rattle.names.specs.Frames.{IsFrame};
-ghost use Rattle.names.specs.Kinds.{type_kind};
-ghost use Rattle.names.specs.Program.{Program};
-ghost use Rattle.names.specs.Scopes.{IsScope};
+ghost use Rattle.declarations.specs.Kinds.{type_kind};
+ghost use Rattle.declarations.specs.Program.{Program};
+ghost use Rattle.declarations.specs.Scopes.{IsScope};
 ghost use Rattle.names.specs.Shapes.{shape};
 ghost use Rattle.names.specs.Values.{asked_findings, argument_asked, argument_findings};
 ghost use Rattle.names.specs.Variables.{Frame};
 
 use crate::expressions::judge_whole;
-use crate::kinds::Kind;
-use crate::scope::Scope;
-use crate::types::kind_of_type;
 use crate::variables::Variables;
 use crate::wholes::judge_asked;
+use declarations::{Kind, Scope};
 use source::{Finding, Memory};
 use std::alloc::Global;
 use tree::{Expression, Field, Param, Parameter};
@@ -81,7 +79,7 @@ fn parameter_kinds(
 {
     let mut kinds = Vec::new(alloc);
     for parameter in &parameters[..most.min(parameters.len())] {
-        kinds.push(kind_of_type(scope, parameter.kind))?;
+        kinds.push(scope.kind(parameter.kind))?;
     }
     Ok(kinds)
 }
@@ -98,7 +96,7 @@ fn message_kinds(
 {
     let mut kinds = Vec::new(alloc);
     for parameter in &parameters[..most.min(parameters.len())] {
-        kinds.push(kind_of_type(scope, parameter.kind))?;
+        kinds.push(scope.kind(parameter.kind))?;
     }
     Ok(kinds)
 }
@@ -115,7 +113,7 @@ fn field_kinds(
 {
     let mut kinds = Vec::new(alloc);
     for field in &fields[..most.min(fields.len())] {
-        kinds.push(kind_of_type(scope, field.kind))?;
+        kinds.push(scope.kind(field.kind))?;
     }
     Ok(kinds)
 }

@@ -2,8 +2,8 @@
 
 ghost use Rattle.std.specs.Prelude.{◌≡◌, ◌∷◌, [], List, Some, OnOk, if◌then◌else◌};
 ghost use Rattle.names.specs.Cases.{awaited_span, case_twice, lacks_closed, closed_findings, message_case_findings, other_head_findings};
-ghost use Rattle.names.specs.Found.{Adds};
-ghost use Rattle.names.specs.Program.{Program};
+ghost use Rattle.declarations.specs.Found.{Adds};
+ghost use Rattle.declarations.specs.Program.{Program};
 ghost use Rattle.names.specs.Values.{receives};
 ghost use Rattle.names.specs.Variables.{Variable};
 ghost use Rattle.tree.specs.Trees.{message_tree};

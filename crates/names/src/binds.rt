@@ -4,20 +4,18 @@ ghost use Rattle.std.specs.Prelude.{◌≡◌, ◌++◌, List, Option, OnOk, opt
 ghost use Rattle.tree.specs.Trees.{message_tree};
 ghost use Rattle.program.specs.declared.kind.Side.{Side};
 ghost use Rattle.tree.specs.declared.contract.Param.{Param};
-ghost use Rattle.names.specs.Cases.{typed_turn, bind_turn, binds_turn, brought_kind, brings_heap};
-ghost use Rattle.names.specs.Found.{Adds};
+ghost use Rattle.names.specs.Cases.{typed_turn, bind_turn, binds_turn, brings_heap};
+ghost use Rattle.declarations.specs.Kinds.{brought_kind};
+ghost use Rattle.declarations.specs.Found.{Adds};
 ghost use Rattle.names.specs.Frames.{IsFrame, Turned};
-ghost use Rattle.names.specs.Kinds.{agree, is_heap, type_kind, type_unknown, unless};
-ghost use Rattle.names.specs.Program.{Program};
-ghost use Rattle.names.specs.Scopes.{IsScope};
+ghost use Rattle.declarations.specs.Kinds.{agree, is_heap, type_kind, type_unknown, unless};
+ghost use Rattle.declarations.specs.Program.{Program};
+ghost use Rattle.declarations.specs.Scopes.{IsScope};
 ghost use Rattle.names.specs.Variables.{Frame, declared_variable};
 
-use crate::kinds::Kind;
 use crate::operands::ask;
-use crate::scope::Scope;
-use crate::simple_statements::is_heap;
-use crate::types::{judge_type, kind_of_type};
 use crate::variables::Variables;
+use declarations::{Kind, Scope, is_heap, judge_type};
 use source::{Finding, Memory, Span};
 use std::alloc::Global;
 use tree::{Bind, Param, Type};
@@ -27,7 +25,7 @@ fn brought_kind(scope: &Scope<'_>, parameter: Option<&Param>) -> Kind
     ensures { (p : Program) → IsScope p scope.now → result ≡ brought_kind p (option_map (λ x. x.now) parameter.entry) }
 {
     match parameter {
-        Some(parameter) => kind_of_type(scope, parameter.kind),
+        Some(parameter) => scope.kind(parameter.kind),
         None => Kind::Unknown,
     }
 }
@@ -55,7 +53,7 @@ fn judge_bound_type(
         (Adds found.old.items found.new.items (type_unknown p kind ++ unless (agree (type_kind p kind) brought) name.place)) }
 {
     judge_type(alloc, scope, kind, found)?;
-    let bound = kind_of_type(scope, kind);
+    let bound = scope.kind(kind);
     ask(alloc, bound.agrees(brought), name.place, found)
 }
 
@@ -91,7 +89,7 @@ fn judge_bind<'a>(
     match bind.kind {
         Some(kind) => {
             judge_bound_type(alloc, scope, kind, brought, bind.name, found)?;
-            let bound = kind_of_type(scope, kind);
+            let bound = scope.kind(kind);
             declare_in(
                 alloc,
                 scope,

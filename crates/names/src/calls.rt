@@ -7,12 +7,13 @@ ghost use Rattle.tree.specs.Trees.{ContractTree, MethodTree, ClassTree, message_
 ghost use Rattle.tree.specs.Values.{call_tree};
 ghost use Rattle.names.specs.Bodies as bodies;
 ghost use Rattle.names.specs.Expressions.{meant, held};
-ghost use Rattle.names.specs.Found.{Adds, unknown};
+ghost use Rattle.declarations.specs.Found.{Adds, unknown};
 ghost use Rattle.names.specs.Frames.{IsFrame, AreSurroundings, variable_seen};
-ghost use Rattle.names.specs.Program.{Program, class_named};
-ghost use Rattle.names.specs.Scopes.{IsScope, IsCallee};
+ghost use Rattle.declarations.specs.Program.{Program, class_named};
+ghost use Rattle.declarations.specs.Scopes.{IsScope, IsCallee};
 ghost use Rattle.names.specs.Shapes.{shape};
-ghost use Rattle.names.specs.Values.{argument_findings, can_start, result_fits, start_findings, method_findings};
+ghost use Rattle.names.specs.Values.{argument_findings, result_fits, start_findings, method_findings};
+ghost use Rattle.declarations.specs.Owning.{can_start};
 ghost use Rattle.names.specs.Values.{sends, is_alone, message_findings, contract_message, send_findings};
 ghost use Rattle.names.specs.Values.{class_findings, class_meant, member_findings, call_findings};
 ghost use Rattle.names.specs.Variables.{Frame};
@@ -20,15 +21,11 @@ ghost use Rattle.names.specs.Variables as model;
 ghost use Rattle.tables.specs.Words.{word_at, same_word};
 
 use crate::arguments::{judge_arguments, judge_message_arguments, judge_parameter_arguments};
-use crate::judging::add_unknown;
-use crate::kinds::Kind;
 use crate::operands::ask;
-use crate::scope::Scope;
-use crate::starts::Callee;
 use crate::surroundings::Surroundings;
 use crate::told::{add_not_started, judge_number};
-use crate::types::kind_of_type;
 use crate::variables::Variables;
+use declarations::{Callee, Kind, Scope, add_unknown};
 use program::{Direction, Side};
 use source::{Finding, Memory, Span};
 use std::alloc::Global;
@@ -53,8 +50,8 @@ fn result_fits(scope: &Scope<'_>, given: Option<Type>, role: Role) -> bool
         (_, Role::Started) => true,
         (None, Role::Alone) => true,
         (None, Role::Asked(_)) => false,
-        (Some(written), Role::Alone) => !kind_of_type(scope, written).is_block(),
-        (Some(written), Role::Asked(asked)) => kind_of_type(scope, written).agrees(asked),
+        (Some(written), Role::Alone) => !scope.kind(written).is_block(),
+        (Some(written), Role::Asked(asked)) => scope.kind(written).agrees(asked),
     }
 }
 
@@ -164,16 +161,6 @@ fn is_sent(role: Role, end: Side, direction: Direction) -> bool
     is_alone(role) && sends(end, direction)
 }
 
-/// The message that a word like `SendM` sends in the contract that is the item at this place.
-fn sent_message<'a>(scope: &Scope<'a>, place: usize, word: Span) -> Option<&'a Message>
-    ensures { (p : Program) (vs : List model.Variable) → IsScope p scope.now
-        → option_map (λ m. message_tree m.now) result ≡ contract_message (record { program = p; variables = vs }) place word }
-{
-    let declared = scope.contract_at(place)?;
-    let name = word.slice(scope.text).strip_prefix(b"Send")?;
-    declared.message(name)
-}
-
 /// Adds what is wrong with sending this message at this end.
 fn judge_known_message(
     alloc: Global,
@@ -217,7 +204,7 @@ fn judge_end(
         (Adds found.old.items found.new.items (message_findings (record { program = p; variables = f.variables }) (contract_message
         (record { program = p; variables = f.variables }) place word) end role word (map shape (map expression_tree arguments.now)))) }
 {
-    match sent_message(scope, place, word) {
+    match scope.sent_message(place, word) {
         Some(message) => judge_known_message(
             alloc, scope, variables, message, end, role, word, arguments, found,
         ),

@@ -3,15 +3,16 @@
 ghost use Rattle.std.specs.Prelude.{◌≡◌, List, Some, [], take, if◌then◌else◌, OnOk, option_map, option_and_then, slice_get};
 ghost use Rattle.tree.specs.Trees.{message_tree};
 ghost use Rattle.names.specs.Cases.{Head, awaits_too, awaited_findings, endpoint_head_findings, kind_head_findings};
-ghost use Rattle.names.specs.Cases.{other_head_findings, head_findings, binds_turn, bound_params, awaited_message};
+ghost use Rattle.names.specs.Cases.{other_head_findings, head_findings, binds_turn, awaited_message};
+ghost use Rattle.declarations.specs.Declarations.{bound_params};
 ghost use Rattle.names.specs.Expressions.{meant, held};
-ghost use Rattle.names.specs.Found.{Adds};
+ghost use Rattle.declarations.specs.Found.{Adds};
 ghost use Rattle.names.specs.Frames.{IsFrame, Turned};
 ghost use Rattle.names.specs.Heads.{IsHeads, case_head};
-ghost use Rattle.names.specs.Kinds.{is_silent};
-ghost use Rattle.names.specs.Program.{Program, as_contract, item_at};
-ghost use Rattle.names.specs.Scopes.{IsScope};
-ghost use Rattle.names.specs.Values.{message_written};
+ghost use Rattle.declarations.specs.Kinds.{is_silent};
+ghost use Rattle.declarations.specs.Program.{Program, as_contract, item_at};
+ghost use Rattle.declarations.specs.Scopes.{IsScope};
+ghost use Rattle.declarations.specs.Named.{message_written};
 ghost use Rattle.tables.specs.Words.{word_at};
 ghost use Rattle.names.specs.Variables.{Frame, Variable};
 
@@ -20,11 +21,9 @@ use crate::awaits::{
 };
 use crate::binds::judge_bound;
 use crate::heads::{Heads, awaiting_at};
-use crate::judging::add_unknown;
-use crate::kinds::Kind;
-use crate::scope::Scope;
 use crate::simple_statements::{judge_use, kind_held};
 use crate::variables::Variables;
+use declarations::{Kind, Scope, add_unknown};
 use program::Side;
 use source::{Finding, Memory, Span};
 use std::alloc::Global;
@@ -114,7 +113,7 @@ fn judge_message(
         → twice ≡ awaits_too p.text (case_head case.now) earlier → OnOk result (Adds found.old.items found.new.items (awaited_findings
         (record { program = p; variables = vs }) earlier (Kind.Endpoint end item) end (case_head case.now) (Awaited.Message word))) }
 {
-    match message_named(scope, item, word) {
+    match scope.message(item, word) {
         Some(message) => {
             judge_message_case(alloc, message, end, word, &case.binds, found)?;
             judge_case_twice(alloc, scope.text, twice, case.endpoint, case.message, found)
@@ -164,15 +163,6 @@ pub(crate) fn judge_binds<'a>(
     }
 }
 
-/// The message of this name in the contract that is the item at this place.
-fn message_named<'a>(scope: &Scope<'a>, place: usize, word: Span) -> Option<&'a Message>
-    ensures { (p : Program) → IsScope p scope.now → option_map (λ m. message_tree m.now) result
-        ≡ option_and_then (λ c. message_written p.text c.1 (word_at p.text word)) (item_at as_contract p place) }
-{
-    let declared = scope.contract_at(place)?;
-    declared.message(word.slice(scope.text))
-}
-
 /// The message that a case awaits at this end of the contract that is the item at this place.
 fn awaited_message<'a>(
     scope: &Scope<'a>,
@@ -184,7 +174,7 @@ fn awaited_message<'a>(
         ≡ awaited_message (record { program = p; variables = vs }) (Kind.Endpoint end place) awaited }
 {
     match awaited {
-        Awaited::Message(word) => message_named(scope, place, word),
+        Awaited::Message(word) => scope.message(place, word),
         Awaited::Closed(_) => None,
     }
 }

@@ -3,19 +3,18 @@
 ghost use Rattle.std.specs.Prelude.{◌++◌, ◌||◌, OnOk, IfOk};
 ghost use Rattle.names.specs.Bodies.{exchanged_kind, holder_findings, exchange_findings};
 ghost use Rattle.names.specs.Expressions.{field_kind, field_findings};
-ghost use Rattle.names.specs.Found.{Adds};
+ghost use Rattle.declarations.specs.Found.{Adds};
 ghost use Rattle.names.specs.Frames.{IsFrame};
-ghost use Rattle.names.specs.Kinds.{unless, is_silent, is_block};
+ghost use Rattle.declarations.specs.Kinds.{unless, is_silent, is_block};
 ghost use Rattle.names.specs.Mentions.{GivesIn};
-ghost use Rattle.names.specs.Program.{Program};
-ghost use Rattle.names.specs.Scopes.{IsScope};
+ghost use Rattle.declarations.specs.Program.{Program};
+ghost use Rattle.declarations.specs.Scopes.{IsScope};
 ghost use Rattle.names.specs.Variables.{Frame};
 
-use crate::kinds::Kind;
 use crate::mentions::{judge_field, judge_variable};
 use crate::operands::ask;
-use crate::scope::Scope;
 use crate::variables::Variables;
+use declarations::{Kind, Scope};
 use source::{Finding, Memory, Span};
 use std::alloc::Global;
 use tree::Exchange;

@@ -5,22 +5,21 @@ ghost use Rattle.source.specs.declared.finding.Finding.{Finding};
 ghost use Rattle.tree.specs.ExpressionTrees.{expression_tree, disjunction_tree, conjunction_tree, equality_tree, relation_tree};
 ghost use Rattle.tree.specs.ExpressionTrees.{sum_tree, factors_tree, factor_tree, unary_tree, prefixed_tree, atom_tree, target_tree};
 ghost use Rattle.names.specs.Expressions.{InScope, kind_of, expression_findings, whole_findings};
-ghost use Rattle.names.specs.Found.{Adds};
+ghost use Rattle.declarations.specs.Found.{Adds};
 ghost use Rattle.names.specs.Frames.{IsFrame};
 ghost use Rattle.names.specs.Operands.{IsJudged, Judges};
-ghost use Rattle.names.specs.Program.{Program};
-ghost use Rattle.names.specs.Scopes.{IsScope};
+ghost use Rattle.declarations.specs.Program.{Program};
+ghost use Rattle.declarations.specs.Scopes.{IsScope};
 ghost use Rattle.names.specs.Shapes.{Shape, shape, atom_shape, target_shape, signed};
 ghost use Rattle.names.specs.Terms.{JudgesTerms, TermShapes, with_factor};
 ghost use Rattle.names.specs.Variables.{Frame};
 
-use crate::kinds::Kind;
 use crate::mentions;
 use crate::operands::{Joint, Operand, join, sign};
-use crate::scope::Scope;
 use crate::terms::{Terms, joined_terms};
 use crate::variables::Variables;
 use crate::wholes::judge_whole_operand;
+use declarations::{Kind, Scope};
 use source::{Finding, Memory};
 use std::alloc::Global;
 use tree::{

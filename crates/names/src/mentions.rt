@@ -5,22 +5,19 @@ ghost use Rattle.source.specs.declared.finding.Finding.{Finding};
 ghost use Rattle.source.specs.declared.token.Span.{Span};
 ghost use Rattle.tree.specs.Trees.{StructTree};
 ghost use Rattle.names.specs.Expressions.{InScope, meant, held, variable_findings, field_kind, field_findings};
-ghost use Rattle.names.specs.Expressions.{element_kind, element_findings, struct_field_kind, field_named, is_owning, owns};
-ghost use Rattle.names.specs.Found.{Adds, unknown};
+ghost use Rattle.names.specs.Expressions.{element_kind, element_findings, struct_field_kind, is_owning, owns};
+ghost use Rattle.declarations.specs.Named.{field_named};
+ghost use Rattle.declarations.specs.Found.{Adds, unknown};
 ghost use Rattle.names.specs.Mentions.{Gives, GivesIn, IsGiven};
 ghost use Rattle.names.specs.Operands.{Judges};
-ghost use Rattle.names.specs.Scopes.{IsScope, AreFields};
+ghost use Rattle.declarations.specs.Scopes.{IsScope, AreFields};
 ghost use Rattle.names.specs.Shapes as shapes;
 ghost use Rattle.names.specs.Shapes.{Shape};
 ghost use Rattle.tables.specs.Words.{word_at, same_word};
 
-use crate::fields::Fields;
-use crate::judging::add_unknown;
-use crate::kinds::Kind;
 use crate::operands::{Operand, ask, ask_number};
-use crate::scope::Scope;
-use crate::types::{is_heap, kind_of_type};
 use crate::variables::Variables;
+use declarations::{Fields, Kind, Scope, add_unknown, is_heap};
 use program::Scalar;
 use source::{Finding, Memory, Span};
 use std::alloc::Global;
@@ -232,7 +229,7 @@ fn judge_field_in(
         found.old.items found.new.items k) }
 {
     match fields.find(scope.text, field) {
-        Some(declared) => Ok(kind_of_type(scope, declared.kind)),
+        Some(declared) => Ok(scope.kind(declared.kind)),
         None => {
             add_unknown(alloc, scope.text, field, found)?;
             Ok(Kind::Unknown)

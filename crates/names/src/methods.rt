@@ -3,20 +3,17 @@
 ghost use Rattle.std.specs.Prelude.{OnOk};
 ghost use Rattle.std.specs.List.{flat_map};
 ghost use Rattle.tree.specs.Trees.{ClassTree, method_tree};
-ghost use Rattle.names.specs.Found.{Adds};
+ghost use Rattle.declarations.specs.Found.{Adds};
 ghost use Rattle.names.specs.Frames.{IsFrame, Turned};
 ghost use Rattle.names.specs.Methods.{result_unknown, parameter_turn, parameters_turn, method_turn, class_findings};
-ghost use Rattle.names.specs.Program.{Program};
-ghost use Rattle.names.specs.Scopes.{IsScope, AreMethods};
+ghost use Rattle.declarations.specs.Program.{Program};
+ghost use Rattle.declarations.specs.Scopes.{IsScope, AreMethods};
 ghost use Rattle.names.specs.Variables.{Frame};
 
-use crate::judging::judge_twice;
-use crate::members::{Methods, names_of_methods};
-use crate::scope::Scope;
 use crate::statements::judge_block;
 use crate::surroundings::Surroundings;
-use crate::types::{is_heap, judge_type, kind_of_type};
 use crate::variables::Variables;
+use declarations::{Methods, Scope, is_heap, judge_method_names, judge_type};
 use source::{Finding, Memory};
 use std::alloc::Global;
 use tree::{Method, Parameter, Type};
@@ -31,8 +28,7 @@ pub(crate) fn judge_class<'a>(
     ensures { (p : Program) (c : ClassTree) → IsScope p scope.now → AreMethods p.text c methods.now
         → OnOk result (Adds found.old.items found.new.items (class_findings p c)) }
 {
-    let names = names_of_methods(alloc, methods.list)?;
-    judge_twice(alloc, scope.text, &methods.table, &names, found)?;
+    judge_method_names(alloc, scope, methods, found)?;
     judge_methods(alloc, scope, methods, found)
 }
 
@@ -46,7 +42,7 @@ fn judge_methods<'a>(
     ensures { (p : Program) (c : ClassTree) → IsScope p scope.now → AreMethods p.text c methods.now
         → OnOk result (Adds found.old.items found.new.items (flat_map (λ m. (method_turn p c m).found) c.methods)) }
 {
-    for method in methods.list {
+    for method in methods.list() {
         judge_method(alloc, scope, methods, method, found)?;
     }
     Ok(())
@@ -120,7 +116,7 @@ fn judge_parameter<'a>(
         → OnOk result (Turned p.text found.old.items found.new.items variables.new (parameter_turn p parameter f)) }
 {
     judge_type(alloc, scope, parameter.kind, found)?;
-    let kind = kind_of_type(scope, parameter.kind);
+    let kind = scope.kind(parameter.kind);
     let heap = is_heap(parameter.kind);
     variables.declare(alloc, scope.text, parameter.name, kind, heap, found)
 }

@@ -1,14 +1,14 @@
 //! Operands: what is asked of them, and what operators make of them.
 
 ghost use Rattle.std.specs.Prelude.{◌≡◌, ◌||◌, IfOk, OnOk, ◌∷◌, [], if◌then◌else◌};
-ghost use Rattle.names.specs.Found.{Adds};
-ghost use Rattle.names.specs.Kinds.{unless, wrong_type, is_unknown};
+ghost use Rattle.declarations.specs.Found.{Adds};
+ghost use Rattle.declarations.specs.Kinds.{unless, wrong_type, is_unknown};
 ghost use Rattle.names.specs.Expressions.{asked_number, asked_truth, asked_either, asked_like};
 ghost use Rattle.names.specs.Expressions.{left_asked, right_asked, joined_kind, signed_kind, sign_asked};
 ghost use Rattle.names.specs.Operands.{IsJoined, IsSigned};
 ghost use Rattle.names.specs.Shapes.{sign_of};
 
-use crate::kinds::Kind;
+use declarations::Kind;
 use program::Scalar;
 use source::{Finding, Memory, Place, texts};
 use std::alloc::Global;

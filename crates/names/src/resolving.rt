@@ -1,28 +1,18 @@
 //! From a tree to numbers.
 
-ghost use Rattle.std.specs.Prelude.{◌≡◌, [], ◌∷◌, ◌++◌, ◌+◌, ◌^◌, ◌<◌, All, length, map, IfErr, IfOk, OnOk};
+ghost use Rattle.std.specs.Prelude.{◌≡◌, [], ◌^◌, ◌<◌, All, length, map, IfErr, IfOk, OnOk};
 ghost use Rattle.tree.specs.Trees.{contracts_of, program_tree};
 ghost use Rattle.tree.specs.Programs.{program};
-ghost use Rattle.names.specs.Declarations.{counted_states};
+ghost use Rattle.declarations.specs.Program.{program_of};
+ghost use Rattle.declarations.specs.Resolution.{resolved_contracts};
 ghost use Rattle.names.specs.Findings.{program_findings};
-ghost use Rattle.names.specs.Outlines.{outlined_messages, outlined_states};
-ghost use Rattle.program.specs.Parts.{AreApart, IsWhole, contract_parts, contract_seen};
-ghost use Rattle.names.specs.Program.{program_of};
-ghost use Rattle.names.specs.Ready.{IsReady, declared_in, declared_messages, declared_states, resolved_declared, all_resolved};
-ghost use Rattle.names.specs.Resolution.{resolved_contracts};
 ghost use Rattle.names.specs.Resolving.{Explains};
-ghost use Rattle.names.specs.Scopes.{declared_among};
+ghost use Rattle.program.specs.Parts.{AreApart, IsWhole, contract_parts, contract_seen};
 
-use crate::edges::edges_of;
 use crate::fault::NameFaults;
 use crate::items::judge_program;
-use crate::labels::Labels;
-use crate::meaning::Meaning;
-use crate::members::{Declared, Members};
-use crate::numbering::{number_messages, number_states};
-use crate::scope::Scope;
-use program::{Contract, Resolved, StateId};
-use source::Memory;
+use declarations::{Scope, resolve_contracts};
+use program::Resolved;
 use std::alloc::Global;
 use tree::Tree;
 
@@ -48,125 +38,9 @@ pub fn resolve(alloc: Global, tree: &Tree, text: &[u8]) -> Result<Resolved, Name
     judge_program(alloc, &scope, &mut found)?;
     if found.is_empty() {
         Ok(Resolved {
-            contracts: resolve_contracts(alloc, text, &scope.members)?,
+            contracts: resolve_contracts(alloc, &scope)?,
         })
     } else {
         Err(NameFaults::Found(found))
     }
-}
-
-/// How many messages and how many states stand before something in the text.
-#[derive(Clone, Copy)]
-struct Before {
-    messages: u32,
-    states: u32,
-}
-
-/// The contracts among these, in order. The numbers of each begin behind those of the contracts before it.
-fn resolve_contracts(
-    alloc: Global,
-    text: &[u8],
-    items: &[Members<'_>],
-) -> Result<Vec<Contract>, Memory>
-    requires ready { All (IsReady text.now) (declared_in items.now) }
-    requires messages { declared_messages (declared_in items.now) < 2 ^ 32 }
-    requires states { declared_states (declared_in items.now) < 2 ^ 32 }
-    ensures { IfOk result (λ contracts. map contract_seen contracts.items ≡ all_resolved text.now (declared_in items.now)) }
-{
-    let mut contracts = Vec::new(alloc);
-    let mut before = Before {
-        messages: 0,
-        states: 0,
-    };
-    for item in items {
-        add_item(alloc, text, item, &mut before, &mut contracts)?;
-    }
-    Ok(contracts)
-}
-
-/// Adds the contract that an item is, if it is one.
-fn add_item(
-    alloc: Global,
-    text: &[u8],
-    item: &Members<'_>,
-    before: &mut Before,
-    contracts: &mut Vec<Contract>,
-) -> Result<(), Memory>
-    requires ready { All (IsReady text.now) (declared_among item.now) }
-    requires messages { before.old.messages + declared_messages (declared_among item.now) < 2 ^ 32 }
-    requires states { before.old.states + declared_states (declared_among item.now) < 2 ^ 32 }
-    ensures messages { OnOk result (before.new.messages ≡ before.old.messages + declared_messages (declared_among item.now)) }
-    ensures states { OnOk result (before.new.states ≡ before.old.states + declared_states (declared_among item.now)) }
-    ensures contracts { OnOk result (map contract_seen contracts.new.items ≡ map contract_seen contracts.old.items
-        ++ map (resolved_declared text.now before.old.messages before.old.states) (declared_among item.now)) }
-{
-    match item {
-        Members::Contract(declared) => add_contract(alloc, text, declared, before, contracts),
-        _ => Ok(()),
-    }
-}
-
-/// Adds the contract, and counts its messages and states.
-fn add_contract(
-    alloc: Global,
-    text: &[u8],
-    declared: &Declared<'_>,
-    before: &mut Before,
-    contracts: &mut Vec<Contract>,
-) -> Result<(), Memory>
-    requires ready { IsReady text.now declared.now }
-    requires messages { before.old.messages + length (outlined_messages declared.now.outline) < 2 ^ 32 }
-    requires states { before.old.states + length (counted_states (outlined_states declared.now.outline)) < 2 ^ 32 }
-    ensures messages { OnOk result (before.new.messages ≡ before.old.messages + length (outlined_messages declared.now.outline)) }
-    ensures states { OnOk result (before.new.states ≡ before.old.states + length (counted_states (outlined_states declared.now.outline))) }
-    ensures contracts { OnOk result (map contract_seen contracts.new.items ≡ map contract_seen contracts.old.items
-        ++ resolved_declared text.now before.old.messages before.old.states declared.now ∷ []) }
-{
-    let contract = resolve_contract(alloc, text, declared, before.messages, before.states)?;
-    before.messages += contract.messages.len() as u32;
-    before.states += contract.states.len() as u32;
-    contracts.push(contract)?;
-    Ok(())
-}
-
-/// The contract. So many messages and so many states stand before its own in the text.
-fn resolve_contract(
-    alloc: Global,
-    text: &[u8],
-    declared: &Declared<'_>,
-    messages_before: u32,
-    states_before: u32,
-) -> Result<Contract, Memory>
-    requires ready { IsReady text.now declared.now }
-    requires messages { messages_before + length (outlined_messages declared.now.outline) < 2 ^ 32 }
-    requires states { states_before + length (counted_states (outlined_states declared.now.outline)) < 2 ^ 32 }
-    ensures { IfOk result (λ c. contract_seen c ≡ resolved_declared text.now messages_before states_before declared.now) }
-{
-    let outline = &declared.outline;
-    let messages = number_messages(alloc, text, &outline.messages, messages_before)?;
-    let mut printed = String::new(alloc);
-    let labels = Labels::of(alloc, text, declared, &mut printed)?;
-    let states = number_states(
-        alloc,
-        &labels,
-        &mut printed,
-        &declared.counted.all,
-        states_before,
-    )?;
-    let meaning = Meaning {
-        text,
-        declared,
-        messages_before,
-        states_before,
-        named: &declared.counted.named,
-    };
-    let edges = edges_of(alloc, &meaning)?;
-    Ok(Contract {
-        name: String::from_utf8_lossy(alloc, outline.name.slice(text))?,
-        first: StateId(states_before),
-        state_names: printed,
-        states,
-        messages,
-        edges,
-    })
 }

@@ -8,37 +8,28 @@ ghost use Rattle.names.specs.Bodies as bodies;
 ghost use Rattle.names.specs.Bodies.{given_findings, declaration_turn, delete_findings, is_end_of, same_end};
 ghost use Rattle.names.specs.Bodies.{ends_findings, new_ends_findings, channel_findings, return_findings};
 ghost use Rattle.names.specs.Expressions.{variable_findings, meant, held};
-ghost use Rattle.names.specs.Found.{Adds};
+ghost use Rattle.declarations.specs.Found.{Adds};
 ghost use Rattle.names.specs.Frames.{IsFrame, Turned, AreSurroundings};
-ghost use Rattle.names.specs.Kinds.{unless, is_heap};
+ghost use Rattle.declarations.specs.Kinds.{unless, is_heap};
 ghost use Rattle.program.specs.Kinds.{same_side};
-ghost use Rattle.names.specs.Program.{Program, contract_named};
-ghost use Rattle.names.specs.Scopes.{IsScope};
+ghost use Rattle.declarations.specs.Program.{Program, contract_named};
+ghost use Rattle.declarations.specs.Scopes.{IsScope};
 ghost use Rattle.names.specs.Shapes.{shape};
 ghost use Rattle.names.specs.Values.{target_kind, target_findings, value_findings};
 ghost use Rattle.names.specs.Variables.{Frame};
 
 use crate::expressions::judge_whole;
-use crate::judging::add_unknown;
-use crate::kinds::Kind;
 use crate::mentions::judge_variable;
 use crate::operands::{add_wrong_type, ask};
-use crate::scope::Scope;
 use crate::surroundings::Surroundings;
 use crate::targets::judge_target;
-use crate::types::{judge_type, kind_of_type};
 use crate::values::judge_value;
 use crate::variables::Variables;
 use crate::wholes::judge_asked;
+use declarations::{Kind, Scope, add_unknown, is_heap, judge_type};
 use source::{Finding, Memory, Span};
 use std::alloc::Global;
 use tree::{Assign, Declare, Expression, NewChannel, Type, Value};
-
-pub(crate) fn is_heap(kind: Type) -> bool
-    ensures { result ≡ is_heap kind }
-{
-    matches!(kind, Type::Heap(_))
-}
 
 /// Adds what is wrong with the value of a declaration, if it has one.
 fn judge_given(
@@ -70,7 +61,7 @@ pub(crate) fn judge_declare<'a>(
         result (Turned m.program.text found.old.items found.new.items variables.new (declaration_turn m (declare_tree declare.now) f)) }
 {
     let scope = around.scope;
-    let kind = kind_of_type(scope, declare.kind);
+    let kind = scope.kind(declare.kind);
     judge_type(alloc, scope, declare.kind, found)?;
     judge_given(alloc, around, variables, kind, &declare.value, found)?;
     let heap = is_heap(declare.kind);
@@ -194,8 +185,8 @@ fn judge_new_ends(
 {
     let left = kind_held(scope, variables, channel.first);
     let right = kind_held(scope, variables, channel.second);
-    match scope.contract(channel.contract) {
-        Some((place, _)) => judge_ends(
+    match scope.contract_place(channel.contract) {
+        Some(place) => judge_ends(
             alloc,
             place,
             (left, right),
@@ -264,7 +255,7 @@ fn judge_returned(
 {
     match value {
         Some(value) => {
-            let kind = kind_of_type(scope, asked);
+            let kind = scope.kind(asked);
             judge_asked(alloc, scope, variables, kind, value, found)
         }
         None => add_wrong_type(alloc, word.place, found),

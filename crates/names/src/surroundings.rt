@@ -1,7 +1,6 @@
 //! What stands round a statement.
 
-use crate::members::Methods;
-use crate::scope::Scope;
+use declarations::{Methods, Scope};
 use tree::Type;
 
 /// The program, the class and the result of the method, and whether there is something to break off or to turn back to.

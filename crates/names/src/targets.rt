@@ -3,18 +3,17 @@
 ghost use Rattle.std.specs.Prelude.{◌++◌, not, IfOk, OnOk};
 ghost use Rattle.tree.specs.ExpressionTrees.{target_tree};
 ghost use Rattle.names.specs.Expressions.{InScope, meant, held, variable_findings, field_kind, field_findings, owns};
-ghost use Rattle.names.specs.Found.{Adds};
-ghost use Rattle.names.specs.Kinds.{unless};
+ghost use Rattle.declarations.specs.Found.{Adds};
+ghost use Rattle.declarations.specs.Kinds.{unless};
 ghost use Rattle.names.specs.Mentions.{Gives};
-ghost use Rattle.names.specs.Scopes.{IsScope};
+ghost use Rattle.declarations.specs.Scopes.{IsScope};
 ghost use Rattle.names.specs.Values.{target_kind, target_findings, length_findings};
 
 use crate::expressions::judge_operand;
-use crate::kinds::Kind;
 use crate::mentions::{is_length, judge_element_of, judge_field, judge_variable, owns};
 use crate::operands::ask;
-use crate::scope::Scope;
 use crate::variables::Variables;
+use declarations::{Kind, Scope};
 use source::{Finding, Memory, Span};
 use std::alloc::Global;
 use tree::Target;

@@ -2,7 +2,7 @@
 
 ghost use Rattle.std.specs.Prelude.{◌∷◌, [], OnOk, codes, if◌then◌else◌, ◌==◌};
 ghost use Rattle.names.specs.Bodies.{outside};
-ghost use Rattle.names.specs.Found.{Adds};
+ghost use Rattle.declarations.specs.Found.{Adds, declared_twice};
 ghost use Rattle.names.specs.Values.{wrong_number, not_started};
 
 use source::{Finding, Memory, Place, Span, texts};
@@ -74,5 +74,18 @@ pub(crate) fn add_not_started(
 {
     let word = name.slice(text);
     found.push(texts::cannot_be_started(alloc, name.place, word)?)?;
+    Ok(())
+}
+
+/// Adds a name that an earlier one has.
+pub(crate) fn add_twice(
+    alloc: Global,
+    text: &[u8],
+    name: Span,
+    found: &mut Vec<Finding>,
+) -> Result<(), Memory>
+    ensures { OnOk result (Adds found.old.items found.new.items (declared_twice text.now name ∷ [])) }
+{
+    found.push(texts::declared_twice(alloc, name.place, name.slice(text))?)?;
     Ok(())
 }

@@ -4,24 +4,23 @@ ghost use Rattle.std.specs.Prelude.{◌≡◌, map, OnOk, IfOk};
 ghost use Rattle.tree.specs.ExpressionTrees.{expression_tree};
 ghost use Rattle.tree.specs.Values.{value_tree, new_tree, made_tree};
 ghost use Rattle.names.specs.Bodies as bodies;
-ghost use Rattle.names.specs.Found.{Adds};
+ghost use Rattle.declarations.specs.Found.{Adds};
 ghost use Rattle.names.specs.Frames.{IsFrame, AreSurroundings};
-ghost use Rattle.names.specs.Kinds.{pointer_kind};
-ghost use Rattle.names.specs.Program.{Program, struct_named};
-ghost use Rattle.names.specs.Scopes.{IsScope};
+ghost use Rattle.declarations.specs.Kinds.{pointer_kind};
+ghost use Rattle.declarations.specs.Program.{Program, struct_named};
+ghost use Rattle.declarations.specs.Scopes.{IsScope};
 ghost use Rattle.names.specs.Shapes.{shape};
 ghost use Rattle.names.specs.Values.{made_kind, made_findings, struct_made_findings, new_findings, value_findings};
 ghost use Rattle.names.specs.Variables.{Frame};
 
 use crate::arguments::judge_field_arguments;
 use crate::calls::{Role, judge_call, judge_unknown};
-use crate::kinds::Kind;
 use crate::operands::ask;
-use crate::scope::Scope;
 use crate::surroundings::Surroundings;
 use crate::told;
 use crate::variables::Variables;
 use crate::wholes::{judge_asked, judge_number};
+use declarations::{Kind, Scope};
 use source::{Finding, Memory, Span};
 use std::alloc::Global;
 use tree::{Expression, Made, New, Value};
@@ -41,16 +40,10 @@ fn judge_structure(
         → OnOk result (Adds found.old.items found.new.items (struct_made_findings (record { program = p; variables = f.variables })
         (struct_named p name) name (map shape (map expression_tree arguments.now)))) }
 {
-    match scope.structure(name) {
-        Some((place, fields)) => {
-            told::judge_number(
-                alloc,
-                fields.owning.len(),
-                arguments.len(),
-                name.place,
-                found,
-            )?;
-            judge_field_arguments(alloc, scope, variables, &fields.owning, arguments, found)?;
+    match scope.owning_fields(name) {
+        Some((place, owning)) => {
+            told::judge_number(alloc, owning.len(), arguments.len(), name.place, found)?;
+            judge_field_arguments(alloc, scope, variables, owning, arguments, found)?;
             Ok(Kind::Pointer(place))
         }
         None => {

@@ -1,12 +1,12 @@
 //! The variables in scope.
 
 ghost use Rattle.std.specs.Prelude.{◌≡◌, ◌+◌, ◌-◌, ℕ, List, [], length, take, OnOk, option_map};
-ghost use Rattle.names.specs.Found.{Adds};
+ghost use Rattle.declarations.specs.Found.{Adds};
 ghost use Rattle.names.specs.Frames.{IsFrame, Turned, variable_seen};
 ghost use Rattle.names.specs.Variables.{Frame, variable_named, past_heap, entered_variable, declared_variable};
 
-use crate::judging::add_twice;
-use crate::kinds::Kind;
+use crate::told::add_twice;
+use declarations::Kind;
 use program::MOST_VARIABLES;
 use source::{Finding, Memory, Span, texts};
 use std::alloc::Global;

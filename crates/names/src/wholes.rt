@@ -4,21 +4,20 @@ ghost use Rattle.std.specs.Prelude.{◌≡◌, IfOk, OnOk, Option};
 ghost use Rattle.tree.specs.ExpressionTrees.{expression_tree, disjunction_tree, conjunction_tree, equality_tree, relation_tree};
 ghost use Rattle.tree.specs.ExpressionTrees.{sum_tree, unary_tree, prefixed_tree, atom_tree, target_tree};
 ghost use Rattle.names.specs.Expressions.{truth_findings, number_findings};
-ghost use Rattle.names.specs.Found.{Adds};
+ghost use Rattle.declarations.specs.Found.{Adds};
 ghost use Rattle.names.specs.Frames.{IsFrame};
 ghost use Rattle.names.specs.Operands.{JudgesWhole, in_frame, mentioned};
-ghost use Rattle.names.specs.Program.{Program};
-ghost use Rattle.names.specs.Scopes.{IsScope};
+ghost use Rattle.declarations.specs.Program.{Program};
+ghost use Rattle.declarations.specs.Scopes.{IsScope};
 ghost use Rattle.names.specs.Shapes.{shape, atom_shape, target_shape};
 ghost use Rattle.names.specs.Values.{asked_findings};
 ghost use Rattle.names.specs.Variables.{Frame};
 
 use crate::expressions::judge_operand;
-use crate::kinds::Kind;
 use crate::mentions::judge_variable;
 use crate::operands::{Operand, ask, ask_number, ask_truth};
-use crate::scope::Scope;
 use crate::variables::Variables;
+use declarations::{Kind, Scope};
 use source::{Finding, Memory, Span};
 use std::alloc::Global;
 use tree::{

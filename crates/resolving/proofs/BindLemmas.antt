@@ -5,7 +5,7 @@ use Rattle.std.proofs.lemmas.Result.{on_ok_weaker}
 use Rattle.std.specs.Prelude.{Result, OnOk, slice_get}
 use Rattle.tree.specs.declared.statement.Bind.{Bind}
 use Rattle.tree.specs.declared.contract.Param.{Param}
-use Rattle.names.specs.Program.{Program}
+use Rattle.declarations.specs.Program.{Program}
 use Rattle.program.specs.declared.number.VarId.{VarId}
 use Rattle.resolving.specs.Binds.{bind_declaration, bind_told, binds_told, one_number}
 use Rattle.resolving.specs.Frames.{IsFrame, number_seen}

@@ -7,7 +7,7 @@ use Rattle.tree.specs.ExpressionTrees.{expression_tree}
 use Rattle.tree.specs.StatementTrees as trees
 use Rattle.tree.specs.StatementTrees.{StatementTree, BlockTree, TestTree, block_tree, test_tree}
 use Rattle.tree.specs.declared.statement as stated
-use Rattle.names.specs.Program.{Program}
+use Rattle.declarations.specs.Program.{Program}
 use Rattle.program.specs.Statements as seen
 use Rattle.program.specs.Statements.{StatementsSeen, StatementSeen, BlockSeen, TestSeen, block_seen, test_seen}
 use Rattle.program.specs.declared.number.VarId.{VarId}

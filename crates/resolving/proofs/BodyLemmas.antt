@@ -4,7 +4,7 @@ use Rattle.std.proofs.lemmas.List.{take_more, take_all, map-append}
 use Rattle.tree.specs.StatementTrees as trees
 use Rattle.tree.specs.StatementTrees.{StatementTree}
 use Rattle.tree.specs.declared.class as made
-use Rattle.names.specs.Program.{Program}
+use Rattle.declarations.specs.Program.{Program}
 use Rattle.program.specs.Statements as seen
 use Rattle.program.specs.Statements.{StatementSeen}
 use Rattle.resolving.specs.Frames.{IsFrame}

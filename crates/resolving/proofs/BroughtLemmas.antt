@@ -8,8 +8,8 @@ use Rattle.lemmas.proofs.Lists.{flat_more}
 use Rattle.tree.specs.Trees.{ContractTree, MessageTree, contract_of, contracts_of, definition_tree, item_tree, member_tree}
 use Rattle.tree.specs.declared.item.Item.{Item}
 use Rattle.tree.specs.declared.contract.Member.{Member}
-use Rattle.names.specs.Declarations.{message_among, messages_of}
-use Rattle.names.specs.Program.{Program}
+use Rattle.declarations.specs.Declarations.{message_among, messages_of}
+use Rattle.declarations.specs.Program.{Program}
 use Rattle.program.specs.declared.kind.Kind.{Kind}
 use Rattle.resolving.specs.Brought.{brought, held_listed}
 use Rattle.program.specs.Programs.{rows}

@@ -19,9 +19,9 @@ use Rattle.tree.specs.declared.class as made
 use Rattle.tree.specs.declared.item as tree
 use Rattle.tree.specs.declared.class.Parameter.{Parameter}
 use Rattle.tree.specs.declared.expression.Expression.{Expression}
-use Rattle.names.specs.Declarations.{first_among}
-use Rattle.names.specs.Methods.{methods_in}
-use Rattle.names.specs.Program.{Program, Numbered, as_class, item_at}
+use Rattle.declarations.specs.Declarations.{first_among}
+use Rattle.declarations.specs.ItemFindings.{methods_in}
+use Rattle.declarations.specs.Program.{Program, Numbered, as_class, item_at}
 use Rattle.program.specs.Statements.{CallSeen}
 use Rattle.program.specs.declared.call.Argument.{Argument}
 use Rattle.program.specs.declared.number.MethodId.{MethodId}

@@ -9,7 +9,7 @@ use Rattle.source.specs.declared.place.Place.{Place}
 use Rattle.tree.specs.StatementTrees as trees
 use Rattle.tree.specs.StatementTrees.{CaseTree, CaseTrees, SwitchTree, case_tree, case_row, statement_tree, statement_row, switch_tree}
 use Rattle.tree.specs.declared.statement as stated
-use Rattle.names.specs.Program.{Program}
+use Rattle.declarations.specs.Program.{Program}
 use Rattle.program.specs.Statements as seen
 use Rattle.program.specs.Statements.{CaseSeen, CasesSeen, block_seen, case_seen}
 use Rattle.program.specs.declared.number.VarId.{VarId}

@@ -16,8 +16,8 @@ use Rattle.tree.specs.declared.class.Field.{Field}
 use Rattle.tree.specs.declared.item.Definition.{Definition}
 use Rattle.tree.specs.declared.item.Definition.TheVariants as definition
 use Rattle.tree.specs.declared.item.Item.{Item}
-use Rattle.names.specs.Declarations.{first_among}
-use Rattle.names.specs.Program.{Program, Numbered, as_struct}
+use Rattle.declarations.specs.Declarations.{first_among}
+use Rattle.declarations.specs.Program.{Program, Numbered, as_struct}
 use Rattle.program.specs.declared.kind.Kind.{Kind}
 use Rattle.resolving.specs.Around.{owning_places, place_listed, places_held, places_in}
 use Rattle.resolving.specs.Brought.{held_listed}

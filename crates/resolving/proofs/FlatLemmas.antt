@@ -7,7 +7,7 @@ use Rattle.tree.specs.declared.statement as stated
 use Rattle.tree.specs.declared.statement.Statement.TheOpen as layer
 use Rattle.tree.specs.declared.statement.Statement.TheOpen.{Statement-F}
 use Rattle.tree.specs.declared.statement.Statement.TheVariants as variants
-use Rattle.names.specs.Program.{Program}
+use Rattle.declarations.specs.Program.{Program}
 use Rattle.resolving.specs.Locals.{Frame}
 use Rattle.resolving.specs.Told.{Staying}
 use Rattle.resolving.proofs.BlockLemmas.{IsAlone, alone_as}

@@ -4,15 +4,14 @@ use Rattle.std.specs.Option.{option_map_or}
 use Rattle.std.specs.List.{enumerate_from, flat_map}
 use Rattle.std.proofs.lemmas.List.{flat_map_more, length-append, length-map, length-take-le, map-append, take_all, take_more}
 use Rattle.std.proofs.lemmas.Option.{slice_get_cases}
-use Rattle.lemmas.proofs.Lists.{nil_left, nil_right, enumerate_push}
+use Rattle.lemmas.proofs.Lists.{nil_right, enumerate_push}
 use Rattle.source.specs.declared.token.Span.{Span}
 use Rattle.tree.specs.Trees.{ItemTree, item_tree}
 use Rattle.tree.specs.declared.item.Item.{Item}
-use Rattle.names.specs.Findings.{program_findings}
-use Rattle.names.specs.Found.{limit_passed}
-use Rattle.names.specs.Listed.{past_limit, twice_among}
-use Rattle.names.specs.Methods.{items_findings, method_names, methods_in}
-use Rattle.names.specs.Program.{Program, item_names}
+use Rattle.declarations.specs.Found.{limit_passed}
+use Rattle.declarations.specs.Listed.{past_limit, twice_among}
+use Rattle.declarations.specs.ItemFindings.{items_findings, method_names, methods_in}
+use Rattle.declarations.specs.Program.{Program, item_names}
 use Rattle.program.specs.declared.limits.TheConstants.{MOST_METHODS}
 use Rattle.program.specs.Methods.{MethodSeen}
 use Rattle.resolving.specs.Callees.{all_methods}
@@ -62,10 +61,9 @@ not_past most names none =
     (λ w. w.0)
     (slice_get_cases names most).1
 
--- Where nothing is wrong, there are no more than the limit.
-pub few_methods : (p : Program) → program_findings p ≡ [] → length (all_methods p.items) ≤ MOST_METHODS
+-- Where nothing is wrong with the names of items, there are no more than the limit.
+pub few_methods : (p : Program) → items_findings p ≡ [] → length (all_methods p.items) ≤ MOST_METHODS
 few_methods p clean =
-    let items = nil_left (items_findings p) _ clean in
-    let few = not_past MOST_METHODS (method_names p) (nil_right (twice_among p.text (item_names p)) _ items) in
+    let few = not_past MOST_METHODS (method_names p) (nil_right (twice_among p.text (item_names p)) _ clean) in
     let many = length-map (all_methods p.items) (λ m. m.name) in
     omega (arith, few, many)

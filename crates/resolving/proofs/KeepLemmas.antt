@@ -7,7 +7,7 @@ use Rattle.tree.specs.StatementTrees as trees
 use Rattle.tree.specs.StatementTrees.{StatementTree, StatementTrees, BlockTree, TestTree, OtherTrees, CaseTree, CaseTrees}
 use Rattle.tree.specs.declared.statement as made
 use Rattle.tree.specs.declared.contract as tree
-use Rattle.names.specs.Program.{Program}
+use Rattle.declarations.specs.Program.{Program}
 use Rattle.program.specs.declared.kind.Kind.{Kind}
 use Rattle.resolving.specs.Binds.{bind_declaration, bind_told, binds_told}
 use Rattle.resolving.specs.Locals.{Local, Frame, local_named, entered, declared, declared_as}

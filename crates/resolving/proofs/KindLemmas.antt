@@ -5,10 +5,10 @@ use Rattle.std.specs.Prelude.{MatchOption, Option, None, Some, option_map, slice
 use Rattle.std.proofs.lemmas.List.{length-map, take_all}
 use Rattle.std.proofs.lemmas.Option.{slice_get-map, slice_get_past, slice_get_read}
 use Rattle.tree.specs.Trees.{contracts_of}
-use Rattle.names.specs.Declarations.{messages_of, states_of}
-use Rattle.names.specs.Program.{Program}
+use Rattle.declarations.specs.Declarations.{messages_of, states_of}
+use Rattle.declarations.specs.Program.{Program}
 use Rattle.program.specs.Parts.{contract_seen, message_parts, state_parts}
-use Rattle.names.specs.Resolution.{each_behind, message_count, resolved_contract, resolved_contracts, state_count}
+use Rattle.declarations.specs.Resolution.{each_behind, message_count, resolved_contract, resolved_contracts, state_count}
 use Rattle.program.specs.declared.contract.Contract.{Contract}
 use Rattle.program.specs.declared.contract.Message.{Message}
 use Rattle.program.specs.declared.contract.State.{State}

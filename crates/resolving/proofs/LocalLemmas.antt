@@ -9,7 +9,7 @@ use Rattle.source.specs.declared.token.Span.{Span}
 use Rattle.tables.specs.Firsts.{first_of}
 use Rattle.tables.specs.Tables.{IsTable}
 use Rattle.tables.specs.Words.{word_at, same_word}
-use Rattle.names.specs.declared.kinds.Kind.TheVariants.{Missing}
+use Rattle.declarations.specs.declared.kinds.Kind.TheVariants.{Missing}
 use Rattle.program.specs.Methods.{variable_seen}
 use Rattle.program.specs.declared.kind.Kind.{Kind}
 use Rattle.program.specs.declared.number.VarId.{VarId}

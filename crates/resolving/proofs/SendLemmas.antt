@@ -6,7 +6,7 @@ use Rattle.source.specs.declared.place.Place.{Place}
 use Rattle.tree.specs.Expressions.{ExpressionTree}
 use Rattle.tree.specs.ExpressionTrees.{expression_tree}
 use Rattle.tree.specs.declared.expression.Expression.{Expression}
-use Rattle.names.specs.Program.{Program}
+use Rattle.declarations.specs.Program.{Program}
 use Rattle.program.specs.declared.number.MessageId.{MessageId}
 use Rattle.program.specs.Statements.{SendSeen}
 use Rattle.program.specs.declared.statement.Mention.{Mention}

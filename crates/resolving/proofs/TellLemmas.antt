@@ -5,7 +5,7 @@ use Rattle.source.specs.declared.place.Place.{Place}
 use Rattle.tree.specs.StatementTrees.{BlockTree, statement_tree, statement_row}
 use Rattle.tree.specs.Trees.{MethodTree, method_tree}
 use Rattle.tree.specs.declared.class as made
-use Rattle.names.specs.Program.{Program}
+use Rattle.declarations.specs.Program.{Program}
 use Rattle.program.specs.Methods.{MethodSeen, VariableSeen, method_seen, variable_seen}
 use Rattle.program.specs.Statements as seen
 use Rattle.program.specs.Statements.{StatementsSeen, statement_seen}

@@ -4,10 +4,10 @@ use Rattle.std.specs.List.{enumerate_from, flat_map}
 use Rattle.tree.specs.Trees.{ItemTree, Contract, Struct, Class, contracts_of, item_tree, message_tree, method_tree}
 use Rattle.tree.specs.Trees.{DefinitionTree}
 use Rattle.tree.specs.declared.class.Field.{Field}
-use Rattle.names.specs.Program.{Program}
+use Rattle.declarations.specs.Program.{Program}
 use Rattle.program.specs.Parts.{contract_seen}
-use Rattle.names.specs.Resolution.{resolved_contracts}
-use Rattle.names.specs.Scopes.{IsScope}
+use Rattle.declarations.specs.Resolution.{resolved_contracts}
+use Rattle.declarations.specs.Scopes.{IsScope}
 use Rattle.program.specs.declared.kind.Kind.{Kind}
 use Rattle.program.specs.declared.limits.TheConstants.{MOST_METHODS}
 use Rattle.resolving.specs.Callees as model

@@ -3,8 +3,8 @@ use Rattle.std.specs.Prelude.{List, [], ◌∷◌, map, Option, None, Some}
 use Rattle.std.specs.List.{flat_map}
 use Rattle.tree.specs.Trees.{MessageTree, contracts_of}
 use Rattle.tree.specs.declared.contract.Param.{Param}
-use Rattle.names.specs.Declarations.{messages_of}
-use Rattle.names.specs.Program.{Program}
+use Rattle.declarations.specs.Declarations.{messages_of}
+use Rattle.declarations.specs.Program.{Program}
 use Rattle.program.specs.declared.kind.Kind.{Kind}
 use Rattle.resolving.specs.Kinds.{type_held}
 

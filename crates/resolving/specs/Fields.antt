@@ -4,10 +4,10 @@ use Rattle.std.specs.List.{flat_map}
 use Rattle.source.specs.declared.token.Span.{Span}
 use Rattle.tree.specs.Trees.{StructTree}
 use Rattle.tree.specs.declared.class.Field.{Field}
-use Rattle.names.specs.Declarations.{first_among}
-use Rattle.names.specs.Program.{Program, Numbered, as_struct, item_at}
-use Rattle.names.specs.declared.kinds as names
-use Rattle.names.specs.declared.kinds.Kind.TheVariants as name_kind
+use Rattle.declarations.specs.Declarations.{first_among}
+use Rattle.declarations.specs.Program.{Program, Numbered, as_struct, item_at}
+use Rattle.declarations.specs.declared.kinds as names
+use Rattle.declarations.specs.declared.kinds.Kind.TheVariants as name_kind
 use Rattle.program.specs.declared.kind.Kind.{Kind}
 use Rattle.resolving.specs.Brought.{held_listed}
 use Rattle.resolving.specs.Counts.{structs_of}

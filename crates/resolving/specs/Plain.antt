@@ -12,8 +12,8 @@ use Rattle.tree.specs.Values as values
 use Rattle.tree.specs.Values.{ValueTree, CallTree, MadeTree}
 use Rattle.tree.specs.declared.class as declared_class
 use Rattle.tree.specs.declared.statement as statement
-use Rattle.names.specs.Kinds.{type_kind}
-use Rattle.names.specs.Program.{Program}
+use Rattle.declarations.specs.Kinds.{type_kind}
+use Rattle.declarations.specs.Program.{Program}
 use Rattle.program.specs.declared.number.ContractId.{ContractId}
 use Rattle.program.specs.Statements as seen
 use Rattle.program.specs.Statements.{CallSeen, NewSeen, SendSeen, StatementSeen, StatementsSeen}

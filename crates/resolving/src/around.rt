@@ -7,7 +7,7 @@ ghost use Rattle.resolving.specs.Callees.{all_methods};
 ghost use Rattle.resolving.specs.Counts.{counts};
 
 use crate::counts::Before;
-use names::Scope;
+use declarations::Scope;
 use program::Resolved;
 use tree::Item;
 

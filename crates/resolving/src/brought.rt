@@ -3,8 +3,8 @@
 ghost use Rattle.std.specs.Prelude.{◌≡◌, ℕ, ◌++◌, IfOk, OnOk, map};
 ghost use Rattle.std.specs.List.{flat_map};
 ghost use Rattle.tree.specs.Trees.{contract_of, definition_tree, member_tree, message_tree};
-ghost use Rattle.names.specs.Declarations.{message_among, messages_of};
-ghost use Rattle.names.specs.Program.{Program};
+ghost use Rattle.declarations.specs.Declarations.{message_among, messages_of};
+ghost use Rattle.declarations.specs.Program.{Program};
 ghost use Rattle.resolving.specs.Around.{IsTypes};
 ghost use Rattle.resolving.specs.Brought.{brought, params_held};
 ghost use Rattle.program.specs.Programs.{rows};

@@ -2,8 +2,8 @@
 
 ghost use Rattle.std.specs.Prelude.{◌≡◌, ◌++◌, ℕ, List, IfOk, OnOk, option_map, slice_get};
 ghost use Rattle.tree.specs.Trees.{ItemTree};
-ghost use Rattle.names.specs.Cases.{brought_kind};
-ghost use Rattle.names.specs.Program.{Program};
+ghost use Rattle.declarations.specs.Kinds.{brought_kind};
+ghost use Rattle.declarations.specs.Program.{Program};
 ghost use Rattle.resolving.specs.Around.{IsAround, meant_seen, program_in};
 ghost use Rattle.resolving.specs.Binds as model;
 ghost use Rattle.resolving.specs.Frames.{IsFrame, number_seen};
@@ -84,12 +84,12 @@ pub(crate) fn awaited_params<'a>(meant: Option<Meant<'a>>) -> &'a [Param]
 }
 
 /// The kind of a name that a case binds without a type, for this parameter, if there is one.
-fn brought_kind(around: &Around<'_, '_>, param: Option<&Param>) -> names::Kind
+fn brought_kind(around: &Around<'_, '_>, param: Option<&Param>) -> declarations::Kind
     ensures { (p : Program) (own : ℕ) → IsAround p own around.now → result ≡ brought_kind p (option_map (λ x. x.now) param.entry) }
 {
     match param {
         Some(param) => around.types.scope.kind(param.kind),
-        None => names::Kind::Unknown,
+        None => declarations::Kind::Unknown,
     }
 }
 

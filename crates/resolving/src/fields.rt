@@ -3,7 +3,7 @@
 ghost use Rattle.std.specs.Prelude.{◌≡◌, ℕ, IfOk, List, length, ltb, map};
 ghost use Rattle.std.specs.List.{filter};
 ghost use Rattle.tree.specs.Trees.{item_tree};
-ghost use Rattle.names.specs.Program.{Program};
+ghost use Rattle.declarations.specs.Program.{Program};
 ghost use Rattle.program.specs.Programs.{rows};
 ghost use Rattle.resolving.specs.Around.{IsAround, IsTypes, places_held, program_in, owning_places};
 ghost use Rattle.resolving.specs.Fields as model;
@@ -83,11 +83,11 @@ fn count_before(places: &[usize], place: usize) -> usize
 }
 
 /// The number of a field of what a variable of this kind holds, among the fields that own.
-pub(crate) fn field_number(around: &Around<'_, '_>, kind: names::Kind, field: Span) -> Option<usize>
+pub(crate) fn field_number(around: &Around<'_, '_>, kind: declarations::Kind, field: Span) -> Option<usize>
     ensures { (p : Program) (own : ℕ) → IsAround p own around.now
         → result ≡ model.field_number p kind field }
 {
-    let names::Kind::Pointer(item) = kind else {
+    let declarations::Kind::Pointer(item) = kind else {
         return None;
     };
     let place = around.types.scope.field_place(item, field)?;

@@ -1,9 +1,9 @@
 //! What types hold, with a number for each of their names.
 
 ghost use Rattle.std.specs.Prelude.{◌≡◌, ℕ, None, option_map};
-ghost use Rattle.names.specs.Program.{Program};
+ghost use Rattle.declarations.specs.Program.{Program};
 ghost use Rattle.program.specs.Parts.{contract_seen};
-ghost use Rattle.names.specs.declared.kinds.Kind.TheVariants.{Pointer};
+ghost use Rattle.declarations.specs.declared.kinds.Kind.TheVariants.{Pointer};
 ghost use Rattle.resolving.specs.Around.{IsTypes};
 ghost use Rattle.resolving.specs.Kinds as model;
 
@@ -99,18 +99,18 @@ fn struct_held(types: &Types<'_, '_>, place: usize) -> Option<Kind>
 /// What a variable of this kind holds, where it is of the exchange heap. A type that names a state names this one.
 pub(crate) fn kind_held(
     types: &Types<'_, '_>,
-    kind: names::Kind,
+    kind: declarations::Kind,
     state: Option<Span>,
 ) -> Option<Kind>
     ensures { (p : Program) → IsTypes p types.now → result ≡ model.kind_held p kind state }
 {
     match kind {
-        names::Kind::Pointer(place) => struct_held(types, place),
-        names::Kind::Array(element) => Some(Kind::Array(element)),
-        names::Kind::Endpoint(side, place) => endpoint_held(types, place, side, state),
-        names::Kind::Scalar(_) => None,
-        names::Kind::Missing => None,
-        names::Kind::Unknown => None,
+        declarations::Kind::Pointer(place) => struct_held(types, place),
+        declarations::Kind::Array(element) => Some(Kind::Array(element)),
+        declarations::Kind::Endpoint(side, place) => endpoint_held(types, place, side, state),
+        declarations::Kind::Scalar(_) => None,
+        declarations::Kind::Missing => None,
+        declarations::Kind::Unknown => None,
     }
 }
 

@@ -19,7 +19,7 @@ use tables::Table;
 #[derive(Clone, Copy)]
 pub(crate) struct Declaration {
     pub(crate) name: Span,
-    pub(crate) kind: names::Kind,
+    pub(crate) kind: declarations::Kind,
     pub(crate) held: Option<Kind>,
     pub(crate) role: Role,
 }
@@ -28,7 +28,7 @@ pub(crate) struct Declaration {
 #[derive(Clone, Copy)]
 pub(crate) struct Local {
     name: Span,
-    kind: names::Kind,
+    kind: declarations::Kind,
     number: Option<VarId>,
 }
 
@@ -106,7 +106,7 @@ impl<'a> Locals<'a> {
     }
 
     /// The kind of the variable that a name means.
-    pub(crate) fn kind(&self, text: &[u8], name: Span) -> Option<names::Kind>
+    pub(crate) fn kind(&self, text: &[u8], name: Span) -> Option<declarations::Kind>
         ensures { (f : Frame) → IsFrame text.now f self.now
             → result ≡ option_map (λ v. v.kind) (local_named text.now f.locals name) }
     {
@@ -244,11 +244,11 @@ impl<'a> Locals<'a> {
 }
 
 /// The place of the contract of a kind that is an endpoint's.
-fn contract_of(kind: names::Kind) -> Option<usize>
+fn contract_of(kind: declarations::Kind) -> Option<usize>
     ensures { result ≡ contract_of kind }
 {
     match kind {
-        names::Kind::Endpoint(_, place) => Some(place),
+        declarations::Kind::Endpoint(_, place) => Some(place),
         _ => None,
     }
 }

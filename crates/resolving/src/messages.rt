@@ -1,7 +1,7 @@
 //! The messages that names mean, and their numbers.
 
 ghost use Rattle.std.specs.Prelude.{◌≡◌, ℕ, option_map};
-ghost use Rattle.names.specs.Program.{Program};
+ghost use Rattle.declarations.specs.Program.{Program};
 ghost use Rattle.resolving.specs.Around.{IsTypes, meant_seen};
 ghost use Rattle.resolving.specs.Messages as model;
 

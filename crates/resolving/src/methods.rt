@@ -2,15 +2,14 @@
 
 ghost use Rattle.std.specs.Prelude.{◌≡◌, ◌≤◌, ◌<◌, ◌^◌, ◌++◌, ℕ, List, [], length, map, IfOk, OnOk};
 ghost use Rattle.tree.specs.Trees.{ItemTree, contracts_of, program_tree, item_tree, definition_tree, method_tree};
-ghost use Rattle.names.specs.Findings.{program_findings};
-ghost use Rattle.names.specs.Methods.{methods_in};
-ghost use Rattle.names.specs.Program as model;
-ghost use Rattle.names.specs.Program.{program_of};
+ghost use Rattle.declarations.specs.ItemFindings.{items_findings, methods_in};
+ghost use Rattle.declarations.specs.Program as model;
+ghost use Rattle.declarations.specs.Program.{program_of};
 ghost use Rattle.program.specs.Parts.{contract_seen};
-ghost use Rattle.names.specs.Resolution.{resolved_contracts};
+ghost use Rattle.declarations.specs.Resolution.{resolved_contracts};
 ghost use Rattle.program.specs.declared.limits.TheConstants.{MOST_METHODS};
 ghost use Rattle.program.specs.Methods.{method_seen};
-ghost use Rattle.names.specs.Scopes.{IsScope};
+ghost use Rattle.declarations.specs.Scopes.{IsScope};
 ghost use Rattle.resolving.specs.Around.{IsAround, program_in};
 ghost use Rattle.resolving.specs.Brought.{brought, messages_told};
 ghost use Rattle.program.specs.Programs.{rows};
@@ -28,7 +27,7 @@ use crate::kinds::{result_held, type_held};
 use crate::locals::{Declaration, Locals};
 use crate::statements::tell_statements;
 use crate::staying::Staying;
-use names::Scope;
+use declarations::Scope;
 use program::{Kind, Method, Resolved, Role};
 use source::Memory;
 use std::alloc::{AllocError, Global};
@@ -198,8 +197,8 @@ fn resolve_items<'a>(
 }
 
 /// The messages, structs and methods of a program in order of the text, in which each variable of the exchange heap is a number and
-/// each scalar is forgotten. A use means the variable in scope of its name; nothing is wrong with the names and kinds of the
-/// program, and these are its contracts, with their names resolved.
+/// each scalar is forgotten. A use means the variable in scope of its name. Nothing is wrong with the names of the items, and these
+/// are the contracts of the program, with their names resolved.
 ///
 /// `Memory` is answered where a growth was refused.
 pub fn resolve_methods(
@@ -211,7 +210,7 @@ pub fn resolve_methods(
     requires contracts { map contract_seen contracts.now.contracts.items
         ≡ resolved_contracts text.now (contracts_of (program_tree tree.now)) }
     requires room { length contracts.now.contracts.items < 2 ^ 32 }
-    requires clean { program_findings (program_of text.now tree.now) ≡ [] }
+    requires clean { items_findings (program_of text.now tree.now) ≡ [] }
     ensures messages { IfOk result (λ program. rows program.messages.items ≡ messages_told (program_of text.now tree.now)) }
     ensures structs { IfOk result (λ program. rows program.structs.items ≡ structs_told (program_of text.now tree.now)) }
     ensures resolved { IfOk result (λ program. map method_seen program.methods.items

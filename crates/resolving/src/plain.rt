@@ -5,7 +5,7 @@ ghost use Rattle.tree.specs.ExpressionTrees.{expression_tree, target_tree};
 ghost use Rattle.tree.specs.StatementTrees.{declare_tree, statement_tree};
 ghost use Rattle.tree.specs.Trees.{ItemTree};
 ghost use Rattle.tree.specs.Values.{value_tree};
-ghost use Rattle.names.specs.Program.{Program};
+ghost use Rattle.declarations.specs.Program.{Program};
 ghost use Rattle.resolving.specs.Around.{IsAround, program_in};
 ghost use Rattle.resolving.specs.Frames.{IsFrame};
 ghost use Rattle.resolving.specs.Kinds.{type_held};

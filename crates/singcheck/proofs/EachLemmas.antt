@@ -17,8 +17,8 @@ use Rattle.program.specs.Programs.{ProgramSeen}
 use Rattle.program.specs.declared.kind.Side.{Side}
 use Rattle.program.specs.declared.kind.Side.TheVariants.{Exp, Imp}
 use Rattle.names.specs.Findings.{program_findings}
-use Rattle.names.specs.Program.{Program}
-use Rattle.names.specs.Resolution.{resolved_contracts}
+use Rattle.declarations.specs.Program.{Program}
+use Rattle.declarations.specs.Resolution.{resolved_contracts}
 use Rattle.contracts.specs.Bounds.{IsBound, sign_to}
 use Rattle.contracts.specs.Conditions as conditions
 use Rattle.contracts.specs.Conditions.{AreExactly, IsSound}

@@ -5,7 +5,7 @@ use Rattle.std.specs.Option.{option_map}
 use Rattle.program.specs.Parts.{ContractSeen}
 use Rattle.program.specs.Programs.{ProgramSeen}
 use Rattle.program.specs.declared.kind.Side.{Side}
-use Rattle.names.specs.Program.{Program}
+use Rattle.declarations.specs.Program.{Program}
 use Rattle.resolving.specs.Brought.{messages_told}
 use Rattle.resolving.specs.Fields.{structs_told}
 use Rattle.resolving.specs.Methods.{methods_told}

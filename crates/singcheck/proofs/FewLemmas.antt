@@ -6,7 +6,7 @@ use Rattle.tree.specs.Programs.{definition, item, program}
 use Rattle.tree.specs.Spelling.{optional, word}
 use Rattle.tree.specs.Trees.{ContractTree, DefinitionTree, Contract, Struct, Class, ItemTree, contract_of, contracts_of}
 use Rattle.program.specs.Parts.{ContractSeen}
-use Rattle.names.specs.Resolution.{each_behind, resolved_contracts}
+use Rattle.declarations.specs.Resolution.{each_behind, resolved_contracts}
 
 -- a contract has a symbol of its own
 in_definition : (d : DefinitionTree) → length (contract_of d) ≤ length (definition d)

@@ -4,8 +4,8 @@ use Rattle.std.specs.Prelude.{All, slice_get}
 use Rattle.std.proofs.lemmas.List.Elements.{All-head, All-tail}
 use Rattle.tree.specs.Trees.{contracts_of}
 use Rattle.names.specs.Findings.{program_findings}
-use Rattle.names.specs.Program.{Program}
-use Rattle.names.specs.Resolution.{resolved_contracts}
+use Rattle.declarations.specs.Program.{Program}
+use Rattle.declarations.specs.Resolution.{resolved_contracts}
 use Rattle.program.specs.Lists.{Each}
 use Rattle.program.specs.Methods.{MethodSeen}
 use Rattle.program.specs.Parts.{ContractSeen, IsWhole}

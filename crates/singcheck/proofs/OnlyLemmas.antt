@@ -20,7 +20,7 @@ use Rattle.tree.specs.Trees.{ItemTree, contracts_of}
 use Rattle.program.specs.declared.contract.Sign.{Sign}
 use Rattle.names.specs.Findings.{program_findings}
 use Rattle.program.specs.Parts.{ContractSeen}
-use Rattle.names.specs.Resolution.{resolved_contracts}
+use Rattle.declarations.specs.Resolution.{resolved_contracts}
 use Rattle.program.specs.declared.contract.Edge.{Edge}
 use Rattle.program.specs.declared.number.StateId.{StateId}
 use Rattle.contracts.specs.Bounds.{IsBound}

@@ -6,7 +6,7 @@ use Rattle.source.specs.Findings.{FindingParts, finding_parts}
 use Rattle.source.specs.declared.finding.Finding.{Finding}
 use Rattle.tree.specs.Trees.{ItemTree}
 use Rattle.program.specs.Parts.{ContractSeen}
-use Rattle.names.specs.Program.{Program}
+use Rattle.declarations.specs.Program.{Program}
 use Rattle.names.specs.Resolving.{AreAll, Explains}
 use Rattle.names.specs.declared.fault.NameFaults.{NameFaults}
 use Rattle.names.specs.declared.fault.NameFaults.TheVariants as faults

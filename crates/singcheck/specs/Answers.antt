@@ -18,7 +18,7 @@ use Rattle.tree.specs.Trees.{ItemTree, contracts_of}
 use Rattle.program.specs.declared.kind.Side.TheVariants.{Exp, Imp}
 use Rattle.names.specs.Findings.{program_findings}
 use Rattle.program.specs.Parts.{ContractSeen}
-use Rattle.names.specs.Resolution.{resolved_contracts}
+use Rattle.declarations.specs.Resolution.{resolved_contracts}
 use Rattle.contracts.specs.Bounds.{IsBound, sign_to}
 use Rattle.contracts.specs.Conditions as conditions
 use Rattle.contracts.specs.Conditions.{AreExactly, IsSound}

@@ -5,7 +5,7 @@ use Rattle.source.specs.Findings.{FindingParts}
 use Rattle.tree.specs.Trees.{ItemTree, contracts_of}
 use Rattle.names.specs.Findings.{program_findings}
 use Rattle.program.specs.Parts.{ContractSeen}
-use Rattle.names.specs.Resolution.{resolved_contracts}
+use Rattle.declarations.specs.Resolution.{resolved_contracts}
 use Rattle.contracts.specs.Conditions.{AreExactly, IsSound}
 use Rattle.program.specs.Programs.{ProgramSeen}
 use Rattle.resolving.specs.Brought.{messages_told}

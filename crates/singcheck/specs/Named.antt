@@ -3,7 +3,7 @@ use Rattle.std.specs.Prelude.{◌≡◌, ◌<◌, ◌≤◌, ◌^◌, ℕ, List,
 use Rattle.source.specs.Findings.{FindingParts, finding_parts}
 use Rattle.tree.specs.Trees.{ItemTree, contracts_of}
 use Rattle.names.specs.Findings.{program_findings}
-use Rattle.names.specs.Resolution.{resolved_contracts}
+use Rattle.declarations.specs.Resolution.{resolved_contracts}
 use Rattle.program.specs.Parts.{ContractSeen, IsWhole}
 use Rattle.program.specs.Programs.{ProgramSeen, contracts_seen, program_seen}
 use Rattle.program.specs.declared.limits.TheConstants.{MOST_METHODS}

@@ -3,7 +3,7 @@ use Rattle.std.specs.Prelude.{◌≡◌, ◌≢◌, ℕ, List, [], ◌∷◌, �
 use Rattle.std.specs.List.{flat_map}
 use Rattle.source.specs.declared.token.Span.{Span}
 use Rattle.tree.specs.Trees.{DefinitionTree, Struct, Class, ItemTree, MethodTree}
-use Rattle.names.specs.Resolution.{printed}
+use Rattle.declarations.specs.Resolution.{printed}
 use Rattle.tables.specs.Words.{word_at}
 use Rattle.program.specs.Lists.{Each}
 use Rattle.program.specs.Programs.{ProgramSeen}

@@ -8,12 +8,12 @@ use Rattle.tree.specs.Expressions.{ExpressionTree}
 use Rattle.tree.specs.declared.class.Parameter.{Parameter}
 use Rattle.tree.specs.declared.contract.Param.{Param}
 use Rattle.names.specs.Expressions.{kind_of, place_of, held, whole_findings}
-use Rattle.names.specs.Kinds.{agree, alike, is_block, type_kind, type_unknown, unless}
-use Rattle.names.specs.Program.{Program}
+use Rattle.declarations.specs.Kinds.{agree, alike, is_block, type_kind, type_unknown, unless}
+use Rattle.declarations.specs.Program.{Program}
 use Rattle.names.specs.Shapes.{shape}
 use Rattle.names.specs.Values.{argument_findings, asked_findings, parameter_kinds}
 use Rattle.names.specs.Variables as names
-use Rattle.names.specs.declared.kinds as declared
+use Rattle.declarations.specs.declared.kinds as declared
 use Rattle.program.specs.Methods.{VariableSeen}
 use Rattle.program.specs.declared.call.Argument.{Argument}
 use Rattle.program.specs.declared.kind.Kind.{Kind}

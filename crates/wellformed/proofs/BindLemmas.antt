@@ -5,12 +5,13 @@ use Rattle.source.specs.declared.token.Span.{Span}
 use Rattle.tree.specs.declared.statement as made
 use Rattle.tree.specs.declared.types as type_nodes
 use Rattle.tree.specs.declared.contract.Param.{Param}
-use Rattle.names.specs.Cases.{bind_turn, binds_turn, brought_kind, typed_turn}
-use Rattle.names.specs.Kinds.{agree, is_heap, type_kind, type_unknown, unless}
-use Rattle.names.specs.Program.{Program}
+use Rattle.names.specs.Cases.{bind_turn, binds_turn, typed_turn}
+use Rattle.declarations.specs.Kinds.{brought_kind}
+use Rattle.declarations.specs.Kinds.{agree, is_heap, type_kind, type_unknown, unless}
+use Rattle.declarations.specs.Program.{Program}
 use Rattle.names.specs.Variables as names
 use Rattle.names.specs.Variables.{declared_variable}
-use Rattle.names.specs.declared.kinds.Kind.{Kind}
+use Rattle.declarations.specs.declared.kinds.Kind.{Kind}
 use Rattle.program.specs.Methods.{VariableSeen}
 use Rattle.program.specs.declared.kind as held
 use Rattle.program.specs.declared.method.Role.TheVariants.{Local}

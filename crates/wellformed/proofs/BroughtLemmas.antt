@@ -8,13 +8,13 @@ use Rattle.tree.specs.declared.statement as made
 use Rattle.tree.specs.declared.types as type_nodes
 use Rattle.tree.specs.declared.contract.Param.{Param}
 use Rattle.names.specs.Cases.{bind_turn, binds_turn, typed_turn}
-use Rattle.names.specs.Declarations.{messages_of}
-use Rattle.names.specs.Kinds.{agree, alike, is_block, type_kind, type_unknown, unless}
-use Rattle.names.specs.Program.{Program}
-use Rattle.names.specs.Resolution.{resolved_contracts}
+use Rattle.declarations.specs.Declarations.{messages_of}
+use Rattle.declarations.specs.Kinds.{agree, alike, is_block, type_kind, type_unknown, unless}
+use Rattle.declarations.specs.Program.{Program}
+use Rattle.declarations.specs.Resolution.{resolved_contracts}
 use Rattle.names.specs.Variables as names
 use Rattle.tables.specs.Words.{word_at}
-use Rattle.names.specs.declared.kinds.Kind.{Kind}
+use Rattle.declarations.specs.declared.kinds.Kind.{Kind}
 use Rattle.program.specs.Methods.{VariableSeen}
 use Rattle.program.specs.declared.kind as held
 use Rattle.program.specs.declared.method.Role.TheVariants.{Local}

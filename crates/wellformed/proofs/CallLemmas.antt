@@ -9,11 +9,12 @@ use Rattle.tree.specs.Trees.{ClassTree, MethodTree}
 use Rattle.tree.specs.Values.{CallTree}
 use Rattle.tree.specs.declared.types as tree
 use Rattle.names.specs.Expressions.{held, variable_findings}
-use Rattle.names.specs.Found.{unknown}
-use Rattle.names.specs.Kinds.{unless}
-use Rattle.names.specs.Program.{Program, Numbered, as_class, class_named, item_at}
+use Rattle.declarations.specs.Found.{unknown}
+use Rattle.declarations.specs.Kinds.{unless}
+use Rattle.declarations.specs.Program.{Program, Numbered, as_class, class_named, item_at}
 use Rattle.names.specs.Shapes.{shape}
-use Rattle.names.specs.Values.{argument_findings, call_findings, class_findings, class_meant, front_findings, is_alone, member_findings, method_findings, method_named, number_of_arguments, parameter_kinds, result_fits, start_findings}
+use Rattle.names.specs.Values.{argument_findings, call_findings, class_findings, class_meant, front_findings, is_alone, member_findings, method_findings, number_of_arguments, parameter_kinds, result_fits, start_findings}
+use Rattle.declarations.specs.Named.{method_named}
 use Rattle.names.specs.Variables as names
 use Rattle.names.specs.Variables.{variable_named}
 use Rattle.program.specs.declared.statement.Mention.{Mention}

@@ -13,12 +13,12 @@ use Rattle.names.specs.Bodies.{Surroundings, case_turn, cases_turn, head_of, hea
 use Rattle.names.specs.Cases.{Head, awaits_closed, endpoint_head_findings, head_findings, is_closed, kind_head_findings, lack_findings, lacks_closed, names_endpoint, other_awaited_findings, same_name}
 use Rattle.names.specs.Expressions.{InScope, held, meant, variable_findings}
 use Rattle.tables.specs.Firsts.{first_of}
-use Rattle.names.specs.Found.{FindingParts}
-use Rattle.names.specs.Program.{Program}
+use Rattle.declarations.specs.Found.{FindingParts}
+use Rattle.declarations.specs.Program.{Program}
 use Rattle.names.specs.Variables as names
 use Rattle.tables.specs.Words.{same_word, word_at, words_at}
-use Rattle.names.specs.declared.kinds.Kind.{Kind}
-use Rattle.names.specs.declared.kinds.Kind.TheVariants as kind
+use Rattle.declarations.specs.declared.kinds.Kind.{Kind}
+use Rattle.declarations.specs.declared.kinds.Kind.TheVariants as kind
 use Rattle.program.specs.Methods.{VariableSeen}
 use Rattle.resolving.specs.Locals.{Frame, Local, mention_of}
 use Rattle.resolving.specs.Told.{Staying, behind_case, case_endpoint, case_told, cases_told}

@@ -10,13 +10,13 @@ use Rattle.tree.specs.declared.types as type_nodes
 use Rattle.program.specs.declared.kind.Side.{Side}
 use Rattle.names.specs.Bodies.{channel_findings, ends_findings, is_end_of, new_ends_findings, same_end}
 use Rattle.names.specs.Expressions.{held, meant, variable_findings}
-use Rattle.names.specs.Kinds.{is_block, is_silent, unless}
+use Rattle.declarations.specs.Kinds.{is_block, is_silent, unless}
 use Rattle.program.specs.Kinds.{same_side}
-use Rattle.names.specs.Program.{Numbered, Program}
-use Rattle.names.specs.Program as items
+use Rattle.declarations.specs.Program.{Numbered, Program}
+use Rattle.declarations.specs.Program as items
 use Rattle.names.specs.Variables as names
-use Rattle.names.specs.declared.kinds as declared
-use Rattle.names.specs.declared.kinds.Kind.TheVariants as kind
+use Rattle.declarations.specs.declared.kinds as declared
+use Rattle.declarations.specs.declared.kinds.Kind.TheVariants as kind
 use Rattle.program.specs.declared.kind.Kind.{Kind}
 use Rattle.program.specs.declared.kind.Kind.TheVariants.{Endpoint}
 use Rattle.program.specs.declared.statement.Action.TheVariants as does

@@ -7,13 +7,13 @@ use Rattle.std.specs.Option.{option_map_or}
 use Rattle.std.specs.Prelude.{Option, None, Some, codes, if◌then◌else◌, option_and_then, option_map, slice_get}
 use Rattle.source.specs.declared.token.Span.{Span}
 use Rattle.tree.specs.Trees.{Class, Contract, ContractTree, DefinitionTree, ItemTree, MessageTree, Struct, contract_of, contracts_of}
-use Rattle.names.specs.Declarations.{messages_of, names_of_messages, states_of}
+use Rattle.declarations.specs.Declarations.{messages_of, names_of_messages, states_of}
 use Rattle.tables.specs.Firsts.{first_of}
 use Rattle.program.specs.Parts.{StateParts, ContractSeen}
-use Rattle.names.specs.Places.{message_at, message_place, state_place}
-use Rattle.names.specs.Program.{Program, as_contract, item_at}
-use Rattle.names.specs.Resolution.{each_behind, message_count, messages_from, named_state, numbered_message, numbered_state, resolved_contract, state_count}
-use Rattle.names.specs.Values.{message_written, sent_message}
+use Rattle.declarations.specs.Places.{message_at, message_place, state_place}
+use Rattle.declarations.specs.Program.{Program, as_contract, item_at}
+use Rattle.declarations.specs.Resolution.{each_behind, message_count, messages_from, named_state, numbered_message, numbered_state, resolved_contract, state_count}
+use Rattle.declarations.specs.Named.{message_written, sent_message}
 use Rattle.tables.specs.Words.{same_word, word_at, words_at}
 use Rattle.program.specs.declared.number.MessageId.{MessageId}
 use Rattle.resolving.specs.Brought.{brought, messages_told}

@@ -8,14 +8,14 @@ use Rattle.tree.specs.declared.class.Field.{Field}
 use Rattle.tree.specs.declared.statement as made
 use Rattle.tree.specs.declared.types as type_nodes
 use Rattle.names.specs.Bodies.{exchange_findings, exchanged_kind, holder_findings}
-use Rattle.names.specs.Declarations.{first_among}
+use Rattle.declarations.specs.Declarations.{first_among}
 use Rattle.names.specs.Expressions.{field_findings, field_kind, held, meant, struct_field_kind, variable_findings}
-use Rattle.names.specs.Found.{unknown}
-use Rattle.names.specs.Kinds.{agree, is_block, is_silent, type_kind, type_unknown, unless}
-use Rattle.names.specs.Program.{Program, as_struct, item_at}
+use Rattle.declarations.specs.Found.{unknown}
+use Rattle.declarations.specs.Kinds.{agree, is_block, is_silent, type_kind, type_unknown, unless}
+use Rattle.declarations.specs.Program.{Program, as_struct, item_at}
 use Rattle.names.specs.Variables as names
-use Rattle.names.specs.declared.kinds as declared
-use Rattle.names.specs.declared.kinds.Kind.TheVariants as kind
+use Rattle.declarations.specs.declared.kinds as declared
+use Rattle.declarations.specs.declared.kinds.Kind.TheVariants as kind
 use Rattle.program.specs.Lists.{Each}
 use Rattle.program.specs.Methods.{VariableSeen}
 use Rattle.program.specs.Scopes.{IsInScope}

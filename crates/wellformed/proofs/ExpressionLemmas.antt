@@ -12,15 +12,16 @@ use Rattle.tree.specs.declared.class as made
 use Rattle.tree.specs.declared.types as type_nodes
 use Rattle.tree.specs.declared.types.Type.TheVariants as type
 use Rattle.program.specs.declared.kind.Scalar.TheVariants as scalar
-use Rattle.names.specs.Expressions.{kind_of, place_of, held, meant, expression_findings, whole_findings, field_kind, field_findings, field_named, struct_field_kind, is_length, is_owning, owns, element_kind, element_findings, variable_findings, mention_findings, asked_number, sign_asked, left_asked, right_asked, signed_kind, joined_kind}
-use Rattle.names.specs.Found.{unknown}
-use Rattle.names.specs.Kinds.{is_block, is_heap, is_number, is_truth, is_unknown, type_kind, unless}
-use Rattle.names.specs.Program.{Program, Numbered, as_struct, item_at}
+use Rattle.names.specs.Expressions.{kind_of, place_of, held, meant, expression_findings, whole_findings, field_kind, field_findings, struct_field_kind, is_length, is_owning, owns, element_kind, element_findings, variable_findings, mention_findings, asked_number, sign_asked, left_asked, right_asked, signed_kind, joined_kind}
+use Rattle.declarations.specs.Named.{field_named}
+use Rattle.declarations.specs.Found.{unknown}
+use Rattle.declarations.specs.Kinds.{is_block, is_heap, is_number, is_truth, is_unknown, type_kind, unless}
+use Rattle.declarations.specs.Program.{Program, Numbered, as_struct, item_at}
 use Rattle.names.specs.Shapes as shapes
 use Rattle.names.specs.Shapes.{Shape, Sign, shape, joined, joint_of, atom_shape}
 use Rattle.names.specs.Variables as names
-use Rattle.names.specs.declared.kinds as declared
-use Rattle.names.specs.declared.kinds.Kind.TheVariants as kind
+use Rattle.declarations.specs.declared.kinds as declared
+use Rattle.declarations.specs.declared.kinds.Kind.TheVariants as kind
 use Rattle.program.specs.Methods.{VariableSeen}
 use Rattle.program.specs.declared.statement.Mention.{Mention}
 use Rattle.resolving.specs.Locals.{Frame, mention}

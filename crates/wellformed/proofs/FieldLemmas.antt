@@ -14,14 +14,14 @@ use Rattle.tree.specs.declared.item.Access.{Access}
 use Rattle.tree.specs.declared.types as type_nodes
 use Rattle.tree.specs.declared.types.Type.TheVariants as type
 use Rattle.names.specs.Findings.{definition_findings, program_findings}
-use Rattle.names.specs.Found.{FindingParts, limit_passed}
-use Rattle.names.specs.Kinds.{is_heap, type_kind, type_unknown}
-use Rattle.names.specs.Listed.{past_limit, twice_among}
-use Rattle.names.specs.Methods.{struct_findings}
-use Rattle.names.specs.Program.{Program, as_struct, item_at}
-use Rattle.names.specs.Resolution.{resolved_contracts}
-use Rattle.names.specs.Values.{owning_fields}
-use Rattle.names.specs.declared.kinds as names
+use Rattle.declarations.specs.Found.{FindingParts, limit_passed}
+use Rattle.declarations.specs.Kinds.{is_heap, type_kind, type_unknown}
+use Rattle.declarations.specs.Listed.{past_limit, twice_among}
+use Rattle.declarations.specs.ItemFindings.{struct_findings}
+use Rattle.declarations.specs.Program.{Program, as_struct, item_at}
+use Rattle.declarations.specs.Resolution.{resolved_contracts}
+use Rattle.declarations.specs.Owning.{owning_fields}
+use Rattle.declarations.specs.declared.kinds as names
 use Rattle.program.specs.Lists.{Each}
 use Rattle.program.specs.WellFormed.{AreFields, IsKind, field_kinds}
 use Rattle.program.specs.declared.kind as held

@@ -2,8 +2,8 @@
 use Rattle.std.proofs.Common.{◌≡◌, ◌==◌, Bool, true, false, List, [], ◌∷◌, length, if◌then◌else◌, refl}
 use Rattle.std.proofs.lemmas.Bool.{eqb-true}
 use Rattle.source.specs.declared.place.Place.{Place}
-use Rattle.names.specs.Found.{FindingParts}
-use Rattle.names.specs.Kinds.{unless}
+use Rattle.declarations.specs.Found.{FindingParts}
+use Rattle.declarations.specs.Kinds.{unless}
 use Rattle.names.specs.Values.{number_of_arguments, wrong_number}
 
 pub unless_none : (well : Bool) (place : Place) → unless well place ≡ [] → well ≡ true

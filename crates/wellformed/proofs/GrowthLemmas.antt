@@ -8,10 +8,10 @@ use Rattle.tree.specs.StatementTrees.{StatementTree, StatementTrees, BlockTree, 
 use Rattle.tree.specs.declared.statement as made
 use Rattle.tree.specs.declared.contract as contract_nodes
 use Rattle.tree.specs.declared.types as type_nodes
-use Rattle.names.specs.Cases.{brought_kind}
-use Rattle.names.specs.Kinds.{type_kind}
-use Rattle.names.specs.Program.{Program}
-use Rattle.names.specs.declared.kinds.Kind.{Kind}
+use Rattle.declarations.specs.Kinds.{brought_kind}
+use Rattle.declarations.specs.Kinds.{type_kind}
+use Rattle.declarations.specs.Program.{Program}
+use Rattle.declarations.specs.declared.kinds.Kind.{Kind}
 use Rattle.program.specs.Methods.{VariableSeen}
 use Rattle.program.specs.declared.kind as held
 use Rattle.program.specs.declared.method.Role.{Role}

@@ -10,16 +10,18 @@ use Rattle.tree.specs.declared.types as type_nodes
 use Rattle.program.specs.declared.kind.Side.{Side}
 use Rattle.names.specs.Bodies.{params_of_case}
 use Rattle.names.specs.Cases as cases
-use Rattle.names.specs.Cases.{Head, bound_params, closed_findings, endpoint_head_findings, head_findings, kind_head_findings, lack_findings, message_case_findings, twice_findings}
+use Rattle.names.specs.Cases.{Head, closed_findings, endpoint_head_findings, head_findings, kind_head_findings, lack_findings, message_case_findings, twice_findings}
+use Rattle.declarations.specs.Declarations.{bound_params}
 use Rattle.names.specs.Expressions.{held, meant, variable_findings}
-use Rattle.names.specs.Kinds.{is_block, type_unknown, unless}
-use Rattle.names.specs.Program.{Program, as_contract, item_at}
+use Rattle.declarations.specs.Kinds.{is_block, type_unknown, unless}
+use Rattle.declarations.specs.Program.{Program, as_contract, item_at}
 use Rattle.program.specs.Parts.{ContractSeen}
-use Rattle.names.specs.Values.{message_written, number_of_arguments, receives}
+use Rattle.declarations.specs.Named.{message_written}
+use Rattle.names.specs.Values.{number_of_arguments, receives}
 use Rattle.names.specs.Variables as names
 use Rattle.tables.specs.Words.{word_at}
-use Rattle.names.specs.declared.kinds as declared
-use Rattle.names.specs.declared.kinds.Kind.TheVariants as kind
+use Rattle.declarations.specs.declared.kinds as declared
+use Rattle.declarations.specs.declared.kinds.Kind.TheVariants as kind
 use Rattle.program.specs.Methods.{VariableSeen}
 use Rattle.program.specs.declared.statement.Awaited.TheVariants.{Message, Closed}
 use Rattle.program.specs.declared.number.VarId.{VarId}

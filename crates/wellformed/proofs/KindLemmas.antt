@@ -12,13 +12,13 @@ use Rattle.program.specs.declared.kind.Scalar.TheVariants as scalar
 use Rattle.program.specs.declared.kind.Side.{Side}
 use Rattle.program.specs.declared.kind.Side.TheVariants as side
 use Rattle.tree.specs.declared.types.Type.TheVariants as type
-use Rattle.names.specs.Kinds.{agree, alike, counts, is_silent, is_block, is_heap, is_unknown, type_kind, type_unknown}
+use Rattle.declarations.specs.Kinds.{agree, alike, counts, is_silent, is_block, is_heap, is_unknown, type_kind, type_unknown}
 use Rattle.program.specs.Kinds.{same_scalar, same_side}
-use Rattle.names.specs.Program.{Program, as_contract, as_struct, contract_named, item_at, struct_named}
+use Rattle.declarations.specs.Program.{Program, as_contract, as_struct, contract_named, item_at, struct_named}
 use Rattle.program.specs.Parts.{ContractSeen}
-use Rattle.names.specs.Resolution.{resolved_contracts}
-use Rattle.names.specs.declared.kinds as declared
-use Rattle.names.specs.declared.kinds.Kind.TheVariants as kind
+use Rattle.declarations.specs.Resolution.{resolved_contracts}
+use Rattle.declarations.specs.declared.kinds as declared
+use Rattle.declarations.specs.declared.kinds.Kind.TheVariants as kind
 use Rattle.program.specs.declared.number.StateId.{StateId}
 use Rattle.program.specs.declared.kind.Kind.{Kind}
 use Rattle.program.specs.declared.kind.Kind.TheVariants as holds

@@ -3,14 +3,14 @@ use Rattle.std.proofs.Common.{◌≡◌, ℕ, ◌<◌, true, false, List, [], �
 use Rattle.std.proofs.lemmas.Option.{option_and_then_some, slice_get_within}
 use Rattle.std.specs.Prelude.{Option, None, Some, is_some, slice_get, option_map, option_and_then, IsSomeAnd}
 use Rattle.source.specs.declared.token.Span.{Span}
-use Rattle.names.specs.Declarations.{first_among}
+use Rattle.declarations.specs.Declarations.{first_among}
 use Rattle.names.specs.Expressions.{held, meant, variable_findings}
-use Rattle.names.specs.Found.{unknown}
-use Rattle.names.specs.Kinds.{is_block}
-use Rattle.names.specs.Program.{Program}
+use Rattle.declarations.specs.Found.{unknown}
+use Rattle.declarations.specs.Kinds.{is_block}
+use Rattle.declarations.specs.Program.{Program}
 use Rattle.names.specs.Variables as names
 use Rattle.names.specs.Variables.{variable_named}
-use Rattle.names.specs.declared.kinds as declared
+use Rattle.declarations.specs.declared.kinds as declared
 use Rattle.program.specs.Methods.{VariableSeen}
 use Rattle.program.specs.Scopes.{IsInScope}
 use Rattle.program.specs.declared.number.VarId.{VarId}

@@ -9,13 +9,13 @@ use Rattle.tree.specs.declared.class.Parameter.{Parameter}
 use Rattle.tree.specs.declared.types as tree
 use Rattle.names.specs.Bodies.{Surroundings, block_turn}
 use Rattle.names.specs.Findings.{program_findings}
-use Rattle.names.specs.Kinds.{is_heap, type_kind, type_unknown}
+use Rattle.declarations.specs.Kinds.{is_heap, type_kind, type_unknown}
 use Rattle.names.specs.Methods.{parameter_turn, parameters_turn, result_unknown}
-use Rattle.names.specs.Program.{Program, as_class, item_at}
+use Rattle.declarations.specs.Program.{Program, as_class, item_at}
 use Rattle.program.specs.Parts.{ContractSeen}
-use Rattle.names.specs.Resolution.{resolved_contracts}
+use Rattle.declarations.specs.Resolution.{resolved_contracts}
 use Rattle.names.specs.Variables as names
-use Rattle.names.specs.declared.kinds as declared_kinds
+use Rattle.declarations.specs.declared.kinds as declared_kinds
 use Rattle.program.specs.Methods.{VariableSeen}
 use Rattle.program.specs.declared.kind.Kind.{Kind}
 use Rattle.program.specs.declared.method.Role.{Role}

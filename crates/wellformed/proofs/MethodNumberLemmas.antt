@@ -6,10 +6,10 @@ use Rattle.std.specs.List.{enumerate_from, flat_map}
 use Rattle.std.specs.Prelude.{Option, None, Some, option_map, option_and_then, slice_get}
 use Rattle.source.specs.declared.token.Span.{Span}
 use Rattle.tree.specs.Trees.{ItemTree, DefinitionTree, Contract, Struct, Class, ClassTree, ContractTree, MethodTree, StructTree}
-use Rattle.names.specs.Declarations.{first_among}
-use Rattle.names.specs.Methods.{methods_in}
-use Rattle.names.specs.Program.{Program, Numbered, as_class, as_contract, as_struct, class_named, item_at, item_names}
-use Rattle.names.specs.Values.{method_named}
+use Rattle.declarations.specs.Declarations.{first_among}
+use Rattle.declarations.specs.ItemFindings.{methods_in}
+use Rattle.declarations.specs.Program.{Program, Numbered, as_class, as_contract, as_struct, class_named, item_at, item_names}
+use Rattle.declarations.specs.Named.{method_named}
 use Rattle.program.specs.Methods.{MethodSeen}
 use Rattle.resolving.specs.Callees.{Callee, all_methods, method_at, method_of, methods_before, numbered}
 use Rattle.resolving.specs.Methods.{item_told, methods_told, method_told}

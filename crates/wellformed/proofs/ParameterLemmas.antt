@@ -11,9 +11,9 @@ use Rattle.tree.specs.Trees.{MethodTree}
 use Rattle.tree.specs.declared.class.Parameter.{Parameter}
 use Rattle.tree.specs.declared.types as tree
 use Rattle.tree.specs.declared.types.Type.TheVariants as type
-use Rattle.names.specs.Kinds.{is_heap, type_unknown}
-use Rattle.names.specs.Program.{Program}
-use Rattle.names.specs.Values.{any_lent, is_lent}
+use Rattle.declarations.specs.Kinds.{is_heap, type_unknown}
+use Rattle.declarations.specs.Program.{Program}
+use Rattle.declarations.specs.Owning.{any_lent, is_lent}
 use Rattle.program.specs.Methods.{VariableSeen}
 use Rattle.program.specs.declared.kind.Kind.{Kind}
 use Rattle.program.specs.declared.method.Role.{Role}

@@ -12,13 +12,13 @@ use Rattle.tree.specs.Values.{ValueTree}
 use Rattle.tree.specs.declared.types as tree
 use Rattle.names.specs.Bodies.{given_findings}
 use Rattle.names.specs.Expressions.{asked_number, expression_findings, held, meant, place_of, element_findings, element_kind, field_findings, kind_of, number_findings, owns, variable_findings}
-use Rattle.names.specs.Kinds.{is_block, type_kind, type_unknown, unless}
-use Rattle.names.specs.Program.{Program}
+use Rattle.declarations.specs.Kinds.{is_block, type_kind, type_unknown, unless}
+use Rattle.declarations.specs.Program.{Program}
 use Rattle.names.specs.Shapes.{shape}
 use Rattle.names.specs.Values.{length_findings, target_findings, target_kind, value_findings}
 use Rattle.names.specs.Variables as names
 use Rattle.tables.specs.Words.{word_at}
-use Rattle.names.specs.declared.kinds as declared
+use Rattle.declarations.specs.declared.kinds as declared
 use Rattle.program.specs.Methods.{VariableSeen}
 use Rattle.program.specs.declared.kind.Kind.{Kind}
 use Rattle.program.specs.declared.method.Role.{Role}

@@ -4,15 +4,17 @@ use Rattle.std.specs.List.{flat_map}
 use Rattle.std.specs.Prelude.{Option, None, Some, option_and_then, slice_get}
 use Rattle.tree.specs.Trees.{DefinitionTree, Class, ClassTree, Contract, ContractTree, MessageTree, MethodTree}
 use Rattle.tree.specs.declared.class.Parameter.{Parameter}
-use Rattle.names.specs.ContractFindings.{contract_findings, message_findings, state_findings}
-use Rattle.names.specs.Declarations.{messages_of, names_of_messages, names_of_states, states_of}
-use Rattle.names.specs.Findings.{counted_findings, definition_findings, program_findings}
+use Rattle.declarations.specs.ContractFindings.{contract_findings, message_findings, state_findings}
+use Rattle.declarations.specs.Declarations.{messages_of, names_of_messages, names_of_states, states_of}
+use Rattle.declarations.specs.ItemFindings.{counted_findings}
+use Rattle.names.specs.Findings.{definition_findings, program_findings}
 use Rattle.tables.specs.Firsts.{first_of}
-use Rattle.names.specs.Kinds.{is_heap, type_kind, type_unknown}
-use Rattle.names.specs.Listed.{twice_among}
-use Rattle.names.specs.Methods.{items_findings, method_turn, parameter_turn, parameters_turn, result_unknown}
-use Rattle.names.specs.Program.{Program, as_class, as_contract, item_at}
-use Rattle.names.specs.Values.{message_written}
+use Rattle.declarations.specs.Kinds.{is_heap, type_kind, type_unknown}
+use Rattle.declarations.specs.Listed.{twice_among}
+use Rattle.declarations.specs.ItemFindings.{items_findings}
+use Rattle.names.specs.Methods.{method_turn, parameter_turn, parameters_turn, result_unknown}
+use Rattle.declarations.specs.Program.{Program, as_class, as_contract, item_at}
+use Rattle.declarations.specs.Named.{message_written}
 use Rattle.names.specs.Variables.{Frame, declared_variable}
 use Rattle.tables.specs.Words.{words_at}
 use Rattle.program.specs.Lists.{Each}

@@ -10,11 +10,11 @@ use Rattle.tree.specs.Values.{CallTree}
 use Rattle.tree.specs.declared.types as tree
 use Rattle.names.specs.Bodies.{return_findings, statement_turn}
 use Rattle.names.specs.Expressions.{whole_findings}
-use Rattle.names.specs.Kinds.{is_block, type_kind, unless}
+use Rattle.declarations.specs.Kinds.{is_block, type_kind, unless}
 use Rattle.names.specs.Methods.{result_unknown}
-use Rattle.names.specs.Program.{Program}
+use Rattle.declarations.specs.Program.{Program}
 use Rattle.names.specs.Shapes.{shape}
-use Rattle.names.specs.Values.{any_lent, can_start}
+use Rattle.declarations.specs.Owning.{any_lent, can_start}
 use Rattle.names.specs.Variables as names
 use Rattle.program.specs.Statements as seen
 use Rattle.program.specs.declared.statement.Action.TheVariants as does

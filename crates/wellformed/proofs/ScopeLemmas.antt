@@ -3,14 +3,14 @@ use Rattle.std.proofs.Common.{◌≡◌, ◌≢◌, ◌==◌, ◌+◌, ℕ, ◌<
 use Rattle.std.proofs.lemmas.Option.{slice_get-map}
 use Rattle.std.specs.Prelude.{Option, None, Some, option_and_then, option_map, slice_get, IfSome, IsSomeAnd}
 use Rattle.source.specs.declared.token.Span.{Span}
-use Rattle.names.specs.Declarations.{first_among}
-use Rattle.names.specs.Program.{Program}
+use Rattle.declarations.specs.Declarations.{first_among}
+use Rattle.declarations.specs.Program.{Program}
 use Rattle.names.specs.Variables as names
-use Rattle.names.specs.Found.{limit_passed}
-use Rattle.names.specs.Kinds.{is_block}
+use Rattle.declarations.specs.Found.{limit_passed}
+use Rattle.declarations.specs.Kinds.{is_block}
 use Rattle.names.specs.Variables.{variable_named, declared_variable, past_heap}
-use Rattle.names.specs.declared.kinds.Kind.TheVariants as kinds
-use Rattle.names.specs.declared.kinds.Kind.{Kind}
+use Rattle.declarations.specs.declared.kinds.Kind.TheVariants as kinds
+use Rattle.declarations.specs.declared.kinds.Kind.{Kind}
 use Rattle.program.specs.Methods.{VariableSeen}
 use Rattle.program.specs.declared.kind as held
 use Rattle.program.specs.declared.method.Role.{Role}

@@ -11,17 +11,18 @@ use Rattle.tree.specs.declared.types as type_nodes
 use Rattle.program.specs.declared.kind.Side.{Side}
 use Rattle.names.specs.Expressions.{held, meant, variable_findings}
 use Rattle.names.specs.Findings.{program_findings}
-use Rattle.names.specs.Found.{unknown}
-use Rattle.names.specs.Kinds.{is_block, type_unknown, unless}
-use Rattle.names.specs.Program.{Program, as_contract, item_at}
+use Rattle.declarations.specs.Found.{unknown}
+use Rattle.declarations.specs.Kinds.{is_block, type_unknown, unless}
+use Rattle.declarations.specs.Program.{Program, as_contract, item_at}
 use Rattle.program.specs.Parts.{ContractSeen}
-use Rattle.names.specs.Resolution.{resolved_contracts}
+use Rattle.declarations.specs.Resolution.{resolved_contracts}
 use Rattle.names.specs.Shapes.{shape}
-use Rattle.names.specs.Values.{argument_findings, is_alone, message_findings, number_of_arguments, message_kinds, send_findings, message_written, sent_message, sends}
+use Rattle.names.specs.Values.{argument_findings, is_alone, message_findings, number_of_arguments, message_kinds, send_findings, sends}
+use Rattle.declarations.specs.Named.{message_written, sent_message}
 use Rattle.names.specs.Variables as names
 use Rattle.tables.specs.Words.{same_word, word_at}
-use Rattle.names.specs.declared.kinds as declared
-use Rattle.names.specs.declared.kinds.Kind.TheVariants as kind
+use Rattle.declarations.specs.declared.kinds as declared
+use Rattle.declarations.specs.declared.kinds.Kind.TheVariants as kind
 use Rattle.program.specs.Methods.{VariableSeen}
 use Rattle.program.specs.Statements.{SendSeen}
 use Rattle.program.specs.declared.statement.Mention.{Mention}

@@ -8,13 +8,13 @@ use Rattle.tree.specs.declared.class.Parameter.{Parameter}
 use Rattle.tree.specs.declared.types as tree
 use Rattle.names.specs.Expressions.{InScope}
 use Rattle.names.specs.Findings.{program_findings}
-use Rattle.names.specs.Kinds.{is_block}
+use Rattle.declarations.specs.Kinds.{is_block}
 use Rattle.names.specs.Methods.{result_unknown}
-use Rattle.names.specs.Program.{Program, as_class, as_contract, as_struct, item_at}
-use Rattle.names.specs.Resolution.{resolved_contracts}
+use Rattle.declarations.specs.Program.{Program, as_class, as_contract, as_struct, item_at}
+use Rattle.declarations.specs.Resolution.{resolved_contracts}
 use Rattle.names.specs.Variables as names
-use Rattle.names.specs.declared.kinds as declared
-use Rattle.names.specs.declared.kinds.Kind.TheVariants as kind
+use Rattle.declarations.specs.declared.kinds as declared
+use Rattle.declarations.specs.declared.kinds.Kind.TheVariants as kind
 use Rattle.program.specs.Methods.{VariableSeen}
 use Rattle.program.specs.declared.kind.Kind.{Kind}
 use Rattle.program.specs.declared.method.Role.{Role}

@@ -5,12 +5,12 @@ use Rattle.source.specs.declared.place.Place.{Place}
 use Rattle.tree.specs.StatementTrees as trees
 use Rattle.tree.specs.StatementTrees.{StatementTree, StatementTrees, BlockTree, TestTree, OtherTrees, CaseTree, CaseTrees, DeclareTree}
 use Rattle.names.specs.Bodies as bodies
-use Rattle.names.specs.Kinds.{is_heap, type_kind, type_unknown}
+use Rattle.declarations.specs.Kinds.{is_heap, type_kind, type_unknown}
 use Rattle.names.specs.Shapes.{shape}
 use Rattle.names.specs.Bodies.{Surroundings, block_turn, case_turn, cases_turn, others_turn, statement_turn, statements_turn, test_turn, head_of, heads_of}
 use Rattle.names.specs.Cases.{Head, binds_turn, head_findings}
 use Rattle.names.specs.Expressions.{truth_findings}
-use Rattle.names.specs.Program.{Program}
+use Rattle.declarations.specs.Program.{Program}
 use Rattle.names.specs.Values.{target_findings, target_kind, value_findings}
 use Rattle.names.specs.Variables as names
 use Rattle.resolving.specs.Binds.{binds_told}

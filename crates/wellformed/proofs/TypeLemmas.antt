@@ -5,11 +5,11 @@ use Rattle.std.specs.Prelude.{Option, None, Some, IsSomeAnd, if◌then◌else◌
 use Rattle.source.specs.declared.token.Span.{Span}
 use Rattle.tree.specs.Trees.{ContractTree, DefinitionTree, ItemTree, StructTree}
 use Rattle.program.specs.declared.kind.Side.{Side}
-use Rattle.names.specs.Declarations.{first_among, is_declared, names_of_states, states_of}
-use Rattle.names.specs.Found.{unknown}
-use Rattle.names.specs.Kinds.{endpoint_kind, endpoint_unknown, is_block, pointer_kind, pointer_unknown}
-use Rattle.names.specs.Program.{Numbered, Program, as_contract, as_struct, contract_named, item_at, item_names, struct_named}
-use Rattle.names.specs.declared.kinds.Kind.TheVariants as kind
+use Rattle.declarations.specs.Declarations.{first_among, is_declared, names_of_states, states_of}
+use Rattle.declarations.specs.Found.{unknown}
+use Rattle.declarations.specs.Kinds.{endpoint_kind, endpoint_unknown, is_block, pointer_kind, pointer_unknown}
+use Rattle.declarations.specs.Program.{Numbered, Program, as_contract, as_struct, contract_named, item_at, item_names, struct_named}
+use Rattle.declarations.specs.declared.kinds.Kind.TheVariants as kind
 use Rattle.wellformed.proofs.Standing.{IsKnown}
 
 -- an item of some kind has the number of its place

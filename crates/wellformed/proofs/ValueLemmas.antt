@@ -10,15 +10,16 @@ use Rattle.tree.specs.Trees.{ClassTree, MethodTree, StructTree}
 use Rattle.tree.specs.Values as values
 use Rattle.tree.specs.Values.{CallTree, MadeTree, NewTree, ValueTree}
 use Rattle.tree.specs.declared.types as tree
-use Rattle.names.specs.Kinds.{agree, alike, is_block, is_silent, pointer_kind, type_kind, unless}
+use Rattle.declarations.specs.Kinds.{agree, alike, is_block, is_silent, pointer_kind, type_kind, unless}
 use Rattle.names.specs.Methods.{result_unknown}
 use Rattle.names.specs.Findings.{program_findings}
-use Rattle.names.specs.Program.{Numbered, Program, as_struct, item_at, struct_named}
+use Rattle.declarations.specs.Program.{Numbered, Program, as_struct, item_at, struct_named}
 use Rattle.names.specs.Shapes.{shape}
-use Rattle.names.specs.Values.{argument_findings, fields_asked, made_findings, made_kind, new_findings, number_of_arguments, owning_fields, struct_made_findings, value_findings}
+use Rattle.names.specs.Values.{argument_findings, fields_asked, made_findings, made_kind, new_findings, number_of_arguments, struct_made_findings, value_findings}
+use Rattle.declarations.specs.Owning.{owning_fields}
 use Rattle.names.specs.Variables as names
-use Rattle.names.specs.declared.kinds as declared
-use Rattle.names.specs.declared.kinds.Kind.TheVariants as kind
+use Rattle.declarations.specs.declared.kinds as declared
+use Rattle.declarations.specs.declared.kinds.Kind.TheVariants as kind
 use Rattle.program.specs.declared.kind.Kind.{Kind}
 use Rattle.program.specs.declared.kind.Scalar.{Scalar}
 use Rattle.program.specs.Methods.{VariableSeen}

@@ -2,8 +2,8 @@
 
 ghost use Rattle.std.specs.Prelude.{◌≡◌, []};
 ghost use Rattle.names.specs.Findings.{program_findings};
-ghost use Rattle.names.specs.Program.{Program};
-ghost use Rattle.names.specs.Resolution.{resolved_contracts};
+ghost use Rattle.declarations.specs.Program.{Program};
+ghost use Rattle.declarations.specs.Resolution.{resolved_contracts};
 ghost use Rattle.program.specs.Lists.{Each};
 ghost use Rattle.program.specs.WellFormed.{AreWellFormed};
 ghost use Rattle.resolving.specs.Brought.{messages_told};

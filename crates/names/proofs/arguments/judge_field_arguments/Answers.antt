@@ -3,8 +3,8 @@ use Rattle.std.specs.Prelude.{OnOk}
 use Rattle.tree.specs.ExpressionTrees.{expression_tree}
 use Rattle.tree.specs.declared.class.Field.{Field}
 use Rattle.names.specs.Expressions.{InScope}
-use Rattle.names.specs.Found.{Adds}
-use Rattle.names.specs.Kinds.{type_kind}
+use Rattle.declarations.specs.Found.{Adds}
+use Rattle.declarations.specs.Kinds.{type_kind}
 use Rattle.names.specs.Shapes.{shape}
 use Rattle.names.specs.Values.{argument_findings}
 use Rattle.names.proofs.PendingLemmas.{enough_kinds}

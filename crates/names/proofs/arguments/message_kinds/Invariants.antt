@@ -1,7 +1,7 @@
 use Rattle.std.proofs.Common.{◌≡◌, map, take}
-use Rattle.names.specs.Kinds.{type_kind}
-use Rattle.names.specs.Program.{Program}
-use Rattle.names.specs.Scopes.{IsScope}
+use Rattle.declarations.specs.Kinds.{type_kind}
+use Rattle.declarations.specs.Program.{Program}
+use Rattle.declarations.specs.Scopes.{IsScope}
 use Rattle.names.proofs.arguments.message_kinds.Given as goal
 
 abbrev pub invariant-loop-parameter : goal.invariant-loop-parameter

@@ -1,8 +1,8 @@
 use Rattle.std.proofs.Common.{List, ℕ, ◌++◌, ◌∷◌, [], codes, subst}
 use Rattle.std.specs.Str.Lossy.{utf8_lossy}
 use Rattle.source.specs.declared.finding.Code.TheVariants.{N09}
-use Rattle.names.specs.Found.{Adds}
-use Rattle.names.proofs.AddLemmas.{adds_one}
+use Rattle.declarations.specs.Found.{Adds}
+use Rattle.declarations.proofs.AddLemmas.{adds_one}
 use Rattle.names.proofs.awaits.add_lacking.Goals as goal
 
 pub returns : goal.returns

@@ -1,10 +1,11 @@
 use Rattle.std.proofs.Common.{Bor, ◌++◌, sym, subst}
 use Rattle.std.specs.Prelude.{OnOk, option_map}
 use Rattle.tree.specs.declared.contract.Param.{Param}
-use Rattle.names.specs.Cases.{typed_turn, brought_kind, brings_heap}
-use Rattle.names.specs.Found.{Adds}
+use Rattle.names.specs.Cases.{typed_turn, brings_heap}
+use Rattle.declarations.specs.Kinds.{brought_kind}
+use Rattle.declarations.specs.Found.{Adds}
 use Rattle.names.specs.Frames.{Turned}
-use Rattle.names.specs.Kinds.{agree, is_heap, type_kind, type_unknown, unless}
+use Rattle.declarations.specs.Kinds.{agree, is_heap, type_kind, type_unknown, unless}
 use Rattle.names.specs.Variables.{declared_variable}
 use Rattle.names.proofs.TurnLemmas.{on_before}
 use Rattle.names.proofs.binds.judge_bind.Goals as goal
@@ -24,8 +25,8 @@ returns-in_ok-judge_bound_type-in-Some c = λ p f scope frame.
     subst (λ o. OnOk result (Turned text old new w (typed_turn p param name o f))) (sym c.in-Some.is)
     (on_before result text old mid new w (type_unknown p kind ++ unless (agree bound (brought_kind p param)) name.place) (declared_variable text name bound (is_heap kind) f)
     (subst (λ k. Adds old mid (type_unknown p kind ++ unless (agree bound k) name.place)) (c.brought_kind-brought.ensures p scope) (c.in_ok-judge_bound_type-in-Some.ensures p scope))
-    (subst (λ k. OnOk result (Turned text mid new w (declared_variable text name k (is_heap kind) f))) (c.kind_of_type-bound.ensures p scope)
-    (subst (λ b. OnOk result (Turned text mid new w (declared_variable text name c.kind_of_type-bound.result b f))) c.is_heap.ensures (c.declare_in.ensures p f scope frame))))
+    (subst (λ k. OnOk result (Turned text mid new w (declared_variable text name k (is_heap kind) f))) (c.kind-bound.ensures p scope)
+    (subst (λ b. OnOk result (Turned text mid new w (declared_variable text name c.kind-bound.result b f))) c.is_heap.ensures (c.declare_in.ensures p f scope frame))))
 
 pub returns-in-None : goal.returns-in-None
 returns-in-None c = λ p f scope frame.

@@ -1,8 +1,8 @@
 use Rattle.std.proofs.Common.{drop}
 use Rattle.names.specs.Cases.{binds_turn}
 use Rattle.names.specs.Frames.{IsFrame}
-use Rattle.names.specs.Program.{Program}
-use Rattle.names.specs.Scopes.{IsScope}
+use Rattle.declarations.specs.Program.{Program}
+use Rattle.declarations.specs.Scopes.{IsScope}
 use Rattle.names.specs.Variables.{Frame}
 use Rattle.names.proofs.TurnLemmas.{Ongoing}
 use Rattle.names.proofs.binds.judge_bound.Given as goal

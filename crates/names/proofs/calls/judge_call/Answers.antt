@@ -3,7 +3,7 @@ use Rattle.std.specs.Prelude.{OnOk}
 use Rattle.tree.specs.ExpressionTrees.{expression_tree}
 use Rattle.names.specs.Bodies.{scope_in, inside_of}
 use Rattle.names.specs.Expressions.{meant}
-use Rattle.names.specs.Found.{Adds}
+use Rattle.declarations.specs.Found.{Adds}
 use Rattle.names.specs.Shapes.{shape}
 use Rattle.names.specs.Values.{front_findings, member_findings}
 use Rattle.names.proofs.calls.judge_call.Goals as goal

@@ -2,11 +2,12 @@ use Rattle.std.proofs.Common.{map, sym, subst}
 use Rattle.std.specs.Prelude.{OnOk}
 use Rattle.tree.specs.ExpressionTrees.{expression_tree}
 use Rattle.names.specs.Expressions.{InScope}
-use Rattle.names.specs.Found.{Adds}
-use Rattle.names.specs.Program.{class_named}
-use Rattle.names.specs.Scopes.{AreMethods, IsCallee}
+use Rattle.declarations.specs.Found.{Adds}
+use Rattle.declarations.specs.Program.{class_named}
+use Rattle.declarations.specs.Scopes.{AreMethods, IsCallee}
 use Rattle.names.specs.Shapes.{shape}
-use Rattle.names.specs.Values.{class_findings, method_named}
+use Rattle.names.specs.Values.{class_findings}
+use Rattle.declarations.specs.Named.{method_named}
 use Rattle.names.proofs.PassLemmas.{class_lacks, classed}
 use Rattle.names.proofs.calls.judge_class.Goals as goal
 

@@ -3,8 +3,8 @@ use Rattle.std.specs.Prelude.{OnOk}
 use Rattle.tree.specs.ExpressionTrees.{expression_tree}
 use Rattle.tree.specs.Trees.{message_tree}
 use Rattle.names.specs.Expressions.{InScope}
-use Rattle.names.specs.Found.{Adds}
-use Rattle.names.specs.Kinds.{type_kind, unless}
+use Rattle.declarations.specs.Found.{Adds}
+use Rattle.declarations.specs.Kinds.{type_kind, unless}
 use Rattle.names.specs.Shapes.{shape}
 use Rattle.names.specs.Values.{argument_findings, number_of_arguments, message_kinds, is_alone, sends}
 use Rattle.names.proofs.PassLemmas.{on_adds}

@@ -2,7 +2,7 @@ use Rattle.std.proofs.Common.{map, sym, ap, ◌∙◌, subst}
 use Rattle.std.specs.Prelude.{OnOk}
 use Rattle.tree.specs.ExpressionTrees.{expression_tree}
 use Rattle.names.specs.Expressions.{InScope}
-use Rattle.names.specs.Found.{Adds}
+use Rattle.declarations.specs.Found.{Adds}
 use Rattle.names.specs.Frames.{IsFrame}
 use Rattle.names.specs.Shapes.{shape}
 use Rattle.names.specs.Values.{member_findings}

@@ -2,8 +2,8 @@ use Rattle.std.proofs.Common.{[], map, sym, subst}
 use Rattle.std.specs.Prelude.{OnOk}
 use Rattle.tree.specs.ExpressionTrees.{expression_tree}
 use Rattle.names.specs.Expressions.{InScope}
-use Rattle.names.specs.Found.{Adds}
-use Rattle.names.specs.Kinds.{is_silent, unless}
+use Rattle.declarations.specs.Found.{Adds}
+use Rattle.declarations.specs.Kinds.{is_silent, unless}
 use Rattle.names.specs.Shapes.{shape}
 use Rattle.names.specs.Values.{argument_findings}
 use Rattle.names.proofs.PassLemmas.{on_adds, no_send}

@@ -1,6 +1,6 @@
 use Rattle.std.proofs.Common.{◌∷◌, [], map, subst}
 use Rattle.tree.specs.ExpressionTrees.{expression_tree}
-use Rattle.names.specs.Found.{Adds, unknown}
+use Rattle.declarations.specs.Found.{Adds, unknown}
 use Rattle.names.specs.Shapes.{shape}
 use Rattle.names.specs.Values.{argument_findings}
 use Rattle.names.proofs.PassLemmas.{on_adds}

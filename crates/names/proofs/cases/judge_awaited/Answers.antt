@@ -2,9 +2,9 @@ use Rattle.std.proofs.Common.{sym, subst}
 use Rattle.std.specs.Prelude.{OnOk}
 use Rattle.names.specs.Cases.{awaited_findings, closed_findings, twice_findings}
 use Rattle.names.specs.Expressions.{InScope}
-use Rattle.names.specs.Found.{Adds}
+use Rattle.declarations.specs.Found.{Adds}
 use Rattle.names.specs.Heads.{case_head}
-use Rattle.names.specs.declared.kinds.Kind.TheVariants as kind
+use Rattle.declarations.specs.declared.kinds.Kind.TheVariants as kind
 use Rattle.names.proofs.HeadWords.{told_twice}
 use Rattle.names.proofs.PassLemmas.{on_adds}
 use Rattle.names.proofs.cases.judge_awaited.Goals as goal

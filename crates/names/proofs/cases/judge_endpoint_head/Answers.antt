@@ -2,9 +2,9 @@ use Rattle.std.proofs.Common.{[], ◌∷◌, take, ap, sym, ◌∙◌, refl, sub
 use Rattle.std.specs.Prelude.{OnOk, if◌then◌else◌, ◌||◌}
 use Rattle.names.specs.Cases.{endpoint_head_findings, lack_findings, awaits_too, names_endpoint, awaits_closed, lacks_closed}
 use Rattle.names.specs.Expressions.{InScope}
-use Rattle.names.specs.Found.{Adds}
+use Rattle.declarations.specs.Found.{Adds}
 use Rattle.names.specs.Heads.{IsHeads, case_head, awaiting_of}
-use Rattle.names.specs.declared.kinds.Kind.TheVariants as kind
+use Rattle.declarations.specs.declared.kinds.Kind.TheVariants as kind
 use Rattle.names.proofs.HeadWords.{told_unless}
 use Rattle.names.proofs.StatementTwins.{case_is}
 use Rattle.names.specs.Bodies.{head_of}

@@ -2,7 +2,7 @@ use Rattle.std.proofs.Common.{take, sym, ◌∙◌, subst}
 use Rattle.std.specs.Prelude.{OnOk}
 use Rattle.names.specs.Cases.{kind_head_findings}
 use Rattle.names.specs.Expressions.{InScope, held, meant, variable_findings}
-use Rattle.names.specs.Found.{Adds}
+use Rattle.declarations.specs.Found.{Adds}
 use Rattle.names.specs.Heads.{case_head}
 use Rattle.names.proofs.HeadWords.{no_endpoint}
 use Rattle.names.proofs.PassLemmas.{on_adds}

@@ -2,8 +2,8 @@ use Rattle.std.proofs.Common.{◌++◌, ap, ◌∙◌, subst}
 use Rattle.std.specs.Prelude.{OnOk}
 use Rattle.names.specs.Bodies.{exchanged_kind, holder_findings}
 use Rattle.names.specs.Expressions.{InScope, meant, held, variable_findings}
-use Rattle.names.specs.Found.{Adds}
-use Rattle.names.specs.Kinds.{agree, unless}
+use Rattle.declarations.specs.Found.{Adds}
+use Rattle.declarations.specs.Kinds.{agree, unless}
 use Rattle.names.proofs.PassLemmas.{on_adds}
 use Rattle.names.proofs.exchanges.judge_exchange.Goals as goal
 

@@ -1,9 +1,9 @@
 use Rattle.std.proofs.Common.{take}
 use Rattle.std.specs.List.{flat_map}
 use Rattle.names.specs.Findings.{definition_findings}
-use Rattle.names.specs.Found.{Adds}
-use Rattle.names.specs.Program.{Program}
-use Rattle.names.specs.Scopes.{IsScope}
+use Rattle.declarations.specs.Found.{Adds}
+use Rattle.declarations.specs.Program.{Program}
+use Rattle.declarations.specs.Scopes.{IsScope}
 use Rattle.names.proofs.items.judge_definitions.Given as goal
 
 abbrev pub invariant-loop-members : goal.invariant-loop-members

@@ -1,5 +1,5 @@
-use Rattle.names.proofs.WholeLemmas.{clean_whole}
+use Rattle.names.proofs.CleanLemmas.{contracts_clean}
 use Rattle.names.proofs.laws.clean_contracts_are_whole.Goals as goal
 
 pub returns : goal.returns
-returns c = clean_whole
+returns c = λ p nothing. c.contracts_without_findings_are_whole.ensures p (contracts_clean p nothing)

@@ -5,7 +5,7 @@ use Rattle.names.specs.Bodies as bodies
 use Rattle.names.specs.Frames.{Turned}
 use Rattle.names.specs.Methods.{parameters_turn}
 use Rattle.names.specs.Variables.{Frame}
-use Rattle.names.proofs.AddLemmas.{adds_then}
+use Rattle.declarations.proofs.AddLemmas.{adds_then}
 use Rattle.names.proofs.methods.judge_method.Goals as goal
 
 pub returns : goal.returns

@@ -1,10 +1,10 @@
 use Rattle.std.proofs.Common.{take}
 use Rattle.std.specs.List.{flat_map}
 use Rattle.tree.specs.Trees.{ClassTree, method_tree}
-use Rattle.names.specs.Found.{Adds}
+use Rattle.declarations.specs.Found.{Adds}
 use Rattle.names.specs.Methods.{method_turn}
-use Rattle.names.specs.Program.{Program}
-use Rattle.names.specs.Scopes.{IsScope, AreMethods}
+use Rattle.declarations.specs.Program.{Program}
+use Rattle.declarations.specs.Scopes.{IsScope, AreMethods}
 use Rattle.names.proofs.methods.judge_methods.Given as goal
 
 abbrev pub invariant-loop-method : goal.invariant-loop-method

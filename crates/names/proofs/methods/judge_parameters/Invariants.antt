@@ -1,8 +1,8 @@
 use Rattle.std.proofs.Common.{take}
 use Rattle.names.specs.Frames.{IsFrame, Turned}
 use Rattle.names.specs.Methods.{parameters_turn}
-use Rattle.names.specs.Program.{Program}
-use Rattle.names.specs.Scopes.{IsScope}
+use Rattle.declarations.specs.Program.{Program}
+use Rattle.declarations.specs.Scopes.{IsScope}
 use Rattle.names.specs.Variables.{Frame}
 use Rattle.names.proofs.methods.judge_parameters.Given as goal
 

@@ -2,7 +2,7 @@ use Rattle.std.proofs.Common.{subst}
 use Rattle.std.specs.Prelude.{OnOk}
 use Rattle.tree.specs.StatementTrees.{assign_tree}
 use Rattle.names.specs.Bodies.{scope_in, inside_of}
-use Rattle.names.specs.Found.{Adds}
+use Rattle.declarations.specs.Found.{Adds}
 use Rattle.names.specs.Values.{target_findings, target_kind, value_findings}
 use Rattle.names.proofs.PassLemmas.{on_adds}
 use Rattle.names.proofs.simple_statements.judge_assign.Goals as goal

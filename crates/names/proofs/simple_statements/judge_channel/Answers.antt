@@ -1,7 +1,7 @@
 use Rattle.std.proofs.Common.{◌++◌}
 use Rattle.names.specs.Bodies.{new_ends_findings}
 use Rattle.names.specs.Expressions.{InScope, variable_findings}
-use Rattle.names.specs.Program.{contract_named}
+use Rattle.declarations.specs.Program.{contract_named}
 use Rattle.names.proofs.PassLemmas.{on_adds}
 use Rattle.names.proofs.simple_statements.judge_channel.Goals as goal
 

@@ -7,9 +7,10 @@ use Rattle.tree.specs.StatementTrees.{statement_tree, statement_row, block_tree,
 use Rattle.tree.specs.Values.{call_tree}
 use Rattle.tree.specs.declared.statement as made
 use Rattle.names.specs.Bodies.{inside_of, scope_in, declaration_turn, statement_turn, statements_turn, block_turn, test_turn, others_turn, case_turn, cases_turn, head_of, outside, delete_findings, exchange_findings, channel_findings, return_findings}
-use Rattle.names.specs.Cases.{binds_turn, awaited_message, bound_params}
+use Rattle.names.specs.Cases.{binds_turn, awaited_message}
+use Rattle.declarations.specs.Declarations.{bound_params}
 use Rattle.names.specs.Expressions.{meant, held, truth_findings}
-use Rattle.names.specs.Found.{Adds}
+use Rattle.declarations.specs.Found.{Adds}
 use Rattle.names.specs.Frames.{Turned}
 use Rattle.names.specs.Heads.{IsHeads, switch_heads}
 use Rattle.names.specs.Shapes.{shape}

@@ -1,17 +1,23 @@
-use Rattle.std.proofs.Common.{◌≡◌, length, map, sym, ap, ◌∙◌, subst, arith}
+use Rattle.std.proofs.Common.{◌≡◌, length, map, sym, ap, subst, arith}
 use Rattle.std.proofs.lemmas.List.{length-map}
 use Rattle.tree.specs.ExpressionTrees.{expression_tree}
 use Rattle.tree.specs.declared.class as made
+use Rattle.declarations.specs.Found.{Adds}
+use Rattle.declarations.specs.Kinds.{pointer_kind, type_kind}
+use Rattle.declarations.specs.Owning.{owning_fields}
+use Rattle.declarations.specs.Program.{struct_named}
 use Rattle.names.specs.Expressions.{InScope}
-use Rattle.names.specs.Found.{Adds}
-use Rattle.names.specs.Kinds.{type_kind}
-use Rattle.names.specs.Program.{struct_named}
 use Rattle.names.specs.Shapes.{shape}
-use Rattle.names.specs.Values.{argument_findings, fields_asked, owning_fields, struct_made_findings}
-use Rattle.names.proofs.AddLemmas.{adds_then}
+use Rattle.names.specs.Values.{argument_findings, fields_asked, struct_made_findings}
+use Rattle.declarations.proofs.AddLemmas.{adds_then}
+use Rattle.names.proofs.PassLemmas.{structured}
 use Rattle.names.proofs.PendingLemmas.{numbered}
-use Rattle.names.proofs.ScopeLemmas.{looked_struct}
 use Rattle.names.proofs.values.judge_structure.Goals as goal
+
+pub returns-in_ok-judge_field_arguments-in-Some-clause-kind : goal.returns-in_ok-judge_field_arguments-in-Some-clause-kind
+returns-in_ok-judge_field_arguments-in-Some-clause-kind c = λ p scope.
+    let looked = structured (struct_named p c.args.name) c.in-Some.place c.in-Some.owning.now (c.in-Some.ensures p scope) in
+    ap pointer_kind (sym looked.is)
 
 pub returns-in_ok-judge_field_arguments-in-Some-clause-found : goal.returns-in_ok-judge_field_arguments-in-Some-clause-found
 returns-in_ok-judge_field_arguments-in-Some-clause-found c = λ p f scope frame.
@@ -22,11 +28,10 @@ returns-in_ok-judge_field_arguments-in-Some-clause-found c = λ p f scope frame.
     let old = c.args.found.now.items in
     let counted = c.judge_number.new.found.items in
     let new = c.judge_field_arguments.new.found.items in
-    let fields = c.in-Some.fields.now in
-    let looked = looked_struct p.text (struct_named p name) c.in-Some.place fields (c.in-Some.ensures p scope) in
-    let owning = looked.fields.owning in
+    let owning = c.in-Some.owning.now in
+    let looked = structured (struct_named p name) c.in-Some.place owning (c.in-Some.ensures p scope) in
     let asked = fields_asked p looked.structure in
-    let many : c.len.result ≡ length asked = omega (arith, c.len.ensures, fields.owning.ok.0, ap length owning, length-map (owning_fields looked.structure) (λ (x : made.Field.Field). type_kind p x.kind)) in
+    let many : length owning ≡ length asked = omega (arith, ap length looked.owning, length-map (owning_fields looked.structure) (λ (x : made.Field.Field). type_kind p x.kind)) in
     subst (λ o. Adds old new (struct_made_findings s o name es)) (sym looked.is)
-    (adds_then (numbered expression_tree asked c.len.result args name.place many c.in_ok-judge_number-in-Some.ensures)
-    (subst (λ xs. Adds counted new (argument_findings s (map (λ (x : made.Field.Field). type_kind p x.kind) xs) es)) (c.deref.ensures.value ∙ owning) (c.in_ok-judge_field_arguments-in-Some.ensures p f scope frame)))
+    (adds_then (numbered expression_tree asked (length owning) args name.place many c.in_ok-judge_number-in-Some.ensures)
+    (subst (λ xs. Adds counted new (argument_findings s (map (λ (x : made.Field.Field). type_kind p x.kind) xs) es)) looked.owning (c.in_ok-judge_field_arguments-in-Some.ensures p f scope frame)))

@@ -3,11 +3,11 @@ use Rattle.std.specs.Prelude.{None}
 use Rattle.std.proofs.lemmas.Result.{IfOk-weaker}
 use Rattle.source.specs.declared.finding.Finding.{Finding}
 use Rattle.names.specs.Expressions.{InScope, expression_findings, whole_findings}
-use Rattle.names.specs.Found.{Adds}
+use Rattle.declarations.specs.Found.{Adds}
 use Rattle.names.specs.Operands.{Judges, JudgesWhole, in_frame, mentioned}
 use Rattle.names.specs.Shapes.{Shape, Number, Truth, Mention, Field, Element, Parens, Signed, Joined}
 use Rattle.names.specs.declared.operands.Operand.{Operand}
-use Rattle.names.specs.declared.scope.Scope.{Scope}
+use Rattle.declarations.specs.declared.scope.Scope.{Scope}
 use Rattle.names.specs.declared.variables.Variables.{Variables}
 use Rattle.names.proofs.wholes.judge_whole_operand.Goals as goal
 

@@ -2,7 +2,7 @@ use Rattle.std.proofs.Common.{◌++◌, ◌∙◌, ap, map, sym}
 use Rattle.std.specs.List.{flat_map}
 use Rattle.tree.specs.Trees.{contract_of, contract_tree, definition_tree, member_tree, message_tree}
 use Rattle.tree.specs.declared.item.Definition.{Definition}
-use Rattle.names.specs.Declarations.{message_among, messages_of}
+use Rattle.declarations.specs.Declarations.{message_among, messages_of}
 use Rattle.resolving.specs.Brought.{brought}
 use Rattle.program.specs.Programs.{rows}
 use Rattle.resolving.proofs.BroughtLemmas.{contract_brings}

@@ -2,7 +2,7 @@ use Rattle.std.proofs.Common.{◌++◌, ◌∙◌, ap, append-nil, map, sym}
 use Rattle.std.specs.Global.{Vec}
 use Rattle.tree.specs.Trees.{member_tree}
 use Rattle.tree.specs.declared.contract.Member.{Member}
-use Rattle.names.specs.Declarations.{message_among}
+use Rattle.declarations.specs.Declarations.{message_among}
 use Rattle.program.specs.declared.kind.Kind.{Kind}
 use Rattle.resolving.specs.Brought.{brought, params_held}
 use Rattle.program.specs.Programs.{rows}

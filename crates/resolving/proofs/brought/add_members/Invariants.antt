@@ -1,5 +1,5 @@
 use Rattle.std.proofs.Common.{◌≡◌, ◌++◌}
-use Rattle.names.specs.Program.{Program}
+use Rattle.declarations.specs.Program.{Program}
 use Rattle.resolving.specs.Around.{IsTypes}
 use Rattle.program.specs.Programs.{rows}
 use Rattle.resolving.proofs.BroughtLemmas.{first_members}

@@ -1,6 +1,6 @@
 use Rattle.std.proofs.Common.{◌≡◌, ◌++◌, map, take}
 use Rattle.tree.specs.Trees.{message_tree}
-use Rattle.names.specs.Program.{Program}
+use Rattle.declarations.specs.Program.{Program}
 use Rattle.resolving.specs.Around.{IsTypes}
 use Rattle.resolving.specs.Brought.{brought}
 use Rattle.program.specs.Programs.{rows}

@@ -1,5 +1,5 @@
 use Rattle.std.proofs.Common.{◌≡◌, take}
-use Rattle.names.specs.Program.{Program}
+use Rattle.declarations.specs.Program.{Program}
 use Rattle.resolving.specs.Around.{IsTypes}
 use Rattle.resolving.specs.Brought.{params_held}
 use Rattle.resolving.proofs.brought.params_held.Given as goal

@@ -1,7 +1,7 @@
 use Rattle.std.proofs.Common.{◌≡◌, None, Some, false, refl, sym, ◌∙◌}
 use Rattle.std.specs.Prelude.{Option, is_some}
 use Rattle.source.specs.declared.token.Span.{Span}
-use Rattle.names.specs.Program.{Program}
+use Rattle.declarations.specs.Program.{Program}
 use Rattle.resolving.specs.Around.{program_in}
 use Rattle.resolving.specs.Callees.{member_callee, method_of}
 use Rattle.resolving.specs.Locals.{Local, local_named}

@@ -2,7 +2,7 @@ use Rattle.std.proofs.Common.{Bor, None, Option, sym, ap, ◌∙◌}
 use Rattle.std.specs.Prelude.{option_map}
 use Rattle.source.specs.declared.token.Span.{Span}
 use Rattle.tree.specs.declared.contract.Param.{Param}
-use Rattle.names.specs.declared.kinds as names
+use Rattle.declarations.specs.declared.kinds as names
 use Rattle.program.specs.declared.kind.Kind.{Kind}
 use Rattle.program.specs.declared.method.Role.TheVariants.{Local}
 use Rattle.resolving.specs.Binds.{bound_as}

@@ -1,7 +1,7 @@
 use Rattle.std.proofs.Common.{Some, ap, refl, sym, ◌∙◌}
 use Rattle.std.specs.Prelude.{slice_get}
 use Rattle.std.proofs.lemmas.Option.{slice_get_read}
-use Rattle.names.specs.declared.kinds.Kind.{Kind}
+use Rattle.declarations.specs.declared.kinds.Kind.{Kind}
 use Rattle.resolving.specs.Fields.{field_number}
 use Rattle.resolving.proofs.FieldLemmas.{before_place, number_at, row_found}
 use Rattle.resolving.proofs.fields.field_number.Goals as goal

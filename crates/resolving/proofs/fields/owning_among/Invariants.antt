@@ -1,5 +1,5 @@
 use Rattle.std.proofs.Common.{◌≡◌, take}
-use Rattle.names.specs.Program.{Program}
+use Rattle.declarations.specs.Program.{Program}
 use Rattle.resolving.specs.Around.{IsTypes, places_held}
 use Rattle.resolving.specs.Fields.{fields_held}
 use Rattle.resolving.proofs.fields.owning_among.Given as goal

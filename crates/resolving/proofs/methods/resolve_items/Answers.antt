@@ -2,7 +2,7 @@ use Rattle.std.proofs.Common.{◌++◌, ◌∙◌, ℕ, ap, map, refl, sym}
 use Rattle.std.specs.Global.{Vec}
 use Rattle.std.specs.List.{flat_map}
 use Rattle.tree.specs.Trees.{contract_of, definition_tree, item_tree, method_tree}
-use Rattle.names.specs.Declarations.{messages_of}
+use Rattle.declarations.specs.Declarations.{messages_of}
 use Rattle.resolving.specs.Around.{program_in}
 use Rattle.resolving.specs.Brought.{brought}
 use Rattle.resolving.specs.Methods.{method_told}

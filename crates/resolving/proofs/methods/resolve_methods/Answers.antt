@@ -2,7 +2,7 @@ use Rattle.std.proofs.Common.{◌≤◌, List, arith, ap, length, map, subst, sy
 use Rattle.std.proofs.lemmas.List.{length-map}
 use Rattle.tree.specs.Trees.{item_tree}
 use Rattle.tree.specs.declared.item.Item.{Item}
-use Rattle.names.specs.Program.{program_of}
+use Rattle.declarations.specs.Program.{program_of}
 use Rattle.program.specs.declared.limits.TheConstants.{MOST_METHODS}
 use Rattle.program.specs.Methods.{method_seen}
 use Rattle.resolving.specs.Callees.{all_methods}

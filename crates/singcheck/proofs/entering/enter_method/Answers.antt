@@ -1,6 +1,6 @@
 use Rattle.std.proofs.Common.{ap, arith, length}
 use Rattle.tree.specs.Trees.{program_tree}
-use Rattle.names.specs.Program.{program_of}
+use Rattle.declarations.specs.Program.{program_of}
 use Rattle.rules.specs.Programs.{seen_of}
 use Rattle.singcheck.specs.Replays.{method_names}
 use Rattle.singcheck.proofs.CheckLemmas.{has_program}

@@ -5,7 +5,7 @@ use Rattle.std.proofs.lemmas.Result.{IfOk-weaker}
 use Rattle.source.specs.Findings.{finding_parts}
 use Rattle.source.specs.declared.finding.Finding.{Finding}
 use Rattle.tree.specs.Trees.{program_tree}
-use Rattle.names.specs.Program.{program_of}
+use Rattle.declarations.specs.Program.{program_of}
 use Rattle.program.specs.Parts.{IsWhole, contract_seen}
 use Rattle.singcheck.specs.Answers.{AreFindings, IsProgram, IsResolved}
 use Rattle.singcheck.proofs.FewLemmas.{few_contracts}

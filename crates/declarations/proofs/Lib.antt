@@ -1,0 +1,17 @@
+pub mod AddLemmas
+pub mod TwiceLemmas
+pub mod TypeLemmas
+pub mod ScopeLemmas
+pub mod ClassLemmas
+pub mod MemberLemmas
+pub mod MethodLemmas
+pub mod PlaceLemmas
+pub mod BehindLemmas
+pub mod MeantLemmas
+pub mod LabelLemmas
+pub mod NumberLemmas
+pub mod ContractLemmas
+pub mod ReadyLemmas
+pub mod SeenLemmas
+pub mod ApartLemmas
+pub mod WholeLemmas

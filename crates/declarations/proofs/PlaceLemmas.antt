@@ -1,0 +1,27 @@
+-- Where the states of a contract stand among all of its states.
+use Rattle.std.proofs.Common.{◌≡◌, ℕ, ◌<◌, List, [], length, take, get_or, Some, sym, ap, ◌∙◌, arith}
+use Rattle.std.specs.Prelude.{option_map, slice_get}
+use Rattle.std.proofs.lemmas.List.{length-map}
+use Rattle.std.proofs.lemmas.List.Quantifiers.{position-Some}
+use Rattle.std.proofs.lemmas.Option.{slice_get-get_or}
+use Rattle.source.specs.declared.token.Span.{Span}
+use Rattle.tree.specs.Trees.{ContractTree, StateTree}
+use Rattle.declarations.specs.Declarations.{counted_states, first_among, names_of_states, states_of}
+use Rattle.declarations.specs.Places.{place_among}
+use Rattle.declarations.specs.Scopes.{IsDeclared}
+use Rattle.tables.specs.Words.{same_word, word_at, words_at}
+use Rattle.declarations.specs.declared.members.Declared.{Declared}
+use Rattle.declarations.proofs.BehindLemmas.{single_at, singles}
+
+-- the named state at a place, among all
+pub named_there : (text : List ℕ) (c : ContractTree) (d : Declared) (name : Span) (place : ℕ) → IsDeclared text c d → first_among text (names_of_states (states_of c)) name ≡ Some place
+    → slice_get d.counted.named.items place ≡ place_among text (states_of c) name
+named_there text c d name place h found =
+    let states : List StateTree = states_of c in
+    let words = words_at text (names_of_states states) in
+    let below = (position-Some (same_word (word_at text name)) words place [] found).0 in
+    let size : length words ≡ length states = length-map (names_of_states states) (word_at text) ∙ length-map states (λ t. t.name) in
+    let lt : place < length states = omega (arith, below, size) in
+    let many = ap length h.named ∙ singles (λ b. length (counted_states b)) [] states in
+    let value = ap (λ l. get_or l place 0) h.named ∙ single_at (λ b. length (counted_states b)) [] states place 0 lt in
+    slice_get-get_or d.counted.named.items place 0 (omega (arith, lt, many)) ∙ ap Some value ∙ sym (ap (option_map (λ k. length (counted_states (take k states)))) found)

@@ -1,0 +1,113 @@
+-- What a variable holds, and what an expression gives.
+use Rattle.std.specs.Prelude.{ℕ, Bool, true, false, ◌==◌, ◌&&◌, ◌||◌, not, List, [], ◌∷◌, codes, if◌then◌else◌, Option, None, Some}
+use Rattle.source.specs.declared.place.Place.{Place}
+use Rattle.source.specs.declared.token.Span.{Span}
+use Rattle.source.specs.declared.finding.Code.TheVariants.{N03}
+use Rattle.program.specs.declared.kind.Scalar.{Scalar}
+use Rattle.program.specs.declared.kind.Scalar.TheVariants as scalar
+use Rattle.program.specs.declared.kind.Side.{Side}
+use Rattle.tree.specs.declared.contract.Param.{Param}
+use Rattle.tree.specs.declared.types as type_nodes
+use Rattle.tree.specs.declared.types.Type.TheVariants as type
+use Rattle.tree.specs.declared.types.Heap.TheVariants as heap
+use Rattle.tree.specs.Trees.{ContractTree}
+use Rattle.declarations.specs.Declarations.{states_of, names_of_states, is_declared}
+use Rattle.declarations.specs.Found.{FindingParts, unknown}
+use Rattle.declarations.specs.Program.{Program, contract_named, struct_named}
+use Rattle.program.specs.Kinds.{same_scalar, same_side}
+use Rattle.declarations.specs.declared.kinds.Kind.{Kind}
+use Rattle.declarations.specs.declared.kinds.Kind.TheVariants as kind
+
+-- int and byte are numbers
+abbrev pub counts : Scalar → Bool
+counts scalar.Int = true
+counts scalar.Byte = true
+counts scalar.Bool = false
+
+-- one of which nothing is asked
+abbrev pub is_silent : Kind → Bool
+is_silent kind.Missing = true
+is_silent kind.Unknown = true
+is_silent _ = false
+
+abbrev pub is_unknown : Kind → Bool
+is_unknown kind.Unknown = true
+is_unknown _ = false
+
+abbrev pub is_number : Kind → Bool
+is_number (kind.Scalar s) = counts s
+is_number _ = false
+
+abbrev pub is_truth : Kind → Bool
+is_truth (kind.Scalar s) = not (counts s)
+is_truth _ = false
+
+-- a block of the exchange heap
+abbrev pub is_block : Kind → Bool
+is_block (kind.Pointer n) = true
+is_block (kind.Array s) = true
+is_block (kind.Endpoint s n) = true
+is_block _ = false
+
+-- whether two kinds are the same but for which scalar a number is
+abbrev pub alike : Kind → Kind → Bool
+alike (kind.Scalar s) (kind.Scalar t) = if counts s then counts t else not (counts t)
+alike (kind.Pointer m) (kind.Pointer n) = m == n
+alike (kind.Array s) (kind.Array t) = same_scalar s t
+alike (kind.Endpoint s m) (kind.Endpoint t n) = (m == n) && same_side s t
+alike _ _ = false
+
+abbrev pub agree : Kind → Kind → Bool
+agree given asked = is_silent given || (is_silent asked || alike given asked)
+
+abbrev pub wrong_type : Place → FindingParts
+wrong_type place = record { place = place; code = N03; text = codes "wrong type" }
+
+-- the finding at this place, unless all is well
+abbrev pub unless : Bool → Place → List FindingParts
+unless well place = if well then [] else wrong_type place ∷ []
+
+-- the kind of a type that is written
+abbrev pub endpoint_kind : List ℕ → Option (ℕ × ContractTree) → Side → Option Span → Kind
+endpoint_kind text None end state = kind.Unknown
+endpoint_kind text (Some c) end None = kind.Endpoint end c.0
+endpoint_kind text (Some c) end (Some state) = if is_declared text (names_of_states (states_of c.1)) state then kind.Endpoint end c.0
+    else kind.Unknown
+
+abbrev pub pointer_kind : {X : Type 0} → Option (ℕ × X) → Kind
+pointer_kind None = kind.Unknown
+pointer_kind (Some s) = kind.Pointer s.0
+
+abbrev pub type_kind : Program → type_nodes.Type.Type → Kind
+type_kind p (type.Scalar s) = kind.Scalar s
+type_kind p (type.Heap (heap.Pointer name bang)) = pointer_kind (struct_named p name)
+type_kind p (type.Heap (heap.Array element bang)) = kind.Array element
+type_kind p (type.Heap (heap.Endpoint contract end state bang in_heap)) = endpoint_kind p.text (contract_named p contract) end state
+
+-- the names in a type that are not declared
+abbrev pub endpoint_unknown : List ℕ → Option (ℕ × ContractTree) → Span → Option Span → List FindingParts
+endpoint_unknown text None contract state = unknown text contract ∷ []
+endpoint_unknown text (Some c) contract None = []
+endpoint_unknown text (Some c) contract (Some state) = if is_declared text (names_of_states (states_of c.1)) state then []
+    else unknown text state ∷ []
+
+abbrev pub pointer_unknown : {X : Type 0} → List ℕ → Option X → Span → List FindingParts
+pointer_unknown text None name = unknown text name ∷ []
+pointer_unknown text (Some s) name = []
+
+abbrev pub type_unknown : Program → type_nodes.Type.Type → List FindingParts
+type_unknown p (type.Scalar s) = []
+type_unknown p (type.Heap (heap.Pointer name bang)) = pointer_unknown p.text (struct_named p name) name
+type_unknown p (type.Heap (heap.Array element bang)) = []
+type_unknown p (type.Heap (heap.Endpoint contract end state bang in_heap)) =
+    endpoint_unknown p.text (contract_named p contract) contract state
+
+-- a type of the exchange heap, whether its names are declared or not
+abbrev pub is_heap : type_nodes.Type.Type → Bool
+is_heap (type.Scalar s) = false
+is_heap (type.Heap h) = true
+
+-- the kind of what a message brings for this parameter, if there is one
+abbrev pub brought_kind : Program → Option Param → Kind
+brought_kind p None = kind.Unknown
+brought_kind p (Some x) = type_kind p x.kind

@@ -1,0 +1,17 @@
+pub mod Declarations
+pub mod Program
+pub mod Found
+pub mod Listed
+pub mod Kinds
+pub mod ContractFindings
+pub mod Named
+pub mod Owning
+pub mod ItemFindings
+pub mod Resolution
+pub mod Places
+pub mod Outlines
+pub mod Numbered
+pub mod Scopes
+pub mod Labels
+pub mod Meant
+pub mod Ready

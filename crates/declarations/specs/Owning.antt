@@ -1,0 +1,28 @@
+-- Which fields of a struct own a block, and which parameters of a method are lent one.
+use Rattle.std.specs.Prelude.{Bool, false, not, ◌&&◌, ◌||◌, is_some, List, [], ◌∷◌, Option, option_map}
+use Rattle.std.specs.List.{filter}
+use Rattle.declarations.specs.Kinds.{is_heap}
+use Rattle.declarations.specs.Program.{Numbered, Program, struct_named}
+use Rattle.source.specs.declared.token.Span.{Span}
+use Rattle.tree.specs.Trees.{StructTree, MethodTree}
+use Rattle.tree.specs.declared.class as made
+
+-- the fields of a struct that own
+abbrev pub owning_fields : StructTree → List made.Field.Field
+owning_fields s = filter (λ f. is_heap f.kind) s.fields
+
+-- the struct of this name: how many items stand before it, and its fields that own
+abbrev pub owning_named : Program → Span → Option (Numbered (List made.Field.Field))
+owning_named p name = option_map (λ s. (s.0, owning_fields s.1)) (struct_named p name)
+
+-- a parameter that is lent a block
+abbrev pub is_lent : made.Parameter.Parameter → Bool
+is_lent x = is_heap x.kind && not x.claims
+
+abbrev pub any_lent : List made.Parameter.Parameter → Bool
+any_lent [] = false
+any_lent (x ∷ params) = is_lent x || any_lent params
+
+-- Only a void method whose blocks are all claimed is started.
+abbrev pub can_start : MethodTree → Bool
+can_start m = not (is_some m.result) && not (any_lent m.params)

@@ -1,0 +1,62 @@
+-- The items of a text by their names.
+use Rattle.std.specs.Prelude.{ℕ, List, map, Option, None, Some, option_map, option_and_then, slice_get}
+use Rattle.source.specs.declared.token.Span.{Span}
+use Rattle.tree.specs.Trees.{ItemTree, DefinitionTree, Contract, Struct, Class, ContractTree, StructTree, ClassTree, program_tree}
+use Rattle.tree.specs.declared.item.Tree.{Tree}
+use Rattle.declarations.specs.Declarations.{first_among}
+
+-- a text and its items
+pub record Program : Type 0 where
+  pub text : List ℕ
+  pub items : List ItemTree
+
+-- a text, and the items of its tree
+abbrev pub program_of : List ℕ → Tree → Program
+program_of text tree = record { text = text; items = program_tree tree }
+
+-- a definition that is a contract, a struct, a class
+abbrev pub as_contract : DefinitionTree → Option ContractTree
+as_contract (Contract c) = Some c
+as_contract (Struct s) = None
+as_contract (Class c) = None
+
+abbrev pub as_struct : DefinitionTree → Option StructTree
+as_struct (Contract c) = None
+as_struct (Struct s) = Some s
+as_struct (Class c) = None
+
+abbrev pub as_class : DefinitionTree → Option ClassTree
+as_class (Contract c) = None
+as_class (Struct s) = None
+as_class (Class c) = Some c
+
+-- the name that a definition declares
+abbrev pub defined_name : DefinitionTree → Span
+defined_name (Contract c) = c.name
+defined_name (Struct s) = s.name
+defined_name (Class c) = c.name
+
+-- the names of the items
+abbrev pub item_names : Program → List Span
+item_names p = map (λ i. defined_name i.definition) p.items
+
+-- An item of some kind: how many items stand before it, and what it is.
+abbrev pub Numbered : Type 0 → Type 0
+Numbered X = ℕ × X
+
+-- the item at this place, if it is of this kind
+abbrev pub item_at : {X : Type 0} → (DefinitionTree → Option X) → Program → ℕ → Option (Numbered X)
+item_at kind p n = option_and_then (λ i. option_map (λ x. (n, x)) (kind i.definition)) (slice_get p.items n)
+
+-- Contracts, structs and classes share their names: one that the first item of a name is not is not found.
+abbrev pub item_named : {X : Type 0} → (DefinitionTree → Option X) → Program → Span → Option (Numbered X)
+item_named kind p name = option_and_then (item_at kind p) (first_among p.text (item_names p) name)
+
+abbrev pub contract_named : Program → Span → Option (Numbered ContractTree)
+contract_named = item_named as_contract
+
+abbrev pub struct_named : Program → Span → Option (Numbered StructTree)
+struct_named = item_named as_struct
+
+abbrev pub class_named : Program → Span → Option (Numbered ClassTree)
+class_named = item_named as_class

@@ -1,0 +1,127 @@
+-- The names of a program, as the code has them.
+use Rattle.std.specs.Prelude.{◌≡◌, ℕ, List, [], ◌∷◌, map, Option, None, Some, option_map}
+use Rattle.std.specs.BTreeMap.{get}
+use Rattle.std.specs.List.{flat_map}
+use Rattle.std.specs.Ordering.{nat_cmp}
+use Rattle.tree.specs.declared.types.Type.TheVariants as type
+use Rattle.tree.specs.Trees.{ItemTree, DefinitionTree, Contract, Struct, Class, ContractTree}
+use Rattle.tree.specs.Trees.{StructTree, ClassTree, MethodTree, item_tree, method_tree}
+use Rattle.declarations.specs.Declarations.{names_of_messages, names_of_states, messages_of, states_of}
+use Rattle.declarations.specs.Kinds.{type_kind}
+use Rattle.declarations.specs.Numbered.{names_in, places_named}
+use Rattle.declarations.specs.Outlines.{IsOutline}
+use Rattle.declarations.specs.Program.{Program, item_names}
+use Rattle.tables.specs.Tables.{IsTable}
+use Rattle.declarations.specs.Owning.{can_start, owning_fields}
+use Rattle.tables.specs.Words.{words_at}
+use Rattle.declarations.specs.declared.members.Declared.{Declared}
+use Rattle.declarations.specs.declared.fields.Fields.{Fields}
+use Rattle.declarations.specs.declared.members.Methods.{Methods}
+use Rattle.declarations.specs.declared.members.Members.{Members}
+use Rattle.declarations.specs.declared.members.Members.TheVariants as members
+use Rattle.declarations.specs.declared.noted.Noted.{Noted}
+use Rattle.declarations.specs.declared.noted.NotedKinds.{NotedKinds}
+use Rattle.declarations.specs.declared.scope.Scope.{Scope}
+use Rattle.declarations.specs.declared.starts.Callee.{Callee}
+
+-- what a contract declares, the tables of it, all of its states, and where its named ones stand among them
+pub record IsDeclared (text : List ℕ) (c : ContractTree) (d : Declared) : Type 0 where
+  pub outline : IsOutline c d.outline
+  pub messages : IsTable (words_at text (names_of_messages (messages_of c))) d.messages
+  pub states : IsTable (words_at text (names_of_states (states_of c))) d.states
+  pub all : d.counted.all.items ≡ flat_map names_in (states_of c)
+  pub named : d.counted.named.items ≡ places_named (states_of c)
+
+-- the fields of a struct, those that own, and the table of them
+pub record AreFields (text : List ℕ) (s : StructTree) (f : Fields) : Type 0 where
+  pub list : f.list.now ≡ s.fields
+  pub owning : f.owning.items ≡ owning_fields s
+  pub table : IsTable (words_at text (map (λ x. x.name) s.fields)) f.table
+
+-- the methods of a class, which of them can be started, and the table of them
+pub record AreMethods (text : List ℕ) (c : ClassTree) (m : Methods) : Type 0 where
+  pub list : map method_tree m.list.now ≡ c.methods
+  pub startable : m.startable.items ≡ map can_start c.methods
+  pub table : IsTable (words_at text (map (λ x. x.name) c.methods)) m.table
+
+-- what a definition declares within it
+abbrev pub AreMembers : List ℕ → DefinitionTree → Members → Type 0
+AreMembers text (Contract c) (members.Contract d) = IsDeclared text c d
+AreMembers text (Struct s) (members.Struct f) = AreFields text s f
+AreMembers text (Class c) (members.Class m) = AreMethods text c m
+AreMembers text _ _ = ⊥
+
+-- what a look-up of a method answers: the method, and whether it can be started
+pub record IsCallee (m : Option MethodTree) (callee : Option Callee) : Type 0 where
+  pub method : option_map (λ c. method_tree c.method.now) callee ≡ m
+  pub startable : option_map (λ c. c.startable) callee ≡ option_map can_start m
+
+-- members that are a contract's, a struct's, a class's
+abbrev pub as_declared : Members → Option Declared
+as_declared (members.Contract d) = Some d
+as_declared (members.Struct f) = None
+as_declared (members.Class m) = None
+
+abbrev pub as_fields : Members → Option Fields
+as_fields (members.Contract d) = None
+as_fields (members.Struct f) = Some f
+as_fields (members.Class m) = None
+
+abbrev pub as_methods : Members → Option Methods
+as_methods (members.Contract d) = None
+as_methods (members.Struct f) = None
+as_methods (members.Class m) = Some m
+
+-- what items in a row declare within them
+abbrev pub AllMembers : List ℕ → List ItemTree → List Members → Type 0
+AllMembers text [] [] = Unit {0}
+AllMembers text [] (m ∷ ms) = ⊥
+AllMembers text (i ∷ items) [] = ⊥
+AllMembers text (i ∷ items) (m ∷ ms) = AreMembers text i.definition m × AllMembers text items ms
+
+-- what the contracts among these declare
+abbrev pub declared_among : Members → List Declared
+declared_among (members.Contract d) = d ∷ []
+declared_among (members.Struct f) = []
+declared_among (members.Class m) = []
+
+-- what contracts in a row declare
+abbrev pub AreDeclared : List ℕ → List ContractTree → List Declared → Type 0
+AreDeclared text [] [] = Unit {0}
+AreDeclared text [] (d ∷ ds) = ⊥
+AreDeclared text (c ∷ cs) [] = ⊥
+AreDeclared text (c ∷ cs) (d ∷ ds) = IsDeclared text c d × AreDeclared text cs ds
+
+-- each kind that is noted is that of its type
+pub record AreNoted (p : Program) (noted : NotedKinds) : Type 0 where
+  pub kinds : (start : ℕ) (n : Noted) → get nat_cmp noted.first start ≡ Some n → n.kind ≡ type_kind p (type.Heap n.written)
+
+-- the text and the items of a scope
+abbrev pub program_of_scope : Scope → Program
+program_of_scope scope = record { text = scope.text.now; items = map item_tree scope.items.now }
+
+-- what these items declare is in scope
+pub record IsScope (p : Program) (scope : Scope) : Type 0 where
+  pub text_is : scope.text.now ≡ p.text
+  pub items_are : map item_tree scope.items.now ≡ p.items
+  pub names : IsTable (words_at p.text (item_names p)) scope.names
+  pub members : AllMembers p.text p.items scope.members.items
+  pub noted : AreNoted p scope.noted
+
+-- what a look-up of a contract answers: how many items stand before it, and what it declares
+abbrev pub IsContract : List ℕ → Option (ℕ × ContractTree) → Option (ℕ × Declared) → Type 0
+IsContract text None None = Unit {0}
+IsContract text (Some c) (Some d) = (c.0 ≡ d.0) × IsDeclared text c.1 d.1
+IsContract text _ _ = ⊥
+
+-- what a look-up of a struct answers
+abbrev pub IsStruct : List ℕ → Option (ℕ × StructTree) → Option (ℕ × Fields) → Type 0
+IsStruct text None None = Unit {0}
+IsStruct text (Some s) (Some f) = (s.0 ≡ f.0) × AreFields text s.1 f.1
+IsStruct text _ _ = ⊥
+
+-- what a look-up of a class answers
+abbrev pub IsClass : List ℕ → Option (ℕ × ClassTree) → Option Methods → Type 0
+IsClass text None None = Unit {0}
+IsClass text (Some c) (Some m) = AreMethods text c.1 m
+IsClass text _ _ = ⊥

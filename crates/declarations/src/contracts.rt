@@ -1,0 +1,79 @@
+//! What is wrong with the names of contracts.
+
+ghost use Rattle.std.specs.Prelude.{◌≡◌, ◌++◌, map, IfOk, OnOk};
+ghost use Rattle.std.specs.List.{flat_map};
+ghost use Rattle.tree.specs.Trees.{ContractTree};
+ghost use Rattle.declarations.specs.ContractFindings.{contract_findings};
+ghost use Rattle.declarations.specs.ItemFindings.{counted_findings};
+ghost use Rattle.declarations.specs.Found.{Adds};
+ghost use Rattle.declarations.specs.Program.{Program};
+ghost use Rattle.declarations.specs.Scopes.{IsScope, IsDeclared, declared_among};
+
+use crate::counted::{all_counted, are_few};
+use crate::judging::{judge_limit, judge_twice};
+use crate::members::{Declared, Members};
+use crate::message_types::judge_messages;
+use crate::scope::Scope;
+use crate::state_paths::judge_states;
+use program::{MOST_CONTRACTS, MOST_STATES};
+use source::{Finding, Memory, Span};
+use std::alloc::{AllocError, Global};
+
+/// Adds what is wrong with the names of a contract.
+///
+/// `Memory` is returned if a growth was refused.
+pub fn judge_contract(
+    alloc: Global,
+    scope: &Scope<'_>,
+    declared: &Declared<'_>,
+    found: &mut Vec<Finding>,
+) -> Result<(), Memory>
+    ensures { (p : Program) (contract : ContractTree) → IsScope p scope.now → IsDeclared p.text contract declared.now
+        → OnOk result (Adds found.old.items found.new.items (contract_findings p contract)) }
+{
+    let messages = declared.outline.message_names(alloc)?;
+    judge_twice(alloc, scope.text, &declared.messages, &messages, found)?;
+    let states = declared.outline.state_names(alloc)?;
+    judge_twice(alloc, scope.text, &declared.states, &states, found)?;
+    judge_messages(alloc, scope, &declared.outline.messages, found)?;
+    judge_states(alloc, scope.text, declared, found)
+}
+
+/// Adds the contract, and the state, one past the limit.
+///
+/// `Memory` is returned if a growth was refused.
+pub fn judge_counted(
+    alloc: Global,
+    scope: &Scope<'_>,
+    found: &mut Vec<Finding>,
+) -> Result<(), Memory>
+    ensures { (p : Program) → IsScope p scope.now → OnOk result (Adds found.old.items found.new.items (counted_findings p)) }
+{
+    let names = contract_names(alloc, &scope.members)?;
+    judge_limit(alloc, MOST_CONTRACTS, &names, found)?;
+    if are_few(&scope.members, MOST_STATES) {
+        return Ok(());
+    }
+    let counted = all_counted(alloc, &scope.members)?;
+    judge_limit(alloc, MOST_STATES, &counted, found)
+}
+
+/// The names of the contracts among these, in order.
+fn contract_names(alloc: Global, items: &[Members<'_>]) -> Result<Vec<Span>, AllocError>
+    ensures { IfOk result (λ names. names.items ≡ flat_map (λ m. map (λ d. d.outline.name) (declared_among m)) items.now) }
+{
+    let mut names = Vec::new(alloc);
+    for item in items {
+        add_name(&mut names, item)?;
+    }
+    Ok(names)
+}
+
+fn add_name(names: &mut Vec<Span>, item: &Members<'_>) -> Result<(), AllocError>
+    ensures { OnOk result (names.new.items ≡ names.old.items ++ map (λ d. d.outline.name) (declared_among item.now)) }
+{
+    match item {
+        Members::Contract(declared) => Ok(names.push(declared.outline.name)?),
+        _ => Ok(()),
+    }
+}

@@ -1,0 +1,114 @@
+//! What is wrong with the names of items, and within structs.
+
+ghost use Rattle.std.specs.Prelude.{◌≡◌, ◌++◌, map, IfOk, OnOk};
+ghost use Rattle.std.specs.List.{flat_map};
+ghost use Rattle.tree.specs.Trees.{ClassTree, StructTree, item_tree, definition_tree, method_tree};
+ghost use Rattle.declarations.specs.Found.{Adds};
+ghost use Rattle.declarations.specs.ItemFindings.{struct_findings, items_findings, methods_in};
+ghost use Rattle.declarations.specs.Kinds.{type_unknown};
+ghost use Rattle.declarations.specs.Listed.{twice_among};
+ghost use Rattle.declarations.specs.Program.{Program};
+ghost use Rattle.declarations.specs.Scopes.{IsScope, AreFields, AreMethods};
+
+use crate::fields::{Fields, names_of_fields};
+use crate::judging::{judge_limit, judge_twice};
+use crate::members::{Methods, names_of_methods};
+use crate::scope::{Scope, names_of_items};
+use crate::types::judge_type;
+use program::{MOST_FIELDS, MOST_METHODS};
+use source::{Finding, Memory, Span};
+use std::alloc::{AllocError, Global};
+use tree::{Definition, Field, Item, Method};
+
+/// Adds each item whose name an earlier one has, and the method one past the limit.
+///
+/// `Memory` is returned if a growth was refused.
+pub fn judge_items(alloc: Global, scope: &Scope<'_>, found: &mut Vec<Finding>) -> Result<(), Memory>
+    ensures { (p : Program) → IsScope p scope.now → OnOk result (Adds found.old.items found.new.items (items_findings p)) }
+{
+    let names = names_of_items(alloc, scope.items)?;
+    judge_twice(alloc, scope.text, &scope.names, &names, found)?;
+    let methods = all_method_names(alloc, scope.items)?;
+    judge_limit(alloc, MOST_METHODS, &methods, found)
+}
+
+/// Adds each field of a struct whose name an earlier one has, the names in the types of its fields that are not declared,
+/// and the field that owns one past the limit.
+///
+/// `Memory` is returned if a growth was refused.
+pub fn judge_struct(
+    alloc: Global,
+    scope: &Scope<'_>,
+    fields: &Fields<'_>,
+    found: &mut Vec<Finding>,
+) -> Result<(), Memory>
+    ensures { (p : Program) (s : StructTree) → IsScope p scope.now → AreFields p.text s fields.now
+        → OnOk result (Adds found.old.items found.new.items (struct_findings p s)) }
+{
+    let names = names_of_fields(alloc, fields.list)?;
+    judge_twice(alloc, scope.text, &fields.table, &names, found)?;
+    judge_types(alloc, scope, fields.list, found)?;
+    let owning = names_of_fields(alloc, &fields.owning)?;
+    judge_limit(alloc, MOST_FIELDS, &owning, found)
+}
+
+fn judge_types(
+    alloc: Global,
+    scope: &Scope<'_>,
+    fields: &[Field],
+    found: &mut Vec<Finding>,
+) -> Result<(), Memory>
+    ensures { (p : Program) → IsScope p scope.now
+        → OnOk result (Adds found.old.items found.new.items (flat_map (λ f. type_unknown p f.kind) fields.now)) }
+{
+    for field in fields {
+        judge_type(alloc, scope, field.kind, found)?;
+    }
+    Ok(())
+}
+
+/// Adds each method of a class whose name an earlier one has.
+///
+/// `Memory` is returned if a growth was refused.
+pub fn judge_method_names(
+    alloc: Global,
+    scope: &Scope<'_>,
+    methods: &Methods<'_>,
+    found: &mut Vec<Finding>,
+) -> Result<(), Memory>
+    ensures { (p : Program) (c : ClassTree) → IsScope p scope.now → AreMethods p.text c methods.now
+        → OnOk result (Adds found.old.items found.new.items (twice_among p.text (map (λ m. m.name) c.methods))) }
+{
+    let names = names_of_methods(alloc, methods.list)?;
+    judge_twice(alloc, scope.text, &methods.table, &names, found)
+}
+
+/// The names of all methods in these items, in order.
+fn all_method_names(alloc: Global, items: &[Item]) -> Result<Vec<Span>, AllocError>
+    ensures { IfOk result (λ names. names.items ≡ map (λ m. m.name) (flat_map (λ i. methods_in i.definition) (map item_tree items.now))) }
+{
+    let mut names = Vec::new(alloc);
+    for item in items {
+        add_names(&mut names, methods_of(&item.definition))?;
+    }
+    Ok(names)
+}
+
+fn add_names(names: &mut Vec<Span>, methods: &[Method]) -> Result<(), AllocError>
+    ensures { OnOk result (names.new.items ≡ names.old.items ++ map (λ m. m.name) (map method_tree methods.now)) }
+{
+    for method in methods {
+        names.push(method.name)?;
+    }
+    Ok(())
+}
+
+/// The methods of a class, if it is one.
+fn methods_of(definition: &Definition) -> &[Method]
+    ensures { map method_tree result.now ≡ methods_in (definition_tree definition.now) }
+{
+    match definition {
+        Definition::Class(class) => &class.methods,
+        _ => &[],
+    }
+}

@@ -1,0 +1,37 @@
+//! What the items of a program declare, what is wrong with their names, and contracts in numbers.
+#![tactic(auto)]
+
+mod contracts;
+mod counted;
+mod edges;
+mod fields;
+mod items;
+mod judging;
+mod kinds;
+mod labels;
+pub mod laws;
+mod meaning;
+mod members;
+mod message_types;
+mod noted;
+mod numbering;
+mod outline;
+mod places;
+mod resolving;
+mod scope;
+mod signatures;
+mod starts;
+mod state_names;
+mod state_paths;
+mod types;
+
+pub use contracts::{judge_contract, judge_counted};
+pub use fields::Fields;
+pub use items::{judge_items, judge_method_names, judge_struct};
+pub use judging::add_unknown;
+pub use kinds::Kind;
+pub use members::{Declared, Members, Methods};
+pub use resolving::resolve_contracts;
+pub use scope::Scope;
+pub use starts::Callee;
+pub use types::{is_heap, judge_type};

@@ -1,0 +1,60 @@
+//! What the names in the edges of a contract mean.
+
+ghost use Rattle.std.specs.Prelude.{◌≡◌, []};
+ghost use Rattle.declarations.specs.Listed.{asked_name};
+ghost use Rattle.declarations.specs.Resolution.{edge_between};
+
+use crate::members::Declared;
+use program::{Edge, MessageId, StateId};
+use source::Span;
+
+/// What a contract declares, and how its messages and states are numbered.
+#[derive(Clone, Copy)]
+pub(crate) struct Meaning<'a, 't> {
+    pub(crate) text: &'a [u8],
+    pub(crate) declared: &'a Declared<'t>,
+    /// How many messages and how many states stand before its own in the text.
+    pub(crate) messages_before: u32,
+    pub(crate) states_before: u32,
+    /// Where its named states stand among its states, in order.
+    pub(crate) named: &'a [usize],
+}
+
+impl Meaning<'_, '_> {
+    ghost use Rattle.declarations.specs.Meant.{IsMeaning, meanings, message_names, state_names, text_of};
+
+    /// The number of the message of this name.
+    fn message(&self, name: Span) -> u32
+        requires meaning { IsMeaning self.now }
+        requires declared { asked_name (text_of self.now) (message_names self.now) name ≡ [] }
+        ensures { result ≡ (meanings self.now).message name }
+    {
+        let place = self.declared.messages.find(name.slice(self.text)).unwrap();
+        self.messages_before + place as u32
+    }
+
+    /// The number of the state of this name.
+    pub(crate) fn state(&self, name: Span) -> u32
+        requires meaning { IsMeaning self.now }
+        requires declared { asked_name (text_of self.now) (state_names self.now) name ≡ [] }
+        ensures { result ≡ (meanings self.now).state name }
+    {
+        let place = self.declared.states.find(name.slice(self.text)).unwrap();
+        self.states_before + self.named[place] as u32
+    }
+
+    /// An edge between the states with these numbers.
+    pub(crate) fn edge(&self, from: u32, edge: tree::Edge, to: u32) -> Edge
+        requires meaning { IsMeaning self.now }
+        requires declared { asked_name (text_of self.now) (message_names self.now) edge.message ≡ [] }
+        ensures { result ≡ edge_between (meanings self.now) from edge to }
+    {
+        Edge {
+            from: StateId(from),
+            message: MessageId(self.message(edge.message)),
+            sign: edge.sign,
+            to: StateId(to),
+            place: edge.message.place,
+        }
+    }
+}

@@ -1,0 +1,229 @@
+//! What an item declares within it, and where each of its names is declared first.
+
+ghost use Rattle.std.specs.Prelude.{◌≡◌, List, ℕ, map, IfOk, option_map, slice_get};
+ghost use Rattle.std.specs.Option.{option_copied};
+ghost use Rattle.tree.specs.Trees.{ContractTree, ClassTree, contract_tree};
+ghost use Rattle.tree.specs.Trees.{class_tree, definition_tree, message_tree, method_tree};
+ghost use Rattle.declarations.specs.Declarations.{first_among, names_of_messages, names_of_states};
+ghost use Rattle.declarations.specs.Outlines.{outlined_messages, outlined_states};
+ghost use Rattle.declarations.specs.Named.{message_written, method_named};
+
+use crate::fields::Fields;
+use crate::outline::Outline;
+use crate::starts::{Callee, startable_methods};
+use crate::state_names::{StateNames, state_names};
+use source::Span;
+use std::alloc::{AllocError, Global};
+use tables::Table;
+use tree::{Class, Contract, Definition, Message, Method};
+
+/// What a contract declares, where each of its names is declared first, and the names at which its states are counted.
+#[derive(Drop)]
+pub struct Declared<'a> {
+    pub(crate) outline: Outline<'a>,
+    pub(crate) messages: Table<'a>,
+    pub(crate) states: Table<'a>,
+    pub(crate) counted: StateNames,
+}
+
+/// The methods of a class, whether each can be started, and where each of their names is declared first.
+#[derive(Drop)]
+pub struct Methods<'a> {
+    pub(crate) list: &'a [Method],
+    /// Found once for each method, so that no start of it reads all of its parameters.
+    pub(crate) startable: Vec<bool>,
+    pub(crate) table: Table<'a>,
+}
+
+/// What an item declares within it.
+#[derive(Drop)]
+pub enum Members<'a> {
+    Contract(Declared<'a>),
+    Struct(Fields<'a>),
+    Class(Methods<'a>),
+}
+
+impl<'a> Members<'a> {
+    ghost use Rattle.declarations.specs.Scopes.{AreMembers, as_declared, as_fields, as_methods};
+
+    /// What a definition declares within it.
+    pub(crate) fn of(
+        alloc: Global,
+        text: &'a [u8],
+        definition: &'a Definition,
+    ) -> Result<Members<'a>, AllocError>
+        ensures { IfOk result (AreMembers text.now (definition_tree definition.now)) }
+    {
+        match definition {
+            Definition::Contract(contract) => {
+                Ok(Members::Contract(Declared::of(alloc, text, contract)?))
+            }
+            Definition::Struct(structure) => {
+                Ok(Members::Struct(Fields::of(alloc, text, structure)?))
+            }
+            Definition::Class(class) => Ok(Members::Class(Methods::of(alloc, text, class)?)),
+        }
+    }
+
+    /// What a contract declares, if it is one.
+    pub(crate) fn declared(&self) -> Option<&Declared<'a>>
+        ensures { option_copied result ≡ as_declared self.now }
+    {
+        match self {
+            Members::Contract(declared) => Some(declared),
+            _ => None,
+        }
+    }
+
+    /// The fields of a struct, if it is one.
+    pub(crate) fn fields(&self) -> Option<&Fields<'a>>
+        ensures { option_copied result ≡ as_fields self.now }
+    {
+        match self {
+            Members::Struct(fields) => Some(fields),
+            _ => None,
+        }
+    }
+
+    /// The methods of a class, if it is one.
+    pub(crate) fn methods(&self) -> Option<&Methods<'a>>
+        ensures { option_copied result ≡ as_methods self.now }
+    {
+        match self {
+            Members::Class(methods) => Some(methods),
+            _ => None,
+        }
+    }
+}
+
+impl<'a> Declared<'a> {
+    ghost use Rattle.declarations.specs.Scopes.{IsDeclared};
+
+    /// What a contract declares.
+    pub(crate) fn of(
+        alloc: Global,
+        text: &'a [u8],
+        contract: &'a Contract,
+    ) -> Result<Declared<'a>, AllocError>
+        ensures { IfOk result (IsDeclared text.now (contract_tree contract.now)) }
+    {
+        let outline = Outline::of(alloc, contract)?;
+        let messages = outline.message_names(alloc)?;
+        let states = outline.state_names(alloc)?;
+        let messages = Table::of(alloc, text, &messages)?;
+        let states = Table::of(alloc, text, &states)?;
+        let counted = state_names(alloc, &outline.states)?;
+        Ok(Declared {
+            outline,
+            messages,
+            states,
+            counted,
+        })
+    }
+
+    /// The first message that is written so.
+    pub(crate) fn message(&self, word: &[u8]) -> Option<&'a Message>
+        ensures { (text : List ℕ) (c : ContractTree) → IsDeclared text c self.now
+            → option_map (λ m. message_tree m.now) result ≡ message_written text c word.now }
+    {
+        let place = self.messages.find(word)?;
+        self.outline.messages.get(place).copied()
+    }
+
+    /// Where the named state at this place stands among all of its states.
+    pub(crate) fn named_place(&self, place: usize) -> Option<usize>
+        ensures { result ≡ slice_get self.now.counted.named.items place }
+    {
+        self.counted.named.get(place).copied()
+    }
+}
+
+impl<'a> Methods<'a> {
+    ghost use Rattle.declarations.specs.Scopes.{AreMethods, IsCallee};
+
+    /// The methods of a class.
+    pub(crate) fn of(
+        alloc: Global,
+        text: &'a [u8],
+        class: &'a Class,
+    ) -> Result<Methods<'a>, AllocError>
+        ensures { IfOk result (AreMethods text.now (class_tree class.now)) }
+    {
+        let names = names_of_methods(alloc, &class.methods)?;
+        let table = Table::of(alloc, text, &names)?;
+        let startable = startable_methods(alloc, &class.methods)?;
+        Ok(Methods {
+            list: &class.methods,
+            startable,
+            table,
+        })
+    }
+
+    /// How many methods of the class stand before the first one of this name.
+    pub(crate) fn place(&self, text: &[u8], name: Span) -> Option<usize>
+        ensures { (c : ClassTree) → AreMethods text.now c self.now
+            → result ≡ first_among text.now (map (λ m. m.name) c.methods) name }
+    {
+        self.table.find(name.slice(text))
+    }
+
+    /// The methods, in order.
+    pub fn list(&self) -> &'a [Method]
+        ensures { result.now ≡ self.now.list.now }
+    {
+        self.list
+    }
+
+    /// The first method of this name, and whether it can be started.
+    pub fn find(&self, text: &[u8], name: Span) -> Option<Callee<'a>>
+        ensures { (c : ClassTree) → AreMethods text.now c self.now
+            → IsCallee (method_named text.now c name) result }
+    {
+        let place = self.place(text, name)?;
+        self.callee(place)
+    }
+
+    /// The method at this place.
+    fn callee(&self, place: usize) -> Option<Callee<'a>>
+        ensures { (c : ClassTree) (text : List ℕ) → AreMethods text c self.now → IsCallee (slice_get c.methods place) result }
+    {
+        let method = self.list.get(place)?;
+        let startable = *self.startable.get(place)?;
+        Some(Callee { method, startable })
+    }
+}
+
+impl<'a> Outline<'a> {
+    /// The names of the messages, in order.
+    pub(crate) fn message_names(&self, alloc: Global) -> Result<Vec<Span>, AllocError>
+        ensures { IfOk result (λ names. names.items ≡ names_of_messages (outlined_messages self.now)) }
+    {
+        let mut names = Vec::new(alloc);
+        for message in &self.messages {
+            names.push(message.name)?;
+        }
+        Ok(names)
+    }
+
+    /// The names of the states, in order.
+    pub(crate) fn state_names(&self, alloc: Global) -> Result<Vec<Span>, AllocError>
+        ensures { IfOk result (λ names. names.items ≡ names_of_states (outlined_states self.now)) }
+    {
+        let mut names = Vec::new(alloc);
+        for state in &self.states {
+            names.push(state.name)?;
+        }
+        Ok(names)
+    }
+}
+
+/// The names of these methods, in order.
+pub(crate) fn names_of_methods(alloc: Global, methods: &[Method]) -> Result<Vec<Span>, AllocError>
+    ensures { IfOk result (λ names. names.items ≡ map (λ m. m.name) methods.now) }
+{
+    let mut names = Vec::new(alloc);
+    for method in methods {
+        names.push(method.name)?;
+    }
+    Ok(names)
+}

@@ -1,0 +1,77 @@
+//! What is wrong with the parameters of messages.
+
+ghost use Rattle.std.specs.Prelude.{◌≡◌, map, OnOk, IfOk};
+ghost use Rattle.std.specs.List.{flat_map};
+ghost use Rattle.tree.specs.Trees.{message_tree};
+ghost use Rattle.declarations.specs.ContractFindings.{message_findings, param_names};
+ghost use Rattle.declarations.specs.Found.{Adds};
+ghost use Rattle.declarations.specs.Kinds.{type_unknown};
+ghost use Rattle.declarations.specs.Program.{Program};
+ghost use Rattle.declarations.specs.Scopes.{IsScope};
+
+use crate::judging::{judge_limit, judge_twice};
+use crate::scope::Scope;
+use crate::types::judge_type;
+use program::MOST_PARAMETERS;
+use source::{Finding, Memory, Span};
+use std::alloc::Global;
+use tables::Table;
+use tree::{Message, Param};
+
+/// Adds what is wrong with the parameters of a message.
+pub(crate) fn judge_message(
+    alloc: Global,
+    scope: &Scope<'_>,
+    message: &Message,
+    found: &mut Vec<Finding>,
+) -> Result<(), Memory>
+    ensures { (p : Program) → IsScope p scope.now
+        → OnOk result (Adds found.old.items found.new.items (message_findings p (message_tree message.now))) }
+{
+    judge_types(alloc, scope, &message.params, found)?;
+    let names = names_of(alloc, &message.params)?;
+    let table = Table::of(alloc, scope.text, &names)?;
+    judge_twice(alloc, scope.text, &table, &names, found)?;
+    judge_limit(alloc, MOST_PARAMETERS, &names, found)
+}
+
+fn judge_types(
+    alloc: Global,
+    scope: &Scope<'_>,
+    params: &[Param],
+    found: &mut Vec<Finding>,
+) -> Result<(), Memory>
+    ensures { (p : Program) → IsScope p scope.now
+        → OnOk result (Adds found.old.items found.new.items (flat_map (λ x. type_unknown p x.kind) params.now)) }
+{
+    for param in params {
+        judge_type(alloc, scope, param.kind, found)?;
+    }
+    Ok(())
+}
+
+fn names_of(alloc: Global, params: &[Param]) -> Result<Vec<Span>, Memory>
+    ensures { IfOk result (λ names. names.items ≡ param_names params.now) }
+{
+    let mut names = Vec::new(alloc);
+    for param in params {
+        names.push(param.name)?;
+    }
+    Ok(names)
+}
+
+/// Adds what is wrong with the parameters of these messages.
+pub(crate) fn judge_messages(
+    alloc: Global,
+    scope: &Scope<'_>,
+    messages: &[&Message],
+    found: &mut Vec<Finding>,
+) -> Result<(), Memory>
+    ensures { (p : Program) → IsScope p scope.now → OnOk result
+        (Adds found.old.items found.new.items (flat_map (message_findings p) (map (λ m. message_tree m.now) messages.now))) }
+{
+    for message in messages {
+        judge_message(alloc, scope, message, found)?;
+    }
+    Ok(())
+}

@@ -1,0 +1,153 @@
+//! The kinds of the types that stand in structs and in the heads of methods and messages.
+
+ghost use Rattle.std.specs.Prelude.{◌≡◌, true, Some, OnOk, IfOk};
+ghost use Rattle.tree.specs.declared.types.Type.TheVariants as type;
+ghost use Rattle.declarations.specs.Kinds.{type_kind};
+ghost use Rattle.declarations.specs.Program.{Program};
+ghost use Rattle.declarations.specs.Scopes.{IsScope, AreNoted};
+
+use crate::kinds::Kind;
+use crate::scope::Scope;
+use crate::signatures::signature_types;
+use crate::types::look_up_kind;
+use program::Side;
+use source::Span;
+use std::alloc::{AllocError, Global};
+use std::collections::BTreeMap;
+use tree::Heap;
+
+/// A type of the exchange heap, and its kind.
+#[derive(Clone, Copy)]
+pub(crate) struct Noted {
+    pub(crate) written: Heap,
+    pub(crate) kind: Kind,
+}
+
+/// The kinds of types, each by where the first name of its type begins. A kind is found once, so that no call and no `new`
+/// reads the names in the types of the method, the message or the struct again, which may be longer than the call.
+#[derive(Drop)]
+pub(crate) struct NotedKinds {
+    pub(crate) first: BTreeMap<u32, Noted>,
+}
+
+impl NotedKinds {
+    /// No kinds.
+    pub(crate) fn new(alloc: Global) -> NotedKinds
+        ensures { (p : Program) → AreNoted p result }
+    {
+        NotedKinds {
+            first: BTreeMap::new(alloc),
+        }
+    }
+
+    /// The kinds of the types in the structs, and in the heads of the methods and messages, in scope.
+    pub(crate) fn of(alloc: Global, scope: &Scope<'_>) -> Result<NotedKinds, AllocError>
+        ensures { IfOk result (λ noted. (p : Program) → IsScope p scope.now → AreNoted p noted) }
+    {
+        let mut noted = NotedKinds::new(alloc);
+        let types = signature_types(alloc, &scope.members)?;
+        for written in &types {
+            noted.note(scope, *written)?;
+        }
+        Ok(noted)
+    }
+
+    /// Notes the kind of this type.
+    fn note(&mut self, scope: &Scope<'_>, written: Heap) -> Result<(), AllocError>
+        ensures { (p : Program) → IsScope p scope.now → AreNoted p self.old → OnOk result (AreNoted p self.new) }
+    {
+        if let Some(start) = begins(written) {
+            self.first.insert(start, noted_type(scope, written))?;
+        }
+        Ok(())
+    }
+
+    /// The kind of this type, if it is noted.
+    pub(crate) fn find(&self, written: Heap) -> Option<Kind>
+        ensures { (p : Program) (k : Kind) → AreNoted p self.now → result ≡ Some k → k ≡ type_kind p (type.Heap written) }
+    {
+        let noted = self.first.get(&begins(written)?)?;
+        kind_for(*noted, written)
+    }
+}
+
+/// The kind that is noted, if it is that of this type.
+fn kind_for(noted: Noted, written: Heap) -> Option<Kind>
+    ensures { (p : Program) (k : Kind) → noted.kind ≡ type_kind p (type.Heap noted.written) → result ≡ Some k
+        → k ≡ type_kind p (type.Heap written) }
+{
+    if is_same(noted.written, written) {
+        return Some(noted.kind);
+    }
+    None
+}
+
+/// Whether two types are written at the same place.
+fn is_same(left: Heap, right: Heap) -> bool
+    ensures { (p : Program) → result ≡ true → type_kind p (type.Heap left) ≡ type_kind p (type.Heap right) }
+{
+    match (left, right) {
+        (Heap::Pointer { name, .. }, Heap::Pointer { name: other, .. }) => is_same_name(
+            name, other,
+        ),
+        (
+            Heap::Endpoint {
+                contract,
+                side,
+                state,
+                ..
+            },
+            Heap::Endpoint {
+                contract: other,
+                side: other_side,
+                state: other_state,
+                ..
+            },
+        ) => {
+            is_same_name(contract, other)
+                && is_same_side(side, other_side)
+                && is_same_state(state, other_state)
+        }
+        _ => false,
+    }
+}
+
+fn is_same_state(left: Option<Span>, right: Option<Span>) -> bool
+    ensures { result ≡ true → left ≡ right }
+{
+    match (left, right) {
+        (Some(left), Some(right)) => is_same_name(left, right),
+        (None, None) => true,
+        _ => false,
+    }
+}
+
+fn is_same_side(left: Side, right: Side) -> bool
+    ensures { result ≡ true → left ≡ right }
+{
+    left == right
+}
+
+fn is_same_name(left: Span, right: Span) -> bool
+    ensures { result ≡ true → left ≡ right }
+{
+    left == right
+}
+
+/// Where the first name of a type begins, if it has one.
+fn begins(written: Heap) -> Option<u32> {
+    match written {
+        Heap::Pointer { name, .. } => Some(name.start),
+        Heap::Array { .. } => None,
+        Heap::Endpoint { contract, .. } => Some(contract.start),
+    }
+}
+
+fn noted_type(scope: &Scope<'_>, written: Heap) -> Noted
+    ensures { (p : Program) → IsScope p scope.now → result.kind ≡ type_kind p (type.Heap result.written) }
+{
+    Noted {
+        written,
+        kind: look_up_kind(scope, written),
+    }
+}

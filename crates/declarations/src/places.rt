@@ -1,0 +1,88 @@
+//! Where names stand among those of their kind.
+
+ghost use Rattle.std.specs.Prelude.{◌≡◌, option_map, option_and_then};
+ghost use Rattle.tree.specs.Trees.{message_tree};
+ghost use Rattle.declarations.specs.Kinds.{type_kind};
+ghost use Rattle.declarations.specs.Places.{contract_place, message_place, sent_place, message_at, state_place};
+ghost use Rattle.declarations.specs.Named.{message_written, sent_message};
+ghost use Rattle.declarations.specs.Program.{Program, as_contract, item_at};
+ghost use Rattle.tables.specs.Words.{word_at};
+
+use crate::kinds::Kind;
+use crate::scope::Scope;
+use crate::types::kind_of_type;
+use source::Span;
+use tree::{Message, Type};
+
+impl<'a> Scope<'a> {
+    ghost use Rattle.declarations.specs.Scopes.{IsScope};
+
+    /// The kind of a type.
+    pub fn kind(&self, kind: Type) -> Kind
+        ensures { (p : Program) → IsScope p self.now → result ≡ type_kind p kind }
+    {
+        kind_of_type(self, kind)
+    }
+
+    /// How many items stand before the first item of this name, if it is a contract.
+    pub fn contract_place(&self, name: Span) -> Option<usize>
+        ensures { (p : Program) → IsScope p self.now → result ≡ contract_place p name }
+    {
+        let (place, _declared) = self.contract(name)?;
+        Some(place)
+    }
+
+    /// How many messages stand before the first one of this name, in the contract that is the item at this place.
+    pub fn message_place(&self, contract: usize, name: Span) -> Option<usize>
+        ensures { (p : Program) → IsScope p self.now → result ≡ message_place p contract (word_at p.text name) }
+    {
+        let declared = self.contract_at(contract)?;
+        declared.messages.find(name.slice(self.text))
+    }
+
+    /// The same of the message that a word like `SendM` sends.
+    pub fn sent_place(&self, contract: usize, word: Span) -> Option<usize>
+        ensures { (p : Program) → IsScope p self.now → result ≡ sent_place p contract word }
+    {
+        let declared = self.contract_at(contract)?;
+        let name = word.slice(self.text).strip_prefix(b"Send")?;
+        declared.messages.find(name)
+    }
+
+    /// The message at this place in the contract that is the item at the first one.
+    pub fn message_at(&self, contract: usize, place: usize) -> Option<&'a Message>
+        ensures { (p : Program) → IsScope p self.now → option_map (λ m. message_tree m.now) result ≡ message_at p contract place }
+    {
+        let declared = self.contract_at(contract)?;
+        declared.outline.messages.get(place).copied()
+    }
+
+    /// The first message of this name in the contract that is the item at this place.
+    pub fn message(&self, contract: usize, name: Span) -> Option<&'a Message>
+        ensures { (p : Program) → IsScope p self.now → option_map (λ m. message_tree m.now) result
+            ≡ option_and_then (λ c. message_written p.text c.1 (word_at p.text name)) (item_at as_contract p contract) }
+    {
+        let declared = self.contract_at(contract)?;
+        declared.message(name.slice(self.text))
+    }
+
+    /// The same of the message that a word like `SendM` sends.
+    pub fn sent_message(&self, contract: usize, word: Span) -> Option<&'a Message>
+        ensures { (p : Program) → IsScope p self.now → option_map (λ m. message_tree m.now) result
+            ≡ option_and_then (λ c. sent_message p.text c.1 (word_at p.text word)) (item_at as_contract p contract) }
+    {
+        let declared = self.contract_at(contract)?;
+        let written = word.slice(self.text).strip_prefix(b"Send")?;
+        declared.message(written)
+    }
+
+    /// How many states, unnamed ones counted, stand before the first one of this name, in the contract that is the item at
+    /// this place.
+    pub fn state_place(&self, contract: usize, name: Span) -> Option<usize>
+        ensures { (p : Program) → IsScope p self.now → result ≡ state_place p contract name }
+    {
+        let declared = self.contract_at(contract)?;
+        let place = declared.states.find(name.slice(self.text))?;
+        declared.named_place(place)
+    }
+}

@@ -1,0 +1,211 @@
+//! The items of a program by their names.
+
+ghost use Rattle.std.specs.Prelude.{◌≡◌, IfOk, map, Option, option_map, option_and_then, slice_get};
+ghost use Rattle.std.specs.Option.{option_copied};
+ghost use Rattle.tree.specs.Trees.{item_tree, definition_tree};
+ghost use Rattle.declarations.specs.Declarations.{first_among};
+ghost use Rattle.declarations.specs.Program.{Program, contract_named, struct_named, class_named, item_at};
+ghost use Rattle.declarations.specs.Program.{item_names, as_contract, as_struct, as_class, defined_name};
+ghost use Rattle.declarations.specs.Named.{field_named};
+ghost use Rattle.declarations.specs.Owning.{owning_named};
+ghost use Rattle.declarations.specs.Scopes.{AllMembers};
+
+use crate::fields::Fields;
+use crate::members::{Declared, Members, Methods};
+use crate::noted::NotedKinds;
+use source::Span;
+use std::alloc::{AllocError, Global};
+use tables::Table;
+use tree::{Definition, Field, Item};
+
+/// The items of a text by their names: what they declare, in order, and where each of their names is declared first. A name
+/// means the first item that declares it.
+#[derive(Drop)]
+pub struct Scope<'a> {
+    /// The text that the items are of.
+    pub text: &'a [u8],
+    pub(crate) items: &'a [Item],
+    pub(crate) names: Table<'a>,
+    pub(crate) members: Vec<Members<'a>>,
+    pub(crate) noted: NotedKinds,
+}
+
+impl<'a> Scope<'a> {
+    ghost use Rattle.declarations.specs.Scopes.{IsScope, IsContract, IsStruct, IsClass, as_declared, as_fields, as_methods};
+
+    /// What these items declare.
+    ///
+    /// `AllocError` is answered where a growth was refused.
+    pub fn of(alloc: Global, text: &'a [u8], items: &'a [Item]) -> Result<Scope<'a>, AllocError>
+        ensures { IfOk result (IsScope (record { text = text.now; items = map item_tree items.now })) }
+    {
+        let names = names_of_items(alloc, items)?;
+        let names = Table::of(alloc, text, &names)?;
+        let members = members_of_items(alloc, text, items)?;
+        let mut scope = Scope {
+            text,
+            items,
+            names,
+            members,
+            noted: NotedKinds::new(alloc),
+        };
+        scope.noted = NotedKinds::of(alloc, &scope)?;
+        Ok(scope)
+    }
+
+    /// What each item declares within it, in order.
+    pub fn members(&self) -> &[Members<'a>]
+        ensures { result.now ≡ self.now.members.items }
+    {
+        &self.members
+    }
+
+    /// The first item of this name, if it is a contract: how many items stand before it, and what it declares.
+    pub(crate) fn contract(&self, name: Span) -> Option<(usize, &Declared<'a>)>
+        ensures { (p : Program) → IsScope p self.now → IsContract p.text (contract_named p name) (option_map (λ c. (c.0, c.1.now)) result) }
+    {
+        let place = self.place(name)?;
+        let declared = self.contract_at(place)?;
+        Some((place, declared))
+    }
+
+    /// What the item at this place declares, if it is a contract.
+    pub(crate) fn contract_at(&self, place: usize) -> Option<&Declared<'a>>
+        ensures { (p : Program) → IsScope p self.now
+            → IsContract p.text (item_at as_contract p place) (option_map (λ d. (place, d.now)) result) }
+    {
+        self.declared_at(place)
+    }
+
+    /// The first item of this name, if it is a struct: how many items stand before it, and its fields.
+    pub(crate) fn structure(&self, name: Span) -> Option<(usize, &Fields<'a>)>
+        ensures { (p : Program) → IsScope p self.now → IsStruct p.text (struct_named p name) (option_map (λ s. (s.0, s.1.now)) result) }
+    {
+        let place = self.place(name)?;
+        let fields = self.structure_at(place)?;
+        Some((place, fields))
+    }
+
+    /// The first item of this name, if it is a struct: how many items stand before it, and its fields that own, in order.
+    pub fn owning_fields(&self, name: Span) -> Option<(usize, &[Field])>
+        ensures { (p : Program) → IsScope p self.now → owning_named p name ≡ option_map (λ s. (s.0, s.1.now)) result }
+    {
+        match self.structure(name) {
+            Some((place, fields)) => Some((place, &fields.owning)),
+            None => None,
+        }
+    }
+
+    /// The fields of the item at this place, if it is a struct.
+    pub fn structure_at(&self, place: usize) -> Option<&Fields<'a>>
+        ensures { (p : Program) → IsScope p self.now
+            → IsStruct p.text (item_at as_struct p place) (option_map (λ f. (place, f.now)) result) }
+    {
+        self.fields_at(place)
+    }
+
+    /// The first field of this name in the struct that is the item at this place.
+    pub fn field(&self, place: usize, name: Span) -> Option<Field>
+        ensures { (p : Program) → IsScope p self.now
+            → result ≡ option_and_then (λ s. field_named p.text s.1 name) (item_at as_struct p place) }
+    {
+        let fields = self.fields_at(place)?;
+        fields.find(self.text, name)
+    }
+
+    /// How many fields stand before the first one of this name in the struct that is the item at this place.
+    pub fn field_place(&self, structure: usize, name: Span) -> Option<usize>
+        ensures { (p : Program) → IsScope p self.now
+            → result ≡ option_and_then (λ s. first_among p.text (map (λ f. f.name) s.1.fields) name) (item_at as_struct p structure) }
+    {
+        let fields = self.fields_at(structure)?;
+        fields.place(self.text, name)
+    }
+
+    /// The first item of this name, if it is a class.
+    pub fn class(&self, name: Span) -> Option<&Methods<'a>>
+        ensures { (p : Program) → IsScope p self.now → IsClass p.text (class_named p name) (option_map (λ m. m.now) result) }
+    {
+        let place = self.place(name)?;
+        self.methods_at(place)
+    }
+
+    /// How many items stand before the first item of this name, if it is a class.
+    pub fn class_place(&self, name: Span) -> Option<usize>
+        ensures { (p : Program) → IsScope p self.now → result ≡ option_map (λ c. c.0) (class_named p name) }
+    {
+        let place = self.place(name)?;
+        let _methods = self.methods_at(place)?;
+        Some(place)
+    }
+
+    /// How many methods stand before the first one of this name in the class that is the item at this place.
+    pub fn method_place(&self, class: usize, name: Span) -> Option<usize>
+        ensures { (p : Program) → IsScope p self.now
+            → result ≡ option_and_then (λ c. first_among p.text (map (λ m. m.name) c.1.methods) name) (item_at as_class p class) }
+    {
+        let methods = self.methods_at(class)?;
+        methods.place(self.text, name)
+    }
+
+    /// How many items stand before the first item of this name.
+    fn place(&self, name: Span) -> Option<usize>
+        ensures { (p : Program) → IsScope p self.now → result ≡ first_among p.text (item_names p) name }
+    {
+        self.names.find(name.slice(self.text))
+    }
+
+    fn declared_at(&self, place: usize) -> Option<&Declared<'a>>
+        ensures { option_copied result ≡ option_and_then as_declared (slice_get self.now.members.items place) }
+    {
+        self.members.get(place)?.declared()
+    }
+
+    fn fields_at(&self, place: usize) -> Option<&Fields<'a>>
+        ensures { option_copied result ≡ option_and_then as_fields (slice_get self.now.members.items place) }
+    {
+        self.members.get(place)?.fields()
+    }
+
+    fn methods_at(&self, place: usize) -> Option<&Methods<'a>>
+        ensures { option_copied result ≡ option_and_then as_methods (slice_get self.now.members.items place) }
+    {
+        self.members.get(place)?.methods()
+    }
+}
+
+/// The names of these items, in order.
+pub(crate) fn names_of_items(alloc: Global, items: &[Item]) -> Result<Vec<Span>, AllocError>
+    ensures { IfOk result (λ names. names.items ≡ map (λ i. defined_name (definition_tree i.definition)) items.now) }
+{
+    let mut names = Vec::new(alloc);
+    for item in items {
+        names.push(name_of(&item.definition))?;
+    }
+    Ok(names)
+}
+
+fn name_of(definition: &Definition) -> Span
+    ensures { result ≡ defined_name (definition_tree definition.now) }
+{
+    match definition {
+        Definition::Contract(contract) => contract.name,
+        Definition::Struct(structure) => structure.name,
+        Definition::Class(class) => class.name,
+    }
+}
+
+/// What these items declare within them, in order.
+fn members_of_items<'a>(
+    alloc: Global,
+    text: &'a [u8],
+    items: &'a [Item],
+) -> Result<Vec<Members<'a>>, AllocError>
+    ensures { IfOk result (λ members. AllMembers text.now (map item_tree items.now) members.items) }
+{
+    let mut members = Vec::new(alloc);
+    for item in items {
+        members.push(Members::of(alloc, text, &item.definition)?)?;
+    }
+    Ok(members)
+}

@@ -1,0 +1,74 @@
+//! The names at which the states of a contract are counted.
+
+ghost use Rattle.std.specs.Prelude.{◌≡◌, ℕ, List, ◌++◌, map, IfOk, OnOk};
+ghost use Rattle.std.specs.List.{flat_map};
+ghost use Rattle.tree.specs.Trees.{path_tree, state_tree};
+ghost use Rattle.declarations.specs.Declarations.{unnamed_of};
+ghost use Rattle.declarations.specs.Numbered.{unnamed_names, places_named, names_in};
+
+use crate::outline::paths;
+use source::{Place, Span};
+use std::alloc::{AllocError, Global};
+use tree::{Edge, Path, State};
+
+/// The name of a state, or the message behind an unnamed one.
+#[derive(Clone, Copy, PartialEq, Eq)]
+pub(crate) enum StateName {
+    Named(Span),
+    Unnamed(Span),
+}
+
+impl StateName {
+    ghost use Rattle.declarations.specs.Numbered.{counted_as};
+
+    /// Where it lies in the text.
+    pub(crate) fn place(self) -> Place
+        ensures { (text : List ℕ) → result ≡ (counted_as text self).place }
+    {
+        match self {
+            StateName::Named(span) | StateName::Unnamed(span) => span.place,
+        }
+    }
+}
+
+/// All states of a contract in order, and where its named ones stand among them.
+#[derive(Drop)]
+pub(crate) struct StateNames {
+    pub(crate) all: Vec<StateName>,
+    pub(crate) named: Vec<usize>,
+}
+
+/// The states: each named one, and behind it those that its paths make.
+pub(crate) fn state_names(alloc: Global, states: &[&State]) -> Result<StateNames, AllocError>
+    ensures all { IfOk result (λ names. names.all.items ≡ flat_map names_in (map (λ s. state_tree s.now) states.now)) }
+    ensures named { IfOk result (λ names. names.named.items ≡ places_named (map (λ s. state_tree s.now) states.now)) }
+{
+    let mut all = Vec::new(alloc);
+    let mut named = Vec::new(alloc);
+    for state in states {
+        named.push(all.len())?;
+        all.push(StateName::Named(state.name))?;
+        add_paths(paths(state), &mut all)?;
+    }
+    Ok(StateNames { all, named })
+}
+
+fn add_paths(paths: &[Path], names: &mut Vec<StateName>) -> Result<(), AllocError>
+    ensures { OnOk result (names.new.items ≡ names.old.items ++ unnamed_names (flat_map unnamed_of (map path_tree paths.now))) }
+{
+    for path in paths {
+        add_unnamed(&path.others, names)?;
+    }
+    Ok(())
+}
+
+/// Adds the unnamed states of a path, one before each message but the first.
+fn add_unnamed(others: &[Edge], names: &mut Vec<StateName>) -> Result<(), AllocError>
+    ensures { OnOk result (names.new.items ≡ names.old.items ++ unnamed_names (map (λ e. e.message) others.now)) }
+{
+    names.reserve(others.len())?;
+    for edge in others {
+        names.push(StateName::Unnamed(edge.message))?;
+    }
+    Ok(())
+}

@@ -1,0 +1,87 @@
+//! What is wrong with the paths of states.
+
+ghost use Rattle.std.specs.Prelude.{List, OnOk};
+ghost use Rattle.std.specs.List.{flat_map};
+ghost use Rattle.source.specs.declared.token.Span.{Span};
+ghost use Rattle.tree.specs.Trees.{path_tree, state_tree};
+ghost use Rattle.declarations.specs.ContractFindings.{path_findings, state_findings};
+ghost use Rattle.declarations.specs.Found.{Adds};
+ghost use Rattle.declarations.specs.Listed.{asked_name};
+ghost use Rattle.declarations.specs.Outlines.{outlined_states};
+ghost use Rattle.tables.specs.Tables.{IsTable};
+ghost use Rattle.tables.specs.Words.{words_at};
+
+use crate::judging::judge_name;
+use crate::members::Declared;
+use crate::outline::paths;
+use source::{Finding, Memory};
+use std::alloc::Global;
+use tables::Table;
+use tree::{Edge, Path, State};
+
+/// Adds the messages and states on the paths of a state that its contract does not declare.
+pub(crate) fn judge_state(
+    alloc: Global,
+    text: &[u8],
+    declared: &Declared<'_>,
+    state: &State,
+    found: &mut Vec<Finding>,
+) -> Result<(), Memory>
+    ensures { (messages states : List Span) → IsTable (words_at text.now messages) declared.now.messages
+        → IsTable (words_at text.now states) declared.now.states → OnOk result
+        (Adds found.old.items found.new.items (state_findings text.now messages states (state_tree state.now))) }
+{
+    for path in paths(state) {
+        judge_path(alloc, text, declared, path, found)?;
+    }
+    Ok(())
+}
+
+fn judge_path(
+    alloc: Global,
+    text: &[u8],
+    declared: &Declared<'_>,
+    path: &Path,
+    found: &mut Vec<Finding>,
+) -> Result<(), Memory>
+    ensures { (messages states : List Span) → IsTable (words_at text.now messages) declared.now.messages
+        → IsTable (words_at text.now states) declared.now.states → OnOk result
+        (Adds found.old.items found.new.items (path_findings text.now messages states (path_tree path.now))) }
+{
+    judge_name(alloc, text, &declared.messages, path.first.message, found)?;
+    judge_edges(alloc, text, &declared.messages, &path.others, found)?;
+    judge_name(alloc, text, &declared.states, path.target, found)
+}
+
+fn judge_edges(
+    alloc: Global,
+    text: &[u8],
+    table: &Table<'_>,
+    edges: &[Edge],
+    found: &mut Vec<Finding>,
+) -> Result<(), Memory>
+    ensures { (names : List Span) → IsTable (words_at text.now names) table.now → OnOk result
+        (Adds found.old.items found.new.items (flat_map (λ e. asked_name text.now names e.message) edges.now)) }
+{
+    for edge in edges {
+        judge_name(alloc, text, table, edge.message, found)?;
+    }
+    Ok(())
+}
+
+/// Adds the messages and states on the paths of these states that their contract does not declare.
+pub(crate) fn judge_states(
+    alloc: Global,
+    text: &[u8],
+    declared: &Declared<'_>,
+    found: &mut Vec<Finding>,
+) -> Result<(), Memory>
+    ensures { (messages states : List Span) → IsTable (words_at text.now messages) declared.now.messages
+        → IsTable (words_at text.now states) declared.now.states → OnOk result (Adds found.old.items found.new.items
+        (flat_map (state_findings text.now messages states) (outlined_states declared.now.outline))) }
+{
+    for state in &declared.outline.states {
+        judge_state(alloc, text, declared, state, found)?;
+    }
+    Ok(())
+}

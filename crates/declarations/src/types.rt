@@ -1,0 +1,183 @@
+//! The kinds of types that are written, and the names in them.
+
+ghost use Rattle.std.specs.Prelude.{◌≡◌, OnOk};
+ghost use Rattle.tree.specs.Trees.{ContractTree};
+ghost use Rattle.declarations.specs.Found.{Adds};
+ghost use Rattle.declarations.specs.Kinds.{is_heap, type_kind, pointer_kind, endpoint_kind};
+ghost use Rattle.declarations.specs.Kinds.{type_unknown, pointer_unknown, endpoint_unknown};
+ghost use Rattle.declarations.specs.Program.{Program, contract_named, struct_named};
+ghost use Rattle.declarations.specs.Scopes.{IsScope, IsDeclared};
+
+use crate::judging::{add_unknown, judge_name};
+use crate::kinds::Kind;
+use crate::members::Declared;
+use crate::scope::Scope;
+use program::Side;
+use source::{Finding, Memory, Span};
+use std::alloc::Global;
+use tree::{Heap, Type};
+
+/// Whether it is a type of the exchange heap.
+pub fn is_heap(kind: Type) -> bool
+    ensures { result ≡ is_heap kind }
+{
+    matches!(kind, Type::Heap(_))
+}
+
+/// The kind of a type.
+pub(crate) fn kind_of_type(scope: &Scope<'_>, kind: Type) -> Kind
+    ensures { (p : Program) → IsScope p scope.now → result ≡ type_kind p kind }
+{
+    match kind {
+        Type::Scalar(scalar) => Kind::Scalar(scalar),
+        Type::Heap(heap) => kind_of_heap(scope, heap),
+    }
+}
+
+fn kind_of_heap(scope: &Scope<'_>, kind: Heap) -> Kind
+    ensures { (p : Program) → IsScope p scope.now → result ≡ type_kind p (Type.Heap kind) }
+{
+    match scope.noted.find(kind) {
+        Some(noted) => noted,
+        None => look_up_kind(scope, kind),
+    }
+}
+
+/// The kind of a type, by the names in it.
+pub(crate) fn look_up_kind(scope: &Scope<'_>, kind: Heap) -> Kind
+    ensures { (p : Program) → IsScope p scope.now → result ≡ type_kind p (Type.Heap kind) }
+{
+    match kind {
+        Heap::Pointer { name, .. } => kind_of_pointer(scope, name),
+        Heap::Array { element, .. } => Kind::Array(element),
+        Heap::Endpoint {
+            contract,
+            side,
+            state,
+            ..
+        } => kind_of_endpoint(scope, contract, side, state),
+    }
+}
+
+/// The kind of a pointer to the struct of this name.
+fn kind_of_pointer(scope: &Scope<'_>, name: Span) -> Kind
+    ensures { (p : Program) → IsScope p scope.now → result ≡ pointer_kind (struct_named p name) }
+{
+    match scope.structure(name) {
+        Some((place, _)) => Kind::Pointer(place),
+        None => Kind::Unknown,
+    }
+}
+
+fn kind_of_endpoint(scope: &Scope<'_>, contract: Span, side: Side, state: Option<Span>) -> Kind
+    ensures { (p : Program) → IsScope p scope.now → result ≡ endpoint_kind p.text (contract_named p contract) side state }
+{
+    match scope.contract(contract) {
+        Some((place, declared)) => kind_of_end(scope.text, place, declared, side, state),
+        None => Kind::Unknown,
+    }
+}
+
+fn kind_of_end(
+    text: &[u8],
+    place: usize,
+    declared: &Declared<'_>,
+    side: Side,
+    state: Option<Span>,
+) -> Kind
+    ensures { (c : ContractTree) → IsDeclared text.now c declared.now
+        → result ≡ endpoint_kind text.now (Some (place, c)) side state }
+{
+    match state {
+        Some(state) => kind_of_end_in(text, place, declared, side, state),
+        None => Kind::Endpoint(side, place),
+    }
+}
+
+fn kind_of_end_in(
+    text: &[u8],
+    place: usize,
+    declared: &Declared<'_>,
+    side: Side,
+    state: Span,
+) -> Kind
+    ensures { (c : ContractTree) → IsDeclared text.now c declared.now
+        → result ≡ endpoint_kind text.now (Some (place, c)) side (Some state) }
+{
+    match declared.states.find(state.slice(text)) {
+        Some(_) => Kind::Endpoint(side, place),
+        None => Kind::Unknown,
+    }
+}
+
+/// Adds the names in a type that are not declared.
+///
+/// `Memory` is returned if a growth was refused.
+pub fn judge_type(
+    alloc: Global,
+    scope: &Scope<'_>,
+    kind: Type,
+    found: &mut Vec<Finding>,
+) -> Result<(), Memory>
+    ensures { (p : Program) → IsScope p scope.now → OnOk result (Adds found.old.items found.new.items (type_unknown p kind)) }
+{
+    match kind {
+        Type::Scalar(_) => Ok(()),
+        Type::Heap(heap) => judge_heap(alloc, scope, heap, found),
+    }
+}
+
+fn judge_heap(
+    alloc: Global,
+    scope: &Scope<'_>,
+    kind: Heap,
+    found: &mut Vec<Finding>,
+) -> Result<(), Memory>
+    ensures { (p : Program) → IsScope p scope.now → OnOk result (Adds found.old.items found.new.items (type_unknown p (Type.Heap kind))) }
+{
+    match kind {
+        Heap::Pointer { name, .. } => judge_pointer(alloc, scope, name, found),
+        Heap::Array { .. } => Ok(()),
+        Heap::Endpoint {
+            contract,
+            state,
+            ..
+        } => judge_endpoint(alloc, scope, contract, state, found),
+    }
+}
+
+/// Adds the name unless a struct has it.
+fn judge_pointer(
+    alloc: Global,
+    scope: &Scope<'_>,
+    name: Span,
+    found: &mut Vec<Finding>,
+) -> Result<(), Memory>
+    ensures { (p : Program) → IsScope p scope.now
+        → OnOk result (Adds found.old.items found.new.items (pointer_unknown p.text (struct_named p name) name)) }
+{
+    match scope.structure(name) {
+        Some(_) => Ok(()),
+        None => add_unknown(alloc, scope.text, name, found),
+    }
+}
+
+/// Adds the contract, or the state, of an endpoint's type if it is not declared.
+fn judge_endpoint(
+    alloc: Global,
+    scope: &Scope<'_>,
+    contract: Span,
+    state: Option<Span>,
+    found: &mut Vec<Finding>,
+) -> Result<(), Memory>
+    ensures { (p : Program) → IsScope p scope.now
+        → OnOk result (Adds found.old.items found.new.items (endpoint_unknown p.text (contract_named p contract) contract state)) }
+{
+    match (scope.contract(contract), state) {
+        (Some((_, declared)), Some(state)) => {
+            judge_name(alloc, scope.text, &declared.states, state, found)
+        }
+        (Some(_), None) => Ok(()),
+        (None, _) => add_unknown(alloc, scope.text, contract, found),
+    }
+}

@@ -1,7 +1,0 @@
-use Rattle.std.proofs.Common.{◌≡◌, take}
-use Rattle.std.specs.List.{filter}
-use Rattle.names.specs.Kinds.{is_heap}
-use Rattle.names.proofs.fields.owning_fields.Given as goal
-
-abbrev pub invariant-loop-field : goal.invariant-loop-field
-invariant-loop-field l = l.owning.items ≡ filter (λ f. is_heap f.kind) (take l.field-index l.fields)

@@ -1,5 +1,0 @@
-use Rattle.std.proofs.Common.{◌≡◌, ◌++◌, map, take}
-use Rattle.names.proofs.items.add_names.Given as goal
-
-abbrev pub invariant-loop-method : goal.invariant-loop-method
-invariant-loop-method l = l.names.items ≡ l.fn.names.items ++ map (λ m. m.name) (take l.method-index l.methods)

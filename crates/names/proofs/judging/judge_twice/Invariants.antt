@@ -1,7 +1,0 @@
-use Rattle.tables.specs.Tables.{IsTable}
-use Rattle.tables.specs.Words.{words_at}
-use Rattle.names.proofs.TwiceLemmas.{TwiceSoFar}
-use Rattle.names.proofs.judging.judge_twice.Given as goal
-
-abbrev pub invariant-loop-place : goal.invariant-loop-place
-invariant-loop-place l = IsTable (words_at l.text l.names) l.table → TwiceSoFar l.text l.names l.place l.fn.found.items l.found.items

@@ -1,6 +1,0 @@
-use Rattle.std.proofs.Common.{◌≡◌, ◌++◌, map, take}
-use Rattle.names.specs.Numbered.{unnamed_names}
-use Rattle.names.proofs.state_names.add_unnamed.Given as goal
-
-abbrev pub invariant-loop-edge : goal.invariant-loop-edge
-invariant-loop-edge l = l.names.items ≡ l.fn.names.items ++ unnamed_names (map (λ e. e.message) (take l.edge-index l.others))
