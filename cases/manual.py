@@ -40,7 +40,8 @@ def what_the_help_says(program):
     said = {command: helped(program, *command.split()) for command in ('', 'bounds', 'check', 'replay', 'why')}
     asked = [(command, word) for command in said for word in ('Usage: singcheck %s' % command, 'Example: singcheck %s' % command)]
     asked += [('', word) for word in ['Exit status:'] + ['\n  %d  ' % status for status in range(5)]]
-    asked += [('why', '<FILE> [LINE:COL]'), ('replay', '<FILE> <ENTRY> <SCHEDULE>'), ('replay', 'Class.Method'), ('check', '--workers <N>'), ('check', '--slots <N>')]
+    asked += [('why', '<FILE> [LINE:COL]')]
+    asked += [('replay', '<FILE> <ENTRY> <SCHEDULE>'), ('replay', 'Class.Method'), ('check', '--workers <N>'), ('check', '--slots <N>')]
     asked += [('check', '1 to 64, default 4'), ('check', '1 to 16777216, default 65536')]
     return ['help of %r lacks %r' % (command, word) for command, word in asked if word not in said[command]]
 

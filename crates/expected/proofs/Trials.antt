@@ -11,6 +11,7 @@ use Rattle.tree.specs.Symbols.{Symbol, End, seen_as, symbols}
 use Rattle.tree.specs.Trees.{ItemTree}
 use Rattle.syntax.specs.Parsing.{Viable, IsFirstWrong}
 use Rattle.expected.specs.Expected.{IsExpected}
+use Rattle.syntax.proofs.Tops.{symbols_length}
 
 abbrev pub seen : Token → Symbol
 seen t = seen_as t.kind t.span
@@ -18,10 +19,6 @@ seen t = seen_as t.kind t.span
 symbols_seen : (ts : List Token) → symbols ts ≡ map seen ts ++ End ∷ []
 symbols_seen [] = refl
 symbols_seen (t ∷ ts) = ap (λ ys. seen t ∷ ys) (symbols_seen ts)
-
-length-symbols : (ts : List Token) → length (symbols ts) ≡ length ts + 1
-length-symbols [] = refl
-length-symbols (t ∷ ts) = let h = length-symbols ts in omega arith
 
 -- the first symbols of a text are those of its first tokens
 front_seen : (n : ℕ) (ts : List Token) → n ≤ length ts → take n (symbols ts) ≡ map seen (take n ts)
@@ -67,7 +64,7 @@ shorter m n xs h v =
 pub wrong_within : (ts : List Token) (k : ℕ) → IsFirstWrong program ts k → k ≤ length ts
 wrong_within ts k w = elim (cases_lt (length ts) k) [
   | inl past ↦
-      let counted = length-symbols ts in
+      let counted = symbols_length ts in
       let one : take k (symbols ts) ≡ symbols ts = take_all k (symbols ts) (omega arith) in
       let two : take (k + 1) (symbols ts) ≡ symbols ts = take_all (k + 1) (symbols ts) (omega arith) in
       absurd (w.bad (subst (Viable (whole program)) (one ∙ sym two) w.good))

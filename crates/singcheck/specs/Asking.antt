@@ -50,8 +50,8 @@ bare_command = record (new_app (codes "singcheck")) {
 -- `singcheck bounds FILE`, `singcheck check FILE`, `singcheck replay FILE ENTRY SCHEDULE` and `singcheck why FILE [LINE:COL]`
 abbrev pub whole_command : App
 whole_command =
-    with_subcommand (with_subcommand (with_subcommand (with_subcommand bare_command bounds_command.top) check_command.top) replay_command.top)
-    why_command.top
+    with_subcommand (with_subcommand (with_subcommand (with_subcommand bare_command bounds_command.top)
+    check_command.top) replay_command.top) why_command.top
 
 -- a command in memory is this one, and has no arguments that its subcommands share
 pub record IsCommand (app : App) (c : Command) : Type 0 where

@@ -71,5 +71,6 @@ IsBuiltOf text (built.Program program) = IsProgramBefore text program
 -- the methods of a program and what is wrong with its contracts, or the program where nothing is
 abbrev pub IsBuilt : ProgramSeen → Built → Type 0
 IsBuilt p (built.Found findings) = ⊥
-IsBuilt p (built.Broken methods findings) = (contracts_seen methods ≡ p.contracts) × AreBroken p.contracts (map finding_parts findings.items)
+IsBuilt p (built.Broken methods findings) =
+    (contracts_seen methods ≡ p.contracts) × AreBroken p.contracts (map finding_parts findings.items)
 IsBuilt p (built.Program program) = IsSoundOne p program

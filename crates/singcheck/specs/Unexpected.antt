@@ -1,5 +1,6 @@
 -- Why a text is no program: with which tokens it could have gone on.
-use Rattle.std.specs.Prelude.{◌≡◌, ◌↔◌, ◌∷◌, [], ℕ, Bool, true, false, List, Option, Some, None, Contains, take, slice_get, codes, if◌then◌else◌}
+use Rattle.std.specs.Prelude.{◌≡◌, ◌↔◌, ◌∷◌, [], ℕ, Bool, true, false, List, Option, Some, None, Contains, take, slice_get, codes}
+use Rattle.std.specs.Prelude.{if◌then◌else◌}
 use Rattle.std.specs.Option.{option_map_or}
 use Rattle.source.specs.Marks.{body_of}
 use Rattle.source.specs.Places.{place_of}
@@ -54,7 +55,8 @@ pub record IsUnexpected (text : List ℕ) (e : ExplainedSeen) : Type 0 where
   pub wrong : IsFirstWrong program tokens number
   pub finding : e.finding ≡ wrong_token text (slice_get tokens number)
   pub kinds : List Kind
-  pub exact : (kind : Kind) → Contains kinds kind ↔ IsExpected tokens number (wrong_span (place_of (body_of text)) (slice_get tokens number)) kind
+  pub exact : (kind : Kind) → Contains kinds kind
+      ↔ IsExpected tokens number (wrong_span (place_of (body_of text)) (slice_get tokens number)) kind
   pub order : IsSublist kinds ALL_KINDS
   pub lines : e.lines ≡ line e.finding.place (expectation_of kinds) ∷ brace_lines tokens number
 

@@ -48,8 +48,7 @@ pub fn ask<'a>(alloc: Global, words: &'a [&'a str]) -> Result<Ask<'a>, Error>
         }
     }
     if let Some(("why", inner)) = matches.subcommand() {
-        let asked = why_asked(inner);
-        let Some(asked) = asked else {
+        let Some(asked) = why_asked(inner) else {
             return Err(command.error(ErrorKind::InvalidValue, "LINE:COL takes two numbers")?);
         };
         return Ok(asked);

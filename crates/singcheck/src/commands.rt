@@ -2,7 +2,8 @@
 
 ghost use Rattle.std.specs.Prelude.{◌≡◌, codes, false, IfOk};
 ghost use Rattle.clap.specs.Words.{rule_of};
-ghost use Rattle.singcheck.specs.Asking.{spare_rule, text_rule, number_rule, bounds_command, check_command, replay_command, why_command, whole_command, IsCommand};
+ghost use Rattle.singcheck.specs.Asking.{IsCommand, number_rule, spare_rule, text_rule};
+ghost use Rattle.singcheck.specs.Asking.{bounds_command, check_command, replay_command, whole_command, why_command};
 
 use clap::{Arg, ArgAction, Command};
 use std::alloc::{AllocError, Global};

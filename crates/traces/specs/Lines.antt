@@ -1,5 +1,6 @@
 -- What is told of a path through a method: a line for each choice that it makes, and one for each change of what is watched.
-use Rattle.std.specs.Prelude.{ℕ, ◌==◌, ◌-◌, Bool, ◌&&◌, ◌||◌, List, [], ◌∷◌, ◌++◌, Option, Some, None, filter, flat_map, map, slice_get, codes, if◌then◌else◌}
+use Rattle.std.specs.Prelude.{ℕ, ◌==◌, ◌-◌, Bool, ◌&&◌, ◌||◌, List, [], ◌∷◌, ◌++◌, Option, Some, None, filter, flat_map, map}
+use Rattle.std.specs.Prelude.{slice_get, codes, if◌then◌else◌}
 use Rattle.std.specs.List.{list_all}
 use Rattle.std.specs.Option.{option_map_or}
 use Rattle.source.specs.declared.place.Place.{Place}
@@ -79,7 +80,8 @@ module _ (p : ProgramSeen) (m : MethodSeen) where
   change came (Exchange e next) v leaf = line e.place (has v leaf) ∷ []
   change came (NewChannel c next) v leaf = line c.place (has v leaf) ∷ []
   change came (Send place e message payloads next) v Nothing =
-      line place (name_of m v ++ (codes " sent as " ++ (message_name p (kind_of m e.variable.0) message.0 ++ (codes " on " ++ name e)))) ∷ []
+      line place (name_of m v
+      ++ (codes " sent as " ++ (message_name p (kind_of m e.variable.0) message.0 ++ (codes " on " ++ name e)))) ∷ []
   change came (Send place e message payloads next) v leaf = line place (has v leaf) ∷ []
   change came (Switch place cases) v leaf = line came (has v leaf) ∷ []
   change came (Call place method arguments target next) v Nothing = line place (takes (codes "the call") (name_of m v)) ∷ []
@@ -104,7 +106,8 @@ module _ (p : ProgramSeen) (m : MethodSeen) where
   abbrev pub came_by : List Mention → (before after : Pair) → EntranceSeen → Bool
   came_by endpoints before after c =
       (c.next == after.0)
-      && (same_leaf.it (awaited_leaf c.endpoint.variable.0 c.awaited (leaf_at before.1 c.endpoint.variable.0)) (leaf_at after.1 c.endpoint.variable.0)
+      && (same_leaf.it (awaited_leaf c.endpoint.variable.0 c.awaited (leaf_at before.1 c.endpoint.variable.0))
+      (leaf_at after.1 c.endpoint.variable.0)
       && list_all (λ e. (e.variable.0 == c.endpoint.variable.0) || keeps before.1 after.1 e.variable.0) endpoints)
 
   abbrev pub awaited_name : ℕ → Awaited → List ℕ

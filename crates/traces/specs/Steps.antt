@@ -22,6 +22,7 @@ first_place [] = None
 first_place (c ∷ cases) = Some c.endpoint.place
 
 -- behind these lines these cases were told, the first of which stands there
-pub record HasCases (p : ProgramSeen) (m : MethodSeen) (before : List LineSeen) (taken : List EntranceSeen) (place : Option Place) (added : List Line) : Type 0 where
+pub record HasCases (p : ProgramSeen) (m : MethodSeen) (before : List LineSeen) (taken : List EntranceSeen) (place : Option Place)
+    (added : List Line) : Type 0 where
   pub lines : map line_seen added ≡ before ++ case_lines p m taken
   pub first : place ≡ first_place taken

@@ -61,7 +61,8 @@ impl Teller<'_> {
 
     /// What comes of a variable that has this behind a new block for the target.
     fn made(&self, target: Mention, variable: VarId, leaf: Leaf) -> Result<Line, Memory>
-        ensures { IfOk result (λ it. line_seen it ∷ [] ≡ told.change (seen_of self.now.program.now) (method_seen self.now.method.now) target.place
+        ensures { IfOk result (λ it. line_seen it ∷ []
+            ≡ told.change (seen_of self.now.program.now) (method_seen self.now.method.now) target.place
             (New target [] 0) variable.0 leaf) }
     {
         let name = self.name_of(variable);
@@ -125,7 +126,8 @@ impl Teller<'_> {
         lines: &mut Vec<Line>,
     ) -> Result<(), Memory>
         ensures { OnOk result (map line_seen lines.new.items ≡ map line_seen lines.old.items
-            ++ told.change (seen_of self.now.program.now) (method_seen self.now.method.now) came (instruction_seen instr.now) variable.0 leaf) }
+            ++ told.change (seen_of self.now.program.now) (method_seen self.now.method.now) came
+            (instruction_seen instr.now) variable.0 leaf) }
     {
         let name = self.name_of(variable);
         let line = match instr {

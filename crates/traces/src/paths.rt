@@ -80,7 +80,8 @@ impl Teller<'_> {
             → slice_get pairs 0 ≡ Some first → AllZip (λ place x. slice_get pairs place ≡ Some x) places.now steps
             → map line_seen lines.items ≡ told.start_lines (seen_of self.now.program.now) (method_seen self.now.method.now)
             (map (λ v. v.0) watched.now) first.1
-            ++ told.path_lines (seen_of self.now.program.now) (method_seen self.now.method.now) (map (λ v. v.0) watched.now) (first ∷ steps)) }
+            ++ told.path_lines (seen_of self.now.program.now) (method_seen self.now.method.now)
+            (map (λ v. v.0) watched.now) (first ∷ steps)) }
     {
         let mut before = Row::empty(self.alloc);
         let mut after = Row::empty(self.alloc);
