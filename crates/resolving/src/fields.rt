@@ -83,7 +83,11 @@ fn count_before(places: &[usize], place: usize) -> usize
 }
 
 /// The number of a field of what a variable of this kind holds, among the fields that own.
-pub(crate) fn field_number(around: &Around<'_, '_>, kind: declarations::Kind, field: Span) -> Option<usize>
+pub(crate) fn field_number(
+    around: &Around<'_, '_>,
+    kind: declarations::Kind,
+    field: Span,
+) -> Option<usize>
     ensures { (p : Program) (own : ℕ) → IsAround p own around.now
         → result ≡ model.field_number p kind field }
 {

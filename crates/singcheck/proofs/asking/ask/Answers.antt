@@ -16,4 +16,4 @@ pub returns-in-Some-replay_asked : goal.returns-in-Some-replay_asked
 returns-in-Some-replay_asked c = asks_replay (map (λ w. w.now) c.args.words.now) c.in_ok-matches.matches c.in-Some-replay-default.inner.now (app_of c.in_ok-command.command) c.in-Some-replay_asked.asked c.in_ok-command.ensures.same c.in_ok-matches.ensures.ok.2 (sym c.in-Some-replay-default.ensures.name ∙ ap Some c.in-Some-replay-default.is-replay) (sym c.in-Some-replay-default.ensures.rows) c.in-Some-replay_asked.ensures
 
 pub returns-in-Some-why-default : goal.returns-in-Some-why-default
-returns-in-Some-why-default c = asks_why (map (λ w. w.now) c.args.words.now) c.in_ok-matches.matches c.in-Some-why-default.inner.now (app_of c.in_ok-command.command) c.in-Some-asked.asked c.in_ok-command.ensures.same c.in_ok-matches.ensures.ok.2 (sym c.in-Some-why-default.ensures.name ∙ ap Some c.in-Some-why-default.is-why) (sym c.in-Some-why-default.ensures.rows) c.in-Some-asked.ensures
+returns-in-Some-why-default c = asks_why (map (λ w. w.now) c.args.words.now) c.in_ok-matches.matches c.in-Some-why-default.inner.now (app_of c.in_ok-command.command) c.in-Some-why_asked.asked c.in_ok-command.ensures.same c.in_ok-matches.ensures.ok.2 (sym c.in-Some-why-default.ensures.name ∙ ap Some c.in-Some-why-default.is-why) (sym c.in-Some-why-default.ensures.rows) c.in-Some-why_asked.ensures
