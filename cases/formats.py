@@ -261,15 +261,26 @@ def ends_as_other_tools(program):
         found += unlike((-signal.SIGPIPE, b''), (ran.returncode, ran.stderr), tool + ' without a reader')
     ran = subprocess.run(['sh', '-c', '"$@" - <&-', 'sh', TOP / 'tools' / 'check', '--program', program], capture_output=True, timeout=60)
     found += unlike((3, b'', b'check: cannot read -: it is closed\n'), (ran.returncode, ran.stdout, ran.stderr), 'closed input')
+    return found + ends_when_interrupted(note)
+
+
+def ends_when_interrupted(note):
+    """An interrupt, sent to the tool and what it runs as a terminal does it, ends `show` that reads and `check` that waits for the program."""
+    found = []
     with tempfile.TemporaryDirectory() as folder:
-        slow = pathlib.Path(folder) / 'slow'
-        slow.write_text('#!/bin/sh\nexec sleep 60\n')
+        slow, begun = pathlib.Path(folder) / 'slow', pathlib.Path(folder) / 'begun'
+        slow.write_text('#!/bin/sh\n: >"%s"\nexec sleep 60\n' % begun)
         slow.chmod(0o755)
         for command in ([TOP / 'tools' / 'show', note], [TOP / 'tools' / 'check', '--program', slow, note]):
             waiting = subprocess.Popen(command, stdin=subprocess.PIPE, stdout=subprocess.PIPE, stderr=subprocess.PIPE,
                                        start_new_session=True)
-            time.sleep(0.5)
-            os.killpg(waiting.pid, signal.SIGINT)  # as a terminal does it
+            if command[0].name == 'show':
+                waiting.stdin.write(b' ' * (1 << 18))  # more than a pipe holds, so it is written only once the tool reads
+                waiting.stdin.flush()
+            else:
+                while not begun.exists() and waiting.poll() is None:
+                    time.sleep(0.01)
+            os.killpg(waiting.pid, signal.SIGINT)
             said = waiting.communicate(timeout=60)[1]
             found += unlike((-signal.SIGINT, b''), (waiting.returncode, said), command[0].name + ' interrupted')
     return found
