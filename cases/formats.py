@@ -265,7 +265,7 @@ def ends_as_other_tools(program):
 
 
 def ends_when_interrupted(note):
-    """An interrupt, sent to the tool and what it runs as a terminal does it, ends `show` that reads and `check` that waits for the program."""
+    """An interrupt, sent as a terminal does it, ends `show` that reads and `check` that waits for the program."""
     found = []
     with tempfile.TemporaryDirectory() as folder:
         slow, begun = pathlib.Path(folder) / 'slow', pathlib.Path(folder) / 'begun'
