@@ -13,7 +13,7 @@ ghost use Rattle.singcheck.specs.Unexpected.{IsAskedUnexpected, begins_item, bra
 
 use crate::stages::{finding_at, token_at};
 use expected::{expectation, expected_kinds, fault_is_within, open_brace};
-use source::{Kind, Memory, Place, Span, Token, Tokens, lex};
+use source::{Kind, Memory, Place, Span, TextFault, Token, Tokens, lex};
 use std::alloc::Global;
 use syntax::{SyntaxFault, parse};
 use traces::{Explained, Line, is_asked};
@@ -29,8 +29,10 @@ pub(crate) fn explain_syntax(
 ) -> Result<Option<Explained>, Memory>
     ensures { IfOk result (λ found. IfSome found (λ e. IsAskedUnexpected named text.now (explained_seen e))) }
 {
-    let Ok(tokens) = lex(alloc, text) else {
-        return Ok(None);
+    let tokens = match lex(alloc, text) {
+        Ok(tokens) => tokens,
+        Err(TextFault::Memory) => return Err(Memory),
+        Err(_) => return Ok(None),
     };
     match parse(alloc, &tokens) {
         Ok(_tree) => Ok(None),
