@@ -136,7 +136,8 @@ CASES = ('bounds/ping', 'bounds/burst', 'bounds/two_contracts', 'conditions/one_
          'replays/endpoint_in_its_own_queue', 'replays/sent_to_a_freed_peer', 'replays/queue_of_a_deleted_endpoint',
          'replays/message_taken_of_a_freed_peer', 'replays/server_and_client_to_the_end', 'replays/finding_of_names',
          'fields/owning_field_outside_exchange', 'fields/endpoint_in_a_wrong_state_for_an_exchange',
-         'fields/struct_sent_with_what_is_in_it', 'fields/replay_of_blocks_in_blocks', 'fields/replay_of_a_queue_deleted_with_its_block')
+         'fields/struct_sent_with_what_is_in_it', 'fields/replay_of_blocks_in_blocks', 'fields/replay_of_a_queue_deleted_with_its_block',
+         'why/second_finding_named', 'why/end_expected_to_be_a_brace', 'why/ring_of_two_edges', 'why/both_directions')
 TESTS = [('refusals/' + name, functools.partial(stored, name, [])) for name in CASES]
 TESTS += [('refusals/%s by 2 workers' % name, functools.partial(stored, name, ['--workers', '2']))
           for name in ('channels/blocks_between_two_processes',)]
