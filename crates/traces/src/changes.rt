@@ -60,7 +60,7 @@ impl Teller<'_> {
     }
 
     /// What comes of a variable that has this behind a new block for the target.
-    fn made(&self, target: Mention, variable: VarId, leaf: Leaf) -> Result<Line, Memory>
+    fn line_of_new(&self, target: Mention, variable: VarId, leaf: Leaf) -> Result<Line, Memory>
         ensures { IfOk result (λ it. line_seen it ∷ []
             ≡ told.change (seen_of self.now.program.now) (method_seen self.now.method.now) target.place
             (New target [] 0) variable.0 leaf) }
@@ -75,7 +75,7 @@ impl Teller<'_> {
     }
 
     /// What comes of a variable that has this behind a send.
-    fn sent(&self, sending: &Sending, variable: VarId, leaf: Leaf) -> Result<Line, Memory>
+    fn line_of_send(&self, sending: &Sending, variable: VarId, leaf: Leaf) -> Result<Line, Memory>
         ensures { IfOk result (λ it. line_seen it ∷ [] ≡ told.change (seen_of self.now.program.now) (method_seen self.now.method.now)
             sending.now.place (instruction_seen (instr.Send sending.now)) variable.0 leaf) }
     {
@@ -106,7 +106,7 @@ impl Teller<'_> {
     }
 
     /// What comes of a variable that has this behind a call.
-    fn called(&self, place: Place, variable: VarId, leaf: Leaf) -> Result<Line, Memory>
+    fn line_of_call(&self, place: Place, variable: VarId, leaf: Leaf) -> Result<Line, Memory>
         ensures { IfOk result (λ it. line_seen it ∷ [] ≡ told.change (seen_of self.now.program.now) (method_seen self.now.method.now)
             place (Call place (record { 0 = 0 }) [] None 0) variable.0 leaf) }
     {
@@ -131,13 +131,13 @@ impl Teller<'_> {
     {
         let name = self.name_of(variable);
         let line = match instr {
-            Instr::New { target, .. } => self.made(*target, variable, leaf)?,
+            Instr::New { target, .. } => self.line_of_new(*target, variable, leaf)?,
             Instr::Delete { at, .. } => line_of(self.alloc, at.place, name, b" deleted", b"")?,
             Instr::Exchange { exchange, .. } => self.has(exchange.place, variable, leaf)?,
             Instr::NewChannel { channel, .. } => self.has(channel.place, variable, leaf)?,
-            Instr::Send(sending) => self.sent(sending, variable, leaf)?,
+            Instr::Send(sending) => self.line_of_send(sending, variable, leaf)?,
             Instr::Switch { .. } => self.has(came, variable, leaf)?,
-            Instr::Call(calling) => self.called(calling.place, variable, leaf)?,
+            Instr::Call(calling) => self.line_of_call(calling.place, variable, leaf)?,
             Instr::Start(starting) => self.takes(starting.place, b"the process", name)?,
             Instr::Use { .. } | Instr::Move { .. } | Instr::Branch { .. } => return Ok(()),
             Instr::Forget { .. } | Instr::Return(_) | Instr::Stop { .. } => return Ok(()),

@@ -76,14 +76,14 @@ impl Teller<'_> {
         let Leaf::State(state) = before else {
             return Leaf::Nothing;
         };
-        match self.received(endpoint, state, message) {
+        match self.next_state(endpoint, state, message) {
             Some(next) => Leaf::State(next.0),
             None => Leaf::Nothing,
         }
     }
 
     /// Where an endpoint is behind a message that it receives in a state, if it may receive it there.
-    fn received(&self, endpoint: VarId, state: u32, message: MessageId) -> Option<StateId>
+    fn next_state(&self, endpoint: VarId, state: u32, message: MessageId) -> Option<StateId>
         ensures { option_map (λ q. q.0) result ≡ end_on (table.edges_in (seen_of self.now.program.now)
             (table.kind_of (method_seen self.now.method.now) endpoint.0) state) message.0 }
     {

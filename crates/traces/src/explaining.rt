@@ -17,7 +17,7 @@ ghost use Rattle.traces.specs.Lines.{line_seen};
 
 use crate::line::{Explained, Line, is_asked, line_of};
 use crate::teller::Teller;
-use crate::watching::watched;
+use crate::watching::watched_variables;
 use analyse::{Failure, MOST_PAIRS, Trails, Worker, trails_of};
 use intern::Rows;
 use itoa::Buffer;
@@ -41,7 +41,8 @@ pub fn explain(
     requires there { method.0 < length (seen_of program.now).methods }
     requires worker { IsWorkerOf rows.now worker.old }
     ensures worker { IsWorkerOf rows.now worker.new }
-    ensures verdict { IfOk result (λ found. IsMethodVerdict (seen_of program.now) method.0 (map (λ e. finding_parts e.finding) found.items)) }
+    ensures verdict { IfOk result (λ found.
+        IsMethodVerdict (seen_of program.now) method.0 (map (λ e. finding_parts e.finding) found.items)) }
     ensures explained { IfOk result (λ found.
         All (λ e. IsExplainedIf named (seen_of program.now) method.0 (explained_seen e)) found.items) }
 {
@@ -211,7 +212,7 @@ impl Site<'_> {
         let mut row = Row::empty(self.alloc);
         let point = worker.read_pair(self.rows, failure.at, &mut row)?;
         let at = teller.instruction_at(point);
-        let about = watched(self.alloc, failure.breach.reason, at)?;
+        let about = watched_variables(self.alloc, failure.breach.reason, at)?;
         teller.path_lines(&about, &places, self.rows, worker)
     }
 }

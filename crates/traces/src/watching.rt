@@ -13,7 +13,7 @@ use std::alloc::Global;
 /// The variables that a finding of this reason is about, where its step fails at this instruction.
 ///
 /// `Memory` is answered where a growth was refused.
-pub(crate) fn watched(
+pub(crate) fn watched_variables(
     alloc: Global,
     reason: Reason,
     at: Option<&Instr>,
