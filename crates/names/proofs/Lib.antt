@@ -18,3 +18,4 @@ pub mod BindLemmas
 pub mod HeadLemmas
 pub mod HeadWords
 pub mod FewLemmas
+pub mod OwnLemmas

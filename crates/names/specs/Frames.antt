@@ -9,6 +9,8 @@ use Rattle.tables.specs.Tables.{IsTable}
 use Rattle.names.specs.Variables as model
 use Rattle.names.specs.Variables.{Frame, Turn}
 use Rattle.tables.specs.Words.{words_at}
+use Rattle.declarations.specs.Program.{Program}
+use Rattle.names.specs.declared.surroundings.NameContext.{NameContext}
 use Rattle.names.specs.declared.surroundings.Surroundings.{Surroundings}
 use Rattle.program.specs.declared.limits.TheConstants.{MOST_VARIABLES}
 use Rattle.names.specs.declared.variables.Variable.{Variable}
@@ -47,3 +49,8 @@ pub record AreSurroundings (m : bodies.Surroundings) (s : Surroundings) : Type 0
   pub result : s.result ≡ m.result
   pub breaks : s.breaks ≡ m.breaks
   pub continues : s.continues ≡ m.continues
+
+-- this program and the variables of this frame are what names can mean
+pub record IsContext (p : Program) (f : Frame) (c : NameContext) : Type 0 where
+  pub scope : IsScope p c.scope.now
+  pub frame : IsFrame p.text f c.variables.now

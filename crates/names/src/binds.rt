@@ -14,7 +14,7 @@ ghost use Rattle.declarations.specs.Scopes.{IsScope};
 ghost use Rattle.names.specs.Variables.{Frame, declared_variable};
 
 use crate::operands::ask;
-use crate::variables::Variables;
+use crate::variables::{Variable, Variables};
 use declarations::{Kind, Scope, is_heap, judge_type};
 use source::{Finding, Memory, Span};
 use std::alloc::Global;
@@ -62,15 +62,15 @@ fn declare_in<'a>(
     alloc: Global,
     scope: &Scope<'a>,
     variables: &mut Variables<'a>,
-    name: Span,
-    kind: Kind,
+    variable: Variable,
     heap: bool,
     found: &mut Vec<Finding>,
 ) -> Result<(), Memory>
     ensures { (p : Program) (f : Frame) → IsScope p scope.now → IsFrame p.text f variables.old
-        → OnOk result (Turned p.text found.old.items found.new.items variables.new (declared_variable p.text name kind heap f)) }
+        → OnOk result (Turned p.text found.old.items found.new.items variables.new
+        (declared_variable p.text variable.name variable.kind heap f)) }
 {
-    variables.declare(alloc, scope.text, name, kind, heap, found)
+    variables.declare(alloc, scope.text, variable, heap, found)
 }
 
 /// Adds what is wrong with a name that a case binds, and declares it.
@@ -89,20 +89,19 @@ fn judge_bind<'a>(
     match bind.kind {
         Some(kind) => {
             judge_bound_type(alloc, scope, kind, brought, bind.name, found)?;
-            let bound = scope.kind(kind);
-            declare_in(
-                alloc,
-                scope,
-                variables,
-                bind.name,
-                bound,
-                is_heap(kind),
-                found,
-            )
+            let variable = Variable {
+                name: bind.name,
+                kind: scope.kind(kind),
+            };
+            declare_in(alloc, scope, variables, variable, is_heap(kind), found)
         }
         None => {
+            let variable = Variable {
+                name: bind.name,
+                kind: brought,
+            };
             let heap = brings_heap(parameter);
-            declare_in(alloc, scope, variables, bind.name, brought, heap, found)
+            declare_in(alloc, scope, variables, variable, heap, found)
         }
     }
 }

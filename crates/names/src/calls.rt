@@ -8,9 +8,10 @@ ghost use Rattle.tree.specs.Values.{call_tree};
 ghost use Rattle.names.specs.Bodies as bodies;
 ghost use Rattle.names.specs.Expressions.{meant, held};
 ghost use Rattle.declarations.specs.Found.{Adds, unknown};
-ghost use Rattle.names.specs.Frames.{IsFrame, AreSurroundings, variable_seen};
+ghost use Rattle.names.specs.Frames.{IsContext, IsFrame, AreSurroundings, variable_seen};
 ghost use Rattle.declarations.specs.Program.{Program, class_named};
 ghost use Rattle.declarations.specs.Scopes.{IsScope, IsCallee};
+ghost use Rattle.names.specs.Operands.{in_frame};
 ghost use Rattle.names.specs.Shapes.{shape};
 ghost use Rattle.names.specs.Values.{argument_findings, result_fits, start_findings, method_findings};
 ghost use Rattle.declarations.specs.Owning.{can_start};
@@ -22,7 +23,7 @@ ghost use Rattle.tables.specs.Words.{word_at, same_word};
 
 use crate::arguments::{judge_arguments, judge_message_arguments, judge_parameter_arguments};
 use crate::operands::ask;
-use crate::surroundings::Surroundings;
+use crate::surroundings::{NameContext, Surroundings};
 use crate::told::{add_not_started, judge_number};
 use crate::variables::Variables;
 use declarations::{Callee, Kind, Scope, add_unknown};
@@ -42,6 +43,15 @@ pub(crate) enum Role {
     Started,
 }
 
+/// What a call is in its method, but for what it names before a dot.
+#[derive(Clone, Copy)]
+pub(crate) struct CallSite<'t> {
+    role: Role,
+    /// The method or the message.
+    name: Span,
+    arguments: &'t [Expression],
+}
+
 /// Whether the kind of what a method gives fits what is done with it.
 fn result_fits(scope: &Scope<'_>, given: Option<Type>, role: Role) -> bool
     ensures { (p : Program) → IsScope p scope.now → result ≡ result_fits p given role }
@@ -57,84 +67,83 @@ fn result_fits(scope: &Scope<'_>, given: Option<Type>, role: Role) -> bool
 
 /// Adds that a method cannot be started, where that is asked of it.
 fn judge_start(
-    alloc: Global,
-    scope: &Scope<'_>,
+    context: &NameContext<'_, '_>,
     startable: bool,
-    role: Role,
-    name: Span,
+    site: &CallSite<'_>,
     found: &mut Vec<Finding>,
 ) -> Result<(), Memory>
-    ensures { (p : Program) (m : MethodTree) → IsScope p scope.now → startable ≡ can_start m
-        → OnOk result (Adds found.old.items found.new.items (start_findings p.text m role name)) }
+    ensures { (p : Program) (m : MethodTree) → IsScope p context.now.scope.now → startable ≡ can_start m
+        → OnOk result (Adds found.old.items found.new.items (start_findings p.text m site.now.role site.now.name)) }
 {
-    match role {
-        Role::Started if !startable => add_not_started(alloc, scope.text, name, found),
+    match site.role {
+        Role::Started if !startable => {
+            add_not_started(context.alloc, context.scope.text, site.name, found)
+        }
         _ => Ok(()),
     }
 }
 
 /// Adds what is wrong with a call of this method.
 fn judge_known_method(
-    alloc: Global,
-    scope: &Scope<'_>,
-    variables: &Variables<'_>,
+    context: &NameContext<'_, '_>,
     callee: Callee<'_>,
-    role: Role,
-    name: Span,
-    arguments: &[Expression],
+    site: &CallSite<'_>,
     found: &mut Vec<Finding>,
 ) -> Result<(), Memory>
-    ensures { (p : Program) (f : Frame) → IsScope p scope.now → IsFrame p.text f variables.now
+    ensures { (p : Program) (f : Frame) → IsContext p f context.now
         → callee.entry.startable ≡ can_start (method_tree callee.entry.method.now)
-        → OnOk result (Adds found.old.items found.new.items (method_findings (record { program = p; variables = f.variables })
-        (Some (method_tree callee.entry.method.now)) role name (map shape (map expression_tree arguments.now)))) }
+        → OnOk result (Adds found.old.items found.new.items (method_findings (in_frame p f)
+        (Some (method_tree callee.entry.method.now)) site.now.role site.now.name
+        (map shape (map expression_tree site.now.arguments.now)))) }
 {
+    let NameContext {
+        alloc,
+        scope,
+        variables,
+    } = *context;
     let method = callee.method;
-    let asked = method.params.len();
-    judge_number(alloc, asked, arguments.len(), name.place, found)?;
+    let (place, arguments) = (site.name.place, site.arguments);
+    judge_number(alloc, method.params.len(), arguments.len(), place, found)?;
     judge_parameter_arguments(alloc, scope, variables, &method.params, arguments, found)?;
-    judge_start(alloc, scope, callee.startable, role, name, found)?;
-    let fits = result_fits(scope, method.result, role);
-    ask(alloc, fits, name.place, found)
+    judge_start(context, callee.startable, site, found)?;
+    let fits = result_fits(scope, method.result, site.role);
+    ask(alloc, fits, place, found)
 }
 
 /// Adds that this name is not declared, and what is wrong with the arguments behind it.
 pub(crate) fn judge_unknown(
-    alloc: Global,
-    scope: &Scope<'_>,
-    variables: &Variables<'_>,
+    context: &NameContext<'_, '_>,
     name: Span,
     arguments: &[Expression],
     found: &mut Vec<Finding>,
 ) -> Result<(), Memory>
-    ensures { (p : Program) (f : Frame) → IsScope p scope.now → IsFrame p.text f variables.now
+    ensures { (p : Program) (f : Frame) → IsContext p f context.now
         → OnOk result (Adds found.old.items found.new.items (unknown p.text name
-        ∷ argument_findings (record { program = p; variables = f.variables }) [] (map shape (map expression_tree arguments.now)))) }
+        ∷ argument_findings (in_frame p f) [] (map shape (map expression_tree arguments.now)))) }
 {
+    let NameContext {
+        alloc,
+        scope,
+        variables,
+    } = *context;
     add_unknown(alloc, scope.text, name, found)?;
     judge_arguments(alloc, scope, variables, &[], arguments, found)
 }
 
 /// Adds what is wrong with a call of a method, if there is one.
 fn judge_method(
-    alloc: Global,
-    scope: &Scope<'_>,
-    variables: &Variables<'_>,
+    context: &NameContext<'_, '_>,
     callee: Option<Callee<'_>>,
-    role: Role,
-    name: Span,
-    arguments: &[Expression],
+    site: &CallSite<'_>,
     found: &mut Vec<Finding>,
 ) -> Result<(), Memory>
-    ensures { (p : Program) (f : Frame) (m : Option MethodTree) → IsScope p scope.now → IsFrame p.text f variables.now
-        → IsCallee m callee.entry → OnOk result (Adds found.old.items found.new.items (method_findings
-        (record { program = p; variables = f.variables }) m role name (map shape (map expression_tree arguments.now)))) }
+    ensures { (p : Program) (f : Frame) (m : Option MethodTree) → IsContext p f context.now → IsCallee m callee.entry
+        → OnOk result (Adds found.old.items found.new.items (method_findings (in_frame p f) m site.now.role site.now.name
+        (map shape (map expression_tree site.now.arguments.now)))) }
 {
     match callee {
-        Some(callee) => judge_known_method(
-            alloc, scope, variables, callee, role, name, arguments, found,
-        ),
-        None => judge_unknown(alloc, scope, variables, name, arguments, found),
+        Some(callee) => judge_known_method(context, callee, site, found),
+        None => judge_unknown(context, site.name, site.arguments, found),
     }
 }
 
@@ -163,144 +172,117 @@ fn is_sent(role: Role, end: Side, direction: Direction) -> bool
 
 /// Adds what is wrong with sending this message at this end.
 fn judge_known_message(
-    alloc: Global,
-    scope: &Scope<'_>,
-    variables: &Variables<'_>,
+    context: &NameContext<'_, '_>,
     message: &Message,
     end: Side,
-    role: Role,
-    word: Span,
-    arguments: &[Expression],
+    site: &CallSite<'_>,
     found: &mut Vec<Finding>,
 ) -> Result<(), Memory>
-    ensures { (p : Program) (f : Frame) → IsScope p scope.now → IsFrame p.text f variables.now
-        → OnOk result (Adds found.old.items found.new.items (message_findings (record { program = p; variables = f.variables })
-        (Some (message_tree message.now)) end role word (map shape (map expression_tree arguments.now)))) }
+    ensures { (p : Program) (f : Frame) → IsContext p f context.now
+        → OnOk result (Adds found.old.items found.new.items (message_findings (in_frame p f)
+        (Some (message_tree message.now)) end site.now.role site.now.name
+        (map shape (map expression_tree site.now.arguments.now)))) }
 {
-    ask(
+    let NameContext {
         alloc,
-        is_sent(role, end, message.direction),
-        word.place,
-        found,
-    )?;
-    let asked = message.params.len();
-    judge_number(alloc, asked, arguments.len(), word.place, found)?;
+        scope,
+        variables,
+    } = *context;
+    let (place, arguments) = (site.name.place, site.arguments);
+    let well = is_sent(site.role, end, message.direction);
+    ask(alloc, well, place, found)?;
+    judge_number(alloc, message.params.len(), arguments.len(), place, found)?;
     judge_message_arguments(alloc, scope, variables, &message.params, arguments, found)
 }
 
 /// Adds what is wrong with a send at an end of the contract that is the item at this place.
 fn judge_end(
-    alloc: Global,
-    scope: &Scope<'_>,
-    variables: &Variables<'_>,
+    context: &NameContext<'_, '_>,
     place: usize,
     end: Side,
-    role: Role,
-    word: Span,
-    arguments: &[Expression],
+    site: &CallSite<'_>,
     found: &mut Vec<Finding>,
 ) -> Result<(), Memory>
-    ensures { (p : Program) (f : Frame) → IsScope p scope.now → IsFrame p.text f variables.now → OnOk result
-        (Adds found.old.items found.new.items (message_findings (record { program = p; variables = f.variables }) (contract_message
-        (record { program = p; variables = f.variables }) place word) end role word (map shape (map expression_tree arguments.now)))) }
+    ensures { (p : Program) (f : Frame) → IsContext p f context.now
+        → OnOk result (Adds found.old.items found.new.items (message_findings (in_frame p f)
+        (contract_message (in_frame p f) place site.now.name) end site.now.role site.now.name
+        (map shape (map expression_tree site.now.arguments.now)))) }
 {
-    match scope.sent_message(place, word) {
-        Some(message) => judge_known_message(
-            alloc, scope, variables, message, end, role, word, arguments, found,
-        ),
-        None => judge_unknown(alloc, scope, variables, word, arguments, found),
+    match context.scope.sent_message(place, site.name) {
+        Some(message) => judge_known_message(context, message, end, site, found),
+        None => judge_unknown(context, site.name, site.arguments, found),
     }
 }
 
 /// Adds what is wrong with a call on a variable of this kind, which is a send.
 fn judge_send(
-    alloc: Global,
-    scope: &Scope<'_>,
-    variables: &Variables<'_>,
+    context: &NameContext<'_, '_>,
     kind: Kind,
-    role: Role,
     variable: Span,
-    word: Span,
-    arguments: &[Expression],
+    site: &CallSite<'_>,
     found: &mut Vec<Finding>,
 ) -> Result<(), Memory>
-    ensures { (p : Program) (f : Frame) → IsScope p scope.now → IsFrame p.text f variables.now
-        → OnOk result (Adds found.old.items found.new.items (send_findings
-        (record { program = p; variables = f.variables }) kind role variable word (map shape (map expression_tree arguments.now)))) }
+    ensures { (p : Program) (f : Frame) → IsContext p f context.now
+        → OnOk result (Adds found.old.items found.new.items (send_findings (in_frame p f) kind site.now.role variable site.now.name
+        (map shape (map expression_tree site.now.arguments.now)))) }
 {
+    let NameContext {
+        alloc,
+        scope,
+        variables,
+    } = *context;
     match kind {
-        Kind::Endpoint(end, place) => judge_end(
-            alloc, scope, variables, place, end, role, word, arguments, found,
-        ),
+        Kind::Endpoint(end, place) => judge_end(context, place, end, site, found),
         _ => {
             ask(alloc, kind.is_silent(), variable.place, found)?;
-            judge_arguments(alloc, scope, variables, &[], arguments, found)
+            judge_arguments(alloc, scope, variables, &[], site.arguments, found)
         }
     }
 }
 
 /// Adds what is wrong with a call of a method of the class of this name.
 fn judge_class(
-    alloc: Global,
-    scope: &Scope<'_>,
-    variables: &Variables<'_>,
-    role: Role,
+    context: &NameContext<'_, '_>,
     class: Span,
-    name: Span,
-    arguments: &[Expression],
+    site: &CallSite<'_>,
     found: &mut Vec<Finding>,
 ) -> Result<(), Memory>
-    ensures { (p : Program) (f : Frame) → IsScope p scope.now → IsFrame p.text f variables.now
-        → OnOk result (Adds found.old.items found.new.items (class_findings (record { program = p; variables = f.variables })
-        (class_meant (class_named p class)) role class name (map shape (map expression_tree arguments.now)))) }
+    ensures { (p : Program) (f : Frame) → IsContext p f context.now
+        → OnOk result (Adds found.old.items found.new.items (class_findings (in_frame p f)
+        (class_meant (class_named p class)) site.now.role class site.now.name
+        (map shape (map expression_tree site.now.arguments.now)))) }
 {
-    match scope.class(class) {
+    match context.scope.class(class) {
         Some(methods) => {
-            let callee = methods.find(scope.text, name);
-            judge_method(
-                alloc, scope, variables, callee, role, name, arguments, found,
-            )
+            let callee = methods.find(context.scope.text, site.name);
+            judge_method(context, callee, site, found)
         }
-        None => judge_unknown(alloc, scope, variables, class, arguments, found),
+        None => judge_unknown(context, class, site.arguments, found),
     }
 }
 
 /// Adds what is wrong with a call by two names: on a variable, if one in scope has the first, and else of a class.
 fn judge_member(
-    alloc: Global,
-    scope: &Scope<'_>,
-    variables: &Variables<'_>,
-    role: Role,
+    context: &NameContext<'_, '_>,
     front: Span,
-    word: Span,
-    arguments: &[Expression],
+    site: &CallSite<'_>,
     found: &mut Vec<Finding>,
 ) -> Result<(), Memory>
-    ensures { (p : Program) (f : Frame) → IsScope p scope.now → IsFrame p.text f variables.now
-        → OnOk result (Adds found.old.items found.new.items (member_findings (record { program = p; variables = f.variables }) (meant
-        (record { program = p; variables = f.variables }) front) role front word (map shape (map expression_tree arguments.now)))) }
+    ensures { (p : Program) (f : Frame) → IsContext p f context.now
+        → OnOk result (Adds found.old.items found.new.items (member_findings (in_frame p f)
+        (meant (in_frame p f) front) site.now.role front site.now.name
+        (map shape (map expression_tree site.now.arguments.now)))) }
 {
-    match variables.find(scope.text, front) {
-        Some(variable) => judge_send(
-            alloc,
-            scope,
-            variables,
-            variable.kind,
-            role,
-            front,
-            word,
-            arguments,
-            found,
-        ),
-        None => judge_class(alloc, scope, variables, role, front, word, arguments, found),
+    match context.variables.find(context.scope.text, front) {
+        Some(variable) => judge_send(context, variable.kind, front, site, found),
+        None => judge_class(context, front, site, found),
     }
 }
 
 /// Adds what is wrong with a call.
-pub(crate) fn judge_call(
-    alloc: Global,
-    around: &Surroundings<'_, '_>,
-    variables: &Variables<'_>,
+pub(crate) fn judge_call<'a>(
+    around: &Surroundings<'_, 'a>,
+    variables: &Variables<'a>,
     role: Role,
     call: &Call,
     found: &mut Vec<Finding>,
@@ -308,19 +290,24 @@ pub(crate) fn judge_call(
     ensures { (m : bodies.Surroundings) (f : Frame) → AreSurroundings m around.now → IsFrame m.program.text f variables.now
         → OnOk result (Adds found.old.items found.new.items (call_findings (bodies.inside_of m f) role (call_tree call.now))) }
 {
-    let scope = around.scope;
-    let arguments = &call.arguments;
+    let context = around.context(variables);
     match call.member {
         None => {
-            let callee = around.methods.find(scope.text, call.name);
-            judge_method(
-                alloc, scope, variables, callee, role, call.name, arguments, found,
-            )
+            let site = CallSite {
+                role,
+                name: call.name,
+                arguments: &call.arguments,
+            };
+            let callee = around.methods.find(around.scope.text, call.name);
+            judge_method(&context, callee, &site, found)
         }
-        Some(word) => {
-            judge_member(
-                alloc, scope, variables, role, call.name, word, arguments, found,
-            )
+        Some(name) => {
+            let site = CallSite {
+                role,
+                name,
+                arguments: &call.arguments,
+            };
+            judge_member(&context, call.name, &site, found)
         }
     }
 }

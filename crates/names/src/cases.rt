@@ -7,7 +7,8 @@ ghost use Rattle.names.specs.Cases.{other_head_findings, head_findings, binds_tu
 ghost use Rattle.declarations.specs.Declarations.{bound_params};
 ghost use Rattle.names.specs.Expressions.{meant, held};
 ghost use Rattle.declarations.specs.Found.{Adds};
-ghost use Rattle.names.specs.Frames.{IsFrame, Turned};
+ghost use Rattle.names.specs.Frames.{IsContext, IsFrame, Turned};
+ghost use Rattle.names.specs.Operands.{in_frame};
 ghost use Rattle.names.specs.Heads.{IsHeads, case_head};
 ghost use Rattle.declarations.specs.Kinds.{is_silent};
 ghost use Rattle.declarations.specs.Program.{Program, as_contract, item_at};
@@ -22,103 +23,112 @@ use crate::awaits::{
 use crate::binds::judge_bound;
 use crate::heads::{Heads, awaiting_at};
 use crate::simple_statements::{judge_use, kind_held};
+use crate::surroundings::NameContext;
 use crate::variables::Variables;
 use declarations::{Kind, Scope, add_unknown};
 use program::Side;
 use source::{Finding, Memory, Span};
 use std::alloc::Global;
-use tree::{Awaited, Bind, Case, Message, Param};
+use tree::{Awaited, Case, Message, Param};
+
+/// An end of a contract.
+#[derive(Clone, Copy)]
+struct ContractEnd {
+    side: Side,
+    /// The index of the contract among the items of the text.
+    item: usize,
+}
 
 /// Adds what is wrong with the head of the case at this place in its switch.
 pub(crate) fn judge_head<'a>(
-    alloc: Global,
-    scope: &Scope<'a>,
-    variables: &Variables<'_>,
+    context: &NameContext<'_, 'a>,
     heads: &Heads<'a>,
     place: usize,
     case: &Case,
     found: &mut Vec<Finding>,
 ) -> Result<(), Memory>
-    ensures { (p : Program) (f : Frame) (all : List Head) → IsScope p scope.now → IsFrame p.text f variables.now
-        → IsHeads p.text all heads.now → OnOk result (Adds found.old.items found.new.items
-        (head_findings (record { program = p; variables = f.variables }) all (take place all) (case_head case.now))) }
+    ensures { (p : Program) (f : Frame) (all : List Head) → IsContext p f context.now → IsHeads p.text all heads.now
+        → OnOk result (Adds found.old.items found.new.items
+        (head_findings (in_frame p f) all (take place all) (case_head case.now))) }
 {
+    let NameContext {
+        alloc,
+        scope,
+        variables,
+    } = *context;
     judge_use(alloc, scope, variables, case.endpoint, found)?;
     match kind_held(scope, variables, case.endpoint) {
-        Kind::Endpoint(end, item) => {
-            judge_endpoint_head(alloc, scope, heads, place, item, end, case, found)
+        Kind::Endpoint(side, item) => {
+            let end = ContractEnd { side, item };
+            judge_endpoint_head(context, heads, place, end, case, found)
         }
         kind => judge_no_endpoint(alloc, kind, case, found),
     }
 }
 
-/// Adds what is wrong with the head of a case on this end of the contract that is the item at `item`.
+/// Adds what is wrong with the head of a case on this end of a contract.
 fn judge_endpoint_head<'a>(
-    alloc: Global,
-    scope: &Scope<'a>,
+    context: &NameContext<'_, 'a>,
     heads: &Heads<'a>,
     place: usize,
-    item: usize,
-    end: Side,
+    end: ContractEnd,
     case: &Case,
     found: &mut Vec<Finding>,
 ) -> Result<(), Memory>
-    ensures { (p : Program) (vs : List Variable) (all : List Head) → IsScope p scope.now → IsHeads p.text all heads.now
-        → OnOk result (Adds found.old.items found.new.items (kind_head_findings (record { program = p; variables = vs }) all
-        (take place all) (Kind.Endpoint end item) (case_head case.now))) }
+    ensures { (p : Program) (f : Frame) (all : List Head) → IsScope p context.now.scope.now → IsHeads p.text all heads.now
+        → OnOk result (Adds found.old.items found.new.items (kind_head_findings (in_frame p f) all
+        (take place all) (Kind.Endpoint end.side end.item) (case_head case.now))) }
 {
-    let twice = heads.is_twice(scope.text, place, awaiting_at(case));
-    judge_awaited(alloc, scope, item, end, twice, case, found)?;
-    let lacking = heads.is_lacking(scope.text, place, case.endpoint);
-    judge_lacking(alloc, scope.text, lacking, case.endpoint, found)
+    let text = context.scope.text;
+    let twice = heads.is_twice(text, place, awaiting_at(case));
+    judge_awaited(context, end, twice, case, found)?;
+    let lacking = heads.is_lacking(text, place, case.endpoint);
+    judge_lacking(context.alloc, text, lacking, case.endpoint, found)
 }
 
 /// Adds what is wrong with what such a case awaits. An earlier one may await the same.
 fn judge_awaited(
-    alloc: Global,
-    scope: &Scope<'_>,
-    item: usize,
-    end: Side,
+    context: &NameContext<'_, '_>,
+    end: ContractEnd,
     twice: bool,
     case: &Case,
     found: &mut Vec<Finding>,
 ) -> Result<(), Memory>
-    ensures { (p : Program) (vs : List Variable) (earlier : List Head) → IsScope p scope.now
+    ensures { (p : Program) (f : Frame) (earlier : List Head) → IsScope p context.now.scope.now
         → twice ≡ awaits_too p.text (case_head case.now) earlier → OnOk result (Adds found.old.items found.new.items
-        (endpoint_head_findings (record { program = p; variables = vs }) earlier (Kind.Endpoint end item) end (case_head case.now))) }
+        (endpoint_head_findings (in_frame p f) earlier (Kind.Endpoint end.side end.item) end.side (case_head case.now))) }
 {
     match case.message {
         Awaited::Closed(word) => {
+            let (alloc, text) = (context.alloc, context.scope.text);
             judge_closed(alloc, &case.binds, word, found)?;
-            judge_case_twice(alloc, scope.text, twice, case.endpoint, case.message, found)
+            judge_case_twice(alloc, text, twice, case.endpoint, case.message, found)
         }
-        Awaited::Message(word) => {
-            judge_message(alloc, scope, item, end, twice, word, case, found)
-        }
+        Awaited::Message(word) => judge_message(context, end, twice, word, case, found),
     }
 }
 
 /// Adds what is wrong with a case that awaits this message.
 fn judge_message(
-    alloc: Global,
-    scope: &Scope<'_>,
-    item: usize,
-    end: Side,
+    context: &NameContext<'_, '_>,
+    end: ContractEnd,
     twice: bool,
     word: Span,
     case: &Case,
     found: &mut Vec<Finding>,
 ) -> Result<(), Memory>
-    ensures { (p : Program) (vs : List Variable) (earlier : List Head) → IsScope p scope.now → case.now.message ≡ Awaited.Message word
-        → twice ≡ awaits_too p.text (case_head case.now) earlier → OnOk result (Adds found.old.items found.new.items (awaited_findings
-        (record { program = p; variables = vs }) earlier (Kind.Endpoint end item) end (case_head case.now) (Awaited.Message word))) }
+    ensures { (p : Program) (f : Frame) (earlier : List Head) → IsScope p context.now.scope.now
+        → case.now.message ≡ Awaited.Message word → twice ≡ awaits_too p.text (case_head case.now) earlier
+        → OnOk result (Adds found.old.items found.new.items (awaited_findings (in_frame p f) earlier
+        (Kind.Endpoint end.side end.item) end.side (case_head case.now) (Awaited.Message word))) }
 {
-    match scope.message(item, word) {
+    let (alloc, text) = (context.alloc, context.scope.text);
+    match context.scope.message(end.item, word) {
         Some(message) => {
-            judge_message_case(alloc, message, end, word, &case.binds, found)?;
-            judge_case_twice(alloc, scope.text, twice, case.endpoint, case.message, found)
+            judge_message_case(alloc, message, end.side, word, &case.binds, found)?;
+            judge_case_twice(alloc, text, twice, case.endpoint, case.message, found)
         }
-        None => add_unknown(alloc, scope.text, word, found),
+        None => add_unknown(alloc, text, word, found),
     }
 }
 
@@ -142,20 +152,17 @@ pub(crate) fn judge_binds<'a>(
     alloc: Global,
     scope: &Scope<'a>,
     variables: &mut Variables<'a>,
-    endpoint: Span,
-    awaited: Awaited,
-    binds: &[Bind],
+    case: &Case,
     found: &mut Vec<Finding>,
 ) -> Result<(), Memory>
     ensures { (p : Program) (f : Frame) → IsScope p scope.now → IsFrame p.text f variables.old → OnOk result
-        (Turned p.text found.old.items found.new.items variables.new (binds_turn p (bound_params (awaited_message (record {
-          program = p;
-          variables = f.variables;
-        }) (held (meant (record { program = p; variables = f.variables }) endpoint)) awaited)) binds.now f)) }
+        (Turned p.text found.old.items found.new.items variables.new (binds_turn p (bound_params (awaited_message (in_frame p f)
+        (held (meant (in_frame p f) case.now.endpoint)) case.now.message)) case.now.binds.items f)) }
 {
-    match kind_held(scope, variables, endpoint) {
+    let binds = &case.binds;
+    match kind_held(scope, variables, case.endpoint) {
         Kind::Endpoint(end, place) => {
-            let message = awaited_message(scope, place, end, awaited);
+            let message = awaited_message(scope, place, end, case.message);
             let parameters = parameters_of(message);
             judge_bound(alloc, scope, variables, parameters, binds, found)
         }

@@ -74,7 +74,12 @@ pub(crate) fn judge_field_of(
 {
     let held = judge_variable(alloc, scope, variables, variable, found)?;
     let kind = judge_field(alloc, scope, held, variable, field, found)?;
-    ask(alloc, !owns(scope, held, field), variable.place, found)?;
+    ask(
+        alloc,
+        !owns(scope, held, field, kind),
+        variable.place,
+        found,
+    )?;
     Ok(Operand {
         kind,
         place: variable.place,
@@ -153,8 +158,19 @@ pub(crate) fn judge_field(
     }
 }
 
+/// Whether a field of this kind, of what a variable holds, owns.
+pub(crate) fn owns(scope: &Scope<'_>, held: Kind, field: Span, kind: Kind) -> bool
+    ensures { (s : InScope) → IsScope s.program scope.now → kind ≡ field_kind s held field → result ≡ owns s held field }
+{
+    match kind {
+        // Most fields are scalars, which own nothing, so these are not looked up a second time.
+        Kind::Scalar(_) => false,
+        _ => is_owner(scope, held, field),
+    }
+}
+
 /// Whether a field of what a variable holds owns.
-pub(crate) fn owns(scope: &Scope<'_>, held: Kind, field: Span) -> bool
+fn is_owner(scope: &Scope<'_>, held: Kind, field: Span) -> bool
     ensures { (s : InScope) → IsScope s.program scope.now → result ≡ owns s held field }
 {
     match held {

@@ -12,7 +12,7 @@ ghost use Rattle.names.specs.Variables.{Frame};
 
 use crate::statements::judge_block;
 use crate::surroundings::Surroundings;
-use crate::variables::Variables;
+use crate::variables::{Variable, Variables};
 use declarations::{Methods, Scope, is_heap, judge_method_names, judge_type};
 use source::{Finding, Memory};
 use std::alloc::Global;
@@ -63,13 +63,14 @@ fn judge_method<'a>(
     let mut variables = Variables::new(alloc);
     judge_parameters(alloc, scope, &mut variables, &method.params, found)?;
     let around = Surroundings {
+        alloc,
         scope,
         methods,
         result: method.result,
         breaks: false,
         continues: false,
     };
-    judge_block(alloc, &around, &mut variables, &method.body, found)
+    judge_block(&around, &mut variables, &method.body, found)
 }
 
 /// Adds the names in the type that a method gives, if it gives anything, that are not declared.
@@ -118,5 +119,9 @@ fn judge_parameter<'a>(
     judge_type(alloc, scope, parameter.kind, found)?;
     let kind = scope.kind(parameter.kind);
     let heap = is_heap(parameter.kind);
-    variables.declare(alloc, scope.text, parameter.name, kind, heap, found)
+    let variable = Variable {
+        name: parameter.name,
+        kind,
+    };
+    variables.declare(alloc, scope.text, variable, heap, found)
 }

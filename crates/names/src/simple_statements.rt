@@ -9,7 +9,8 @@ ghost use Rattle.names.specs.Bodies.{given_findings, declaration_turn, delete_fi
 ghost use Rattle.names.specs.Bodies.{ends_findings, new_ends_findings, channel_findings, return_findings};
 ghost use Rattle.names.specs.Expressions.{variable_findings, meant, held};
 ghost use Rattle.declarations.specs.Found.{Adds};
-ghost use Rattle.names.specs.Frames.{IsFrame, Turned, AreSurroundings};
+ghost use Rattle.names.specs.Frames.{IsContext, IsFrame, Turned, AreSurroundings};
+ghost use Rattle.names.specs.Operands.{in_frame};
 ghost use Rattle.declarations.specs.Kinds.{unless, is_heap};
 ghost use Rattle.program.specs.Kinds.{same_side};
 ghost use Rattle.declarations.specs.Program.{Program, contract_named};
@@ -21,10 +22,10 @@ ghost use Rattle.names.specs.Variables.{Frame};
 use crate::expressions::judge_whole;
 use crate::mentions::judge_variable;
 use crate::operands::{add_wrong_type, ask};
-use crate::surroundings::Surroundings;
+use crate::surroundings::{NameContext, Surroundings};
 use crate::targets::judge_target;
 use crate::values::judge_value;
-use crate::variables::Variables;
+use crate::variables::{Variable, Variables};
 use crate::wholes::judge_asked;
 use declarations::{Kind, Scope, add_unknown, is_heap, judge_type};
 use source::{Finding, Memory, Span};
@@ -32,10 +33,9 @@ use std::alloc::Global;
 use tree::{Assign, Declare, Expression, NewChannel, Type, Value};
 
 /// Adds what is wrong with the value of a declaration, if it has one.
-fn judge_given(
-    alloc: Global,
-    around: &Surroundings<'_, '_>,
-    variables: &Variables<'_>,
+fn judge_given<'a>(
+    around: &Surroundings<'_, 'a>,
+    variables: &Variables<'a>,
     asked: Kind,
     value: &Option<Value>,
     found: &mut Vec<Finding>,
@@ -44,14 +44,13 @@ fn judge_given(
         result (Adds found.old.items found.new.items (given_findings (bodies.inside_of m f) asked (option_map value_tree value.now))) }
 {
     match value {
-        Some(value) => judge_value(alloc, around, variables, asked, value, found),
+        Some(value) => judge_value(around, variables, asked, value, found),
         None => Ok(()),
     }
 }
 
 /// Adds what is wrong with a declaration, and declares its variable.
 pub(crate) fn judge_declare<'a>(
-    alloc: Global,
     around: &Surroundings<'_, 'a>,
     variables: &mut Variables<'a>,
     declare: &Declare,
@@ -60,19 +59,22 @@ pub(crate) fn judge_declare<'a>(
     ensures { (m : bodies.Surroundings) (f : Frame) → AreSurroundings m around.now → IsFrame m.program.text f variables.old → OnOk
         result (Turned m.program.text found.old.items found.new.items variables.new (declaration_turn m (declare_tree declare.now) f)) }
 {
-    let scope = around.scope;
+    let (alloc, scope) = (around.alloc, around.scope);
     let kind = scope.kind(declare.kind);
     judge_type(alloc, scope, declare.kind, found)?;
-    judge_given(alloc, around, variables, kind, &declare.value, found)?;
+    judge_given(around, variables, kind, &declare.value, found)?;
+    let variable = Variable {
+        name: declare.name,
+        kind,
+    };
     let heap = is_heap(declare.kind);
-    variables.declare(alloc, scope.text, declare.name, kind, heap, found)
+    variables.declare(alloc, scope.text, variable, heap, found)
 }
 
 /// Adds what is wrong with an assignment.
-pub(crate) fn judge_assign(
-    alloc: Global,
-    around: &Surroundings<'_, '_>,
-    variables: &Variables<'_>,
+pub(crate) fn judge_assign<'a>(
+    around: &Surroundings<'_, 'a>,
+    variables: &Variables<'a>,
     assign: &Assign,
     found: &mut Vec<Finding>,
 ) -> Result<(), Memory>
@@ -81,8 +83,8 @@ pub(crate) fn judge_assign(
         (Adds found.old.items found.new.items (target_findings (bodies.scope_in m f) (assign_tree assign.now).target ++ value_findings
         (bodies.inside_of m f) (target_kind (bodies.scope_in m f) (assign_tree assign.now).target) (assign_tree assign.now).value)) }
 {
-    let asked = judge_target(alloc, around.scope, variables, &assign.target, found)?;
-    judge_value(alloc, around, variables, asked, &assign.value, found)
+    let asked = judge_target(around.alloc, around.scope, variables, &assign.target, found)?;
+    judge_value(around, variables, asked, &assign.value, found)
 }
 
 /// The kind of what this name means.
@@ -217,22 +219,24 @@ pub(crate) fn judge_channel(
 
 /// Adds what is wrong with a value that a void method returns.
 fn judge_needless(
-    alloc: Global,
-    scope: &Scope<'_>,
-    variables: &Variables<'_>,
+    context: &NameContext<'_, '_>,
     word: Span,
     value: &Option<Box<Expression>>,
     found: &mut Vec<Finding>,
 ) -> Result<(), Memory>
-    ensures { (p : Program) (f : Frame) → IsScope p scope.now
-        → IsFrame p.text f variables.now → OnOk result (Adds found.old.items found.new.items
-        (return_findings (record { program = p; variables = f.variables }) None word
-        (option_map (λ e. expression_tree e.value) value.now))) }
+    ensures { (p : Program) (f : Frame) → IsContext p f context.now → OnOk result (Adds found.old.items found.new.items
+        (return_findings (in_frame p f) None word (option_map (λ e. expression_tree e.value) value.now))) }
 {
     match value {
         Some(value) => {
-            judge_whole(alloc, scope, variables, value, found)?;
-            add_wrong_type(alloc, word.place, found)
+            judge_whole(
+                context.alloc,
+                context.scope,
+                context.variables,
+                value,
+                found,
+            )?;
+            add_wrong_type(context.alloc, word.place, found)
         }
         None => Ok(()),
     }
@@ -240,45 +244,39 @@ fn judge_needless(
 
 /// Adds what is wrong with what is returned where a type is asked.
 fn judge_returned(
-    alloc: Global,
-    scope: &Scope<'_>,
-    variables: &Variables<'_>,
+    context: &NameContext<'_, '_>,
     asked: Type,
     word: Span,
     value: &Option<Box<Expression>>,
     found: &mut Vec<Finding>,
 ) -> Result<(), Memory>
-    ensures { (p : Program) (f : Frame) → IsScope p scope.now
-        → IsFrame p.text f variables.now → OnOk result (Adds found.old.items found.new.items
-        (return_findings (record { program = p; variables = f.variables }) (Some asked) word
-        (option_map (λ e. expression_tree e.value) value.now))) }
+    ensures { (p : Program) (f : Frame) → IsContext p f context.now → OnOk result (Adds found.old.items found.new.items
+        (return_findings (in_frame p f) (Some asked) word (option_map (λ e. expression_tree e.value) value.now))) }
 {
+    let NameContext {
+        alloc,
+        scope,
+        variables,
+    } = *context;
     match value {
-        Some(value) => {
-            let kind = scope.kind(asked);
-            judge_asked(alloc, scope, variables, kind, value, found)
-        }
+        Some(value) => judge_asked(alloc, scope, variables, scope.kind(asked), value, found),
         None => add_wrong_type(alloc, word.place, found),
     }
 }
 
 /// Adds what is wrong with a `return`.
 pub(crate) fn judge_return(
-    alloc: Global,
-    scope: &Scope<'_>,
-    variables: &Variables<'_>,
+    context: &NameContext<'_, '_>,
     asked: Option<Type>,
     word: Span,
     value: &Option<Box<Expression>>,
     found: &mut Vec<Finding>,
 ) -> Result<(), Memory>
-    ensures { (p : Program) (f : Frame) → IsScope p scope.now
-        → IsFrame p.text f variables.now → OnOk result (Adds found.old.items found.new.items
-        (return_findings (record { program = p; variables = f.variables }) asked word
-        (option_map (λ e. expression_tree e.value) value.now))) }
+    ensures { (p : Program) (f : Frame) → IsContext p f context.now → OnOk result (Adds found.old.items found.new.items
+        (return_findings (in_frame p f) asked word (option_map (λ e. expression_tree e.value) value.now))) }
 {
     match asked {
-        Some(asked) => judge_returned(alloc, scope, variables, asked, word, value, found),
-        None => judge_needless(alloc, scope, variables, word, value, found),
+        Some(asked) => judge_returned(context, asked, word, value, found),
+        None => judge_needless(context, word, value, found),
     }
 }

@@ -23,7 +23,6 @@ use crate::told::{judge_break, judge_continue};
 use crate::variables::Variables;
 use crate::wholes::judge_truth;
 use source::{Finding, Memory};
-use std::alloc::Global;
 use tree::{Block, Case, If, Statement, Switch, Test};
 
 /// The same within a loop.
@@ -50,7 +49,6 @@ fn within_switch<'s, 'a>(around: &Surroundings<'s, 'a>) -> Surroundings<'s, 'a>
 /// Adds what is wrong in a block. What it declares is in scope there alone.
 #[cycle(bodies)]
 pub(crate) fn judge_block<'a>(
-    alloc: Global,
     around: &Surroundings<'_, 'a>,
     variables: &mut Variables<'a>,
     block: &Block,
@@ -60,7 +58,7 @@ pub(crate) fn judge_block<'a>(
         → OnOk result (Turned m.program.text found.old.items found.new.items variables.new (block_turn m (block_tree block.now) f)) }
 {
     let outer = variables.len();
-    judge_statements(alloc, around, variables, &block.statements, found)?;
+    judge_statements(around, variables, &block.statements, found)?;
     variables.leave(around.scope.text, outer);
     Ok(())
 }
@@ -68,7 +66,6 @@ pub(crate) fn judge_block<'a>(
 /// Adds what is wrong in these statements.
 #[cycle(bodies)]
 fn judge_statements<'a>(
-    alloc: Global,
     around: &Surroundings<'_, 'a>,
     variables: &mut Variables<'a>,
     statements: &[Statement],
@@ -79,7 +76,7 @@ fn judge_statements<'a>(
         (statements_turn m (statement_row (map statement_tree statements.now)) f)) }
 {
     for statement in statements {
-        judge_statement(alloc, around, variables, statement, found)?;
+        judge_statement(around, variables, statement, found)?;
     }
     Ok(())
 }
@@ -87,7 +84,6 @@ fn judge_statements<'a>(
 /// Adds what is wrong in a statement.
 #[cycle(bodies)]
 fn judge_statement<'a>(
-    alloc: Global,
     around: &Surroundings<'_, 'a>,
     variables: &mut Variables<'a>,
     statement: &Statement,
@@ -97,31 +93,32 @@ fn judge_statement<'a>(
         → IsFrame m.program.text f variables.old → OnOk result
         (Turned m.program.text found.old.items found.new.items variables.new (statement_turn m (statement_tree statement.now) f)) }
 {
-    let scope = around.scope;
+    let (alloc, scope) = (around.alloc, around.scope);
     match statement {
-        Statement::Block(block) => judge_block(alloc, around, variables, block, found),
-        Statement::Declare(declare) => judge_declare(alloc, around, variables, declare, found),
-        Statement::Assign(assign) => judge_assign(alloc, around, variables, assign, found),
-        Statement::Call(call) => judge_call(alloc, around, variables, Role::Alone, call, found),
+        Statement::Block(block) => judge_block(around, variables, block, found),
+        Statement::Declare(declare) => judge_declare(around, variables, declare, found),
+        Statement::Assign(assign) => judge_assign(around, variables, assign, found),
+        Statement::Call(call) => judge_call(around, variables, Role::Alone, call, found),
         Statement::Start { call, .. } => {
-            judge_call(alloc, around, variables, Role::Started, call, found)
+            judge_call(around, variables, Role::Started, call, found)
         }
         Statement::Delete(name) => judge_delete(alloc, scope, variables, *name, found),
         Statement::Exchange(exchange) => judge_exchange(alloc, scope, variables, **exchange, found),
         Statement::NewChannel(channel) => judge_channel(alloc, scope, variables, **channel, found),
-        Statement::If(branches) => judge_if(alloc, around, variables, branches, found),
+        Statement::If(branches) => judge_if(around, variables, branches, found),
         Statement::While(test) => {
             let inner = within_loop(around);
-            judge_test(alloc, &inner, variables, test, found)
+            judge_test(&inner, variables, test, found)
         }
         Statement::Break(word) => { judge_break(alloc, around.breaks, word.place, found) }
         Statement::Continue(word) => judge_continue(alloc, around.continues, word.place, found),
         Statement::Return { word, value } => {
-            judge_return(alloc, scope, variables, around.result, *word, value, found)
+            let context = around.context(variables);
+            judge_return(&context, around.result, *word, value, found)
         }
         Statement::Switch(switch) => {
             let inner = within_switch(around);
-            judge_switch(alloc, &inner, variables, switch, found)
+            judge_switch(&inner, variables, switch, found)
         }
     }
 }
@@ -129,7 +126,6 @@ fn judge_statement<'a>(
 /// Adds what is wrong in a condition and its block.
 #[cycle(bodies)]
 fn judge_test<'a>(
-    alloc: Global,
     around: &Surroundings<'_, 'a>,
     variables: &mut Variables<'a>,
     test: &Test,
@@ -138,14 +134,13 @@ fn judge_test<'a>(
     ensures { (m : bodies.Surroundings) (f : Frame) → AreSurroundings m around.now → IsFrame m.program.text f variables.old
         → OnOk result (Turned m.program.text found.old.items found.new.items variables.new (test_turn m (test_tree test.now) f)) }
 {
-    judge_truth(alloc, around.scope, variables, &test.test, found)?;
-    judge_block(alloc, around, variables, &test.body, found)
+    judge_truth(around.alloc, around.scope, variables, &test.test, found)?;
+    judge_block(around, variables, &test.body, found)
 }
 
 /// Adds what is wrong in an `if`.
 #[cycle(bodies)]
 fn judge_if<'a>(
-    alloc: Global,
     around: &Surroundings<'_, 'a>,
     variables: &mut Variables<'a>,
     branches: &If,
@@ -155,12 +150,12 @@ fn judge_if<'a>(
         → OnOk result (Turned m.program.text found.old.items found.new.items variables.new
         (follow (test_turn m (if_tree branches.now).first f) (others_turn m (if_tree branches.now).others))) }
 {
-    judge_test(alloc, around, variables, &branches.first, found)?;
+    judge_test(around, variables, &branches.first, found)?;
     for test in &branches.others {
-        judge_test(alloc, around, variables, test, found)?;
+        judge_test(around, variables, test, found)?;
     }
     match &branches.otherwise {
-        Some(block) => judge_block(alloc, around, variables, block, found),
+        Some(block) => judge_block(around, variables, block, found),
         None => Ok(()),
     }
 }
@@ -168,7 +163,6 @@ fn judge_if<'a>(
 /// Adds what is wrong in a switch; these surroundings are those within it.
 #[cycle(bodies)]
 fn judge_switch<'a>(
-    alloc: Global,
     around: &Surroundings<'_, 'a>,
     variables: &mut Variables<'a>,
     switch: &Switch,
@@ -179,10 +173,10 @@ fn judge_switch<'a>(
         (follow (case_turn m (switch_heads (switch_tree switch.now)) [] (switch_tree switch.now).first f) (cases_turn m (switch_heads
         (switch_tree switch.now)) (head_of (switch_tree switch.now).first ∷ []) (case_row (switch_tree switch.now).others)))) }
 {
-    let heads = Heads::of(alloc, around.scope.text, switch)?;
-    judge_case(alloc, around, variables, &heads, 0, &switch.first, found)?;
+    let heads = Heads::of(around.alloc, around.scope.text, switch)?;
+    judge_case(around, variables, &heads, 0, &switch.first, found)?;
     for (place, case) in switch.others.iter().enumerate() {
-        judge_case(alloc, around, variables, &heads, place + 1, case, found)?;
+        judge_case(around, variables, &heads, place + 1, case, found)?;
     }
     Ok(())
 }
@@ -190,7 +184,6 @@ fn judge_switch<'a>(
 /// Adds what is wrong in the case at this place in its switch. What it binds and declares is in scope there alone.
 #[cycle(bodies)]
 fn judge_case<'a>(
-    alloc: Global,
     around: &Surroundings<'_, 'a>,
     variables: &mut Variables<'a>,
     heads: &Heads<'a>,
@@ -205,18 +198,10 @@ fn judge_case<'a>(
         (case_turn m all (take place all) (case_tree case.now) f)) }
 {
     let scope = around.scope;
-    judge_head(alloc, scope, variables, heads, place, case, found)?;
+    judge_head(&around.context(variables), heads, place, case, found)?;
     let outer = variables.len();
-    judge_binds(
-        alloc,
-        scope,
-        variables,
-        case.endpoint,
-        case.message,
-        &case.binds,
-        found,
-    )?;
-    judge_statements(alloc, around, variables, &case.statements, found)?;
+    judge_binds(around.alloc, scope, variables, case, found)?;
+    judge_statements(around, variables, &case.statements, found)?;
     variables.leave(scope.text, outer);
     Ok(())
 }

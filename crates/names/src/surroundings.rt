@@ -1,14 +1,45 @@
-//! What stands round a statement.
+//! What stands round a statement, and what is in scope there.
 
+use crate::variables::Variables;
 use declarations::{Methods, Scope};
+use std::alloc::Global;
 use tree::Type;
 
 /// The program, the class and the result of the method, and whether there is something to break off or to turn back to.
 #[derive(Clone, Copy)]
 pub(crate) struct Surroundings<'s, 'a> {
+    pub(crate) alloc: Global,
     pub(crate) scope: &'s Scope<'a>,
     pub(crate) methods: &'s Methods<'a>,
     pub(crate) result: Option<Type>,
     pub(crate) breaks: bool,
     pub(crate) continues: bool,
+}
+
+impl<'s, 'a> Surroundings<'s, 'a> {
+    ghost use Rattle.names.specs.Bodies as bodies;
+    ghost use Rattle.names.specs.Frames.{AreSurroundings, IsContext, IsFrame};
+    ghost use Rattle.names.specs.Variables.{Frame};
+
+    /// What a name can mean here, where these variables are in scope.
+    pub(crate) fn context<'t>(&self, variables: &'t Variables<'a>) -> NameContext<'t, 'a>
+    where
+        's: 't,
+        ensures { (m : bodies.Surroundings) (f : Frame) → AreSurroundings m self.now → IsFrame m.program.text f variables.now
+            → IsContext m.program f result }
+    {
+        NameContext {
+            alloc: self.alloc,
+            scope: self.scope,
+            variables,
+        }
+    }
+}
+
+/// What a name can mean: what the program declares, and the variables in scope.
+#[derive(Clone, Copy)]
+pub(crate) struct NameContext<'s, 'a> {
+    pub(crate) alloc: Global,
+    pub(crate) scope: &'s Scope<'a>,
+    pub(crate) variables: &'s Variables<'a>,
 }

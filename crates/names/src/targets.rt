@@ -59,7 +59,7 @@ fn judge_field_target(
     let held = judge_variable(alloc, scope, variables, variable, found)?;
     let kind = judge_field(alloc, scope, held, variable, field, found)?;
     judge_written(alloc, scope, held, field, found)?;
-    ask(alloc, !owns(scope, held, field), field.place, found)?;
+    ask(alloc, !owns(scope, held, field, kind), field.place, found)?;
     Ok(kind)
 }
 

@@ -5,7 +5,8 @@ ghost use Rattle.tree.specs.ExpressionTrees.{expression_tree};
 ghost use Rattle.tree.specs.Values.{value_tree, new_tree, made_tree};
 ghost use Rattle.names.specs.Bodies as bodies;
 ghost use Rattle.declarations.specs.Found.{Adds};
-ghost use Rattle.names.specs.Frames.{IsFrame, AreSurroundings};
+ghost use Rattle.names.specs.Frames.{AreSurroundings, IsContext, IsFrame};
+ghost use Rattle.names.specs.Operands.{in_frame};
 ghost use Rattle.declarations.specs.Kinds.{pointer_kind};
 ghost use Rattle.declarations.specs.Program.{Program, struct_named};
 ghost use Rattle.declarations.specs.Scopes.{IsScope};
@@ -16,7 +17,7 @@ ghost use Rattle.names.specs.Variables.{Frame};
 use crate::arguments::judge_field_arguments;
 use crate::calls::{Role, judge_call, judge_unknown};
 use crate::operands::ask;
-use crate::surroundings::Surroundings;
+use crate::surroundings::{NameContext, Surroundings};
 use crate::told;
 use crate::variables::Variables;
 use crate::wholes::{judge_asked, judge_number};
@@ -28,18 +29,21 @@ use tree::{Expression, Made, New, Value};
 /// The kind of a pointer to the struct of this name; adds that there is none, and what is wrong with what is given for its
 /// fields that own.
 fn judge_structure(
-    alloc: Global,
-    scope: &Scope<'_>,
-    variables: &Variables<'_>,
+    context: &NameContext<'_, '_>,
     name: Span,
     arguments: &[Expression],
     found: &mut Vec<Finding>,
 ) -> Result<Kind, Memory>
-    ensures kind { IfOk result (λ kind. (p : Program) → IsScope p scope.now → kind ≡ pointer_kind (struct_named p name)) }
-    ensures found { (p : Program) (f : Frame) → IsScope p scope.now → IsFrame p.text f variables.now
-        → OnOk result (Adds found.old.items found.new.items (struct_made_findings (record { program = p; variables = f.variables })
+    ensures kind { IfOk result (λ kind. (p : Program) → IsScope p context.now.scope.now → kind ≡ pointer_kind (struct_named p name)) }
+    ensures found { (p : Program) (f : Frame) → IsContext p f context.now
+        → OnOk result (Adds found.old.items found.new.items (struct_made_findings (in_frame p f)
         (struct_named p name) name (map shape (map expression_tree arguments.now)))) }
 {
+    let NameContext {
+        alloc,
+        scope,
+        variables,
+    } = *context;
     match scope.owning_fields(name) {
         Some((place, owning)) => {
             told::judge_number(alloc, owning.len(), arguments.len(), name.place, found)?;
@@ -47,7 +51,7 @@ fn judge_structure(
             Ok(Kind::Pointer(place))
         }
         None => {
-            judge_unknown(alloc, scope, variables, name, arguments, found)?;
+            judge_unknown(context, name, arguments, found)?;
             Ok(Kind::Unknown)
         }
     }
@@ -55,16 +59,14 @@ fn judge_structure(
 
 /// The kind of what `new` makes; adds what is wrong in it.
 fn judge_made(
-    alloc: Global,
-    scope: &Scope<'_>,
-    variables: &Variables<'_>,
+    context: &NameContext<'_, '_>,
     made: &Made,
     found: &mut Vec<Finding>,
 ) -> Result<Kind, Memory>
-    ensures kind { IfOk result (λ kind. (p : Program) (f : Frame) → IsScope p scope.now
-        → kind ≡ made_kind (record { program = p; variables = f.variables }) (made_tree made.now)) }
-    ensures found { (p : Program) (f : Frame) → IsScope p scope.now → IsFrame p.text f variables.now → OnOk result
-        (Adds found.old.items found.new.items (made_findings (record { program = p; variables = f.variables }) (made_tree made.now))) }
+    ensures kind { IfOk result (λ kind. (p : Program) (f : Frame) → IsScope p context.now.scope.now
+        → kind ≡ made_kind (in_frame p f) (made_tree made.now)) }
+    ensures found { (p : Program) (f : Frame) → IsContext p f context.now
+        → OnOk result (Adds found.old.items found.new.items (made_findings (in_frame p f) (made_tree made.now))) }
 {
     match made {
         Made::Struct {
@@ -72,11 +74,17 @@ fn judge_made(
             arguments,
             ..
         } => {
-            let kind = judge_structure(alloc, scope, variables, *name, arguments, found)?;
+            let kind = judge_structure(context, *name, arguments, found)?;
             Ok(kind)
         }
         Made::Array { element, length } => {
-            judge_number(alloc, scope, variables, length, found)?;
+            judge_number(
+                context.alloc,
+                context.scope,
+                context.variables,
+                length,
+                found,
+            )?;
             Ok(Kind::Array(*element))
         }
     }
@@ -84,25 +92,22 @@ fn judge_made(
 
 /// Adds what is wrong with what `new` makes where this kind is asked.
 fn judge_new(
-    alloc: Global,
-    scope: &Scope<'_>,
-    variables: &Variables<'_>,
+    context: &NameContext<'_, '_>,
     asked: Kind,
     new: &New,
     found: &mut Vec<Finding>,
 ) -> Result<(), Memory>
-    ensures { (p : Program) (f : Frame) → IsScope p scope.now → IsFrame p.text f variables.now → OnOk result (Adds found.old.items
-        found.new.items (new_findings (record { program = p; variables = f.variables }) asked (new_tree new.now))) }
+    ensures { (p : Program) (f : Frame) → IsContext p f context.now
+        → OnOk result (Adds found.old.items found.new.items (new_findings (in_frame p f) asked (new_tree new.now))) }
 {
-    let kind = judge_made(alloc, scope, variables, &new.made, found)?;
-    ask(alloc, kind.agrees(asked), new.word.place, found)
+    let kind = judge_made(context, &new.made, found)?;
+    ask(context.alloc, kind.agrees(asked), new.word.place, found)
 }
 
 /// Adds what is wrong with a value of which this kind is asked.
-pub(crate) fn judge_value(
-    alloc: Global,
-    around: &Surroundings<'_, '_>,
-    variables: &Variables<'_>,
+pub(crate) fn judge_value<'a>(
+    around: &Surroundings<'_, 'a>,
+    variables: &Variables<'a>,
     asked: Kind,
     value: &Value,
     found: &mut Vec<Finding>,
@@ -111,8 +116,10 @@ pub(crate) fn judge_value(
         → OnOk result (Adds found.old.items found.new.items (value_findings (bodies.inside_of m f) asked (value_tree value.now))) }
 {
     match value {
-        Value::Expression(e) => judge_asked(alloc, around.scope, variables, asked, e, found),
-        Value::Call(call) => judge_call(alloc, around, variables, Role::Asked(asked), call, found),
-        Value::New(new) => judge_new(alloc, around.scope, variables, asked, new, found),
+        Value::Expression(e) => {
+            judge_asked(around.alloc, around.scope, variables, asked, e, found)
+        }
+        Value::Call(call) => judge_call(around, variables, Role::Asked(asked), call, found),
+        Value::New(new) => judge_new(&around.context(variables), asked, new, found),
     }
 }

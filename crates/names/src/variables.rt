@@ -61,20 +61,19 @@ impl<'a> Variables<'a> {
         &mut self,
         alloc: Global,
         text: &'a [u8],
-        name: Span,
-        kind: Kind,
+        variable: Variable,
         heap: bool,
         found: &mut Vec<Finding>,
     ) -> Result<(), Memory>
         ensures { (f : Frame) → IsFrame text.now f self.old → OnOk result (Turned text.now found.old.items
-            found.new.items self.new (declared_variable text.now name kind heap f)) }
+            found.new.items self.new (declared_variable text.now variable.name variable.kind heap f)) }
     {
         if !heap {
-            return self.enter(alloc, text, name, kind, found);
+            return self.enter(alloc, text, variable, found);
         }
-        self.judge_heap(alloc, name, found)?;
+        self.judge_heap(alloc, variable.name, found)?;
         self.count();
-        self.enter(alloc, text, name, kind, found)
+        self.enter(alloc, text, variable, found)
     }
 
     /// Adds the name of one more of the exchange heap if it is one past the limit.
@@ -104,20 +103,19 @@ impl<'a> Variables<'a> {
         &mut self,
         alloc: Global,
         text: &'a [u8],
-        name: Span,
-        kind: Kind,
+        variable: Variable,
         found: &mut Vec<Finding>,
     ) -> Result<(), Memory>
         ensures { (f : Frame) → IsFrame text.now f self.old → OnOk result (Turned text.now found.old.items
-            found.new.items self.new (entered_variable text.now name kind f)) }
+            found.new.items self.new (entered_variable text.now variable.name variable.kind f)) }
     {
-        let word = name.slice(text);
+        let word = variable.name.slice(text);
         if self.names.find(word).is_some() {
-            add_twice(alloc, text, name, found)?;
+            add_twice(alloc, text, variable.name, found)?;
             return Ok(());
         }
         self.names.add(alloc, word)?;
-        self.list.push(Variable { name, kind })?;
+        self.list.push(variable)?;
         Ok(())
     }
 

@@ -25,8 +25,8 @@ returns-in_ok-judge_bound_type-in-Some c = λ p f scope frame.
     subst (λ o. OnOk result (Turned text old new w (typed_turn p param name o f))) (sym c.in-Some.is)
     (on_before result text old mid new w (type_unknown p kind ++ unless (agree bound (brought_kind p param)) name.place) (declared_variable text name bound (is_heap kind) f)
     (subst (λ k. Adds old mid (type_unknown p kind ++ unless (agree bound k) name.place)) (c.brought_kind-brought.ensures p scope) (c.in_ok-judge_bound_type-in-Some.ensures p scope))
-    (subst (λ k. OnOk result (Turned text mid new w (declared_variable text name k (is_heap kind) f))) (c.kind-bound.ensures p scope)
-    (subst (λ b. OnOk result (Turned text mid new w (declared_variable text name c.kind-bound.result b f))) c.is_heap.ensures (c.declare_in.ensures p f scope frame))))
+    (subst (λ k. OnOk result (Turned text mid new w (declared_variable text name k (is_heap kind) f))) (c.kind.ensures p scope)
+    (subst (λ b. OnOk result (Turned text mid new w (declared_variable text name c.kind.result b f))) c.is_heap.ensures (c.declare_in.ensures p f scope frame))))
 
 pub returns-in-None : goal.returns-in-None
 returns-in-None c = λ p f scope frame.

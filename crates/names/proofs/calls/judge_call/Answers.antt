@@ -14,6 +14,6 @@ returns-in-Some c = λ m f around frame.
     let s = scope_in m f in
     subst (λ o. OnOk c.judge_member.result (Adds c.args.found.now.items c.judge_member.new.found.items (front_findings (inside_of m f) c.args.role o call.name (map shape (map expression_tree call.arguments.items)))))
     (sym c.in-Some.is)
-    (subst (λ xs. OnOk c.judge_member.result (Adds c.args.found.now.items c.judge_member.new.found.items (member_findings s (meant s call.name) c.args.role call.name c.in-Some.word (map shape (map expression_tree xs)))))
+    (subst (λ xs. OnOk c.judge_member.result (Adds c.args.found.now.items c.judge_member.new.found.items (member_findings s (meant s call.name) c.args.role call.name c.in-Some.name (map shape (map expression_tree xs)))))
     c.deref-in-Some.ensures.value
-    (c.judge_member.ensures m.program f around.scope frame))
+    (c.judge_member.ensures m.program f (c.context-context.ensures m f around frame)))

@@ -2,7 +2,7 @@ use Rattle.std.proofs.Common.{◌++◌, ◌&&◌, map, subst, arith}
 use Rattle.std.specs.Prelude.{OnOk}
 use Rattle.tree.specs.ExpressionTrees.{expression_tree}
 use Rattle.tree.specs.Trees.{message_tree}
-use Rattle.names.specs.Expressions.{InScope}
+use Rattle.names.specs.Operands.{in_frame}
 use Rattle.declarations.specs.Found.{Adds}
 use Rattle.declarations.specs.Kinds.{type_kind, unless}
 use Rattle.names.specs.Shapes.{shape}
@@ -12,21 +12,21 @@ use Rattle.names.proofs.PendingLemmas.{numbered}
 use Rattle.names.proofs.calls.judge_known_message.Goals as goal
 
 pub returns : goal.returns
-returns c = λ p f scope frame.
-    let s : InScope = record { program = p; variables = f.variables } in
+returns c = λ p f here.
+    let s = in_frame p f in
     let message = c.args.message.now in
     let params = message.params.items in
-    let args = c.args.arguments.now in
+    let args = c.args.site.now.arguments.now in
     let es = map shape (map expression_tree args) in
-    let place = c.args.word.place in
+    let place = c.args.site.now.name.place in
     let result = c.judge_message_arguments.result in
     let old = c.args.found.now.items in
     let asked = c.ask.new.found.items in
     let counted = c.judge_number.new.found.items in
     let new = c.judge_message_arguments.new.found.items in
     let kinds = message_kinds p (message_tree message) in
-    on_adds result old asked new (unless (is_alone c.args.role && sends c.args.end message.direction) place) (number_of_arguments params es place ++ argument_findings s kinds es)
-    (subst (λ b. Adds old asked (unless b place)) c.is_sent.ensures c.in_ok-ask.ensures)
+    on_adds result old asked new (unless (is_alone c.args.site.now.role && sends c.args.end message.direction) place) (number_of_arguments params es place ++ argument_findings s kinds es)
+    (subst (λ b. Adds old asked (unless b place)) c.is_sent-well.ensures c.in_ok-ask.ensures)
     (on_adds result asked counted new (number_of_arguments params es place) (argument_findings s kinds es)
-    (numbered expression_tree params c.len-asked.result args place (omega (arith, c.len-asked.ensures, message.params.ok.0)) c.in_ok-judge_number.ensures)
-    (subst (λ ps. OnOk result (Adds counted new (argument_findings s (map (λ x. type_kind p x.kind) ps) es))) c.deref.ensures.value (c.judge_message_arguments.ensures p f scope frame)))
+    (numbered expression_tree params c.len.result args place (omega (arith, c.len.ensures, message.params.ok.0)) c.in_ok-judge_number.ensures)
+    (subst (λ ps. OnOk result (Adds counted new (argument_findings s (map (λ x. type_kind p x.kind) ps) es))) c.deref.ensures.value (c.judge_message_arguments.ensures p f here.scope here.frame)))

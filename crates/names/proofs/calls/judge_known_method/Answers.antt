@@ -2,7 +2,7 @@ use Rattle.std.proofs.Common.{◌++◌, map, subst, arith}
 use Rattle.std.specs.Prelude.{OnOk}
 use Rattle.tree.specs.ExpressionTrees.{expression_tree}
 use Rattle.tree.specs.Trees.{method_tree}
-use Rattle.names.specs.Expressions.{InScope}
+use Rattle.names.specs.Operands.{in_frame}
 use Rattle.declarations.specs.Found.{Adds}
 use Rattle.declarations.specs.Kinds.{type_kind, unless}
 use Rattle.names.specs.Shapes.{shape}
@@ -12,13 +12,13 @@ use Rattle.names.proofs.PendingLemmas.{numbered}
 use Rattle.names.proofs.calls.judge_known_method.Goals as goal
 
 pub returns : goal.returns
-returns c = λ p f scope frame startable.
-    let s : InScope = record { program = p; variables = f.variables } in
+returns c = λ p f here startable.
+    let s = in_frame p f in
     let method = c.args.callee.method.now in
     let params = method.params.items in
-    let args = c.args.arguments.now in
+    let args = c.args.site.now.arguments.now in
     let es = map shape (map expression_tree args) in
-    let place = c.args.name.place in
+    let place = c.args.site.now.name.place in
     let result = c.ask.result in
     let old = c.args.found.now.items in
     let counted = c.judge_number.new.found.items in
@@ -27,11 +27,11 @@ returns c = λ p f scope frame startable.
     let new = c.ask.new.found.items in
     let count = number_of_arguments params es place in
     let each = argument_findings s (parameter_kinds p params) es in
-    let start = start_findings p.text (method_tree method) c.args.role c.args.name in
-    let fits = unless (result_fits p method.result c.args.role) place in
+    let start = start_findings p.text (method_tree method) c.args.site.now.role c.args.site.now.name in
+    let fits = unless (result_fits p method.result c.args.site.now.role) place in
     on_adds result old counted new count (each ++ (start ++ fits))
-    (numbered expression_tree params c.len-asked.result args place (omega (arith, c.len-asked.ensures, method.params.ok.0)) c.in_ok-judge_number.ensures)
+    (numbered expression_tree params c.len.result args place (omega (arith, c.len.ensures, method.params.ok.0)) c.in_ok-judge_number.ensures)
     (on_adds result counted given new each (start ++ fits)
-    (subst (λ ps. Adds counted given (argument_findings s (map (λ x. type_kind p x.kind) ps) es)) c.deref.ensures.value (c.in_ok-judge_parameter_arguments.ensures p f scope frame))
-    (on_adds result given started new start fits (c.in_ok-judge_start.ensures p (method_tree method) scope startable)
-    (subst (λ b. OnOk result (Adds started new (unless b place))) (c.result_fits-fits.ensures p scope) c.ask.ensures)))
+    (subst (λ ps. Adds counted given (argument_findings s (map (λ x. type_kind p x.kind) ps) es)) c.deref.ensures.value (c.in_ok-judge_parameter_arguments.ensures p f here.scope here.frame))
+    (on_adds result given started new start fits (c.in_ok-judge_start.ensures p (method_tree method) here.scope startable)
+    (subst (λ b. OnOk result (Adds started new (unless b place))) (c.result_fits-fits.ensures p here.scope) c.ask.ensures)))

@@ -1,7 +1,7 @@
 use Rattle.std.proofs.Common.{[], ◌∷◌, take, ap, sym, ◌∙◌, refl, subst}
 use Rattle.std.specs.Prelude.{OnOk, if◌then◌else◌, ◌||◌}
 use Rattle.names.specs.Cases.{endpoint_head_findings, lack_findings, awaits_too, names_endpoint, awaits_closed, lacks_closed}
-use Rattle.names.specs.Expressions.{InScope}
+use Rattle.names.specs.Operands.{in_frame}
 use Rattle.declarations.specs.Found.{Adds}
 use Rattle.names.specs.Heads.{IsHeads, case_head, awaiting_of}
 use Rattle.declarations.specs.declared.kinds.Kind.TheVariants as kind
@@ -12,20 +12,20 @@ use Rattle.names.proofs.PassLemmas.{on_adds}
 use Rattle.names.proofs.cases.judge_endpoint_head.Goals as goal
 
 pub returns : goal.returns
-returns c = λ p vs all scope heads.
-    let s : InScope = record { program = p; variables = vs } in
+returns c = λ p f all scope heads.
+    let s = in_frame p f in
     let h = case_head c.args.case.now in
     let result = c.judge_lacking.result in
     let old = c.args.found.now.items in
     let mid = c.judge_awaited.new.found.items in
     let new = c.judge_lacking.new.found.items in
     let earlier = take c.args.place all in
-    let tokens = c.args.scope.now.text.now in
+    let tokens = c.args.context.now.scope.now.text.now in
     let own = subst (λ t. IsHeads t all c.args.heads.now) (sym scope.text_is) heads in
     let twice = c.is_twice-twice.ensures all h own (c.awaiting_at.ensures ∙ ap (λ k. awaiting_of (head_of k)) (case_is c.args.case.now)) ∙ ap (λ t. awaits_too t h earlier) scope.text_is in
     let lacking = c.is_lacking-lacking.ensures all h own refl in
     let said = told_unless (names_endpoint tokens h.endpoint earlier || awaits_closed tokens h.endpoint all) (lacks_closed tokens h.endpoint ∷ []) in
-    on_adds result old mid new (endpoint_head_findings s earlier (kind.Endpoint c.args.end c.args.item) c.args.end h) (lack_findings s all earlier h)
-    (c.in_ok-judge_awaited.ensures p vs earlier scope twice)
+    on_adds result old mid new (endpoint_head_findings s earlier (kind.Endpoint c.args.end.side c.args.end.item) c.args.end.side h) (lack_findings s all earlier h)
+    (c.in_ok-judge_awaited.ensures p f earlier scope twice)
     (subst (λ t. OnOk result (Adds mid new (if names_endpoint t h.endpoint earlier || awaits_closed t h.endpoint all then [] else lacks_closed t h.endpoint ∷ []))) scope.text_is
     (subst (λ l. OnOk result (Adds mid new l)) (ap (λ b. if b then lacks_closed tokens h.endpoint ∷ [] else []) lacking ∙ said) c.judge_lacking.ensures))

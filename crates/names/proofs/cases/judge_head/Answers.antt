@@ -1,7 +1,8 @@
 use Rattle.std.proofs.Common.{take, sym, ◌∙◌, subst}
 use Rattle.std.specs.Prelude.{OnOk}
 use Rattle.names.specs.Cases.{kind_head_findings}
-use Rattle.names.specs.Expressions.{InScope, held, meant, variable_findings}
+use Rattle.names.specs.Expressions.{held, meant, variable_findings}
+use Rattle.names.specs.Operands.{in_frame}
 use Rattle.declarations.specs.Found.{Adds}
 use Rattle.names.specs.Heads.{case_head}
 use Rattle.names.proofs.HeadWords.{no_endpoint}
@@ -9,22 +10,22 @@ use Rattle.names.proofs.PassLemmas.{on_adds}
 use Rattle.names.proofs.cases.judge_head.Goals as goal
 
 pub returns-in-Endpoint : goal.returns-in-Endpoint
-returns-in-Endpoint c = λ p f all scope frame heads.
-    let s : InScope = record { program = p; variables = f.variables } in
+returns-in-Endpoint c = λ p f all here heads.
+    let s = in_frame p f in
     let h = case_head c.args.case.now in
     let result = c.judge_endpoint_head.result in
     let old = c.args.found.now.items in
     let mid = c.judge_use.new.found.items in
     let new = c.judge_endpoint_head.new.found.items in
     let earlier = take c.args.place all in
-    let kind = sym c.in-Endpoint.is ∙ c.kind_held.ensures p f scope frame in
+    let kind = sym c.in-Endpoint.is ∙ c.kind_held.ensures p f here.scope here.frame in
     on_adds result old mid new (variable_findings s h.endpoint) (kind_head_findings s all earlier (held (meant s h.endpoint)) h)
-    (c.in_ok-judge_use.ensures p f scope frame)
-    (subst (λ k. OnOk result (Adds mid new (kind_head_findings s all earlier k h))) kind (c.judge_endpoint_head.ensures p f.variables all scope heads))
+    (c.in_ok-judge_use.ensures p f here.scope here.frame)
+    (subst (λ k. OnOk result (Adds mid new (kind_head_findings s all earlier k h))) kind (c.judge_endpoint_head.ensures p f all here.scope heads))
 
 pub returns-in_default : goal.returns-in_default
-returns-in_default c = λ p f all scope frame heads.
-    let s : InScope = record { program = p; variables = f.variables } in
+returns-in_default c = λ p f all here heads.
+    let s = in_frame p f in
     let h = case_head c.args.case.now in
     let result = c.judge_no_endpoint.result in
     let old = c.args.found.now.items in
@@ -32,6 +33,6 @@ returns-in_default c = λ p f all scope frame heads.
     let new = c.judge_no_endpoint.new.found.items in
     let earlier = take c.args.place all in
     on_adds result old mid new (variable_findings s h.endpoint) (kind_head_findings s all earlier (held (meant s h.endpoint)) h)
-    (c.in_ok-judge_use.ensures p f scope frame)
-    (subst (λ k. OnOk result (Adds mid new (kind_head_findings s all earlier k h))) (c.kind_held.ensures p f scope frame)
+    (c.in_ok-judge_use.ensures p f here.scope here.frame)
+    (subst (λ k. OnOk result (Adds mid new (kind_head_findings s all earlier k h))) (c.kind_held.ensures p f here.scope here.frame)
     (subst (λ l. OnOk result (Adds mid new l)) (sym (no_endpoint s all earlier c.kind_held.result h c.in_default.not-Endpoint)) c.judge_no_endpoint.ensures))

@@ -49,12 +49,12 @@ judge_case-returns t c = λ m f all around frame heads at.
     let params = bound_params (awaited_message s (held (meant s case.endpoint)) case.message) in
     let binding = binds_turn m.program params case.binds.items f in
     let row = statement_row (map statement_tree case.statements.items) in
-    let first = subst (λ bs. Turned text headed bound v (binds_turn m.program params bs f)) c.deref.ensures.value (c.in_ok-judge_binds.ensures m.program f around.scope frame) in
-    let second = subst (λ xs. Turned text bound new w (statements_turn m (statement_row (map statement_tree xs)) binding.frame)) c.deref-2.ensures.value (c.in_ok-judge_statements.ensures m binding.frame around first.frame) in
+    let first = c.in_ok-judge_binds.ensures m.program f around.scope frame in
+    let second = subst (λ xs. Turned text bound new w (statements_turn m (statement_row (map statement_tree xs)) binding.frame)) c.deref.ensures.value (c.in_ok-judge_statements.ensures m binding.frame around first.frame) in
     let both = follow binding (statements_turn m row) in
     let earlier = take c.args.place all in
     let inner = leaves f both around.scope.text_is (c.len-outer.ensures text f frame) c.leave.ensures (kept f both.frame (case_extends m params case.binds.items row f)) (turned_then binding (statements_turn m row) first second) in
-    let here = c.in_ok-judge_head.ensures m.program f all around.scope frame heads in
+    let here = c.in_ok-judge_head.ensures m.program f all (c.context.ensures m f around frame) heads in
     subst (λ k. Turned text old new c.leave.new.self (case_turn m all earlier k f)) (sym (case_is case))
     (adds_before _ (closed f both) here inner)
 
@@ -209,7 +209,7 @@ judge_statement-returns-in-Return t c = λ m f around frame.
     let new = c.judge_return.new.found.items in
     let v = c.args.variables.now in
     subst (λ x. OnOk result (Turned text old new v (statement_turn m x f))) (sym (ap statement_tree c.in-Return.is ∙ of_return c.in-Return.word c.in-Return.value))
-    (on_stays result text old new v (return_findings (scope_in m f) m.result c.in-Return.word (option_map (λ e. expression_tree e.value) c.in-Return.value)) f frame (subst (λ o. OnOk result (Adds old new (return_findings (scope_in m f) o c.in-Return.word (option_map (λ e. expression_tree e.value) c.in-Return.value)))) around.result (c.judge_return.ensures m.program f around.scope frame)))
+    (on_stays result text old new v (return_findings (scope_in m f) m.result c.in-Return.word (option_map (λ e. expression_tree e.value) c.in-Return.value)) f frame (subst (λ o. OnOk result (Adds old new (return_findings (scope_in m f) o c.in-Return.word (option_map (λ e. expression_tree e.value) c.in-Return.value)))) around.result (c.judge_return.ensures m.program f (c.context-context.ensures m f around frame))))
 
 pub judge_switch-loop-place-init : goal.judge_switch-loop-place-init
 judge_switch-loop-place-init t c = λ m f around frame.
