@@ -9,6 +9,7 @@ ghost use Rattle.resolving.specs.Counts.{counts};
 use crate::counts::Before;
 use declarations::Scope;
 use program::Resolved;
+use std::alloc::Global;
 use tree::Item;
 
 /// What a type is looked up in: the names of the program, its contracts with their names resolved, and what stands before each
@@ -22,9 +23,10 @@ pub(crate) struct Types<'s, 'a> {
 }
 
 /// The items of the program, what its types are looked up in, for each item the places of its fields that own, and the place of
-/// the class that the statement stands in. There are so few methods that their numbers fit.
+/// the class that the statement stands in. There are so few methods that their numbers fit. Lists are made with the allocator.
 #[derive(Clone, Copy)]
 pub(crate) struct Around<'s, 'a> {
+    pub(crate) alloc: Global,
     pub(crate) types: Types<'s, 'a>,
     pub(crate) items: &'a [Item],
     pub(crate) owning: &'s [Vec<usize>],

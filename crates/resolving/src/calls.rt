@@ -162,6 +162,13 @@ fn arguments_of(
     Ok(given)
 }
 
+/// What is done with what a call gives: the variable that takes it, and what is used then.
+#[derive(Drop)]
+pub(crate) struct ResultUse {
+    pub(crate) target: Option<Mention>,
+    pub(crate) behind: Vec<Mention>,
+}
+
 /// What a call of this method comes to.
 fn call_of(
     alloc: Global,
@@ -169,12 +176,11 @@ fn call_of(
     locals: &Locals<'_>,
     call: &tree::Call,
     callee: Callee<'_>,
-    target: Option<Mention>,
-    behind: Vec<Mention>,
+    after: ResultUse,
 ) -> Result<Call, AllocError>
     ensures { (items : List ItemTree) (own : ℕ) (f : Frame) → IsFrame text.now f locals.now
         → IfOk result (λ c. call_seen c ≡ told.call_of (program_in text.now items) own f
-        (call_tree call.now) target behind.items (callee_seen callee.entry)) }
+        (call_tree call.now) after.target after.behind.items (callee_seen callee.entry)) }
 {
     let mut reads = Vec::new(alloc);
     add_argument_reads(text, locals, &call.arguments, &mut reads)?;
@@ -184,28 +190,26 @@ fn call_of(
         place: called_name(call).place,
         method: callee.id,
         arguments,
-        target,
-        behind,
+        target: after.target,
+        behind: after.behind,
     })
 }
 
-/// What a call comes to, if it is one of a method: what takes what it gives, and what is used behind it.
+/// What a call comes to, if it is one of a method.
 fn tell_called(
-    alloc: Global,
     text: &[u8],
     around: &Around<'_, '_>,
     locals: &Locals<'_>,
     call: &tree::Call,
-    target: Option<Mention>,
-    behind: Vec<Mention>,
+    after: ResultUse,
 ) -> Result<Option<Call>, AllocError>
     ensures { (items : List ItemTree) (own : ℕ) → IsAround (program_in text.now items) own around.now
         → IfOk result (TellsCall text.now locals.now
-        (λ f. call_told (program_in text.now items) own f (call_tree call.now) target behind.items)) }
+        (λ f. call_told (program_in text.now items) own f (call_tree call.now) after.target after.behind.items)) }
 {
     match callee_of(text, around, locals, call) {
         Some(callee) => {
-            let call = call_of(alloc, text, locals, call, callee, target, behind)?;
+            let call = call_of(around.alloc, text, locals, call, callee, after)?;
             Ok(Some(call))
         }
         None => Ok(None),
@@ -214,27 +218,24 @@ fn tell_called(
 
 /// What a call comes to as a statement.
 pub(crate) fn tell_call(
-    alloc: Global,
     text: &[u8],
     around: &Around<'_, '_>,
     locals: &Locals<'_>,
     call: &tree::Call,
-    target: Option<Mention>,
-    behind: Vec<Mention>,
+    after: ResultUse,
 ) -> Result<Statement, AllocError>
     ensures { (items : List ItemTree) (own : ℕ) → IsAround (program_in text.now items) own around.now
         → IfOk result (Tells text.now locals.now
-        (λ f. told.called (program_in text.now items) own f (call_tree call.now) target behind.items)) }
+        (λ f. told.called (program_in text.now items) own f (call_tree call.now) after.target after.behind.items)) }
 {
-    match tell_called(alloc, text, around, locals, call, target, behind)? {
-        Some(call) => Ok(Statement::Call(Box::new(alloc, call)?)),
-        None => Ok(unread(alloc, Action::Nothing)),
+    match tell_called(text, around, locals, call, after)? {
+        Some(call) => Ok(Statement::Call(Box::new(around.alloc, call)?)),
+        None => Ok(unread(around.alloc, Action::Nothing)),
     }
 }
 
 /// What a start comes to.
 pub(crate) fn tell_start(
-    alloc: Global,
     text: &[u8],
     around: &Around<'_, '_>,
     locals: &Locals<'_>,
@@ -243,9 +244,13 @@ pub(crate) fn tell_start(
     ensures { (items : List ItemTree) (own : ℕ) → IsAround (program_in text.now items) own around.now → IfOk result (Tells
         text.now locals.now (λ f. told.started (program_in text.now items) own f (call_tree call.now))) }
 {
-    let behind = Vec::new(alloc);
-    match tell_called(alloc, text, around, locals, call, None, behind)? {
-        Some(call) => Ok(Statement::Start(Box::new(alloc, call)?)),
-        None => Ok(unread(alloc, Action::Nothing)),
+    let behind = Vec::new(around.alloc);
+    let after = ResultUse {
+        target: None,
+        behind,
+    };
+    match tell_called(text, around, locals, call, after)? {
+        Some(call) => Ok(Statement::Start(Box::new(around.alloc, call)?)),
+        None => Ok(unread(around.alloc, Action::Nothing)),
     }
 }

@@ -133,7 +133,6 @@ fn add_number(number: Option<VarId>, bound: &mut Vec<VarId>) -> Result<(), Alloc
 /// Brings what a case binds for this parameter, if there is one, into scope. Its number is added, where it is of the exchange
 /// heap.
 fn declare_bind<'a>(
-    alloc: Global,
     text: &'a [u8],
     around: &Around<'_, '_>,
     locals: &mut Locals<'a>,
@@ -148,7 +147,7 @@ fn declare_bind<'a>(
     let declaration = bind_declaration(around, param, bind);
     let number = locals.next_number(declaration.held);
     add_number(number, bound)?;
-    locals.declare(alloc, text, declaration)
+    locals.declare(around.alloc, text, declaration)
 }
 
 /// The parameter at this place, if there is one.
@@ -161,7 +160,6 @@ fn param_at(params: &[Param], place: usize) -> Option<&Param>
 /// Brings what a case binds into scope, for these parameters as far as they reach. The answer is the numbers of those of the
 /// exchange heap.
 pub(crate) fn declare_binds<'a>(
-    alloc: Global,
     text: &'a [u8],
     around: &Around<'_, '_>,
     locals: &mut Locals<'a>,
@@ -172,10 +170,10 @@ pub(crate) fn declare_binds<'a>(
         → IsFrame text.now f locals.old → IfOk result (λ bound. IsTold text.now
         (model.binds_told (program_in text.now items) params.now binds.now f) bound.items locals.new) }
 {
-    let mut bound = Vec::new(alloc);
+    let mut bound = Vec::new(around.alloc);
     for (place, bind) in binds.iter().enumerate() {
         let param = param_at(params, place);
-        declare_bind(alloc, text, around, locals, param, *bind, &mut bound)?;
+        declare_bind(text, around, locals, param, *bind, &mut bound)?;
     }
     Ok(bound)
 }

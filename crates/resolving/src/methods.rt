@@ -68,7 +68,6 @@ fn takes_some(params: &[Parameter]) -> bool
 
 /// Declares the parameters of a method.
 fn declare_parameters<'a>(
-    alloc: Global,
     text: &'a [u8],
     around: &Around<'_, '_>,
     locals: &mut Locals<'a>,
@@ -79,14 +78,17 @@ fn declare_parameters<'a>(
         (IsFrame text.now (parameters_frame (program_in text.now items) params.now f) locals.new) }
 {
     for parameter in params {
-        locals.declare(alloc, text, parameter_declaration(around, *parameter))?;
+        locals.declare(
+            around.alloc,
+            text,
+            parameter_declaration(around, *parameter),
+        )?;
     }
     Ok(())
 }
 
 /// A method with a number for each variable of the exchange heap.
 fn resolve_method(
-    alloc: Global,
     text: &[u8],
     around: &Around<'_, '_>,
     method: &tree::Method,
@@ -94,11 +96,11 @@ fn resolve_method(
     ensures { (items : List ItemTree) (own : ℕ) → IsAround (program_in text.now items) own around.now
         → IfOk result (λ m. method_seen m ≡ method_told (program_in text.now items) own (method_tree method.now)) }
 {
-    let mut locals = Locals::new(alloc);
-    declare_parameters(alloc, text, around, &mut locals, &method.params)?;
+    let mut locals = Locals::new(around.alloc);
+    declare_parameters(text, around, &mut locals, &method.params)?;
     let stays = Staying::here(locals.last());
     let body = &method.body.statements;
-    let statements = tell_statements(alloc, text, around, &mut locals, stays, body)?;
+    let statements = tell_statements(text, around, &mut locals, stays, body)?;
     let scope = locals.last();
     Ok(Method {
         name: method.name.place,
@@ -124,7 +126,6 @@ pub(crate) fn methods_of(definition: &Definition) -> &[tree::Method]
 
 /// Adds these methods, resolved.
 fn add_methods(
-    alloc: Global,
     text: &[u8],
     around: &Around<'_, '_>,
     methods: &[tree::Method],
@@ -135,7 +136,7 @@ fn add_methods(
         ++ map (method_told (program_in text.now items) own) (map method_tree methods.now)) }
 {
     for method in methods {
-        resolved.push(resolve_method(alloc, text, around, method)?)?;
+        resolved.push(resolve_method(text, around, method)?)?;
     }
     Ok(())
 }
@@ -180,6 +181,7 @@ fn resolve_items<'a>(
     let mut resolved = Vec::new(alloc);
     for (class, item) in items.iter().enumerate() {
         let around = Around {
+            alloc,
             types,
             items,
             owning: &fields.places,
@@ -187,7 +189,7 @@ fn resolve_items<'a>(
         };
         let methods = methods_of(&item.definition);
         add_brought(alloc, &types, &item.definition, &mut messages)?;
-        add_methods(alloc, text, &around, methods, &mut resolved)?;
+        add_methods(text, &around, methods, &mut resolved)?;
     }
     Ok(Program {
         messages,

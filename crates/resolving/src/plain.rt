@@ -28,7 +28,7 @@ use std::alloc::{AllocError, Global};
 use tree::{Declare, Expression, Target, Value};
 
 /// What a variable has is freed.
-fn deleting(mention: Option<Mention>) -> Action
+fn delete_action(mention: Option<Mention>) -> Action
     ensures { result ≡ deleted mention }
 {
     match mention {
@@ -39,7 +39,6 @@ fn deleting(mention: Option<Mention>) -> Action
 
 /// What an assignment comes to.
 fn tell_assign(
-    alloc: Global,
     text: &[u8],
     around: &Around<'_, '_>,
     locals: &Locals<'_>,
@@ -53,18 +52,18 @@ fn tell_assign(
     match target {
         Target::Variable(name) => {
             let target = locals.mention(text, *name);
-            tell_assigned(alloc, text, around, locals, target, value)
+            tell_assigned(text, around, locals, target, value)
         }
         Target::Field(part) => {
             let whole = locals.mention(text, part.variable);
-            let index = Vec::new(alloc);
-            tell_part(alloc, text, around, locals, index, whole, value)
+            let index = Vec::new(around.alloc);
+            tell_part(text, around, locals, index, whole, value)
         }
         Target::Element(part) => {
             let whole = locals.mention(text, part.variable);
-            let mut reads = Vec::new(alloc);
+            let mut reads = Vec::new(around.alloc);
             add_reads(text, locals, &part.index, &mut reads)?;
-            tell_part(alloc, text, around, locals, reads, whole, value)
+            tell_part(text, around, locals, reads, whole, value)
         }
     }
 }
@@ -89,7 +88,6 @@ fn declared_mention(
 
 /// What a declaration comes to: where it has a value, the variable takes it.
 fn tell_declare(
-    alloc: Global,
     text: &[u8],
     around: &Around<'_, '_>,
     locals: &Locals<'_>,
@@ -102,9 +100,9 @@ fn tell_declare(
     match &declare.value {
         Some(value) => {
             let target = declared_mention(text, around, locals, declare);
-            tell_assigned(alloc, text, around, locals, target, value)
+            tell_assigned(text, around, locals, target, value)
         }
-        None => Ok(unread(alloc, Action::Nothing)),
+        None => Ok(unread(around.alloc, Action::Nothing)),
     }
 }
 
@@ -146,7 +144,6 @@ fn tell_return(
 
 /// What a statement that holds no others comes to.
 pub(crate) fn tell_plain(
-    alloc: Global,
     text: &[u8],
     around: &Around<'_, '_>,
     locals: &Locals<'_>,
@@ -156,20 +153,20 @@ pub(crate) fn tell_plain(
         → IfOk result (Tells text.now locals.now
         (λ f. plain_told (program_in text.now items) own f (statement_tree statement.now))) }
 {
+    let alloc = around.alloc;
     match statement {
-        tree::Statement::Declare(declare) => { tell_declare(alloc, text, around, locals, declare) }
+        tree::Statement::Declare(declare) => { tell_declare(text, around, locals, declare) }
         tree::Statement::Assign(assign) => tell_assign(
-            alloc,
             text,
             around,
             locals,
             &assign.target,
             &assign.value,
         ),
-        tree::Statement::Call(call) => tell_stated(alloc, text, around, locals, call),
-        tree::Statement::Start { call, .. } => tell_start(alloc, text, around, locals, call),
+        tree::Statement::Call(call) => tell_stated(text, around, locals, call),
+        tree::Statement::Start { call, .. } => tell_start(text, around, locals, call),
         tree::Statement::Delete(name) => {
-            Ok(unread(alloc, deleting(locals.mention(text, *name))))
+            Ok(unread(alloc, delete_action(locals.mention(text, *name))))
         }
         tree::Statement::Exchange(exchange) => {
             Ok(unread(alloc, exchange_action(text, around, locals, **exchange)))
@@ -198,7 +195,6 @@ fn declaration_of(around: &Around<'_, '_>, declare: &Declare) -> Declaration
 
 /// Declares the variable that a statement declares, if it is a declaration.
 pub(crate) fn declare_in<'a>(
-    alloc: Global,
     text: &'a [u8],
     around: &Around<'_, '_>,
     locals: &mut Locals<'a>,
@@ -210,7 +206,7 @@ pub(crate) fn declare_in<'a>(
 {
     match statement {
         tree::Statement::Declare(declare) => {
-            locals.declare(alloc, text, declaration_of(around, declare))
+            locals.declare(around.alloc, text, declaration_of(around, declare))
         }
         _ => Ok(()),
     }

@@ -12,7 +12,7 @@ ghost use Rattle.resolving.specs.Steps.{Tells, TellsSend};
 ghost use Rattle.resolving.specs.Plain as told;
 
 use crate::around::Around;
-use crate::calls::{add_argument_reads, tell_call};
+use crate::calls::{ResultUse, add_argument_reads, tell_call};
 use crate::given::payloads_of;
 use crate::kinds::contract_named;
 use crate::locals::Locals;
@@ -22,26 +22,33 @@ use source::Span;
 use std::alloc::{AllocError, Global};
 use tree::{Call, NewChannel};
 
-/// What a send of this message on this endpoint comes to.
+/// What the names of a send mean: the endpoint, and the message that this word names.
+#[derive(Clone, Copy)]
+struct Sending<'a> {
+    endpoint: Mention,
+    word: Span,
+    meant: Meant<'a>,
+}
+
+/// What a send comes to.
 fn send_of(
     alloc: Global,
     text: &[u8],
     locals: &Locals<'_>,
-    word: Span,
     call: &Call,
-    endpoint: Mention,
-    meant: Meant<'_>,
+    sending: Sending<'_>,
 ) -> Result<Send, AllocError>
     ensures { (items : List ItemTree) (own : ℕ) (f : Frame) → IsFrame text.now f locals.now → IfOk result (λ s. send_seen s
-        ≡ told.send_of (program_in text.now items) own f word (call_tree call.now) endpoint (meant_seen meant.entry)) }
+        ≡ told.send_of (program_in text.now items) own f
+        sending.entry.word (call_tree call.now) sending.entry.endpoint (meant_seen sending.entry.meant)) }
 {
     let mut reads = Vec::new(alloc);
     add_argument_reads(text, locals, &call.arguments, &mut reads)?;
     Ok(Send {
         reads,
-        place: word.place,
-        endpoint,
-        message: meant.id,
+        place: sending.word.place,
+        endpoint: sending.endpoint,
+        message: sending.meant.id,
         payloads: payloads_of(alloc, text, locals, &call.arguments)?,
     })
 }
@@ -64,7 +71,6 @@ fn sent_by<'a>(
 
 /// What a call that stands alone comes to, if it is a send.
 fn tell_send(
-    alloc: Global,
     text: &[u8],
     around: &Around<'_, '_>,
     locals: &Locals<'_>,
@@ -83,13 +89,17 @@ fn tell_send(
     let Some(endpoint) = locals.mention(text, call.name) else {
         return Ok(None);
     };
-    let send = send_of(alloc, text, locals, word, call, endpoint, meant)?;
+    let sending = Sending {
+        endpoint,
+        word,
+        meant,
+    };
+    let send = send_of(around.alloc, text, locals, call, sending)?;
     Ok(Some(send))
 }
 
 /// What a call that stands alone comes to.
 pub(crate) fn tell_stated(
-    alloc: Global,
     text: &[u8],
     around: &Around<'_, '_>,
     locals: &Locals<'_>,
@@ -98,9 +108,15 @@ pub(crate) fn tell_stated(
     ensures { (items : List ItemTree) (own : ℕ) → IsAround (program_in text.now items) own around.now → IfOk result (Tells
         text.now locals.now (λ f. told.stated_call (program_in text.now items) own f (call_tree call.now))) }
 {
-    match tell_send(alloc, text, around, locals, call)? {
+    match tell_send(text, around, locals, call)? {
         Some(send) => Ok(Statement::Send(send)),
-        None => tell_call(alloc, text, around, locals, call, None, Vec::new(alloc)),
+        None => {
+            let after = ResultUse {
+                target: None,
+                behind: Vec::new(around.alloc),
+            };
+            tell_call(text, around, locals, call, after)
+        }
     }
 }
 

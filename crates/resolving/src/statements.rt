@@ -19,7 +19,7 @@ use crate::cases::{awaited_as, awaited_message, awaited_params, case_endpoint, d
 use crate::locals::Locals;
 use crate::plain::{declare_in, tell_plain};
 use crate::reads::add_reads;
-use crate::staying::{Staying, forgetting, tell_break, tell_continue};
+use crate::staying::{Staying, forget_past, tell_break, tell_continue};
 use program::{Block, Case, If, Statement, Test};
 use source::Place;
 use std::alloc::{AllocError, Global};
@@ -27,7 +27,6 @@ use tree::Switch;
 
 /// What a statement that holds no others comes to, and what it declares.
 fn tell_alone<'a>(
-    alloc: Global,
     text: &'a [u8],
     around: &Around<'_, '_>,
     locals: &mut Locals<'a>,
@@ -41,15 +40,14 @@ fn tell_alone<'a>(
               (program_in text.now items) own f (statement_tree statement.now);
         }) (statement_seen s) locals.new) }
 {
-    let told = tell_plain(alloc, text, around, locals, statement)?;
-    declare_in(alloc, text, around, locals, statement)?;
+    let told = tell_plain(text, around, locals, statement)?;
+    declare_in(text, around, locals, statement)?;
     Ok(told)
 }
 
 /// What a statement comes to.
 #[cycle(statements)]
 fn tell_statement<'a>(
-    alloc: Global,
     text: &'a [u8],
     around: &Around<'_, '_>,
     locals: &mut Locals<'a>,
@@ -62,26 +60,31 @@ fn tell_statement<'a>(
 {
     match statement {
         tree::Statement::Block(block) => {
-            Ok(Statement::Block(tell_block(alloc, text, around, locals, stays, block)?))
+            Ok(Statement::Block(tell_block(text, around, locals, stays, block)?))
         }
         tree::Statement::If(branches) => {
-            let told = tell_if(alloc, text, around, locals, stays, branches)?;
-            if_of(alloc, told)
+            let told = tell_if(text, around, locals, stays, branches)?;
+            if_of(around.alloc, told)
         }
         tree::Statement::While(test) => {
             let inside = Staying::here(locals.last());
-            let told = tell_test(alloc, text, around, locals, inside, test)?;
-            while_of(alloc, told)
+            let told = tell_test(text, around, locals, inside, test)?;
+            while_of(around.alloc, told)
         }
-        tree::Statement::Break(word) => Ok(tell_break(alloc, locals, word.place, stays)),
-        tree::Statement::Continue(word) => Ok(tell_continue(alloc, locals, word.place, stays)),
+        tree::Statement::Break(word) => Ok(tell_break(around.alloc, locals, word.place, stays)),
+        tree::Statement::Continue(word) => Ok(tell_continue(
+            around.alloc,
+            locals,
+            word.place,
+            stays,
+        )),
         tree::Statement::Switch(switch) => {
             let inside = stays.in_switch(locals.last());
-            let cases = tell_cases(alloc, text, around, locals, inside, switch)?;
+            let cases = tell_cases(text, around, locals, inside, switch)?;
             let place = switch.word.place;
             Ok(Statement::Switch { place, cases })
         }
-        _ => tell_alone(alloc, text, around, locals, statement),
+        _ => tell_alone(text, around, locals, statement),
     }
 }
 
@@ -102,7 +105,6 @@ fn while_of(alloc: Global, test: Test) -> Result<Statement, AllocError>
 /// What these statements come to, one after another. A variable is in scope behind its declaration.
 #[cycle(statements)]
 pub(crate) fn tell_statements<'a>(
-    alloc: Global,
     text: &'a [u8],
     around: &Around<'_, '_>,
     locals: &mut Locals<'a>,
@@ -114,9 +116,9 @@ pub(crate) fn tell_statements<'a>(
         (λ list. IsTold text.now (statements_told (program_in text.now items) own (staying_seen stays)
         (statement_row (map statement_tree statements.now)) f) (seen.statement_row (map statement_seen list.items)) locals.new) }
 {
-    let mut told = Vec::with_capacity(alloc, statements.len())?;
+    let mut told = Vec::with_capacity(around.alloc, statements.len())?;
     for statement in statements {
-        told.push(tell_statement(alloc, text, around, locals, stays, statement)?)?;
+        told.push(tell_statement(text, around, locals, stays, statement)?)?;
     }
     Ok(told)
 }
@@ -124,7 +126,6 @@ pub(crate) fn tell_statements<'a>(
 /// What a block comes to. What it declares is in scope there alone.
 #[cycle(statements)]
 fn tell_block<'a>(
-    alloc: Global,
     text: &'a [u8],
     around: &Around<'_, '_>,
     locals: &mut Locals<'a>,
@@ -137,8 +138,8 @@ fn tell_block<'a>(
 {
     let outer = locals.len();
     let last = locals.last();
-    let statements = tell_statements(alloc, text, around, locals, stays, &block.statements)?;
-    let forget = forgetting(block.close.place, last, locals.last());
+    let statements = tell_statements(text, around, locals, stays, &block.statements)?;
+    let forget = forget_past(block.close.place, last, locals.last());
     locals.leave(text, outer, last);
     Ok(Block { statements, forget })
 }
@@ -146,7 +147,6 @@ fn tell_block<'a>(
 /// What a condition comes to, with its block.
 #[cycle(statements)]
 fn tell_test<'a>(
-    alloc: Global,
     text: &'a [u8],
     around: &Around<'_, '_>,
     locals: &mut Locals<'a>,
@@ -157,9 +157,9 @@ fn tell_test<'a>(
         → IsFrame text.now f locals.old → IfOk result (λ t. IsTold text.now
         (test_told (program_in text.now items) own (staying_seen stays) (test_tree test.now) f) (test_seen t) locals.new) }
 {
-    let mut reads = Vec::new(alloc);
+    let mut reads = Vec::new(around.alloc);
     add_reads(text, locals, &test.test, &mut reads)?;
-    let body = tell_block(alloc, text, around, locals, stays, &test.body)?;
+    let body = tell_block(text, around, locals, stays, &test.body)?;
     Ok(Test {
         place: test.word.place,
         reads,
@@ -171,7 +171,6 @@ fn tell_test<'a>(
 /// What conditions in a row come to, each with its block.
 #[cycle(statements)]
 fn tell_tests<'a>(
-    alloc: Global,
     text: &'a [u8],
     around: &Around<'_, '_>,
     locals: &mut Locals<'a>,
@@ -182,9 +181,9 @@ fn tell_tests<'a>(
         → IsFrame text.now f locals.old → IfOk result (λ list. IsTold text.now (walked (test_told (program_in
         text.now items) own (staying_seen stays)) (map test_tree tests.now) f) (map test_seen list.items) locals.new) }
 {
-    let mut told = Vec::with_capacity(alloc, tests.len())?;
+    let mut told = Vec::with_capacity(around.alloc, tests.len())?;
     for test in tests {
-        told.push(tell_test(alloc, text, around, locals, stays, test)?)?;
+        told.push(tell_test(text, around, locals, stays, test)?)?;
     }
     Ok(told)
 }
@@ -192,7 +191,6 @@ fn tell_tests<'a>(
 /// What a last block comes to, if there is one.
 #[cycle(statements)]
 fn tell_otherwise<'a>(
-    alloc: Global,
     text: &'a [u8],
     around: &Around<'_, '_>,
     locals: &mut Locals<'a>,
@@ -206,7 +204,7 @@ fn tell_otherwise<'a>(
 {
     match otherwise {
         Some(block) => {
-            let block = tell_block(alloc, text, around, locals, stays, block)?;
+            let block = tell_block(text, around, locals, stays, block)?;
             Ok(Some(block))
         }
         None => Ok(None),
@@ -216,7 +214,6 @@ fn tell_otherwise<'a>(
 /// What an `if` comes to.
 #[cycle(statements)]
 fn tell_if<'a>(
-    alloc: Global,
     text: &'a [u8],
     around: &Around<'_, '_>,
     locals: &mut Locals<'a>,
@@ -229,9 +226,9 @@ fn tell_if<'a>(
         (others_told (program_in text.now items) own (staying_seen stays) (if_tree branches.now).others))
         (seen.If (if_seen i).first (if_seen i).others) locals.new) }
 {
-    let first = tell_test(alloc, text, around, locals, stays, &branches.first)?;
-    let others = tell_tests(alloc, text, around, locals, stays, &branches.others)?;
-    let otherwise = tell_otherwise(alloc, text, around, locals, stays, &branches.otherwise)?;
+    let first = tell_test(text, around, locals, stays, &branches.first)?;
+    let others = tell_tests(text, around, locals, stays, &branches.others)?;
+    let otherwise = tell_otherwise(text, around, locals, stays, &branches.otherwise)?;
     Ok(If {
         first,
         others,
@@ -242,7 +239,6 @@ fn tell_if<'a>(
 /// What the cases of a switch come to.
 #[cycle(statements)]
 fn tell_cases<'a>(
-    alloc: Global,
     text: &'a [u8],
     around: &Around<'_, '_>,
     locals: &mut Locals<'a>,
@@ -255,13 +251,13 @@ fn tell_cases<'a>(
         (staying_seen stays) (MoreCases (switch_tree switch.now).first (case_row (switch_tree switch.now).others))
         (switch_tree switch.now).close.place f) (seen.case_row (map case_seen list.items)) locals.new) }
 {
-    let mut told = Vec::new(alloc);
+    let mut told = Vec::new(around.alloc);
     let mut case = &switch.first;
     for next in &switch.others {
-        told.push(tell_case(alloc, text, around, locals, stays, next.word.place, case)?)?;
+        told.push(tell_case(text, around, locals, stays, next.word.place, case)?)?;
         case = next;
     }
-    let last = tell_case(alloc, text, around, locals, stays, switch.close.place, case)?;
+    let last = tell_case(text, around, locals, stays, switch.close.place, case)?;
     told.push(last)?;
     Ok(told)
 }
@@ -269,7 +265,6 @@ fn tell_cases<'a>(
 /// What a case comes to, behind which a token stands there. What it binds and declares is in scope there alone.
 #[cycle(statements)]
 fn tell_case<'a>(
-    alloc: Global,
     text: &'a [u8],
     around: &Around<'_, '_>,
     locals: &mut Locals<'a>,
@@ -286,9 +281,9 @@ fn tell_case<'a>(
     let endpoint = case_endpoint(text, locals, case.endpoint);
     let meant = awaited_message(text, around, locals, case.endpoint, case.message);
     let params = awaited_params(meant);
-    let bound = declare_binds(alloc, text, around, locals, params, &case.binds)?;
-    let statements = tell_statements(alloc, text, around, locals, stays, &case.statements)?;
-    let forget = forgetting(behind, last, locals.last());
+    let bound = declare_binds(text, around, locals, params, &case.binds)?;
+    let statements = tell_statements(text, around, locals, stays, &case.statements)?;
+    let forget = forget_past(behind, last, locals.last());
     locals.leave(text, kept, last);
     Ok(Case {
         endpoint,

@@ -45,7 +45,7 @@ impl Staying {
 }
 
 /// What goes out of scope where the first of these is the last variable that stays, and the second the last that is there.
-pub(crate) fn forgetting(place: Place, outer: Option<VarId>, last: Option<VarId>) -> Option<Forget>
+pub(crate) fn forget_past(place: Place, outer: Option<VarId>, last: Option<VarId>) -> Option<Forget>
     ensures { result ≡ forget place (number_seen outer) (number_seen last) }
 {
     let last = last?;
@@ -56,10 +56,10 @@ pub(crate) fn forgetting(place: Place, outer: Option<VarId>, last: Option<VarId>
 }
 
 /// What goes out of scope at a `break` or a `continue`, where this variable is the last that stays.
-fn leaving(locals: &Locals<'_>, place: Place, stays: Option<VarId>) -> Option<Forget>
+fn forget_at_exit(locals: &Locals<'_>, place: Place, stays: Option<VarId>) -> Option<Forget>
     ensures { (text : List ℕ) (f : Frame) → IsFrame text f locals.now → result ≡ left place (number_seen stays) f }
 {
-    forgetting(place, stays, locals.last())
+    forget_past(place, stays, locals.last())
 }
 
 /// What a `break` comes to.
@@ -72,7 +72,10 @@ pub(crate) fn tell_break(
     ensures { (text : List ℕ) (f : Frame) → IsFrame text f locals.now
         → statement_seen result ≡ told [] (Break (left place (number_seen stays.at_break) f)) }
 {
-    unread(alloc, Action::Break(leaving(locals, place, stays.at_break)))
+    unread(
+        alloc,
+        Action::Break(forget_at_exit(locals, place, stays.at_break)),
+    )
 }
 
 /// What a `continue` comes to.
@@ -87,6 +90,6 @@ pub(crate) fn tell_continue(
 {
     unread(
         alloc,
-        Action::Continue(leaving(locals, place, stays.at_continue)),
+        Action::Continue(forget_at_exit(locals, place, stays.at_continue)),
     )
 }

@@ -15,7 +15,7 @@ ghost use Rattle.resolving.specs.Reads.{reads};
 ghost use Rattle.resolving.specs.Plain.{told, moved, used, made_reads, made_arguments, new_of, taken, scalar_taken, assigned, part_taken};
 
 use crate::around::Around;
-use crate::calls::tell_call;
+use crate::calls::{ResultUse, tell_call};
 use crate::given::{add_listed, alone, payloads_of};
 use crate::locals::Locals;
 use crate::reads::add_reads;
@@ -23,8 +23,8 @@ use program::{Action, Mention, New, Simple, Statement};
 use std::alloc::{AllocError, Global};
 use tree::{Expression, Made, Value};
 
-/// A statement that reads these, and then does this.
-fn reading(reads: Vec<Mention>, action: Action) -> Statement
+/// The statement that reads these, and then does this.
+fn simple_statement(reads: Vec<Mention>, action: Action) -> Statement
     ensures { statement_seen result ≡ told reads.items action }
 {
     Statement::Simple(Simple { reads, action })
@@ -34,11 +34,11 @@ fn reading(reads: Vec<Mention>, action: Action) -> Statement
 pub(crate) fn unread(alloc: Global, action: Action) -> Statement
     ensures { statement_seen result ≡ told [] action }
 {
-    reading(Vec::new(alloc), action)
+    simple_statement(Vec::new(alloc), action)
 }
 
 /// The target takes what the source has, if there is a source.
-fn moving(target: Mention, source: Option<Mention>) -> Action
+fn move_action(target: Mention, source: Option<Mention>) -> Action
     ensures { result ≡ moved target source }
 {
     match source {
@@ -48,7 +48,7 @@ fn moving(target: Mention, source: Option<Mention>) -> Action
 }
 
 /// A part of what the variable has is written.
-fn using(whole: Option<Mention>) -> Action
+fn use_action(whole: Option<Mention>) -> Action
     ensures { result ≡ used whole }
 {
     match whole {
@@ -101,7 +101,7 @@ fn tell_made(
         (λ f. told (before.items ++ made_reads (program_in text.now items) own f (made_tree made.now)) action)) }
 {
     add_made_reads(text, locals, made, &mut before)?;
-    Ok(reading(before, action))
+    Ok(simple_statement(before, action))
 }
 
 /// The target takes a new block, for whose fields that own these are given.
@@ -136,12 +136,11 @@ pub(crate) fn tell_read(
         (λ f. told (before.items ++ reads text.now f.locals (expression_tree expression.now)) action)) }
 {
     add_reads(text, locals, expression, &mut before)?;
-    Ok(reading(before, action))
+    Ok(simple_statement(before, action))
 }
 
 /// A variable of the exchange heap takes a value.
 fn tell_taken(
-    alloc: Global,
     text: &[u8],
     around: &Around<'_, '_>,
     locals: &Locals<'_>,
@@ -154,19 +153,22 @@ fn tell_taken(
     match value {
         Value::Expression(expression) => {
             let source = alone(text, locals, expression);
-            Ok(unread(alloc, moving(target, source)))
+            Ok(unread(around.alloc, move_action(target, source)))
         }
         Value::Call(call) => {
-            let behind = Vec::new(alloc);
-            tell_call(alloc, text, around, locals, call, Some(target), behind)
+            let behind = Vec::new(around.alloc);
+            let after = ResultUse {
+                target: Some(target),
+                behind,
+            };
+            tell_call(text, around, locals, call, after)
         }
-        Value::New(new) => tell_new(alloc, text, locals, target, &new.made),
+        Value::New(new) => tell_new(around.alloc, text, locals, target, &new.made),
     }
 }
 
 /// A scalar takes a value.
 fn tell_scalar(
-    alloc: Global,
     text: &[u8],
     around: &Around<'_, '_>,
     locals: &Locals<'_>,
@@ -175,19 +177,24 @@ fn tell_scalar(
     ensures { (items : List ItemTree) (own : ℕ) → IsAround (program_in text.now items) own around.now → IfOk result (Tells
         text.now locals.now (λ f. scalar_taken (program_in text.now items) own f (value_tree value.now))) }
 {
-    let before = Vec::new(alloc);
+    let before = Vec::new(around.alloc);
     match value {
         Value::Expression(expression) => {
             tell_read(text, locals, before, expression, Action::Nothing)
         }
-        Value::Call(call) => tell_call(alloc, text, around, locals, call, None, before),
+        Value::Call(call) => {
+            let after = ResultUse {
+                target: None,
+                behind: before,
+            };
+            tell_call(text, around, locals, call, after)
+        }
         Value::New(new) => tell_made(text, locals, before, &new.made, Action::Nothing),
     }
 }
 
 /// A variable takes a value: one of the exchange heap, or a scalar.
 pub(crate) fn tell_assigned(
-    alloc: Global,
     text: &[u8],
     around: &Around<'_, '_>,
     locals: &Locals<'_>,
@@ -198,14 +205,13 @@ pub(crate) fn tell_assigned(
         text.now locals.now (λ f. assigned (program_in text.now items) own f target (value_tree value.now))) }
 {
     match target {
-        Some(target) => tell_taken(alloc, text, around, locals, target, value),
-        None => tell_scalar(alloc, text, around, locals, value),
+        Some(target) => tell_taken(text, around, locals, target, value),
+        None => tell_scalar(text, around, locals, value),
     }
 }
 
 /// A call gives a scalar that a part of what the variable has takes, behind what its index reads.
 fn tell_part_called(
-    alloc: Global,
     text: &[u8],
     around: &Around<'_, '_>,
     locals: &Locals<'_>,
@@ -218,12 +224,15 @@ fn tell_part_called(
         (λ f. part_taken (program_in text.now items) own f index.items whole (values.Call (call_tree call.now)))) }
 {
     add_listed(whole, &mut index)?;
-    tell_call(alloc, text, around, locals, call, None, index)
+    let after = ResultUse {
+        target: None,
+        behind: index,
+    };
+    tell_call(text, around, locals, call, after)
 }
 
 /// A part of what the variable has takes a value, behind what its index reads.
 pub(crate) fn tell_part(
-    alloc: Global,
     text: &[u8],
     around: &Around<'_, '_>,
     locals: &Locals<'_>,
@@ -237,9 +246,9 @@ pub(crate) fn tell_part(
 {
     match value {
         Value::Expression(expression) => {
-            tell_read(text, locals, index, expression, using(whole))
+            tell_read(text, locals, index, expression, use_action(whole))
         }
-        Value::Call(call) => { tell_part_called(alloc, text, around, locals, index, whole, call) }
-        Value::New(new) => tell_made(text, locals, index, &new.made, using(whole)),
+        Value::Call(call) => { tell_part_called(text, around, locals, index, whole, call) }
+        Value::New(new) => tell_made(text, locals, index, &new.made, use_action(whole)),
     }
 }

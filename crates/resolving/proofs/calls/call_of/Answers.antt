@@ -22,5 +22,5 @@ returns c = λ items own f h.
     c.in_ok-arguments.ensures items own f h
     ∙ ap (λ (xs : List Parameter). arguments p own f xs (map expression_tree c.deref-3.result.now)) c.deref-2.ensures.value
     ∙ ap (λ (es : List Expression). arguments p own f params (map expression_tree es)) c.deref-3.ensures.value in
-    same_call c.args.callee.id c.args.target c.args.behind.items c.add_argument_reads.new.found.items (argument_reads p own f (map expression_tree call.arguments.items)) c.called_name.result.place (called_name call.name call.member).place
+    same_call c.args.callee.id c.args.after.target c.args.after.behind.items c.add_argument_reads.new.found.items (argument_reads p own f (map expression_tree call.arguments.items)) c.called_name.result.place (called_name call.name call.member).place
     c.in_ok-arguments.arguments.items (arguments p own f params (map expression_tree call.arguments.items)) reads (ap (λ (s : Span). s.place) c.called_name.ensures) given

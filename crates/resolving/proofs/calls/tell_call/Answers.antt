@@ -16,7 +16,7 @@ pub returns-in_ok-new-in-Some : goal.returns-in_ok-new-in-Some
 returns-in_ok-new-in-Some c = λ items own around.
     let p = program_in c.args.text.now items in
     let call = call_tree c.args.call.now in
-    call_said c.args.text.now c.args.locals.now seen.Call (λ f. call_told p own f call c.args.target c.args.behind.items) c.in_ok-call.field-0 (made.Call c.in_ok-new-in-Some.field-0)
+    call_said c.args.text.now c.args.locals.now seen.Call (λ f. call_told p own f call c.args.after.target c.args.after.behind.items) c.in_ok-call.field-0 (made.Call c.in_ok-new-in-Some.field-0)
     (called_is c.in_ok-new-in-Some.field-0 ∙ ap (λ x. seen.Call (call_seen x)) c.in_ok-new-in-Some.ensures.ok ∙ ap (λ (o : Option Call). option_map_or seen.Call (option_map call_seen o) (told [] Nothing)) (sym c.in-Some.is))
     (c.in_ok-call.ensures items own around)
 
@@ -24,6 +24,6 @@ pub returns-in-None : goal.returns-in-None
 returns-in-None c = λ items own around.
     let p = program_in c.args.text.now items in
     let call = call_tree c.args.call.now in
-    call_said c.args.text.now c.args.locals.now seen.Call (λ f. call_told p own f call c.args.target c.args.behind.items) c.in_ok-call.field-0 c.unread.result
+    call_said c.args.text.now c.args.locals.now seen.Call (λ f. call_told p own f call c.args.after.target c.args.after.behind.items) c.in_ok-call.field-0 c.unread.result
     (c.unread.ensures ∙ ap (λ (o : Option Call). option_map_or seen.Call (option_map call_seen o) (told [] Nothing)) (sym c.in-None.is))
     (c.in_ok-call.ensures items own around)

@@ -8,6 +8,6 @@ pub returns-in_ok-call-in-Some : goal.returns-in_ok-call-in-Some
 returns-in_ok-call-in-Some c = λ items own around. record {
   all = λ f frame.
       let p = program_in c.args.text.now items in
-      let call_of = told.call_of p own f (call_tree c.args.call.now) c.args.target c.args.behind.items in
+      let call_of = told.call_of p own f (call_tree c.args.call.now) c.args.after.target c.args.after.behind.items in
       ap Some (c.in_ok-call-in-Some.ensures items own f frame) ∙ ap (option_map call_of) (sym (ap (option_map callee_seen) c.in-Some.is) ∙ c.callee_of.ensures items own f around frame);
 }

@@ -17,4 +17,4 @@ returns c = λ items own f frame.
     let given =
     c.in_ok-payloads_of.ensures items own f frame
     ∙ ap (λ (es : List Expression). payloads p own f (map expression_tree es)) c.deref-2.ensures.value in
-    same_send c.args.word.place c.args.endpoint c.args.meant.id c.add_argument_reads.new.found.items (argument_reads p own f arguments) c.in_ok-payloads_of.field-0.items (payloads p own f arguments) reads given
+    same_send c.args.sending.word.place c.args.sending.endpoint c.args.sending.meant.id c.add_argument_reads.new.found.items (argument_reads p own f arguments) c.in_ok-payloads_of.field-0.items (payloads p own f arguments) reads given

@@ -79,11 +79,11 @@ tell_block-returns t c = λ items own f round h.
     let row = statement_row (map statement_tree block.statements.items) in
     let t = statements_told p own stays row f in
     let inner = subst (λ xs. IsTold text (statements_told p own stays (statement_row (map statement_tree xs)) f) (seen.statement_row (map statement_seen told.items)) inside) c.deref.ensures.value (c.in_ok-statements.ensures items own f round h) in
-    let whole = block_seen (made.Block.roll-Block (record { statements = told; forget = c.forgetting-forget.result })) in
+    let whole = block_seen (made.Block.roll-Block (record { statements = told; forget = c.forget_past-forget.result })) in
     subst (λ b. IsTold text (block_told p own stays b f) whole after) (sym (block_is block))
-    (subst (λ (b : BlockSeen). IsTold text (ended block.close.place f t) b after) (sym (block_made told c.forgetting-forget.result))
-    (block_ends text block.close.place f t _ inside after c.len-outer.result c.last-last.result c.last.result c.forgetting-forget.result (kept f t.frame (statements_extend p own stays row f))
-    (c.len-outer.ensures text f h) (c.last-last.ensures text f h) (c.last.ensures text t.frame inner.frame) c.forgetting-forget.ensures c.leave.ensures inner))
+    (subst (λ (b : BlockSeen). IsTold text (ended block.close.place f t) b after) (sym (block_made told c.forget_past-forget.result))
+    (block_ends text block.close.place f t _ inside after c.len-outer.result c.last-last.result c.last.result c.forget_past-forget.result (kept f t.frame (statements_extend p own stays row f))
+    (c.len-outer.ensures text f h) (c.last-last.ensures text f h) (c.last.ensures text t.frame inner.frame) c.forget_past-forget.ensures c.leave.ensures inner))
 
 pub tell_if-returns : goal.tell_if-returns
 tell_if-returns t c = λ items own f round h.
@@ -191,11 +191,11 @@ tell_case-returns t c = λ items own f round h.
     (subst (λ ps. IsTold text (binds_told p ps c.deref.result.now f) bound.items brought) params (c.in_ok-bound.ensures items own f round h)) in
     let inner = subst (λ xs. IsTold text (statements_told p own stays (statement_row (map statement_tree xs)) b.frame) (seen.statement_row (map statement_seen told.items)) inside) c.deref-2.ensures.value
     (c.in_ok-statements.ensures items own b.frame round binds.frame) in
-    case_ends p own stays c.args.behind f case c.case_endpoint-endpoint.result c.awaited_as.result bound (made.Block.roll-Block (record { statements = told; forget = c.forgetting-forget.result })) after
+    case_ends p own stays c.args.behind f case c.case_endpoint-endpoint.result c.awaited_as.result bound (made.Block.roll-Block (record { statements = told; forget = c.forget_past-forget.result })) after
     (c.case_endpoint-endpoint.ensures items f h) (c.awaited_as.ensures ∙ ap (awaited_as case.message) meant) binds.is
-    (subst (λ (k : BlockSeen). IsTold text (ended c.args.behind f t) k after) (sym (block_made told c.forgetting-forget.result))
-    (block_ends text c.args.behind f t _ inside after c.len-kept.result c.last-last.result c.last.result c.forgetting-forget.result (kept f t.frame (case_extends p own stays (awaited_params m) case.binds.items row f))
-    (c.len-kept.ensures text f h) (c.last-last.ensures text f h) (c.last.ensures text t.frame inner.frame) c.forgetting-forget.ensures c.leave.ensures inner))
+    (subst (λ (k : BlockSeen). IsTold text (ended c.args.behind f t) k after) (sym (block_made told c.forget_past-forget.result))
+    (block_ends text c.args.behind f t _ inside after c.len-kept.result c.last-last.result c.last.result c.forget_past-forget.result (kept f t.frame (case_extends p own stays (awaited_params m) case.binds.items row f))
+    (c.len-kept.ensures text f h) (c.last-last.ensures text f h) (c.last.ensures text t.frame inner.frame) c.forget_past-forget.ensures c.leave.ensures inner))
 
 pub tell_cases-tell_case-requires : goal.tell_cases-tell_case-requires
 tell_cases-tell_case-requires t c = let inside = c.loop-next.invariant.inside in (omega (arith, inside, c.decreases), tt)
