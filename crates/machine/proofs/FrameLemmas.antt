@@ -9,7 +9,7 @@ use Rattle.program.specs.declared.method.Variable.{Variable}
 use Rattle.program.specs.declared.number.VarId.{VarId}
 use Rattle.program.specs.declared.statement.Mention.{Mention}
 use Rattle.machine.specs.Answers.{Pass}
-use Rattle.machine.specs.Frames.{bound_to, filled}
+use Rattle.machine.specs.Frames.{bound_to, filled, payloads_claimed}
 use Rattle.machine.specs.Outcomes.{Faulty, Outcome, Test, test, tested}
 use Rattle.machine.specs.World.{Block, is_own_in, let_go, read}
 use Rattle.machine.specs.declared.halts.Fault.TheVariants.{F1}
@@ -20,6 +20,14 @@ pub lets_more : (variables less : List (Option ℕ)) (arguments : List Argument)
     → let_go less (drop (n + 1) arguments) ≡ let_go variables (drop n arguments)
 lets_more variables less arguments n d lt is =
     ap (λ xs. let_go xs (drop (n + 1) arguments)) is ∙ sym (at_drop_more (let_go variables) arguments n d lt)
+
+-- one more payload is let go
+pub claims_more : (variables less : List (Option ℕ)) (payloads : List Mention) (n : ℕ) (d : Mention) → n < length payloads
+    → less ≡ set variables (slice_index_or payloads n d).variable.0 None
+    → let_go less (payloads_claimed (drop (n + 1) payloads)) ≡ let_go variables (payloads_claimed (drop n payloads))
+claims_more variables less payloads n d lt is =
+    ap (λ xs. let_go xs (payloads_claimed (drop (n + 1) payloads))) is
+    ∙ sym (at_drop_more (λ l. let_go variables (payloads_claimed l)) payloads n d lt)
 
 -- nothing more is bound
 pub bound_none : (variables : List (Option ℕ)) (bound : List VarId) (payload : List ℕ) (n : ℕ) → (length bound ≤ n) ⊎ (length payload ≤ n)

@@ -13,11 +13,10 @@ ghost use Rattle.machine.specs.Outcomes.{Bounds};
 ghost use Rattle.machine.specs.Views.{block_seen, blocks_seen, frame_seen};
 ghost use Rattle.machine.specs.World as seen;
 
-use crate::giving::addresses;
 use crate::halts::{Fault, Refusal};
 use crate::heaps::Heap;
-use crate::mentions::{kind_at, lets_go};
-use crate::payloads::{are_unsent, payloads_claimed};
+use crate::mentions::kind_at;
+use crate::payloads::{are_unsent, lets_payloads_go, payload_addresses};
 use crate::reading::own;
 use crate::worlds::{Block, Frame, Owner};
 use program::{Channel, Kind, Mention, Side, StateId};
@@ -58,13 +57,12 @@ pub(crate) fn new(
     if !are_unsent(frame, heap.blocks(), turn.process, making.arguments) {
         return Err(Refusal::Fault(Fault::F3));
     }
-    let arguments = payloads_claimed(alloc, making.arguments)?;
-    let given = addresses(alloc, frame, &arguments)?;
+    let given = payload_addresses(alloc, frame, making.arguments)?;
     let address = heap.blocks().len();
     let kind = kind_at(program, frame.method, making.target.variable);
     frame.list(making.target)?;
     heap.add(alloc, turn.process, kind, &given)?;
-    lets_go(&mut frame.variables, &arguments);
+    lets_payloads_go(&mut frame.variables, making.arguments);
     frame.put(making.target, Some(address));
     frame.point = turn.next;
     Ok(())

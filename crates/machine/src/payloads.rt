@@ -2,19 +2,18 @@
 
 ghost use Rattle.std.specs.Prelude.{◌≡◌, [], IfErr, IfOk, IsFalse, IsTrue, Some};
 ghost use Rattle.program.specs.Lists.{is_among};
-ghost use Rattle.rules.specs.Arguments.{payload};
 ghost use Rattle.machine.specs.Answers.{IsFirstFault, Pass, claimed_in};
 ghost use Rattle.machine.specs.Blocks.{argument_tests_in, is_own_still};
-ghost use Rattle.machine.specs.Frames as told;
-ghost use Rattle.machine.specs.Frames.{payloads_claimed};
-ghost use Rattle.machine.specs.Views.{blocks_seen, frame_seen};
-ghost use Rattle.machine.specs.World.{read};
+ghost use Rattle.machine.specs.Frames.{addresses, payloads_claimed};
+ghost use Rattle.machine.specs.Views.{StillTakes, blocks_seen, frame_seen, variables_seen};
+ghost use Rattle.machine.specs.World.{let_go, read};
 ghost use Rattle.machine.specs.declared.halts.Fault.TheVariants.{F3};
 
 use crate::halts::Refusal;
 use crate::reading::own;
+use crate::variables::Variables;
 use crate::worlds::{Block, Frame};
-use program::{Argument, Mention};
+use program::Mention;
 use std::alloc::Global;
 
 /// Whether one of these payloads is the block at an address.
@@ -68,27 +67,28 @@ pub(crate) fn are_unsent(
     true
 }
 
-/// A message claims what is given with it, and so does a new block.
-fn payload(mention: Mention) -> Argument
-    ensures { result ≡ payload mention }
-{
-    Argument {
-        mention,
-        claimed: true,
-    }
-}
-
-/// A message claims all that is given with it, and so does a new block.
-pub(crate) fn payloads_claimed(
+/// The addresses in the variables that are given with a message or for a new block, in order.
+pub(crate) fn payload_addresses(
     alloc: Global,
+    frame: &Frame,
     payloads: &[Mention],
-) -> Result<Vec<Argument>, Refusal>
-    ensures arguments { IfOk result (λ arguments. arguments.items ≡ told.payloads_claimed payloads.now) }
+) -> Result<Vec<usize>, Refusal>
+    ensures value { IfOk result (λ given. given.items ≡ addresses (frame_seen frame.now).variables (payloads_claimed payloads.now)) }
     ensures memory { IfErr result (λ refusal. refusal ≡ Refusal.Memory) }
 {
-    let mut arguments = Vec::new(alloc);
+    let mut given = Vec::new(alloc);
     for mention in payloads {
-        arguments.push(payload(*mention))?;
+        given.push(frame.address(*mention))?;
     }
-    Ok(arguments)
+    Ok(given)
+}
+
+/// A message or a new block claims all that is given with it: the variables are empty then.
+pub(crate) fn lets_payloads_go(variables: &mut Variables, payloads: &[Mention])
+    ensures gone { variables_seen variables.new ≡ let_go (variables_seen variables.old) (payloads_claimed payloads.now) }
+    ensures still { StillTakes variables.old variables.new }
+{
+    for mention in payloads {
+        variables.put(mention.variable, None);
+    }
 }

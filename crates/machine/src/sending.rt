@@ -12,11 +12,9 @@ ghost use Rattle.machine.specs.Views.{blocks_seen, frame_seen};
 ghost use Rattle.machine.specs.World as seen;
 
 use crate::edges::way_out;
-use crate::giving::addresses;
 use crate::halts::{Fault, Refusal};
 use crate::heaps::Heap;
-use crate::mentions::lets_go;
-use crate::payloads::{are_unsent, payloads_claimed};
+use crate::payloads::{are_unsent, lets_payloads_go, payload_addresses};
 use crate::reading::own;
 use crate::worlds::Frame;
 use flow::Sending;
@@ -47,12 +45,11 @@ pub(crate) fn send(
         return Err(Refusal::Fault(Fault::F3));
     }
     let way = way_out(program, heap.blocks(), at, sending.message)?;
-    let arguments = payloads_claimed(alloc, &sending.payloads)?;
-    let payload = addresses(alloc, frame, &arguments)?;
+    let payload = payload_addresses(alloc, frame, &sending.payloads)?;
     if !heap.send(alloc, way, sending.message, &payload) {
         return Err(Refusal::Memory);
     }
-    lets_go(&mut frame.variables, &arguments);
+    lets_payloads_go(&mut frame.variables, &sending.payloads);
     frame.point = sending.next;
     Ok(())
 }

@@ -1,4 +1,4 @@
-use Rattle.std.proofs.Common.{◌≡◌, ◌∙◌, Some, ap, set, sym, length}
+use Rattle.std.proofs.Common.{◌≡◌, ◌∙◌, Some, ap, refl, set, sym, length}
 use Rattle.machine.specs.Answers.{with_variables}
 use Rattle.machine.specs.Frames.{addresses, payloads_claimed}
 use Rattle.machine.specs.Outcomes.{Moved}
@@ -16,20 +16,11 @@ returns-then-not-are_unsent-clause-tells c = λ bound w rest is.
     (is ∙ ap blocks_seen (sym c.blocks-2.ensures)) (payloads_claimed c.args.making.now.arguments.now) F3 _
     (c.are_unsent.ensures.fault c.if-not-are_unsent.true)
 
-pub returns-in_err-arguments-clause-tells : goal.returns-in_err-arguments-clause-tells
-returns-in_err-arguments-clause-tells c = λ bound w rest is.
-    let x = c.in_err-arguments.field-0.0 in
-    memory_tells _ c.from_residual.result x _ _ _ (passed_on _ c.from_residual.result x c.from_residual.ensures.1)
-    c.in_err-arguments.ensures.memory
-    (tests_pass w.blocks (blocks_seen c.blocks-2.result.now) c.args.turn.process (variables_seen c.args.frame.now.variables)
-    (is ∙ ap blocks_seen (sym c.blocks-2.ensures)) (payloads_claimed c.args.making.now.arguments.now) _
-    (c.are_unsent.ensures.pass c.if-not-are_unsent.false))
-
 pub returns-in_err-given-clause-tells : goal.returns-in_err-given-clause-tells
 returns-in_err-given-clause-tells c = λ bound w rest is.
     let x = c.in_err-given.field-0.0 in
-    let r = c.from_residual-in_err-given.result in
-    memory_tells _ r x _ _ _ (passed_on _ r x c.from_residual-in_err-given.ensures.1) c.in_err-given.ensures.memory
+    let r = c.from_residual.result in
+    memory_tells _ r x _ _ _ (passed_on _ r x c.from_residual.ensures.1) c.in_err-given.ensures.memory
     (tests_pass w.blocks (blocks_seen c.blocks-2.result.now) c.args.turn.process (variables_seen c.args.frame.now.variables)
     (is ∙ ap blocks_seen (sym c.blocks-2.ensures)) (payloads_claimed c.args.making.now.arguments.now) _
     (c.are_unsent.ensures.pass c.if-not-are_unsent.false))
@@ -38,21 +29,19 @@ pub add-requires-clause-owned : goal.add-requires-clause-owned
 add-requires-clause-owned c =
     let variables = (variables_seen c.args.frame.now.variables) in
     let payloads = c.args.making.now.arguments.now in
-    let given : c.deref-2.result.now ≡ addresses variables (payloads_claimed payloads) =
-    c.deref-2.ensures.value ∙ (c.in_ok-given.ensures.value
-    ∙ ap (addresses variables) (c.deref.ensures.value ∙ c.in_ok-arguments.ensures.arguments)) in
+    let given : c.deref.result.now ≡ addresses variables (payloads_claimed payloads) =
+    c.deref.ensures.value ∙ c.in_ok-given.ensures.value in
     given_owned (blocks_seen c.args.heap.now.blocks.items) (blocks_seen c.blocks-2.result.now) c.args.turn.process variables
-    (ap blocks_seen (sym c.blocks-2.ensures)) payloads c.deref-2.result.now given (c.are_unsent.ensures.pass c.if-not-are_unsent.false)
+    (ap blocks_seen (sym c.blocks-2.ensures)) payloads c.deref.result.now given (c.are_unsent.ensures.pass c.if-not-are_unsent.false)
 
 pub add-requires-clause-once : goal.add-requires-clause-once
 add-requires-clause-once c =
     let variables = (variables_seen c.args.frame.now.variables) in
     let payloads = c.args.making.now.arguments.now in
-    let given : c.deref-2.result.now ≡ addresses variables (payloads_claimed payloads) =
-    c.deref-2.ensures.value ∙ (c.in_ok-given.ensures.value
-    ∙ ap (addresses variables) (c.deref.ensures.value ∙ c.in_ok-arguments.ensures.arguments)) in
+    let given : c.deref.result.now ≡ addresses variables (payloads_claimed payloads) =
+    c.deref.ensures.value ∙ c.in_ok-given.ensures.value in
     given_once (blocks_seen c.args.heap.now.blocks.items) (blocks_seen c.blocks-2.result.now) c.args.turn.process variables
-    (ap blocks_seen (sym c.blocks-2.ensures)) payloads c.deref-2.result.now given (c.are_unsent.ensures.pass c.if-not-are_unsent.false)
+    (ap blocks_seen (sym c.blocks-2.ensures)) payloads c.deref.result.now given (c.are_unsent.ensures.pass c.if-not-are_unsent.false)
 
 pub returns-in_err-add-clause-tells : goal.returns-in_err-add-clause-tells
 returns-in_err-add-clause-tells c = λ bound w rest is.
@@ -77,19 +66,19 @@ returns-clause-tells c = λ bound w rest is.
     let f = frame_seen c.args.frame.now in
     let payloads = c.args.making.now.arguments.now in
     let items = c.args.heap.now.blocks.items in
-    let arguments : c.in_ok-arguments.arguments.items ≡ payloads_claimed payloads = c.in_ok-arguments.ensures.arguments in
-    let given : c.deref-2.result.now ≡ addresses f.variables (payloads_claimed payloads) =
-    c.deref-2.ensures.value ∙ (c.in_ok-given.ensures.value ∙ ap (addresses f.variables) (c.deref.ensures.value ∙ arguments)) in
+    let given : c.deref.result.now ≡ addresses f.variables (payloads_claimed payloads) =
+    c.deref.ensures.value ∙ c.in_ok-given.ensures.value in
     tests_pass w.blocks (blocks_seen c.blocks-2.result.now) c.args.turn.process f.variables
     (is ∙ ap blocks_seen (sym c.blocks-2.ensures)) (payloads_claimed payloads) _ (c.are_unsent.ensures.pass c.if-not-are_unsent.false)
     ∙ ap Moved (world_with w.processes c.args.turn.process rest f (frame_seen c.put.new.self) c.args.turn.next
-    c.args.making.now.target.variable.0 (length c.blocks-address.result.now) w.blocks (blocks_seen c.add.new.self.blocks.items) (payloads_claimed payloads) c.deref-3.result.now
-    c.deref-2.result.now (variables_seen c.lets_go.new.variables) _ c.kind_at-kind.result (c.deref-3.ensures.value ∙ arguments) given
+    c.args.making.now.target.variable.0 (length c.blocks-address.result.now) w.blocks (blocks_seen c.add.new.self.blocks.items)
+    (payloads_claimed payloads) (payloads_claimed payloads) c.deref.result.now (variables_seen c.lets_payloads_go.new.variables) _
+    c.kind_at-kind.result refl given
     (ap length c.blocks-address.ensures ∙ (sym (seen_length items) ∙ ap length (sym is))) c.kind_at-kind.ensures
-    (c.lets_go.ensures.gone ∙ ap (λ (x : Frame). let_go x.variables c.deref-3.result.now) c.list.ensures.same)
-    (c.put.ensures.put ∙ ap (λ (x : Frame). with_variables x (set (variables_seen c.lets_go.new.variables) c.args.making.now.target.variable.0
-    (Some (length c.blocks-address.result.now)))) c.list.ensures.same)
-    (c.in_ok-add.ensures.added ∙ ap (blocks_with c.kind_at-kind.result c.args.turn.process c.deref-2.result.now) (sym is)))
+    (c.lets_payloads_go.ensures.gone ∙ ap (λ (x : Frame). let_go x.variables (payloads_claimed payloads)) c.list.ensures.same)
+    (c.put.ensures.put ∙ ap (λ (x : Frame). with_variables x (set (variables_seen c.lets_payloads_go.new.variables)
+    c.args.making.now.target.variable.0 (Some (length c.blocks-address.result.now)))) c.list.ensures.same)
+    (c.in_ok-add.ensures.added ∙ ap (blocks_with c.kind_at-kind.result c.args.turn.process c.deref.result.now) (sym is)))
 
 pub put-requires : goal.put-requires
-put-requires c = record { takes = λ a e. c.lets_go.ensures.still _ c.in_ok-list.ensures.takes }
+put-requires c = record { takes = λ a e. c.lets_payloads_go.ensures.still _ c.in_ok-list.ensures.takes }

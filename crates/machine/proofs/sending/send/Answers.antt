@@ -23,9 +23,10 @@ send-requires-clause-owned c =
     let variables = (variables_seen c.args.frame.now.variables) in
     let blocks = blocks_seen c.blocks-3.result.now in
     let payloads = c.deref.result.now in
-    let claimed : c.deref-3.result.now ≡ payloads_claimed payloads = c.deref-3.ensures.value ∙ (c.in_ok-arguments.ensures.arguments ∙ ap payloads_claimed (c.deref-2.ensures.value ∙ sym c.deref.ensures.value)) in
-    let given : c.deref-4.result.now ≡ addresses variables (payloads_claimed payloads) = c.deref-4.ensures.value ∙ (c.in_ok-payload.ensures.value ∙ ap (addresses variables) claimed) in
-    subst (λ l. AreOwned (blocks_seen l) c.deref-4.result.now) c.blocks-3.ensures
+    let given : c.deref-3.result.now ≡ addresses variables (payloads_claimed payloads) =
+    c.deref-3.ensures.value ∙ (c.in_ok-payload.ensures.value
+    ∙ ap (λ l. addresses variables (payloads_claimed l)) (c.deref-2.ensures.value ∙ sym c.deref.ensures.value)) in
+    subst (λ l. AreOwned (blocks_seen l) c.deref-3.result.now) c.blocks-3.ensures
     (subst (AreOwned blocks) (sym given) (pass_owned blocks c.args.process variables [] (payloads_claimed payloads) (c.are_unsent.ensures.pass c.if-not-are_unsent.false)))
 
 pub send-requires-clause-once : goal.send-requires-clause-once
@@ -33,8 +34,9 @@ send-requires-clause-once c =
     let variables = (variables_seen c.args.frame.now.variables) in
     let blocks = blocks_seen c.blocks-3.result.now in
     let payloads = c.deref.result.now in
-    let claimed : c.deref-3.result.now ≡ payloads_claimed payloads = c.deref-3.ensures.value ∙ (c.in_ok-arguments.ensures.arguments ∙ ap payloads_claimed (c.deref-2.ensures.value ∙ sym c.deref.ensures.value)) in
-    let given : c.deref-4.result.now ≡ addresses variables (payloads_claimed payloads) = c.deref-4.ensures.value ∙ (c.in_ok-payload.ensures.value ∙ ap (addresses variables) claimed) in
+    let given : c.deref-3.result.now ≡ addresses variables (payloads_claimed payloads) =
+    c.deref-3.ensures.value ∙ (c.in_ok-payload.ensures.value
+    ∙ ap (λ l. addresses variables (payloads_claimed l)) (c.deref-2.ensures.value ∙ sym c.deref.ensures.value)) in
     subst AreOnce (sym given) (pass_once blocks c.args.process variables payloads (c.are_unsent.ensures.pass c.if-not-are_unsent.false))
 
 pub send-requires-clause-there : goal.send-requires-clause-there
