@@ -96,6 +96,21 @@ impl Heap {
         Ok(())
     }
 
+    /// A process has a new block, whose queue and fields are empty.
+    pub(crate) fn add_alone(&mut self, process: usize, block: Block) -> Result<(), Refusal>
+        requires owner { block.owner ≡ Owner.Process process }
+        requires empty { block.queue.items ≡ [] }
+        requires holds_none { block.fields.items ≡ [] }
+        ensures added { OnOk result (blocks_seen self.new.blocks.items ≡ blocks_seen self.old.blocks.items ++ block_seen block ∷ []) }
+        ensures same { OnErr result (blocks_seen self.new.blocks.items ≡ blocks_seen self.old.blocks.items) }
+        ensures memory { IfErr result (λ refusal. refusal ≡ Refusal.Memory) }
+    {
+        self.list(process)?;
+        self.blocks.push(block)?;
+        count_more(&mut self.counts, Owner::Process(process));
+        Ok(())
+    }
+
     /// A process has two new blocks, whose queues and fields are empty.
     pub(crate) fn add_two(
         &mut self,

@@ -54,6 +54,9 @@ pub(crate) fn new(
     ensures same { OnErr result (frame_seen frame.new ≡ frame_seen frame.old) }
     ensures same_blocks { OnErr result (blocks_seen heap.new.blocks.items ≡ blocks_seen heap.old.blocks.items) }
 {
+    if making.arguments.is_empty() {
+        return new_alone(alloc, program, frame, heap, turn, making.target);
+    }
     if !are_unsent(frame, heap.blocks(), turn.process, making.arguments) {
         return Err(Refusal::Fault(Fault::F3));
     }
@@ -64,6 +67,33 @@ pub(crate) fn new(
     heap.add(alloc, turn.process, kind, &given)?;
     lets_payloads_go(&mut frame.variables, making.arguments);
     frame.put(making.target, Some(address));
+    frame.point = turn.next;
+    Ok(())
+}
+
+/// The target takes a new block without owning fields. Nothing is given for it, so nothing is tested or listed.
+fn new_alone(
+    alloc: Global,
+    program: &Program,
+    frame: &mut Frame,
+    heap: &mut Heap,
+    turn: Turn,
+    target: Mention,
+) -> Result<(), Refusal>
+    ensures tells { (bound : Bounds) (w : seen.World) (rest : List seen.Frame) → w.blocks ≡ blocks_seen heap.old.blocks.items →
+        Tells result (event_of (seen_of program.now) bound w turn.process (frame_seen frame.old) rest (New target [] turn.next) 0)
+        (on_top w.processes turn.process rest (frame_seen frame.new) (blocks_seen heap.new.blocks.items)) }
+    ensures same { OnErr result (frame_seen frame.new ≡ frame_seen frame.old) }
+    ensures same_blocks { OnErr result (blocks_seen heap.new.blocks.items ≡ blocks_seen heap.old.blocks.items) }
+{
+    let address = heap.blocks().len();
+    let kind = kind_at(program, frame.method, target.variable);
+    frame.list(target)?;
+    heap.add_alone(
+        turn.process,
+        new_block(alloc, turn.process, kind, 0, StateId(0)),
+    )?;
+    frame.put(target, Some(address));
     frame.point = turn.next;
     Ok(())
 }
@@ -106,8 +136,8 @@ fn is_imp(kind: Kind) -> bool
     }
 }
 
-/// An end of a new channel.
-fn new_end(alloc: Global, process: usize, kind: Kind, peer: usize, state: StateId) -> Block
+/// A new block of a process, with an empty queue and without owning fields.
+fn new_block(alloc: Global, process: usize, kind: Kind, peer: usize, state: StateId) -> Block
     ensures { block_seen result ≡ new_block kind process peer state.0 [] }
 {
     Block {
@@ -146,14 +176,14 @@ fn open(
     ensures memory { IfErr result (λ refusal. refusal ≡ Refusal.Memory) }
 {
     let address = heap.blocks().len();
-    let imp = new_end(
+    let imp = new_block(
         alloc,
         process,
         end_kind(channel, Side::Imp),
         address + 1,
         state,
     );
-    let exp = new_end(alloc, process, end_kind(channel, Side::Exp), address, state);
+    let exp = new_block(alloc, process, end_kind(channel, Side::Exp), address, state);
     heap.add_two(process, imp, exp)
 }
 

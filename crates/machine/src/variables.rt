@@ -108,6 +108,20 @@ impl Variables {
         ensures found { IfOk result (IsAt self.now.bindings.items v.0) }
         ensures absent { IfErr result (IsGap self.now.bindings.items v.0) }
     {
+        // Where each variable before it has a binding, its own is at its number.
+        if let Some(binding) = self.bindings.get(v.0) {
+            if binding.variable as usize == v.0 {
+                return Ok(v.0);
+            }
+        }
+        self.search_all(v)
+    }
+
+    /// The same, by a search among all bindings.
+    fn search_all(&self, v: VarId) -> Result<usize, usize>
+        ensures found { IfOk result (IsAt self.now.bindings.items v.0) }
+        ensures absent { IfErr result (IsGap self.now.bindings.items v.0) }
+    {
         self.bindings
             .binary_search_by_key(&v.0, |binding| binding.variable as usize)
     }

@@ -1,6 +1,11 @@
-use Rattle.std.proofs.Common.{◌≡◌, ◌∙◌, Some, ap, refl, set, sym, length}
-use Rattle.machine.specs.Answers.{with_variables}
+use Rattle.std.proofs.Common.{◌≡◌, ◌∙◌, [], List, Some, ap, eqb-true, refl, set, subst, sym, length}
+use Rattle.std.proofs.lemmas.List.{nil_from_length}
+use Rattle.flow.specs.Graphs.{New}
+use Rattle.program.specs.declared.statement.Mention.{Mention}
+use Rattle.rules.specs.Programs.{seen_of}
+use Rattle.machine.specs.Answers.{Tells, on_top, with_variables}
 use Rattle.machine.specs.Frames.{addresses, payloads_claimed}
+use Rattle.machine.specs.Machine.{event_of}
 use Rattle.machine.specs.Outcomes.{Moved}
 use Rattle.machine.specs.Views.{blocks_seen, frame_seen, variables_seen}
 use Rattle.machine.specs.World.{Frame, let_go}
@@ -9,6 +14,17 @@ use Rattle.machine.proofs.CallLemmas.{memory_tells, passed_on}
 use Rattle.machine.proofs.ChangeLemmas.{seen_length}
 use Rattle.machine.proofs.MakeLemmas.{blocks_with, given_once, given_owned, tests_fail, tests_pass, world_with}
 use Rattle.machine.proofs.owning.new.Goals as goal
+
+pub returns-then-is_empty-clause-tells : goal.returns-then-is_empty-clause-tells
+returns-then-is_empty-clause-tells c = λ bound w rest is.
+    let making = c.args.making.now in
+    let none : making.arguments.now ≡ [] =
+    nil_from_length making.arguments.now (eqb-true _ _ (sym c.is_empty.ensures ∙ c.if-is_empty.true)) in
+    subst (λ (payloads : List Mention). Tells c.new_alone.result
+    (event_of (seen_of c.args.program.now) bound w c.args.turn.process (frame_seen c.args.frame.now) rest
+    (New making.target payloads c.args.turn.next) 0)
+    (on_top w.processes c.args.turn.process rest (frame_seen c.new_alone.new.frame) (blocks_seen c.new_alone.new.heap.blocks.items)))
+    (sym none) (c.new_alone.ensures.tells bound w rest is)
 
 pub returns-then-not-are_unsent-clause-tells : goal.returns-then-not-are_unsent-clause-tells
 returns-then-not-are_unsent-clause-tells c = λ bound w rest is.

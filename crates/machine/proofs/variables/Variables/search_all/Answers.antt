@@ -1,7 +1,7 @@
 use Rattle.std.proofs.Common.{rules}
 use Rattle.std.proofs.lemmas.List.Sorted.{answers_always}
 use Rattle.machine.proofs.BindingLemmas.{search_absent, search_found}
-use Rattle.machine.proofs.variables.Variables.search.Goals as goal
+use Rattle.machine.proofs.variables.Variables.search_all.Goals as goal
 
 pub returns-clause-found : goal.returns-clause-found
 returns-clause-found c =
