@@ -12,25 +12,24 @@ use crate::texts::{add, add_number, separate};
 use machine::{Block, Held, Owner};
 use program::{ContractId, Kind, StateId};
 use source::Memory;
-use std::alloc::Global;
 use std::collections::VecDeque;
 
 /// Adds who owns a block.
-fn add_owner(alloc: Global, answer: &mut Vec<u8>, owner: Owner) -> Result<(), Memory>
+fn add_owner(answer: &mut Vec<u8>, owner: Owner) -> Result<(), Memory>
     ensures { OnOk result (answer.new.items ≡ answer.old.items ++ owner_text owner) }
 {
     match owner {
         Owner::Process(number) => {
             add(answer, b"process ")?;
-            add_number(alloc, answer, number as u64)
+            add_number(answer, number as u64)
         }
         Owner::Queue(address) => {
             add(answer, b"queue ")?;
-            add_number(alloc, answer, address as u64)
+            add_number(answer, address as u64)
         }
         Owner::Inside(address) => {
             add(answer, b"block ")?;
-            add_number(alloc, answer, address as u64)
+            add_number(answer, address as u64)
         }
         Owner::Channel => add(answer, b"channel"),
         Owner::Freed => add(answer, b"nobody"),
@@ -38,31 +37,30 @@ fn add_owner(alloc: Global, answer: &mut Vec<u8>, owner: Owner) -> Result<(), Me
 }
 
 /// Adds addresses, with a comma between each two.
-fn add_addresses(alloc: Global, answer: &mut Vec<u8>, addresses: &[usize]) -> Result<(), Memory>
+fn add_addresses(answer: &mut Vec<u8>, addresses: &[usize]) -> Result<(), Memory>
     ensures { OnOk result (answer.new.items ≡ answer.old.items ++ join_with_byte 44 (map decimal addresses.now)) }
 {
     for (place, address) in addresses.iter().enumerate() {
         separate(answer, place, b',')?;
-        add_number(alloc, answer, *address as u64)?;
+        add_number(answer, *address as u64)?;
     }
     Ok(())
 }
 
 /// Adds the addresses that the owning fields of a block hold, if there are any, as ` holds [2,3]`.
-fn add_fields(alloc: Global, answer: &mut Vec<u8>, fields: &[usize]) -> Result<(), Memory>
+fn add_fields(answer: &mut Vec<u8>, fields: &[usize]) -> Result<(), Memory>
     ensures { OnOk result (answer.new.items ≡ answer.old.items ++ holds_text fields.now) }
 {
     if fields.is_empty() {
         return Ok(());
     }
     add(answer, b" holds [")?;
-    add_addresses(alloc, answer, fields)?;
+    add_addresses(answer, fields)?;
     add(answer, b"]")
 }
 
 /// Adds a message of a contract with what it brings, as `M(2,3)`.
 fn add_message(
-    alloc: Global,
     answer: &mut Vec<u8>,
     naming: &Naming<'_>,
     contract: ContractId,
@@ -72,13 +70,12 @@ fn add_message(
 {
     add(answer, naming.message_name(contract, held.message))?;
     add(answer, b"(")?;
-    add_addresses(alloc, answer, &held.payload)?;
+    add_addresses(answer, &held.payload)?;
     add(answer, b")")
 }
 
 /// Adds messages of a contract, with a space between each two.
 fn add_messages(
-    alloc: Global,
     answer: &mut Vec<u8>,
     naming: &Naming<'_>,
     contract: ContractId,
@@ -89,7 +86,7 @@ fn add_messages(
 {
     for place in 0..queue.len() {
         separate(answer, place, b' ')?;
-        add_message(alloc, answer, naming, contract, &queue[place])?;
+        add_message(answer, naming, contract, &queue[place])?;
     }
     Ok(())
 }
@@ -113,19 +110,14 @@ fn add_state(
 }
 
 /// Adds the queue of an endpoint.
-fn add_queue(
-    alloc: Global,
-    answer: &mut Vec<u8>,
-    naming: &Naming<'_>,
-    block: &Block,
-) -> Result<(), Memory>
+fn add_queue(answer: &mut Vec<u8>, naming: &Naming<'_>, block: &Block) -> Result<(), Memory>
     ensures { OnOk result (answer.new.items ≡ answer.old.items
         ++ queue_text (words_of naming.now) block.now.kind (map held_seen block.now.queue.items)) }
 {
     match block.kind {
         Kind::Endpoint { contract, .. } => {
             add(answer, b" queue [")?;
-            add_messages(alloc, answer, naming, contract, &block.queue)?;
+            add_messages(answer, naming, contract, &block.queue)?;
             add(answer, b"]")
         }
         Kind::Struct(_) | Kind::Array(_) => Ok(()),
@@ -133,26 +125,16 @@ fn add_queue(
 }
 
 /// Adds what the fields of a block hold, and the queue of an endpoint.
-fn add_held(
-    alloc: Global,
-    answer: &mut Vec<u8>,
-    naming: &Naming<'_>,
-    block: &Block,
-) -> Result<(), Memory>
+fn add_held(answer: &mut Vec<u8>, naming: &Naming<'_>, block: &Block) -> Result<(), Memory>
     ensures { OnOk result (answer.new.items ≡ answer.old.items ++ (holds_text block.now.fields.items
         ++ queue_text (words_of naming.now) block.now.kind (map held_seen block.now.queue.items))) }
 {
-    add_fields(alloc, answer, &block.fields)?;
-    add_queue(alloc, answer, naming, block)
+    add_fields(answer, &block.fields)?;
+    add_queue(answer, naming, block)
 }
 
 /// Adds what is told of a block: that it is freed, or who owns it.
-fn add_told(
-    alloc: Global,
-    answer: &mut Vec<u8>,
-    naming: &Naming<'_>,
-    block: &Block,
-) -> Result<(), Memory>
+fn add_told(answer: &mut Vec<u8>, naming: &Naming<'_>, block: &Block) -> Result<(), Memory>
     ensures { OnOk result (answer.new.items ≡ answer.old.items
         ++ block_text (words_of naming.now) (block_seen block.now) block.now.owner) }
 {
@@ -161,15 +143,14 @@ fn add_told(
         owner => {
             add_state(answer, naming, block.kind, block.state)?;
             add(answer, b" owner ")?;
-            add_owner(alloc, answer, owner)?;
-            add_held(alloc, answer, naming, block)
+            add_owner(answer, owner)?;
+            add_held(answer, naming, block)
         }
     }
 }
 
 /// Adds the line of the block at an address.
 fn add_block(
-    alloc: Global,
     answer: &mut Vec<u8>,
     naming: &Naming<'_>,
     address: usize,
@@ -178,16 +159,15 @@ fn add_block(
     ensures { OnOk result (answer.new.items ≡ answer.old.items ++ block_line (words_of naming.now) address (block_seen block.now)) }
 {
     add(answer, b"block ")?;
-    add_number(alloc, answer, address as u64)?;
+    add_number(answer, address as u64)?;
     add(answer, b" ")?;
     naming.add_kind(answer, block.kind)?;
-    add_told(alloc, answer, naming, block)?;
+    add_told(answer, naming, block)?;
     add(answer, b"\n")
 }
 
 /// Adds a line for each block.
 pub(crate) fn add_blocks(
-    alloc: Global,
     answer: &mut Vec<u8>,
     naming: &Naming<'_>,
     blocks: &[Block],
@@ -196,7 +176,7 @@ pub(crate) fn add_blocks(
         ++ flat_map (λ b. block_line (words_of naming.now) b.0 b.1) (enumerate_from 0 (blocks_seen blocks.now))) }
 {
     for (address, block) in blocks.iter().enumerate() {
-        add_block(alloc, answer, naming, address, block)?;
+        add_block(answer, naming, address, block)?;
     }
     Ok(())
 }

@@ -30,14 +30,13 @@ pub fn lines_of(
 {
     let naming = Naming::new(alloc, program, structs)?;
     let mut answer = Vec::new(alloc);
-    add_steps(alloc, &mut answer, replayed.steps)?;
+    add_steps(&mut answer, replayed.steps)?;
     add_stop(
-        alloc,
         &mut answer,
         events.get(replayed.steps).copied(),
         replayed.halt,
     )?;
-    add_processes(alloc, &mut answer, program, replayed.world.processes())?;
-    add_blocks(alloc, &mut answer, &naming, replayed.world.blocks())?;
+    add_processes(&mut answer, program, replayed.world.processes())?;
+    add_blocks(&mut answer, &naming, replayed.world.blocks())?;
     Ok(answer)
 }

@@ -10,14 +10,13 @@ use crate::texts::{add, add_number, add_place};
 use machine::{Event, Fault, Halt, Process};
 use rules::Program;
 use source::Memory;
-use std::alloc::Global;
 
 /// Adds `steps N`.
-pub(crate) fn add_steps(alloc: Global, answer: &mut Vec<u8>, steps: usize) -> Result<(), Memory>
+pub(crate) fn add_steps(answer: &mut Vec<u8>, steps: usize) -> Result<(), Memory>
     ensures { OnOk result (answer.new.items ≡ answer.old.items ++ steps_line steps) }
 {
     add(answer, b"steps ")?;
-    add_number(alloc, answer, steps as u64)?;
+    add_number(answer, steps as u64)?;
     add(answer, b"\n")
 }
 
@@ -36,31 +35,31 @@ fn fault_name(fault: Fault) -> &'static [u8]
 }
 
 /// Adds why an event was no step.
-fn add_halt(alloc: Global, answer: &mut Vec<u8>, event: Event, halt: Halt) -> Result<(), Memory>
+fn add_halt(answer: &mut Vec<u8>, event: Event, halt: Halt) -> Result<(), Memory>
     ensures { OnOk result (answer.new.items ≡ answer.old.items ++ halt_text event halt) }
 {
     match halt {
         Halt::NoSuchProcess => {
             add(answer, b"no process ")?;
-            add_number(alloc, answer, event.process)
+            add_number(answer, event.process)
         }
         Halt::NoSuchChoice => {
             add(answer, b"no choice ")?;
-            add_number(alloc, answer, event.choice)?;
+            add_number(answer, event.choice)?;
             add(answer, b" of process ")?;
-            add_number(alloc, answer, event.process)
+            add_number(answer, event.process)
         }
         Halt::Fault(fault, place) => {
             add(answer, b"fault ")?;
             add(answer, fault_name(fault))?;
             add(answer, b" at ")?;
-            add_place(alloc, answer, place)?;
+            add_place(answer, place)?;
             add(answer, b" in process ")?;
-            add_number(alloc, answer, event.process)
+            add_number(answer, event.process)
         }
         Halt::Waits => {
             add(answer, b"process ")?;
-            add_number(alloc, answer, event.process)?;
+            add_number(answer, event.process)?;
             add(answer, b" waits")
         }
         Halt::Memory => add(answer, b"out of memory"),
@@ -69,7 +68,6 @@ fn add_halt(alloc: Global, answer: &mut Vec<u8>, event: Event, halt: Halt) -> Re
 
 /// Adds `stop: ` and why the event was no step, if there is one.
 pub(crate) fn add_stop(
-    alloc: Global,
     answer: &mut Vec<u8>,
     event: Option<Event>,
     halt: Option<Halt>,
@@ -78,7 +76,7 @@ pub(crate) fn add_stop(
 {
     add(answer, b"stop: ")?;
     match (event, halt) {
-        (Some(event), Some(halt)) => add_halt(alloc, answer, event, halt)?,
+        (Some(event), Some(halt)) => add_halt(answer, event, halt)?,
         _ => add(answer, b"end of schedule")?,
     }
     add(answer, b"\n")
@@ -86,7 +84,6 @@ pub(crate) fn add_stop(
 
 /// Adds `process P at LINE:COL, frames N`, or `process P ended`.
 fn add_process(
-    alloc: Global,
     answer: &mut Vec<u8>,
     program: &Program,
     number: usize,
@@ -95,13 +92,13 @@ fn add_process(
     ensures { OnOk result (answer.new.items ≡ answer.old.items ++ process_line (seen_of program.now) number (stack_seen process.now)) }
 {
     add(answer, b"process ")?;
-    add_number(alloc, answer, number as u64)?;
+    add_number(answer, number as u64)?;
     match process.place(program) {
         Some(place) => {
             add(answer, b" at ")?;
-            add_place(alloc, answer, place)?;
+            add_place(answer, place)?;
             add(answer, b", frames ")?;
-            add_number(alloc, answer, process.frames() as u64)?;
+            add_number(answer, process.frames() as u64)?;
         }
         None => add(answer, b" ended")?,
     }
@@ -110,7 +107,6 @@ fn add_process(
 
 /// Adds a line for each process.
 pub(crate) fn add_processes(
-    alloc: Global,
     answer: &mut Vec<u8>,
     program: &Program,
     processes: &[Process],
@@ -119,7 +115,7 @@ pub(crate) fn add_processes(
         ++ flat_map (λ q. process_line (seen_of program.now) q.0 q.1) (enumerate_from 0 (map stack_seen processes.now))) }
 {
     for (number, process) in processes.iter().enumerate() {
-        add_process(alloc, answer, program, number, process)?;
+        add_process(answer, program, number, process)?;
     }
     Ok(())
 }

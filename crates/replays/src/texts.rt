@@ -5,8 +5,8 @@ ghost use Rattle.std.specs.Fmt.{decimal};
 ghost use Rattle.replays.specs.Fronts.{separator};
 ghost use Rattle.replays.specs.WorldLines.{place_text};
 
+use itoa::Buffer;
 use source::{Memory, Place};
-use std::alloc::Global;
 
 /// Adds a text.
 pub(crate) fn add(answer: &mut Vec<u8>, text: &[u8]) -> Result<(), Memory>
@@ -17,20 +17,20 @@ pub(crate) fn add(answer: &mut Vec<u8>, text: &[u8]) -> Result<(), Memory>
 }
 
 /// Adds a number in decimal.
-pub(crate) fn add_number(alloc: Global, answer: &mut Vec<u8>, number: u64) -> Result<(), Memory>
+pub(crate) fn add_number(answer: &mut Vec<u8>, number: u64) -> Result<(), Memory>
     ensures { OnOk result (answer.new.items ≡ answer.old.items ++ decimal number) }
 {
-    let digits = number.to_string(alloc)?;
-    add(answer, digits.as_bytes())
+    let mut digits = Buffer::new();
+    add(answer, digits.format(number).as_bytes())
 }
 
 /// Adds `LINE:COL`.
-pub(crate) fn add_place(alloc: Global, answer: &mut Vec<u8>, place: Place) -> Result<(), Memory>
+pub(crate) fn add_place(answer: &mut Vec<u8>, place: Place) -> Result<(), Memory>
     ensures { OnOk result (answer.new.items ≡ answer.old.items ++ place_text place) }
 {
-    add_number(alloc, answer, u64::from(place.line))?;
+    add_number(answer, u64::from(place.line))?;
     add(answer, b":")?;
-    add_number(alloc, answer, u64::from(place.col))
+    add_number(answer, u64::from(place.col))
 }
 
 /// Adds a byte between two pieces: not before the first.
