@@ -12,6 +12,7 @@ use Rattle.declarations.specs.Program.{Program}
 use Rattle.resolving.specs.Methods.{item_told, method_told}
 use Rattle.tree.specs.Trees.{DefinitionTree, Contract, Struct, Class, ItemTree}
 use Rattle.singcheck.specs.Replays.{IsFirstAt, full_name, method_names, names_in}
+use Rattle.sound.proofs.Lists.{each_append}
 
 -- what begins with a piece is that piece and the rest
 pub strip_there : (e a r : List ℕ) → pointwise nat_eq (take (length a) e) a ≡ true → r ≡ drop (length a) e → e ≡ a ++ r
@@ -22,11 +23,6 @@ strip_not e a r h is = other_text (take (length a) e) a (sym h) (ap (take (lengt
 
 pub strip_rest : (e a r x : List ℕ) → r ≡ drop (length a) e → a ++ x ≡ e → r ≡ x
 strip_rest e a r x is whole = is ∙ ap (drop (length a)) (sym whole) ∙ drop-append_seam a x
-
--- what holds of each of two lists holds of both in a row
-pub each_append : {X : Type 0} (P : X → Type 0) (xs ys : List X) → Each P xs → Each P ys → Each P (xs ++ ys)
-each_append P [] ys h k = k
-each_append P (x ∷ xs) ys h k = (h.0, each_append P xs ys h.1 k)
 
 -- a list round the element at a place
 round : {A B : Type 0} (view : A → B) (xs : List A) (i : ℕ) (x : A) → i < length xs → x ≡ get_or xs i x → map view xs ≡ map view (take i xs) ++ view x ∷ map view (drop (suc i) xs)

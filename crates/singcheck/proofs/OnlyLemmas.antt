@@ -27,7 +27,7 @@ use Rattle.contracts.specs.Bounds.{IsBound}
 use Rattle.contracts.specs.Conditions.{AreExactly, IsSound}
 use Rattle.singcheck.specs.Answers.{AreBounds, AreFindings, IsBoundsLine, IsBroken, IsFaulty, IsMisnamed, IsNoProgram, IsProgram, IsResolved, OfText, OfSyntax, OfNames, OfContracts, fault_findings, wrong_token}
 use Rattle.singcheck.specs.Lines.{bounds_line, ok_line}
-use Rattle.singcheck.proofs.SameLemmas.{AreAlike, alike_exactly, alike_same}
+use Rattle.singcheck.proofs.SameLemmas.{AreAlike, alike_exactly, alike_same, nothing_in}
 
 -- what the crates below say of their own answers
 pub record Laws : Type 0 where
@@ -84,9 +84,6 @@ syntax_or_program laws text found items wrong parsed = none_wrong wrong.tokens i
 pub some_in : (found : List FindingParts) → found ≢ [] → (f : FindingParts) × Contains found f
 some_in [] some = absurd (some refl)
 some_in (f ∷ found) some = (f, (0, omega arith, refl))
-
-nothing_in : (f : FindingParts) → Contains [] f → ⊥
-nothing_in f c = let below = c.1 in omega arith
 
 names_or_clean : Laws → (text : List ℕ) (found : List FindingParts) (contracts : List ContractSeen) → IsMisnamed text found → IsResolved text contracts → ⊥
 names_or_clean laws text found contracts wrong resolved =

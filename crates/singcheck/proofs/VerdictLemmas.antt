@@ -18,10 +18,7 @@ use Rattle.shelf.specs.declared.receipt.Receipt.{Receipt}
 use Rattle.shelf.specs.declared.shelf.Shelf.{Shelf}
 use Rattle.singcheck.specs.Checks.{IsWrong}
 use Rattle.singcheck.specs.Verdicts.{AddsVerdict, AreOfMethods, HasVerdict, IsPut, IsWrongAmong}
-
--- nothing stands in the empty list
-none_in : {X : Type 0} (x : X) → Contains [] x → ⊥
-none_in x h = let below = h.1 in omega (arith, below)
+use Rattle.singcheck.proofs.SameLemmas.{nothing_in}
 
 -- a verdict is all that is found in its method
 pub verdict_exactly : (p : ProgramSeen) (n : ℕ) (found : List FindingParts) → IsMethodVerdict p n found → AreExactly (IsFoundIn p n) found
@@ -48,7 +45,7 @@ of_methods_more p methods n old new so_far adds = of_methods_then p methods n (m
 
 -- no method yet
 pub of_no_methods : (p : ProgramSeen) → AreOfMethods p [] []
-of_no_methods p = record { right = λ f h. absurd (none_in f h); all = λ f w. absurd (none_in w.0 w.1) }
+of_no_methods p = record { right = λ f h. absurd (nothing_in f h); all = λ f w. absurd (nothing_in w.0 w.1) }
 
 -- what stands in a list stands there so often, and the other way round
 pub of_times : (n : ℕ) (xs : List ℕ) → 0 < times n xs → Contains xs n
@@ -64,7 +61,7 @@ first_is x n (zero, lt, is) = is
 first_is x n (suc k, lt, is) = absurd (omega (arith, lt))
 
 pub times_of : (n : ℕ) (xs : List ℕ) → Contains xs n → 0 < times n xs
-times_of n [] h = absurd (none_in n h)
+times_of n [] h = absurd (nothing_in n h)
 times_of n (x ∷ xs) h = subst (λ k. 0 < k) (sym (sum_by-cons (λ y. cond (y == n) 1 0) x xs)) (by (times_of n xs) (x == n) refl)
   where
     by : (Contains xs n → 0 < times n xs) → (b : Bool) → (x == n) ≡ b → 0 < cond b 1 0 + times n xs
@@ -83,7 +80,7 @@ stands_below (suc n) k lt = ⊎_elim
     (eq-or-lt_of_le (omega (arith, lt)))
 
 pub below_of : (n k : ℕ) → Contains (numbers_below n) k → k < n
-below_of zero k h = absurd (none_in k h)
+below_of zero k h = absurd (nothing_in k h)
 below_of (suc n) k h = ⊎_elim
     (λ earlier. let less = below_of n k earlier in omega (arith, less))
     (λ (same : n ≡ k). omega (arith, same))

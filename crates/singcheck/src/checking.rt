@@ -11,7 +11,7 @@ use crate::fault::{CheckFault, Status};
 use crate::laws::one_program;
 use crate::limits::{MOST_SLOTS, MOST_WORKERS};
 use crate::programs::{Built, program_of};
-use crate::report::{Report, clear, reported};
+use crate::report::{Report, clear, finding_report};
 use crate::tools::Tools;
 use crate::verdicts::analyse_methods;
 use pool::Gate;
@@ -105,10 +105,10 @@ pub(crate) fn check_text<R: Threads + Wait + Sync, G: Gate>(
 {
     one_program();
     match program_of(tools.alloc, text)? {
-        Built::Found(findings) => reported(tools.alloc, findings),
+        Built::Found(findings) => finding_report(tools.alloc, findings),
         Built::Broken(methods, findings) => {
             drop(methods); // the report is made without them, which spares their memory
-            reported(tools.alloc, findings)
+            finding_report(tools.alloc, findings)
         }
         Built::Program(program) => check_methods(tools, &program),
     }
@@ -126,7 +126,7 @@ fn check_methods<R: Threads + Wait + Sync, G: Gate>(
     let alloc = tools.alloc;
     let findings = analyse_methods(tools, program)?;
     if !findings.is_empty() {
-        return reported(alloc, findings);
+        return finding_report(alloc, findings);
     }
     clear(alloc, program)
 }

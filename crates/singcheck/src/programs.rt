@@ -7,7 +7,7 @@ ghost use Rattle.program.specs.Programs.{contracts_seen, program_seen};
 ghost use Rattle.singcheck.specs.Named.{IsBuilt, IsBuiltOf, IsNamed};
 ghost use Rattle.singcheck.specs.Stages.{IsProgramOf};
 
-use crate::soundness::{Judgement, judged};
+use crate::soundness::{Judgement, judge_contracts};
 use crate::stages::{Parsed, parse_text};
 use names::{NameFaults, resolve};
 use program::Methods;
@@ -72,7 +72,7 @@ pub(crate) fn judged_program(alloc: Global, methods: Methods) -> Result<Built, M
     requires few { length (contracts_seen methods) < 2 ^ 32 }
     ensures { IfOk result (IsBuilt (program_seen methods)) }
 {
-    match judged(alloc, methods.contracts())? {
+    match judge_contracts(alloc, methods.contracts())? {
         Judgement::Found(findings) => Ok(Built::Broken(methods, findings)),
         Judgement::Sounds(sounds) => {
             clean_methods_are_safe(&methods, &sounds);

@@ -115,12 +115,16 @@ fn answer_to<Q: Source>(
             status: Status::Found,
         }),
         Entered::Lacking => Err(RunFault::Entry),
-        Entered::Begun(begun) => scheduled(alloc, &begun, schedule),
+        Entered::Begun(begun) => run_schedule(alloc, &begun, schedule),
     }
 }
 
 /// What a schedule comes to from there.
-fn scheduled<Q: Source>(alloc: Global, begun: &Begun, schedule: &mut Q) -> Result<Report, RunFault>
+fn run_schedule<Q: Source>(
+    alloc: Global,
+    begun: &Begun,
+    schedule: &mut Q,
+) -> Result<Report, RunFault>
     requires there { begun.now.method.0 < length (seen_of begun.now.program).methods }
     ensures ran { IfOk result (λ answer. IfSome (Q.remaining schedule.old) (λ lines. (text entry : List ℕ)
         → IsBegun text entry begun.now → IsRan entry lines text answer.bytes.items answer.status)) }
@@ -133,14 +137,14 @@ fn scheduled<Q: Source>(alloc: Global, begun: &Begun, schedule: &mut Q) -> Resul
     a_front_tells_all();
     let bytes = read_up_to(alloc, schedule, MAX_SCHEDULE_READ, Input::Schedule)?;
     match read_schedule(alloc, &bytes) {
-        Ok(events) => Ok(replayed(alloc, begun, &events)?),
+        Ok(events) => Ok(replay_events(alloc, begun, &events)?),
         Err(ScheduleFault::Malformed(line)) => Err(RunFault::Schedule(line)),
         Err(ScheduleFault::Memory) => Err(RunFault::Memory),
     }
 }
 
 /// What these events come to from there, line by line.
-fn replayed(alloc: Global, begun: &Begun, events: &[Event]) -> Result<Report, Memory>
+fn replay_events(alloc: Global, begun: &Begun, events: &[Event]) -> Result<Report, Memory>
     requires there { begun.now.method.0 < length (seen_of begun.now.program).methods }
     ensures { IfOk result (λ r. (text entry schedule : List ℕ) → IsBegun text entry begun.now → IsSchedule schedule events.now
         → IsRan entry schedule text r.bytes.items r.status) }

@@ -21,7 +21,7 @@ pub struct Report {
 }
 
 /// The report of findings.
-pub(crate) fn reported(alloc: Global, findings: Vec<Finding>) -> Result<Report, Memory>
+pub(crate) fn finding_report(alloc: Global, findings: Vec<Finding>) -> Result<Report, Memory>
     ensures bytes { IfOk result (λ r. IsReport (map finding_parts findings.items) r.bytes.items) }
     ensures status { IfOk result (λ r. r.status ≡ Status.Found) }
 {
@@ -52,11 +52,11 @@ pub(crate) fn report_of(alloc: Global, findings: Vec<Finding>) -> Result<Vec<u8>
     ensures { IfOk result (λ bytes. IsReport (map finding_parts findings.items) bytes.items) }
 {
     let listed = in_report_order(findings)?;
-    written(alloc, &listed)
+    report_bytes(alloc, &listed)
 }
 
 /// A line a finding, as they stand, and then their number.
-fn written(alloc: Global, findings: &[Finding]) -> Result<Vec<u8>, Memory>
+fn report_bytes(alloc: Global, findings: &[Finding]) -> Result<Vec<u8>, Memory>
     ensures { IfOk result (λ bytes. bytes.items ≡ report_bytes (map finding_parts findings.now)) }
 {
     let mut answer = Vec::new(alloc);

@@ -19,7 +19,7 @@ pub(crate) enum Judgement {
 }
 
 /// The contracts that are sound, or what is wrong with the others.
-pub(crate) fn judged(alloc: Global, resolved: &Resolved) -> Result<Judgement, Memory>
+pub(crate) fn judge_contracts(alloc: Global, resolved: &Resolved) -> Result<Judgement, Memory>
     requires whole { All (λ c. IsWhole c.parts) (map contract_seen resolved.now.contracts.items) }
     requires few { length resolved.now.contracts.items < 2 ^ 32 }
     ensures { IfOk result (IsJudgement (map contract_seen resolved.now.contracts.items)) }

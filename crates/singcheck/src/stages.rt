@@ -9,7 +9,7 @@ ghost use Rattle.program.specs.Parts.{IsWhole, contract_seen};
 ghost use Rattle.singcheck.specs.Answers.{IsResolved, fault_findings, wrong_token};
 ghost use Rattle.singcheck.specs.Stages.{IsParsed, IsProgramOf, IsStaged};
 
-use crate::soundness::{Judgement, judged};
+use crate::soundness::{Judgement, judge_contracts};
 use contracts::Sound;
 use names::{NameFaults, resolve};
 use program::Resolved;
@@ -137,7 +137,7 @@ fn staged_contracts(alloc: Global, resolved: Resolved) -> Result<Staged, Memory>
     ensures { IfOk result (λ staged. (text : List ℕ)
         → IsResolved text (map contract_seen resolved.contracts.items) → IsStaged text staged) }
 {
-    match judged(alloc, &resolved)? {
+    match judge_contracts(alloc, &resolved)? {
         Judgement::Found(findings) => Ok(Staged::Found(findings)),
         Judgement::Sounds(sounds) => Ok(Staged::Clean(Clean { resolved, sounds })),
     }

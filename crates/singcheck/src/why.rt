@@ -21,7 +21,7 @@ use crate::explaining::{explain_contracts, explain_methods, explained_in_order, 
 use crate::fault::{Input, RunFault, Status};
 use crate::programs::{Built, program_of};
 use crate::reading::{MAX_READ, read_text};
-use crate::report::{Report, clear, reported};
+use crate::report::{Report, clear, finding_report};
 use crate::writing::write_all;
 use program::Resolved;
 use rules::Program;
@@ -83,7 +83,7 @@ fn why_text(
 {
     match explain_syntax(alloc, text, named)? {
         Some(explained) => why_syntax(alloc, explained),
-        None => reported(alloc, findings),
+        None => finding_report(alloc, findings),
     }
 }
 

@@ -79,7 +79,7 @@ fn answer<R: AllocGlobal + Files + Print + Eprint + Threads + Wait + Sync, O: Si
                 entry,
                 schedule,
             },
-        ) => replayed(rt, file, entry, schedule, output, errors),
+        ) => replay(rt, file, entry, schedule, output, errors),
         Ok(Ask::Why { file, named }) => why(rt, file, named, output, errors),
         Err(refusal) if refusal.kind() == ErrorKind::OutOfMemory => {
             ending(&RunFault::Memory, "", errors)
@@ -121,7 +121,7 @@ fn check<R: AllocGlobal + Files + Threads + Wait + Sync, O: Sink, E: Sink>(
     status(answered, file, errors)
 }
 
-fn replayed<R: AllocGlobal + Files, O: Sink, E: Sink>(
+fn replay<R: AllocGlobal + Files, O: Sink, E: Sink>(
     rt: &R,
     file: &str,
     entry: &str,

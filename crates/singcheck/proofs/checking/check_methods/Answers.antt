@@ -13,10 +13,10 @@ pub returns-then-not-is_empty-clause-report : goal.returns-then-not-is_empty-cla
 returns-then-not-is_empty-clause-report g c =
     let found = c.in_ok-findings.findings in
     let some : found.items ≢ [] = λ e. let differ = eqb-false _ _ (sym c.is_empty.ensures ∙ c.if-not-is_empty.true) in let none = ap length e in omega (arith, differ, none, found.ok.0) in
-    reported_methods (seen_of c.args.program.now) found.items some c.in_ok-findings.ensures c.reported.result c.reported.ensures.bytes c.reported.ensures.status
+    reported_methods (seen_of c.args.program.now) found.items some c.in_ok-findings.ensures c.finding_report.result c.finding_report.ensures.bytes c.finding_report.ensures.status
 
 pub returns-then-not-is_empty-clause-clean : goal.returns-then-not-is_empty-clause-clean
-returns-then-not-is_empty-clause-clean g c = found_unsafe (NothingIsFound (seen_of c.args.program.now)) c.reported.result c.reported.ensures.status
+returns-then-not-is_empty-clause-clean g c = found_unsafe (NothingIsFound (seen_of c.args.program.now)) c.finding_report.result c.finding_report.ensures.status
 
 pub returns-clause-report : goal.returns-clause-report
 returns-clause-report g c =

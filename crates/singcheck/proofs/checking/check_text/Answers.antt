@@ -13,20 +13,20 @@ pub returns-in-Found-clause-report : goal.returns-in-Found-clause-report
 returns-in-Found-clause-report g c =
     let text = c.args.text.now in
     reported_ok text (map finding_parts c.in-Found.findings.items) (Before (subst (IsBuiltOf text) c.in-Found.is c.in_ok-findings.ensures))
-    c.reported.result c.reported.ensures.bytes c.reported.ensures.status
+    c.finding_report.result c.finding_report.ensures.bytes c.finding_report.ensures.status
 
 pub returns-in-Found-clause-safe : goal.returns-in-Found-clause-safe
-returns-in-Found-clause-safe g c = found_unsafe (IsSafeText c.args.text.now) c.reported.result c.reported.ensures.status
+returns-in-Found-clause-safe g c = found_unsafe (IsSafeText c.args.text.now) c.finding_report.result c.finding_report.ensures.status
 
 pub returns-in-Broken-clause-report : goal.returns-in-Broken-clause-report
 returns-in-Broken-clause-report g c =
     let text = c.args.text.now in
     let found = map finding_parts c.in-Broken.findings.items in
     let built = subst (IsBuiltOf text) c.in-Broken.is c.in_ok-findings.ensures in
-    reported_ok text found (Before (broken_findings text _ found built)) c.reported-in-Broken.result c.reported-in-Broken.ensures.bytes c.reported-in-Broken.ensures.status
+    reported_ok text found (Before (broken_findings text _ found built)) c.finding_report-in-Broken.result c.finding_report-in-Broken.ensures.bytes c.finding_report-in-Broken.ensures.status
 
 pub returns-in-Broken-clause-safe : goal.returns-in-Broken-clause-safe
-returns-in-Broken-clause-safe g c = found_unsafe (IsSafeText c.args.text.now) c.reported-in-Broken.result c.reported-in-Broken.ensures.status
+returns-in-Broken-clause-safe g c = found_unsafe (IsSafeText c.args.text.now) c.finding_report-in-Broken.result c.finding_report-in-Broken.ensures.status
 
 pub returns-in-Program-clause-report : goal.returns-in-Program-clause-report
 returns-in-Program-clause-report g c =

@@ -5,7 +5,8 @@ use Rattle.program.specs.Lists.{Each}
 use Rattle.tree.specs.Trees.{ItemTree, definition_tree, item_tree, program_tree}
 use Rattle.tree.specs.declared.item.Item.{Item}
 use Rattle.singcheck.specs.Replays.{IsFirstAt, method_names, names_in}
-use Rattle.singcheck.proofs.EntryLemmas.{each_append, first_in, fits_first, fits_row, rows_more, rows_round}
+use Rattle.singcheck.proofs.EntryLemmas.{first_in, fits_first, fits_row, rows_more, rows_round}
+use Rattle.sound.proofs.Lists.{each_append}
 use Rattle.singcheck.proofs.entries.entry_place.Goals as goal
 use Rattle.singcheck.proofs.entries.entry_place.Goals.{After-deref-item-items}
 

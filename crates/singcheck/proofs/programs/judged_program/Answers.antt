@@ -11,8 +11,8 @@ use Rattle.singcheck.specs.Entered.{AreCleanSafe}
 use Rattle.singcheck.specs.Stages.{AreBroken, IsJudgement}
 use Rattle.singcheck.proofs.programs.judged_program.Goals as goal
 
-pub judged-requires : goal.judged-requires
-judged-requires c =
+pub judge_contracts-requires : goal.judge_contracts-requires
+judge_contracts-requires c =
     let resolved = c.contracts.result.now.contracts.items in
     let size = length-map resolved contract_seen in
     let same = ap length c.contracts.ensures in

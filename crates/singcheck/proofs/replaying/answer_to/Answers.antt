@@ -34,8 +34,8 @@ returns-in-Begun-clause-safe g c =
       safe = c.empty_report_is_safe.ensures;
       bounded = c.runs_are_bounded.ensures;
     } in
-    IfOk-weaker c.scheduled.result _ _ (λ answer h. some_map (g.Q.Source.remaining c.args.schedule.now) _ _
-    (λ lines ran. ran_safely entry lines text answer.bytes.items answer.status known (ran text entry begun)) h) c.scheduled.ensures.ran
+    IfOk-weaker c.run_schedule.result _ _ (λ answer h. some_map (g.Q.Source.remaining c.args.schedule.now) _ _
+    (λ lines ran. ran_safely entry lines text answer.bytes.items answer.status known (ran text entry begun)) h) c.run_schedule.ensures.ran
 
 pub returns-in-Begun-clause-bounded : goal.returns-in-Begun-clause-bounded
 returns-in-Begun-clause-bounded g c =
@@ -51,8 +51,8 @@ returns-in-Begun-clause-bounded g c =
       safe = c.empty_report_is_safe.ensures;
       bounded = c.runs_are_bounded.ensures;
     } in
-    IfOk-weaker c.scheduled.result _ _ (λ answer h. some_map (g.Q.Source.remaining c.args.schedule.now) _ _
-    (λ lines ran. ran_within_bounds entry lines text answer.bytes.items answer.status known (ran text entry begun)) h) c.scheduled.ensures.ran
+    IfOk-weaker c.run_schedule.result _ _ (λ answer h. some_map (g.Q.Source.remaining c.args.schedule.now) _ _
+    (λ lines ran. ran_within_bounds entry lines text answer.bytes.items answer.status known (ran text entry begun)) h) c.run_schedule.ensures.ran
 
 pub returns-in-Begun-clause-untouched : goal.returns-in-Begun-clause-untouched
 returns-in-Begun-clause-untouched g c =
@@ -79,4 +79,4 @@ returns-in-Begun-clause-line g c = λ n told.
       n = c.in-Begun.begun.method.0;
       entered = begun.entered;
       malformed = wrong;
-    }) (c.scheduled.ensures.line n told)
+    }) (c.run_schedule.ensures.line n told)

@@ -6,7 +6,7 @@ use Rattle.singcheck.proofs.ReportLemmas.{report_is}
 use Rattle.singcheck.proofs.report.report_of.Goals as goal
 
 pub returns : goal.returns
-returns c = IfOk-weaker c.written.result _ _
+returns c = IfOk-weaker c.report_bytes.result _ _
     (λ bytes e. report_is (map finding_parts c.args.findings.items) (map finding_parts c.in_ok-listed.listed.items) bytes.items
     c.in_ok-listed.ensures.same c.in_ok-listed.ensures.ordered (e ∙ ap (λ l. report_bytes (map finding_parts l)) c.deref.ensures.value))
-    c.written.ensures
+    c.report_bytes.ensures

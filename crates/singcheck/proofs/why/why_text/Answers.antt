@@ -14,4 +14,4 @@ returns-in-Some c =
     IfOk-weaker c.why_syntax.result _ _ (λ r told. told named text (subst (λ o. IfSome o (λ e. IsAskedUnexpected named text (explained_seen e))) c.in-Some.is c.in_ok-explained.ensures)) c.why_syntax.ensures
 
 pub returns-in-None : goal.returns-in-None
-returns-in-None c = explains_before c.args.named c.args.text.now (map finding_parts c.args.findings.items) c.requires c.reported.result c.reported.ensures.bytes c.reported.ensures.status
+returns-in-None c = explains_before c.args.named c.args.text.now (map finding_parts c.args.findings.items) c.requires c.finding_report.result c.finding_report.ensures.bytes c.finding_report.ensures.status

@@ -4,7 +4,7 @@ use Rattle.replays.specs.Schedules.{IsFirstMalformed, IsSchedule, Reads}
 use Rattle.singcheck.specs.declared.reading.TheConstants.{MAX_SCHEDULE_READ}
 use Rattle.singcheck.proofs.ReplayLemmas.{of_read, some_map}
 use Rattle.singcheck.proofs.Texts.{rest_is, text_is}
-use Rattle.singcheck.proofs.replaying.scheduled.Goals as goal
+use Rattle.singcheck.proofs.replaying.run_schedule.Goals as goal
 
 pub returns-in-Ok-clause-ran : goal.returns-in-Ok-clause-ran
 returns-in-Ok-clause-ran g c =
@@ -13,7 +13,7 @@ returns-in-Ok-clause-ran g c =
     let is = text_is (g.Q.Source.remaining c.args.schedule.now) (g.Q.Source.remaining c.read_up_to.new.reader) bytes MAX_SCHEDULE_READ c.in_ok-bytes.ensures.bytes c.in_ok-bytes.ensures.long c.in_ok-bytes.ensures.end in
     let told = subst (λ (b : List ℕ). IsSchedule b events) c.deref.ensures.value c.in-Ok.ensures in
     some_map (g.Q.Source.remaining c.args.schedule.now) (λ lines. IsSchedule lines events) _
-    (λ lines is_told text entry begun. c.in_ok-replayed-in-Ok.ensures text entry lines begun (subst (IsSchedule lines) (sym c.deref-in-Ok.ensures.value) is_told))
+    (λ lines is_told text entry begun. c.in_ok-replay_events-in-Ok.ensures text entry lines begun (subst (IsSchedule lines) (sym c.deref-in-Ok.ensures.value) is_told))
     (of_read (λ xs. IsSchedule xs events) (g.Q.Source.remaining c.args.schedule.now) bytes (λ xs. c.a_front_tells_all.ensures.events xs events) is told)
 
 pub returns-in-Err-Malformed-clause-line : goal.returns-in-Err-Malformed-clause-line

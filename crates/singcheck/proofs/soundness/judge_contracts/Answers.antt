@@ -4,7 +4,7 @@ use Rattle.std.proofs.lemmas.List.{length-map, take_all}
 use Rattle.program.specs.Parts.{contract_seen}
 use Rattle.singcheck.specs.Stages.{AreJudged}
 use Rattle.singcheck.proofs.JudgeLemmas.{judged_turn, no_items, found_all, clean_all}
-use Rattle.singcheck.proofs.soundness.judged.Goals as goal
+use Rattle.singcheck.proofs.soundness.judge_contracts.Goals as goal
 
 pub loop-number-preserved : goal.loop-number-preserved
 loop-number-preserved c =

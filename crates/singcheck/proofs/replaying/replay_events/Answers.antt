@@ -4,7 +4,7 @@ use Rattle.machine.specs.Replays.{replay_seen}
 use Rattle.machine.specs.Views.{world_seen}
 use Rattle.rules.specs.Programs.{seen_of}
 use Rattle.replays.specs.WorldLines.{replay_lines}
-use Rattle.singcheck.proofs.replaying.replayed.Goals as goal
+use Rattle.singcheck.proofs.replaying.replay_events.Goals as goal
 
 pub returns : goal.returns
 returns c = λ text entry schedule begun told.
