@@ -1,4 +1,5 @@
 pub mod Cells
+pub mod Found
 pub mod Fronts
 pub mod Kept
 pub mod Names

@@ -6,14 +6,15 @@ ghost use Rattle.source.specs.Findings.{FindingParts, finding_parts};
 ghost use Rattle.reports.specs.Orders.{report_cmp};
 ghost use Rattle.rules.specs.Breaches.{breach_in};
 ghost use Rattle.rules.specs.Programs.{seen_of};
+ghost use Rattle.analyse.specs.Found.{breaches_of};
 ghost use Rattle.analyse.specs.Verdicts.{place_of_method, too_many_pairs};
 
+use crate::breaches::Breaches;
 use program::MethodId;
 use reports::in_report_order;
-use rules::{Breach, Program};
+use rules::Program;
 use source::{Finding, Memory, Place, texts};
 use std::alloc::Global;
-use std::collections::BTreeSet;
 
 /// The findings of these breaches in a method, in the order of a report, each once.
 ///
@@ -22,15 +23,15 @@ pub(crate) fn told(
     alloc: Global,
     program: &Program,
     method: MethodId,
-    found: &BTreeSet<Breach>,
+    found: Breaches,
 ) -> Result<Vec<Finding>, Memory>
     requires there { method.0 < length (seen_of program.now).methods }
     ensures same { IfOk result (λ findings. (f : FindingParts) → Contains (map finding_parts findings.items) f
-        ↔ Contains (map (breach_in (seen_of program.now) method.0) found.now.keys) f) }
+        ↔ Contains (map (breach_in (seen_of program.now) method.0) (breaches_of found)) f) }
     ensures ordered { IfOk result (λ findings. IsStrictlySortedBy report_cmp (map finding_parts findings.items)) }
 {
     let mut findings = Vec::new(alloc);
-    for breach in found.iter() {
+    for breach in &found.into_different()? {
         findings.push(program.finding(alloc, method, *breach)?)?;
     }
     in_report_order(findings)

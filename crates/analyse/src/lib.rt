@@ -3,6 +3,7 @@
 
 mod all_tasks;
 mod analysing;
+mod breaches;
 mod findings;
 mod hand;
 mod keys;

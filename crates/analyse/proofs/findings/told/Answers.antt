@@ -1,20 +1,21 @@
-use Rattle.std.proofs.Common.{◌≡◌, ◌++◌, List, Contains, map, sym, ap, subst, append-nil, ◌∙◌}
-use Rattle.std.specs.Map.Iter.{deref}
-use Rattle.std.proofs.lemmas.Map.Iter.{rest_all}
+use Rattle.std.proofs.Common.{◌≡◌, Contains, List, ap, map, subst, sym, ◌∙◌}
+use Rattle.std.proofs.lemmas.List.{take_all}
 use Rattle.std.proofs.lemmas.Result.{IfOk-weaker}
 use Rattle.source.specs.Findings.{FindingParts, finding_parts}
 use Rattle.rules.specs.Breaches.{breach_in}
 use Rattle.rules.specs.Programs.{seen_of}
+use Rattle.analyse.specs.Found.{breaches_of}
+use Rattle.analyse.proofs.FoundLemmas.{said_still}
 use Rattle.analyse.proofs.findings.told.Goals as goal
 
 pub returns-clause-same : goal.returns-clause-same
 returns-clause-same c =
     let says = breach_in (seen_of c.args.program.now) c.args.method.0 in
-    let made = map finding_parts c.loop-breach.findings.items in
-    let none = rest_all deref _ _ _ c.in-None.is c.next.ensures.steps in
-    let all : made ≡ map says c.args.found.now.keys = sym (ap (λ l. made ++ map says l) none ∙ append-nil made) ∙ c.loop-breach.invariant in
+    let once = c.in_ok-into_different.field-0.items in
+    let all : map finding_parts c.loop-breach.findings.items ≡ map says once
+    = c.loop-breach.invariant ∙ ap (map says) (take_all c.loop-breach.breach-index _ c.loop-breach-test.false ∙ c.deref-breach-items.ensures.value) in
     IfOk-weaker c.in_report_order.result _ _
-    (λ findings h f. let same = h f in (
-      λ there. subst (λ (fs : List FindingParts). Contains fs f) all (same.0 there),
-      λ there. same.1 (subst (λ (fs : List FindingParts). Contains fs f) (sym all) there),
+    (λ findings h f. (
+      λ there. said_still says once (breaches_of c.args.found) (λ b. (c.in_ok-into_different.ensures.same b).0) f (subst (λ (fs : List FindingParts). Contains fs f) all ((h f).0 there)),
+      λ there. (h f).1 (subst (λ (fs : List FindingParts). Contains fs f) (sym all) (said_still says (breaches_of c.args.found) once (λ b. (c.in_ok-into_different.ensures.same b).1) f there)),
     )) c.in_report_order.ensures.same
