@@ -35,7 +35,7 @@ pub fn read_value(alloc: Global, cursor: &mut Cursor<'_>) -> Result<Value, Stuck
     ensures { Reads value_tree value_spelling value_on value_at cursor.old cursor.new result }
 {
     if cursor.is_next(Kind::New) {
-        Ok(Value::New(read_new(alloc, cursor)?))
+        Ok(Value::New(Box::new(alloc, read_new(alloc, cursor)?)?))
     } else if cursor.is_next(Kind::Name) {
         let variable = cursor.skip();
         named_value(alloc, cursor, variable)

@@ -52,7 +52,7 @@ new_tree n = record { word = n.word; made = made_tree n.made }
 abbrev pub value_tree : values.Value.Value → ValueTree
 value_tree (value.Expression e) = Expression (expression_tree e)
 value_tree (value.Call c) = Call (call_tree c.value)
-value_tree (value.New n) = New (new_tree n)
+value_tree (value.New n) = New (new_tree n.value)
 
 -- arguments = "(" [ expression { "," expression } ] ")" .
 abbrev pub arguments : Span × List ExpressionTree → List Symbol

@@ -9,7 +9,7 @@ use source::Span;
 pub enum Value {
     Expression(Expression),
     Call(Box<Call>),
-    New(New),
+    New(Box<New>),
 }
 
 /// call = ID [ "." ID ] "(" [ expression { "," expression } ] ")" .

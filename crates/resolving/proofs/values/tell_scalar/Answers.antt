@@ -1,5 +1,6 @@
 use Rattle.std.proofs.Common.{sym, ap, ◌∙◌, ◌++◌, [], None}
-use Rattle.tree.specs.Values.{call_tree, value_tree, made_tree}
+use Rattle.tree.specs.Values as values
+use Rattle.tree.specs.Values.{call_tree, value_tree, made_tree, new_tree}
 use Rattle.tree.specs.declared.value.Value.{Value}
 use Rattle.program.specs.declared.statement.Action.TheVariants.{Nothing}
 use Rattle.resolving.specs.Around.{program_in}
@@ -23,7 +24,7 @@ returns-in-New c = λ items own around.
     let text = c.args.text.now in
     let locals = c.args.locals.now in
     let value = c.args.value.now in
-    let made = made_tree c.in-New.new.made in
+    let made = made_tree c.deref-in-New.result.now.made in
     told_as text locals c.tell_made.result (λ f. told (c.new-before.result.items ++ made_reads p own f made) Nothing) (λ f. scalar_taken p own f (value_tree value))
-    (λ f frame. ap (λ l. told (l ++ made_reads p own f made) Nothing) c.new-before.ensures.items ∙ ap (λ (v : Value). scalar_taken p own f (value_tree v)) (sym c.in-New.is))
+    (λ f frame. ap (λ l. told (l ++ made_reads p own f made) Nothing) c.new-before.ensures.items ∙ ap (λ x. scalar_taken p own f (values.New (new_tree x))) c.deref-in-New.ensures ∙ ap (λ (v : Value). scalar_taken p own f (value_tree v)) (sym c.in-New.is))
     (c.tell_made.ensures items own)

@@ -1,5 +1,6 @@
 use Rattle.std.proofs.Common.{sym, ap, ◌∙◌, [], Some}
-use Rattle.tree.specs.Values.{call_tree, value_tree, made_tree}
+use Rattle.tree.specs.Values as values
+use Rattle.tree.specs.Values.{call_tree, value_tree, made_tree, new_tree}
 use Rattle.tree.specs.declared.value.Value.{Value}
 use Rattle.program.specs.Statements as seen
 use Rattle.resolving.specs.Around.{program_in}
@@ -31,7 +32,7 @@ returns-in-New c = λ items own around.
     let text = c.args.text.now in
     let locals = c.args.locals.now in
     let value = c.args.value.now in
-    let made = made_tree c.in-New.new.made in
+    let made = made_tree c.deref-in-New.result.now.made in
     told_as text locals c.tell_new.result (λ f. seen.New (new_of p own f c.args.target made)) (λ f. taken p own f c.args.target (value_tree value))
-    (λ f frame. ap (λ (v : Value). taken p own f c.args.target (value_tree v)) (sym c.in-New.is))
+    (λ f frame. ap (λ x. taken p own f c.args.target (values.New (new_tree x))) c.deref-in-New.ensures ∙ ap (λ (v : Value). taken p own f c.args.target (value_tree v)) (sym c.in-New.is))
     (c.tell_new.ensures items own)
