@@ -1,40 +1,27 @@
--- Findings that are added one after another.
-use Rattle.std.proofs.Common.{◌≡◌, ℕ, ◌+◌, ◌<◌, List, [], ◌∷◌, ◌++◌, length, map, take, get_or, sym, ap, ◌∙◌, append_assoc, append-nil}
+-- Mistakes that are added one after another.
+use Rattle.std.proofs.Common.{◌≡◌, ℕ, ◌+◌, ◌<◌, List, [], ◌∷◌, ◌++◌, length, take, get_or, sym, ap, ◌∙◌, append_assoc, append-nil}
 use Rattle.std.specs.List.{flat_map}
-use Rattle.std.proofs.lemmas.List.{map-append, flat_map_more, take_more}
-use Rattle.source.specs.Findings.{IsFinding}
-use Rattle.source.specs.declared.finding.Code.{Code}
-use Rattle.source.specs.declared.finding.Finding.{Finding}
-use Rattle.source.specs.declared.place.Place.{Place}
-use Rattle.declarations.specs.Found.{Adds, FindingParts, finding_parts}
+use Rattle.std.proofs.lemmas.List.{flat_map_more, take_more}
+use Rattle.declarations.specs.Mistakes.{Adds}
+use Rattle.declarations.specs.declared.mistake.Mistake.{Mistake}
 
-pub adds_none : (old : List Finding) → Adds old old []
-adds_none old = record { all = sym (append-nil (map finding_parts old)) }
+pub adds_none : (old : List Mistake) → Adds old old []
+adds_none old = record { all = sym (append-nil old) }
 
-pub adds_then : {old mid new : List Finding} {a b : List FindingParts} → Adds old mid a → Adds mid new b → Adds old new (a ++ b)
+pub adds_then : {old mid new : List Mistake} {a b : List Mistake} → Adds old mid a → Adds mid new b → Adds old new (a ++ b)
 adds_then {a = a} {b = b} first second = record { all = second.all ∙ ap (λ l. l ++ b) first.all ∙ append_assoc _ a b }
-
-pub adds_one : {old new : List Finding} {f : Finding} {place : Place} {code : Code} {text : List ℕ} → new ≡ old ++ f ∷ [] → IsFinding place code text f → Adds old new (record { place = place; code = code; text = text } ∷ [])
-adds_one {old = old} {new = new} {f = f} {place = place} {code = code} {text = text} e is =
-    let parts : Place → Code → List ℕ → List FindingParts = λ p k t. map finding_parts old ++ record { place = p; code = k; text = t } ∷ [] in
-    record {
-      all = ap (map finding_parts) e ∙ map-append finding_parts old (f ∷ [])
-          ∙ ap (λ p. parts p f.code (finding_parts f).text) is.place
-          ∙ ap (λ k. parts place k (finding_parts f).text) is.code
-          ∙ ap (parts place code) is.text;
-    }
 
 pub flat_map_taken : {X A : Type 0} (f : X → List A) (xs : List X) (i : ℕ) (x : X) → i < length xs → x ≡ get_or xs i x → flat_map f (take i xs) ++ f x ≡ flat_map f (take (i + 1) xs)
 flat_map_taken f xs i x lt is = flat_map_more f [] (take i xs) x ∙ ap (flat_map f) (sym (take_more xs i x lt ∙ ap (λ y. take i xs ++ y ∷ []) (sym is)))
 
 -- what one more of these adds, behind those before it
-pub adds_more : {X : Type 0} {old mid new : List Finding} (f : X → List FindingParts) (xs : List X) (i : ℕ) (x : X) → i < length xs → x ≡ get_or xs i x → Adds old mid (flat_map f (take i xs)) → Adds mid new (f x) → Adds old new (flat_map f (take (i + 1) xs))
+pub adds_more : {X : Type 0} {old mid new : List Mistake} (f : X → List Mistake) (xs : List X) (i : ℕ) (x : X) → i < length xs → x ≡ get_or xs i x → Adds old mid (flat_map f (take i xs)) → Adds mid new (f x) → Adds old new (flat_map f (take (i + 1) xs))
 adds_more {old = old} f xs i x lt is first second = record {
-  all = (adds_then first second).all ∙ ap (λ l. map finding_parts old ++ l) (flat_map_taken f xs i x lt is);
+  all = (adds_then first second).all ∙ ap (λ l. old ++ l) (flat_map_taken f xs i x lt is);
 }
 
 -- the same of the element at a place
-pub adds_at : {X : Type 0} {old mid new : List Finding} (f : X → List FindingParts) (xs : List X) (i : ℕ) (d : X) → i < length xs → Adds old mid (flat_map f (take i xs)) → Adds mid new (f (get_or xs i d)) → Adds old new (flat_map f (take (i + 1) xs))
+pub adds_at : {X : Type 0} {old mid new : List Mistake} (f : X → List Mistake) (xs : List X) (i : ℕ) (d : X) → i < length xs → Adds old mid (flat_map f (take i xs)) → Adds mid new (f (get_or xs i d)) → Adds old new (flat_map f (take (i + 1) xs))
 adds_at {old = old} f xs i d lt first second = record {
-  all = (adds_then first second).all ∙ ap (λ l. map finding_parts old ++ l) (flat_map_more f [] (take i xs) (get_or xs i d) ∙ ap (flat_map f) (sym (take_more xs i d lt)));
+  all = (adds_then first second).all ∙ ap (λ l. old ++ l) (flat_map_more f [] (take i xs) (get_or xs i d) ∙ ap (flat_map f) (sym (take_more xs i d lt)));
 }

@@ -7,9 +7,10 @@ use Rattle.std.proofs.lemmas.Option.{slice_get_past}
 use Rattle.source.specs.declared.token.Span.{Span}
 use Rattle.tree.specs.Trees.{ItemTree, DefinitionTree, Contract, Struct, Class, ContractTree, contract_of, contracts_of}
 use Rattle.declarations.specs.Declarations.{names_of_contracts, counted_states, states_of}
-use Rattle.declarations.specs.ItemFindings.{all_counted_states}
-use Rattle.declarations.specs.Found.{limit_passed}
-use Rattle.declarations.specs.Listed.{past_limit}
+use Rattle.declarations.specs.ItemMistakes.{all_counted_states}
+use Rattle.declarations.specs.Mistakes.{most_of}
+use Rattle.declarations.specs.declared.mistake.Limit.{Limit}
+use Rattle.declarations.specs.Listed.{limit_passed, past_limit}
 use Rattle.declarations.specs.Outlines.{outlined_states}
 use Rattle.declarations.specs.Scopes.{AllMembers, AreMembers, AreDeclared, declared_among}
 use Rattle.declarations.specs.declared.members.Declared.{Declared}
@@ -85,5 +86,5 @@ pub many_states : (text : List ℕ) (items : List ItemTree) (ms : List Members) 
 many_states text items ms all = ap length (flat_within (λ (d : Declared). d.counted.all.items) declared_among ms) ∙ counts_are text (contracts_of items) (flat_map declared_among ms) (all_declared text items ms all)
 
 -- none of so few names is past the limit
-pub none_past : (most : ℕ) (names : List Span) → length names ≤ most → past_limit most names ≡ []
-none_past most names few = ap (λ o. option_map_or (λ name. limit_passed name ∷ []) o []) (slice_get_past names most few)
+pub none_past : (limit : Limit) (names : List Span) → length names ≤ most_of limit → past_limit limit names ≡ []
+none_past limit names few = ap (λ o. option_map_or (limit_passed limit) o []) (slice_get_past names (most_of limit) few)

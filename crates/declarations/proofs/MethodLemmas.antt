@@ -4,7 +4,7 @@ use Rattle.std.specs.List.{flat_map}
 use Rattle.std.proofs.lemmas.List.{map-append}
 use Rattle.tree.specs.Trees.{ItemTree, MethodTree, item_tree, definition_tree}
 use Rattle.tree.specs.declared.item as tree
-use Rattle.declarations.specs.ItemFindings.{methods_in}
+use Rattle.declarations.specs.ItemMistakes.{methods_in}
 
 -- the names of all methods
 pub names_within : (items : List tree.Item.Item) → flat_map (λ i. map (λ (m : MethodTree). m.name) (methods_in (definition_tree i.definition))) items ≡ map (λ (m : MethodTree). m.name) (flat_map (λ (i : ItemTree). methods_in i.definition) (map item_tree items))

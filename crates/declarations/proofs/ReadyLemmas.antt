@@ -1,4 +1,5 @@
 -- What stands in scope is what the contracts of the text declare.
+use Rattle.declarations.specs.declared.mistake.Limit.TheVariants as limit
 use Rattle.std.proofs.Common.{◌≡◌, ℕ, ◌≤◌, List, [], ◌∷◌, ◌++◌, length, sym, refl, ap, ◌∙◌, subst, arith, ⊎_elim}
 use Rattle.std.specs.Prelude.{All}
 use Rattle.std.specs.List.{flat_map}
@@ -8,11 +9,13 @@ use Rattle.std.proofs.lemmas.Option.{slice_get_cases}
 use Rattle.lemmas.proofs.Lists.{nil_left, nil_right}
 use Rattle.source.specs.declared.token.Span.{Span}
 use Rattle.tree.specs.Trees.{ContractTree, MessageTree, StateTree, contracts_of}
-use Rattle.declarations.specs.ContractFindings.{contract_findings, message_findings, state_findings}
+use Rattle.declarations.specs.ContractMistakes.{contract_mistakes, message_mistakes, state_mistakes}
 use Rattle.declarations.specs.Declarations.{counted_states, messages_of, names_of_contracts, names_of_messages, names_of_states, states_of}
-use Rattle.declarations.specs.Found.{limit_passed}
-use Rattle.declarations.specs.ItemFindings.{all_counted_states, contracts_findings, counted_findings}
-use Rattle.declarations.specs.Listed.{past_limit, twice_among}
+use Rattle.declarations.specs.Mistakes.{most_of}
+use Rattle.declarations.specs.declared.mistake.Limit.{Limit}
+use Rattle.declarations.specs.declared.mistake.Mistake.TheVariants.{LimitPassed}
+use Rattle.declarations.specs.ItemMistakes.{all_counted_states, contracts_mistakes, counted_mistakes}
+use Rattle.declarations.specs.Listed.{limit_passed, past_limit, twice_among}
 use Rattle.declarations.specs.Numbered.{names_in, places_named}
 use Rattle.declarations.specs.Outlines.{outlined_messages, outlined_states}
 use Rattle.declarations.specs.Program.{Program}
@@ -22,7 +25,7 @@ use Rattle.declarations.specs.Resolution.{each_behind, message_count, resolved_c
 use Rattle.declarations.specs.Scopes.{AreDeclared, IsDeclared, IsScope}
 use Rattle.tables.specs.Tables.{IsTable}
 use Rattle.tables.specs.Words.{words_at}
-use Rattle.program.specs.declared.limits.TheConstants.{MOST_CONTRACTS, MOST_STATES}
+use Rattle.program.specs.declared.limits.TheConstants.{MOST_STATES}
 use Rattle.declarations.specs.declared.members.Declared.{Declared}
 use Rattle.declarations.specs.declared.scope.Scope.{Scope}
 use Rattle.declarations.proofs.ContractLemmas.{all_declared}
@@ -75,14 +78,14 @@ all_is : (text : List ℕ) (cs : List ContractTree) (ds : List Declared) → Are
 all_is text cs ds all = resolved_behind text [] [] cs ds tt all
 
 -- where nothing is wrong with a contract, nothing is with the names in its edges
-pub clean_edges : (p : Program) (c : ContractTree) → contract_findings p c ≡ [] → flat_map (state_findings p.text (names_of_messages (messages_of c)) (names_of_states (states_of c))) (states_of c) ≡ []
+pub clean_edges : (p : Program) (c : ContractTree) → contract_mistakes p c ≡ [] → flat_map (state_mistakes p.text (names_of_messages (messages_of c)) (names_of_states (states_of c))) (states_of c) ≡ []
 clean_edges p c none =
-    nil_right (flat_map (message_findings p) (messages_of c)) _
+    nil_right (flat_map (message_mistakes p) (messages_of c)) _
     (nil_right (twice_among p.text (names_of_states (states_of c))) _ (nil_right (twice_among p.text (names_of_messages (messages_of c))) _ none))
 
-one_ready : (p : Program) (c : ContractTree) (d : Declared) → IsDeclared p.text c d → contract_findings p c ≡ [] → IsReady p.text d
+one_ready : (p : Program) (c : ContractTree) (d : Declared) → IsDeclared p.text c d → contract_mistakes p c ≡ [] → IsReady p.text d
 one_ready p c d one none =
-    let findings = λ (ms : List MessageTree) (ss : List StateTree). flat_map (state_findings p.text (names_of_messages ms) (names_of_states ss)) ss in
+    let findings = λ (ms : List MessageTree) (ss : List StateTree). flat_map (state_mistakes p.text (names_of_messages ms) (names_of_states ss)) ss in
     record {
       messages = subst (λ l. IsTable (words_at p.text (names_of_messages l)) d.messages) (sym one.outline.messages) one.messages;
       states = subst (λ l. IsTable (words_at p.text (names_of_states l)) d.states) (sym one.outline.states) one.states;
@@ -91,34 +94,34 @@ one_ready p c d one none =
       clean = ap (λ l. findings l (outlined_states d.outline)) one.outline.messages ∙ ap (findings (messages_of c)) one.outline.states ∙ clean_edges p c none;
     }
 
-all_ready : (p : Program) (cs : List ContractTree) (ds : List Declared) → AreDeclared p.text cs ds → flat_map (contract_findings p) cs ≡ [] → All (IsReady p.text) ds
+all_ready : (p : Program) (cs : List ContractTree) (ds : List Declared) → AreDeclared p.text cs ds → flat_map (contract_mistakes p) cs ≡ [] → All (IsReady p.text) ds
 all_ready p [] [] all none = All-nil (IsReady p.text)
 all_ready p [] (d ∷ ds) all none = absurd all
 all_ready p (c ∷ cs) [] all none = absurd all
 all_ready p (c ∷ cs) (d ∷ ds) all none =
-    All-cons (IsReady p.text) d ds (one_ready p c d all.0 (nil_left (contract_findings p c) _ none))
-    (all_ready p cs ds all.1 (nil_right (contract_findings p c) _ none))
+    All-cons (IsReady p.text) d ds (one_ready p c d all.0 (nil_left (contract_mistakes p c) _ none))
+    (all_ready p cs ds all.1 (nil_right (contract_mistakes p c) _ none))
 
 -- where the limit is not passed, there are no more names
-not_past : (most : ℕ) (names : List Span) → past_limit most names ≡ [] → length names ≤ most
-not_past most names none =
+pub not_past : (limit : Limit) (names : List Span) → past_limit limit names ≡ [] → length names ≤ most_of limit
+not_past limit names none =
     ⊎_elim
-    (λ w. let past : limit_passed w.0 ∷ [] ≡ [] = sym (ap (λ o. option_map_or (λ name. limit_passed name ∷ []) o []) w.2) ∙ none in cc)
+    (λ w. let past : LimitPassed w.0.place limit ∷ [] ≡ [] = sym (ap (λ o. option_map_or (limit_passed limit) o []) w.2) ∙ none in cc)
     (λ w. w.0)
-    (slice_get_cases names most).1
+    (slice_get_cases names (most_of limit)).1
 
 -- there are no more states than there may be
-few_states : (p : Program) → counted_findings p ≡ [] → state_count (contracts_of p.items) ≤ MOST_STATES
+few_states : (p : Program) → counted_mistakes p ≡ [] → state_count (contracts_of p.items) ≤ MOST_STATES
 few_states p nothing =
     let cs = contracts_of p.items in
-    not_past MOST_STATES (all_counted_states cs) (nil_right (past_limit MOST_CONTRACTS (names_of_contracts cs)) _ nothing)
+    not_past limit.States (all_counted_states cs) (nil_right (past_limit limit.Contracts (names_of_contracts cs)) _ nothing)
 
 -- where nothing is wrong with the contracts of a program, nothing is within each, and there are no more states than there may be
-pub contracts_clean : (p : Program) → contracts_findings p ≡ [] → flat_map (contract_findings p) (contracts_of p.items) ≡ []
-contracts_clean p nothing = nil_right (counted_findings p) _ nothing
+pub contracts_clean : (p : Program) → contracts_mistakes p ≡ [] → flat_map (contract_mistakes p) (contracts_of p.items) ≡ []
+contracts_clean p nothing = nil_right (counted_mistakes p) _ nothing
 
-pub states_few : (p : Program) → contracts_findings p ≡ [] → state_count (contracts_of p.items) ≤ MOST_STATES
-states_few p nothing = few_states p (nil_left (counted_findings p) _ nothing)
+pub states_few : (p : Program) → contracts_mistakes p ≡ [] → state_count (contracts_of p.items) ≤ MOST_STATES
+states_few p nothing = few_states p (nil_left (counted_mistakes p) _ nothing)
 
 -- what is known of a scope with whose contracts nothing is wrong
 pub record IsCleared (p : Program) (scope : Scope) : Type 0 where
@@ -127,7 +130,7 @@ pub record IsCleared (p : Program) (scope : Scope) : Type 0 where
   pub states : declared_states (declared_in scope.members.items) ≤ MOST_STATES
   pub resolved : all_resolved p.text (declared_in scope.members.items) ≡ resolved_contracts p.text (contracts_of p.items)
 
-pub cleared : (p : Program) (scope : Scope) → IsScope p scope → contracts_findings p ≡ [] → IsCleared p scope
+pub cleared : (p : Program) (scope : Scope) → IsScope p scope → contracts_mistakes p ≡ [] → IsCleared p scope
 cleared p scope h nothing =
     let cs = contracts_of p.items in
     let ds = declared_in scope.members.items in

@@ -1,6 +1,6 @@
 -- Names that an earlier one has.
-use Rattle.std.proofs.Common.{◌≡◌, ℕ, ◌+◌, ◌<◌, ◌≤◌, zero, suc, Bool, true, false, not, cond, ltb, List, [], ◌∷◌, ◌++◌, length, take, drop, get_or, Some, None, if◌then◌else◌, sym, refl, ap, ◌∙◌, subst, arith, append_assoc, take-append-drop, drop-cons, ⊎_elim}
-use Rattle.std.specs.Prelude.{is_some, option_map, slice_get}
+use Rattle.std.proofs.Common.{◌≡◌, ℕ, ◌+◌, ◌<◌, ◌≤◌, zero, suc, Bool, true, not, cond, ltb, List, [], ◌∷◌, ◌++◌, length, take, drop, get_or, Some, None, sym, refl, ap, ◌∙◌, subst, arith, append_assoc, take-append-drop, drop-cons, ⊎_elim}
+use Rattle.std.specs.Prelude.{option_and_then, option_map, slice_get}
 use Rattle.std.specs.List.{position_or_len}
 use Rattle.std.proofs.lemmas.Bool.{cond-true, cond-false, lt-ltb, le-ltb, cases_lt}
 use Rattle.std.proofs.lemmas.List.{take_more, map-append, length-map, length-take-le, drop_all, append-nil}
@@ -8,12 +8,11 @@ use Rattle.std.proofs.lemmas.List.Sums.{prefix_len-le-length}
 use Rattle.std.proofs.lemmas.Option.{slice_get-map, slice_get-get_or}
 use Rattle.std.proofs.lemmas.Slice.Eq.{bytes_eq-Decides}
 use Rattle.std.proofs.Math.ListN.{length-append}
-use Rattle.source.specs.declared.finding.Finding.{Finding}
+use Rattle.declarations.specs.declared.mistake.Mistake.{Mistake}
 use Rattle.source.specs.declared.token.Span.{Span}
-use Rattle.declarations.specs.Declarations.{is_declared}
-use Rattle.declarations.specs.Listed.{twice_behind, twice_among}
+use Rattle.declarations.specs.Listed.{name_among, twice, twice_behind, twice_among}
 use Rattle.tables.specs.Firsts.{IsApart, first_of}
-use Rattle.declarations.specs.Found.{Adds, FindingParts, declared_twice}
+use Rattle.declarations.specs.Mistakes.{Adds}
 use Rattle.tables.specs.Words.{word_at, words_at, same_word}
 use Rattle.declarations.proofs.AddLemmas.{adds_then, adds_none}
 
@@ -24,8 +23,8 @@ first_behind p (x ∷ xs) y ys passes = ap (λ n. cond (not (p x)) (1 + n) 0) (f
 
 -- where a word stands first that is behind others
 pub record Behind (words : List (List ℕ)) (word : List ℕ) (all : List (List ℕ)) : Type 0 where
-  pub new : first_of all word ≡ Some (length words) → is_some (first_of words word) ≡ false
-  pub old : (first_of all word ≡ Some (length words) → ⊥) → is_some (first_of words word) ≡ true
+  pub new : first_of all word ≡ Some (length words) → first_of words word ≡ None
+  pub old : (first_of all word ≡ Some (length words) → ⊥) → (n : ℕ) × (n < length words) × (first_of words word ≡ Some n) × (first_of all word ≡ Some n)
 
 pub behind : (words : List (List ℕ)) (word : List ℕ) (more : List (List ℕ)) → Behind words word (words ++ word ∷ more)
 behind words word more =
@@ -38,34 +37,41 @@ behind words word more =
     let all : first_of (words ++ word ∷ more) word ≡ Some n = ap (λ i. cond (ltb i (length (words ++ word ∷ more))) (Some i) None) here ∙ cond-true (ltb n (length (words ++ word ∷ more))) (Some n) None (lt-ltb n _ less) in
     record {
       new = λ e. let same : Some n ≡ Some (length words) = sym all ∙ e in let at : n ≡ length words = cc in
-          ap is_some (cond-false (ltb n (length words)) (Some n) None (le-ltb n (length words) (omega (arith, at))));
+          cond-false (ltb n (length words)) (Some n) None (le-ltb n (length words) (omega (arith, at)));
       old = λ ne. ⊎_elim
-          (λ lt. ap is_some (cond-true (ltb n (length words)) (Some n) None (lt-ltb n (length words) lt)))
+          (λ lt. (n, lt, cond-true (ltb n (length words)) (Some n) None (lt-ltb n (length words) lt), all))
           (λ le. let at : n ≡ length words = omega (arith, le, most) in absurd (ne (all ∙ ap Some at)))
           (cases_lt n (length words));
     }
+
+-- what stands among the first ones stands at the same place among all
+kept : {X : Type 0} (xs : List X) (i n : ℕ) → n < i → slice_get (take i xs) n ≡ slice_get xs n
+kept xs zero n lt = absurd (omega (arith, lt))
+kept [] (suc i) n lt = refl
+kept (x ∷ xs) (suc i) zero lt = refl
+kept (x ∷ xs) (suc i) (suc n) lt = kept xs i n (omega (arith, lt))
 
 -- the names from a place on
 rest_is : (names : List Span) (i : ℕ) (d : Span) → i < length names → drop i names ≡ get_or names i d ∷ drop (i + 1) names
 rest_is names i d lt = let next : suc i ≡ i + 1 = omega arith in drop-cons names i d lt ∙ ap (λ n. get_or names i d ∷ drop n names) next
 
 -- the names before a place have been looked at
-pub record TwiceSoFar (text : List ℕ) (names : List Span) (i : ℕ) (old new : List Finding) : Type 0 where
-  pub more : List FindingParts
+pub record TwiceSoFar (text : List ℕ) (names : List Span) (i : ℕ) (old new : List Mistake) : Type 0 where
+  pub more : List Mistake
   pub adds : Adds old new more
   pub rest : twice_among text names ≡ more ++ twice_behind text (take i names) (drop i names)
 
-pub twice_start : (text : List ℕ) (names : List Span) (old : List Finding) → TwiceSoFar text names 0 old old
+pub twice_start : (text : List ℕ) (names : List Span) (old : List Mistake) → TwiceSoFar text names 0 old old
 twice_start text names old = record { more = []; adds = adds_none old; rest = refl }
 
-pub twice_end : {text : List ℕ} {names : List Span} {i : ℕ} {old new : List Finding} → TwiceSoFar text names i old new → length names ≤ i → Adds old new (twice_among text names)
+pub twice_end : {text : List ℕ} {names : List Span} {i : ℕ} {old new : List Mistake} → TwiceSoFar text names i old new → length names ≤ i → Adds old new (twice_among text names)
 twice_end {text = text} {names = names} {i = i} {old = old} {new = new} so le = subst (Adds old new) (sym (so.rest ∙ ap (λ l. so.more ++ twice_behind text (take i names) l) (drop_all i names le) ∙ append-nil so.more)) so.adds
 
 -- what a name adds
-abbrev pub twice_here : List ℕ → List Span → ℕ → Span → List FindingParts
-twice_here text names i name = if is_declared text (take i names) name then declared_twice text name ∷ [] else []
+abbrev pub twice_here : List ℕ → List Span → ℕ → Span → List Mistake
+twice_here text names i name = twice name (name_among text (take i names) name)
 
-pub twice_step : (text : List ℕ) (names : List Span) (i : ℕ) (d : Span) (old mid new : List Finding) → TwiceSoFar text names i old mid → i < length names
+pub twice_step : (text : List ℕ) (names : List Span) (i : ℕ) (d : Span) (old mid new : List Mistake) → TwiceSoFar text names i old mid → i < length names
     → Adds mid new (twice_here text names i (get_or names i d)) → TwiceSoFar text names (i + 1) old new
 twice_step text names i d old mid new so lt one =
     let name = get_or names i d in
@@ -88,21 +94,24 @@ behind_here text names i d lt =
 count_here : (text : List ℕ) (names : List Span) (i : ℕ) → i < length names → length (words_at text (take i names)) ≡ i
 count_here text names i lt = length-map (take i names) (word_at text) ∙ length-take-le i names (omega (arith, lt))
 
--- a name that stands there first adds nothing, and another one a finding
-pub first_adds : (text : List ℕ) (names : List Span) (i : ℕ) (d : Span) (old : List Finding) → i < length names → first_of (words_at text names) (word_at text (get_or names i d)) ≡ Some i → Adds old old (twice_here text names i (get_or names i d))
+-- a name that stands there first adds nothing, and another one tells of the first
+pub first_adds : (text : List ℕ) (names : List Span) (i : ℕ) (d : Span) (old : List Mistake) → i < length names → first_of (words_at text names) (word_at text (get_or names i d)) ≡ Some i → Adds old old (twice_here text names i (get_or names i d))
 first_adds text names i d old lt first =
     let name = get_or names i d in
-    let isn't = (behind_here text names i d lt).new (first ∙ ap Some (sym (count_here text names i lt))) in
-    subst (λ b. Adds old old (if b then declared_twice text name ∷ [] else [])) (sym isn't) (adds_none old)
+    let none = (behind_here text names i d lt).new (first ∙ ap Some (sym (count_here text names i lt))) in
+    subst (λ o. Adds old old (twice name (option_and_then (slice_get (take i names)) o))) (sym none) (adds_none old)
 
-pub later_adds : (text : List ℕ) (names : List Span) (i : ℕ) (d : Span) (old new : List Finding) → i < length names → (first_of (words_at text names) (word_at text (get_or names i d)) ≡ Some i → ⊥) → Adds old new (declared_twice text (get_or names i d) ∷ []) → Adds old new (twice_here text names i (get_or names i d))
+pub later_adds : (text : List ℕ) (names : List Span) (i : ℕ) (d : Span) (old new : List Mistake) → i < length names → (first_of (words_at text names) (word_at text (get_or names i d)) ≡ Some i → ⊥) → Adds old new (twice (get_or names i d) (name_among text names (get_or names i d))) → Adds old new (twice_here text names i (get_or names i d))
 later_adds text names i d old new lt later one =
     let name = get_or names i d in
-    let is = (behind_here text names i d lt).old (λ e. later (e ∙ ap Some (count_here text names i lt))) in
-    subst (λ b. Adds old new (if b then declared_twice text name ∷ [] else [])) (sym is) one
+    let first = (behind_here text names i d lt).old (λ e. later (e ∙ ap Some (count_here text names i lt))) in
+    let counted = count_here text names i lt in
+    let is : name_among text (take i names) name ≡ name_among text names name =
+    ap (option_and_then (slice_get (take i names))) first.2 ∙ kept names i first.0 (omega (arith, first.1, counted)) ∙ sym (ap (option_and_then (slice_get names)) first.3) in
+    subst (λ o. Adds old new (twice name o)) (sym is) one
 
 -- where no name stands twice, none adds anything
-none_so_far : (text : List ℕ) (names : List Span) (d : Span) (old : List Finding) → IsApart (words_at text names) → (k : ℕ) → k ≤ length names → TwiceSoFar text names k old old
+none_so_far : (text : List ℕ) (names : List Span) (d : Span) (old : List Mistake) → IsApart (words_at text names) → (k : ℕ) → k ≤ length names → TwiceSoFar text names k old old
 none_so_far text names d old apart zero le = twice_start text names old
 none_so_far text names d old apart (suc k) le =
     let lt : k < length names = omega (arith, le) in
@@ -112,5 +121,5 @@ none_so_far text names d old apart (suc k) le =
     subst (λ i. TwiceSoFar text names i old old) next
     (twice_step text names k d old old old (none_so_far text names d old apart k (omega (arith, le))) lt (first_adds text names k d old lt (apart.first k word at)))
 
-pub apart_adds : (text : List ℕ) (names : List Span) (d : Span) (old : List Finding) → IsApart (words_at text names) → Adds old old (twice_among text names)
+pub apart_adds : (text : List ℕ) (names : List Span) (d : Span) (old : List Mistake) → IsApart (words_at text names) → Adds old old (twice_among text names)
 apart_adds text names d old apart = twice_end (none_so_far text names d old apart (length names) (omega arith)) (omega arith)

@@ -13,9 +13,9 @@ use Rattle.source.specs.declared.token.Span.{Span}
 use Rattle.tree.specs.Trees.{ContractTree, Empty, MessageTree, PathTree, StateTree, contracts_of}
 use Rattle.tree.specs.declared.contract as tree
 use Rattle.declarations.specs.Declarations.{counted_in_state, counted_states, first_among, is_declared, messages_of, names_of_messages, names_of_states, paths_of, states_of, unnamed_of}
-use Rattle.declarations.specs.ContractFindings.{contract_findings, path_findings, state_findings}
-use Rattle.declarations.specs.Found.{unknown}
-use Rattle.declarations.specs.ItemFindings.{contracts_findings}
+use Rattle.declarations.specs.ContractMistakes.{contract_mistakes, path_mistakes, state_mistakes}
+use Rattle.declarations.specs.declared.mistake.Mistake.TheVariants.{Unknown}
+use Rattle.declarations.specs.ItemMistakes.{contracts_mistakes}
 use Rattle.declarations.specs.Listed.{asked_name}
 use Rattle.declarations.specs.Meant.{path_left}
 use Rattle.program.specs.Parts.{IsWhole, contract_parts, ContractSeen, contract_seen}
@@ -49,7 +49,7 @@ declared : (text : List ℕ) (names : List Span) (name : Span) → asked_name te
 declared text names name none =
     ⊎_elim
     (λ there. declared_at text names name (first_among text names name) refl there)
-    (λ missing. let found : unknown text name ∷ [] ≡ [] = sym (cond-false (is_declared text names name) [] (unknown text name ∷ []) missing) ∙ none in cc)
+    (λ missing. let found : Unknown name ∷ [] ≡ [] = sym (cond-false (is_declared text names name) [] (Unknown name ∷ []) missing) ∙ none in cc)
     (cases_Bool (is_declared text names name))
 
 message_is : (text : List ℕ) (first : ℕ) (messages : List MessageTree) (name : Span) → asked_name text (names_of_messages messages) name ≡ [] → Among first (length messages) (message_meant text first messages name)
@@ -96,7 +96,7 @@ others_known text m messages (o ∷ others) none =
 abbrev means_in : List ℕ → ℕ → ℕ → List MessageTree → List StateTree → Meanings
 means_in text m s messages states = record { message = message_meant text m messages; state = state_meant text s states }
 
-path_known : (text : List ℕ) (m s : ℕ) (messages : List MessageTree) (states : List StateTree) (from to : ℕ) (p : PathTree) → path_findings text (names_of_messages messages) (names_of_states states) p ≡ []
+path_known : (text : List ℕ) (m s : ℕ) (messages : List MessageTree) (states : List StateTree) (from to : ℕ) (p : PathTree) → path_mistakes text (names_of_messages messages) (names_of_states states) p ≡ []
     → s ≤ from → from < to → to + length p.others ≤ s + length (counted_states states)
     → All (IsAmong s (length (counted_states states)) m (length messages)) (path_edges (means_in text m s messages states) from to p)
 path_known text m s messages states from to p none low next room =
@@ -111,11 +111,11 @@ path_known text m s messages states from to p none low next room =
     (message_is text m messages p.first.message (nil_left (asked p.first.message) _ none))
     (others_known text m messages p.others (nil_left others _ behind)))
 
-edges_known : (text : List ℕ) (m s : ℕ) (messages : List MessageTree) (states : List StateTree) → flat_map (state_findings text (names_of_messages messages) (names_of_states states)) states ≡ []
+edges_known : (text : List ℕ) (m s : ℕ) (messages : List MessageTree) (states : List StateTree) → flat_map (state_mistakes text (names_of_messages messages) (names_of_states states)) states ≡ []
     → All (IsAmong s (length (counted_states states)) m (length messages)) (edges_from (means_in text m s messages states) s states)
 edges_known text m s messages states none =
     let means = means_in text m s messages states in
-    let findings = path_findings text (names_of_messages messages) (names_of_states states) in
+    let findings = path_mistakes text (names_of_messages messages) (names_of_states states) in
     let n = length (counted_states states) in
     let known = IsAmong s n m (length messages) in
     all_behind known (λ before t. paths_edges means (s + length (counted_states before)) (paths_of t.body)) [] states
@@ -124,7 +124,7 @@ edges_known text m s messages states none =
     let here = ap (λ x. length (counted_in_state x)) is in
     let from = s + length (counted_states (take i states)) in
     let paths = paths_of t.body in
-    let clean : flat_map findings paths ≡ [] = ap (state_findings text (names_of_messages messages) (names_of_states states)) is ∙ nothing_in (state_findings text (names_of_messages messages) (names_of_states states)) states i t lt none in
+    let clean : flat_map findings paths ≡ [] = ap (state_mistakes text (names_of_messages messages) (names_of_states states)) is ∙ nothing_in (state_mistakes text (names_of_messages messages) (names_of_states states)) states i t lt none in
     all_behind known (λ before p. path_edges means from (from + 1 + length (flat_map unnamed_of before)) p) [] paths
     (λ j p within same.
     let room = length-flat_map-take unnamed_of paths j p within in
@@ -137,7 +137,7 @@ edges_known text m s messages states none =
 -- states stand before it.
 whole_of : (text : List ℕ) (m s : ℕ) (name : Span) (messages : List MessageTree) (states : List StateTree) → 0 < length (counted_states states)
     → s + length (counted_states states) ≤ MOST_STATES
-    → flat_map (state_findings text (names_of_messages messages) (names_of_states states)) states ≡ [] → IsWhole (resolved_contract text m s name messages states).parts
+    → flat_map (state_mistakes text (names_of_messages messages) (names_of_states states)) states ≡ [] → IsWhole (resolved_contract text m s name messages states).parts
 whole_of text m s name messages states some few none =
     let counted = flat_map (counted_in text) states in
     let many = as_counted text states in
@@ -161,7 +161,7 @@ whole_of text m s name messages states some few none =
       numbered = all_numbered (λ q. q.0 < MOST_STATES) numbered_state (λ t. t.id) state_id (λ k y. refl) s counted below;
     }
 
-all_whole : (p : Program) (contracts : List ContractTree) → flat_map (contract_findings p) contracts ≡ []
+all_whole : (p : Program) (contracts : List ContractTree) → flat_map (contract_mistakes p) contracts ≡ []
     → state_count contracts ≤ MOST_STATES → All (λ s. IsWhole s.parts) (resolved_contracts p.text contracts)
 all_whole p contracts none few =
     let text = p.text in
@@ -175,15 +175,15 @@ all_whole p contracts none few =
     let within : state_count before + length (counted_states (states_of c)) ≤ MOST_STATES = omega (arith, room, here, few) in
     All-cons whole (seen before c) []
     (whole_of text (message_count before) (state_count before) c.name (messages_of c) (states_of c) (omega arith) within
-    (clean_edges p c (ap (contract_findings p) is ∙ nothing_in (contract_findings p) contracts i c lt none))) (All-nil whole))
+    (clean_edges p c (ap (contract_mistakes p) is ∙ nothing_in (contract_mistakes p) contracts i c lt none))) (All-nil whole))
 
 -- contracts with which nothing is wrong are whole
-pub clean_whole : (p : Program) → contracts_findings p ≡ [] → All (λ s. IsWhole s.parts) (resolved_contracts p.text (contracts_of p.items))
+pub clean_whole : (p : Program) → contracts_mistakes p ≡ [] → All (λ s. IsWhole s.parts) (resolved_contracts p.text (contracts_of p.items))
 clean_whole p nothing = all_whole p (contracts_of p.items) (contracts_clean p nothing) (states_few p nothing)
 
 -- the same of contracts that are seen so
 pub seen_whole : (p : Program) (resolved : List Contract) → map contract_seen resolved ≡ resolved_contracts p.text (contracts_of p.items)
-    → contracts_findings p ≡ [] → All (λ c. IsWhole (contract_parts c)) resolved
+    → contracts_mistakes p ≡ [] → All (λ c. IsWhole (contract_parts c)) resolved
 seen_whole p resolved are nothing = λ k d lt.
     let size = length-map resolved contract_seen in
     let all = subst (All (λ s. IsWhole s.parts)) (sym are) (clean_whole p nothing) in

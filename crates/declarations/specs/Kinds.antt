@@ -1,8 +1,7 @@
 -- What a variable holds, and what an expression gives.
-use Rattle.std.specs.Prelude.{ℕ, Bool, true, false, ◌==◌, ◌&&◌, ◌||◌, not, List, [], ◌∷◌, codes, if◌then◌else◌, Option, None, Some}
+use Rattle.std.specs.Prelude.{ℕ, Bool, true, false, ◌==◌, ◌&&◌, ◌||◌, not, List, [], ◌∷◌, if◌then◌else◌, Option, None, Some}
 use Rattle.source.specs.declared.place.Place.{Place}
 use Rattle.source.specs.declared.token.Span.{Span}
-use Rattle.source.specs.declared.finding.Code.TheVariants.{N03}
 use Rattle.program.specs.declared.kind.Scalar.{Scalar}
 use Rattle.program.specs.declared.kind.Scalar.TheVariants as scalar
 use Rattle.program.specs.declared.kind.Side.{Side}
@@ -12,7 +11,9 @@ use Rattle.tree.specs.declared.types.Type.TheVariants as type
 use Rattle.tree.specs.declared.types.Heap.TheVariants as heap
 use Rattle.tree.specs.Trees.{ContractTree}
 use Rattle.declarations.specs.Declarations.{states_of, names_of_states, is_declared}
-use Rattle.declarations.specs.Found.{FindingParts, unknown}
+use Rattle.declarations.specs.declared.mistake.Mistake.{Mistake}
+use Rattle.declarations.specs.declared.mistake.Mismatch.{Mismatch}
+use Rattle.declarations.specs.declared.mistake.Mistake.TheVariants.{Unknown, WrongType}
 use Rattle.declarations.specs.Program.{Program, contract_named, struct_named}
 use Rattle.program.specs.Kinds.{same_scalar, same_side}
 use Rattle.declarations.specs.declared.kinds.Kind.{Kind}
@@ -60,12 +61,9 @@ alike _ _ = false
 abbrev pub agree : Kind → Kind → Bool
 agree given asked = is_silent given || (is_silent asked || alike given asked)
 
-abbrev pub wrong_type : Place → FindingParts
-wrong_type place = record { place = place; code = N03; text = codes "wrong type" }
-
--- the finding at this place, unless all is well
-abbrev pub unless : Bool → Place → List FindingParts
-unless well place = if well then [] else wrong_type place ∷ []
+-- a wrong type at this place, unless all is well
+abbrev pub unless : Bool → Place → Mismatch → List Mistake
+unless well place mismatch = if well then [] else WrongType place mismatch ∷ []
 
 -- the kind of a type that is written
 abbrev pub endpoint_kind : List ℕ → Option (ℕ × ContractTree) → Side → Option Span → Kind
@@ -85,19 +83,19 @@ type_kind p (type.Heap (heap.Array element bang)) = kind.Array element
 type_kind p (type.Heap (heap.Endpoint contract end state bang in_heap)) = endpoint_kind p.text (contract_named p contract) end state
 
 -- the names in a type that are not declared
-abbrev pub endpoint_unknown : List ℕ → Option (ℕ × ContractTree) → Span → Option Span → List FindingParts
-endpoint_unknown text None contract state = unknown text contract ∷ []
+abbrev pub endpoint_unknown : List ℕ → Option (ℕ × ContractTree) → Span → Option Span → List Mistake
+endpoint_unknown text None contract state = Unknown contract ∷ []
 endpoint_unknown text (Some c) contract None = []
 endpoint_unknown text (Some c) contract (Some state) = if is_declared text (names_of_states (states_of c.1)) state then []
-    else unknown text state ∷ []
+    else Unknown state ∷ []
 
-abbrev pub pointer_unknown : {X : Type 0} → List ℕ → Option X → Span → List FindingParts
-pointer_unknown text None name = unknown text name ∷ []
-pointer_unknown text (Some s) name = []
+abbrev pub pointer_unknown : {X : Type 0} → Option X → Span → List Mistake
+pointer_unknown None name = Unknown name ∷ []
+pointer_unknown (Some s) name = []
 
-abbrev pub type_unknown : Program → type_nodes.Type.Type → List FindingParts
+abbrev pub type_unknown : Program → type_nodes.Type.Type → List Mistake
 type_unknown p (type.Scalar s) = []
-type_unknown p (type.Heap (heap.Pointer name bang)) = pointer_unknown p.text (struct_named p name) name
+type_unknown p (type.Heap (heap.Pointer name bang)) = pointer_unknown (struct_named p name) name
 type_unknown p (type.Heap (heap.Array element bang)) = []
 type_unknown p (type.Heap (heap.Endpoint contract end state bang in_heap)) =
     endpoint_unknown p.text (contract_named p contract) contract state

@@ -1,12 +1,12 @@
 pub mod Declarations
 pub mod Program
-pub mod Found
+pub mod Mistakes
 pub mod Listed
 pub mod Kinds
-pub mod ContractFindings
+pub mod ContractMistakes
 pub mod Named
 pub mod Owning
-pub mod ItemFindings
+pub mod ItemMistakes
 pub mod Resolution
 pub mod Places
 pub mod Outlines

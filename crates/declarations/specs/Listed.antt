@@ -1,23 +1,36 @@
 -- What is wrong with names in a list: one that an earlier one has, one past a limit, one that the list lacks.
-use Rattle.std.specs.Prelude.{ℕ, List, [], ◌∷◌, ◌++◌, slice_get, if◌then◌else◌}
+use Rattle.std.specs.Prelude.{ℕ, List, [], ◌∷◌, ◌++◌, Option, option_and_then, slice_get, if◌then◌else◌}
 use Rattle.std.specs.Option.{option_map_or}
 use Rattle.source.specs.declared.token.Span.{Span}
-use Rattle.declarations.specs.Declarations.{is_declared}
-use Rattle.declarations.specs.Found.{FindingParts, declared_twice, unknown, limit_passed}
+use Rattle.declarations.specs.Declarations.{first_among, is_declared}
+use Rattle.declarations.specs.Mistakes.{most_of}
+use Rattle.declarations.specs.declared.mistake.Limit.{Limit}
+use Rattle.declarations.specs.declared.mistake.Mistake.{Mistake}
+use Rattle.declarations.specs.declared.mistake.Mistake.TheVariants.{DeclaredTwice, LimitPassed, Unknown}
+
+-- the first of these names that is written so
+abbrev pub name_among : List ℕ → List Span → Span → Option Span
+name_among text names name = option_and_then (slice_get names) (first_among text names name)
+
+-- a name that an earlier one has, if one has it
+abbrev pub twice : Span → Option Span → List Mistake
+twice name earlier = option_map_or (λ first. DeclaredTwice name first.place ∷ []) earlier []
 
 -- the names among these that an earlier one has, where others stand before
-abbrev pub twice_behind : List ℕ → List Span → List Span → List FindingParts
+abbrev pub twice_behind : List ℕ → List Span → List Span → List Mistake
 twice_behind text before [] = []
-twice_behind text before (name ∷ names) =
-    (if is_declared text before name then declared_twice text name ∷ [] else []) ++ twice_behind text (before ++ name ∷ []) names
+twice_behind text before (name ∷ names) = twice name (name_among text before name) ++ twice_behind text (before ++ name ∷ []) names
 
-abbrev pub twice_among : List ℕ → List Span → List FindingParts
+abbrev pub twice_among : List ℕ → List Span → List Mistake
 twice_among text names = twice_behind text [] names
 
+abbrev pub limit_passed : Limit → Span → List Mistake
+limit_passed limit name = LimitPassed name.place limit ∷ []
+
 -- the name one past the limit
-abbrev pub past_limit : ℕ → List Span → List FindingParts
-past_limit most names = option_map_or (λ name. limit_passed name ∷ []) (slice_get names most) []
+abbrev pub past_limit : Limit → List Span → List Mistake
+past_limit limit names = option_map_or (limit_passed limit) (slice_get names (most_of limit)) []
 
 -- a name has to be among those that are declared
-abbrev pub asked_name : List ℕ → List Span → Span → List FindingParts
-asked_name text declared name = if is_declared text declared name then [] else unknown text name ∷ []
+abbrev pub asked_name : List ℕ → List Span → Span → List Mistake
+asked_name text declared name = if is_declared text declared name then [] else Unknown name ∷ []

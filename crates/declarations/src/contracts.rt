@@ -3,9 +3,9 @@
 ghost use Rattle.std.specs.Prelude.{◌≡◌, ◌++◌, map, IfOk, OnOk};
 ghost use Rattle.std.specs.List.{flat_map};
 ghost use Rattle.tree.specs.Trees.{ContractTree};
-ghost use Rattle.declarations.specs.ContractFindings.{contract_findings};
-ghost use Rattle.declarations.specs.ItemFindings.{counted_findings};
-ghost use Rattle.declarations.specs.Found.{Adds};
+ghost use Rattle.declarations.specs.ContractMistakes.{contract_mistakes};
+ghost use Rattle.declarations.specs.ItemMistakes.{counted_mistakes};
+ghost use Rattle.declarations.specs.Mistakes.{Adds};
 ghost use Rattle.declarations.specs.Program.{Program};
 ghost use Rattle.declarations.specs.Scopes.{IsScope, IsDeclared, declared_among};
 
@@ -13,10 +13,10 @@ use crate::counted::{all_counted, are_few};
 use crate::judging::{judge_limit, judge_twice};
 use crate::members::{Declared, Members};
 use crate::message_types::judge_messages;
+use crate::mistake::{Limit, Mistake};
 use crate::scope::Scope;
 use crate::state_paths::judge_states;
-use program::{MOST_CONTRACTS, MOST_STATES};
-use source::{Finding, Memory, Span};
+use source::{Memory, Span};
 use std::alloc::{AllocError, Global};
 
 /// Adds what is wrong with the names of a contract.
@@ -26,17 +26,17 @@ pub fn judge_contract(
     alloc: Global,
     scope: &Scope<'_>,
     declared: &Declared<'_>,
-    found: &mut Vec<Finding>,
+    found: &mut Vec<Mistake>,
 ) -> Result<(), Memory>
     ensures { (p : Program) (contract : ContractTree) → IsScope p scope.now → IsDeclared p.text contract declared.now
-        → OnOk result (Adds found.old.items found.new.items (contract_findings p contract)) }
+        → OnOk result (Adds found.old.items found.new.items (contract_mistakes p contract)) }
 {
     let messages = declared.outline.message_names(alloc)?;
-    judge_twice(alloc, scope.text, &declared.messages, &messages, found)?;
+    judge_twice(scope.text, &declared.messages, &messages, found)?;
     let states = declared.outline.state_names(alloc)?;
-    judge_twice(alloc, scope.text, &declared.states, &states, found)?;
+    judge_twice(scope.text, &declared.states, &states, found)?;
     judge_messages(alloc, scope, &declared.outline.messages, found)?;
-    judge_states(alloc, scope.text, declared, found)
+    judge_states(scope.text, declared, found)
 }
 
 /// Adds the contract, and the state, one past the limit.
@@ -45,17 +45,17 @@ pub fn judge_contract(
 pub fn judge_counted(
     alloc: Global,
     scope: &Scope<'_>,
-    found: &mut Vec<Finding>,
+    found: &mut Vec<Mistake>,
 ) -> Result<(), Memory>
-    ensures { (p : Program) → IsScope p scope.now → OnOk result (Adds found.old.items found.new.items (counted_findings p)) }
+    ensures { (p : Program) → IsScope p scope.now → OnOk result (Adds found.old.items found.new.items (counted_mistakes p)) }
 {
     let names = contract_names(alloc, &scope.members)?;
-    judge_limit(alloc, MOST_CONTRACTS, &names, found)?;
-    if are_few(&scope.members, MOST_STATES) {
+    judge_limit(Limit::Contracts, &names, found)?;
+    if are_few(&scope.members, Limit::States.most()) {
         return Ok(());
     }
     let counted = all_counted(alloc, &scope.members)?;
-    judge_limit(alloc, MOST_STATES, &counted, found)
+    judge_limit(Limit::States, &counted, found)
 }
 
 /// The names of the contracts among these, in order.

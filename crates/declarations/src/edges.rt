@@ -4,7 +4,7 @@ ghost use Rattle.std.specs.Prelude.{◌≡◌, ◌++◌, ◌+◌, ◌^◌, ◌<�
 ghost use Rattle.std.specs.List.{flat_map};
 ghost use Rattle.tree.specs.Trees.{path_tree};
 ghost use Rattle.declarations.specs.Declarations.{unnamed_of};
-ghost use Rattle.declarations.specs.ContractFindings.{path_findings, state_findings};
+ghost use Rattle.declarations.specs.ContractMistakes.{path_mistakes, state_mistakes};
 ghost use Rattle.declarations.specs.Meant.{IsMeaning, meanings, message_names, state_names, text_of, states_in};
 ghost use Rattle.declarations.specs.Resolution.{path_edges, paths_edges, edges_from};
 
@@ -18,7 +18,7 @@ use tree::Path;
 /// The edges, in order of the text.
 pub(crate) fn edges_of(alloc: Global, meaning: &Meaning<'_, '_>) -> Result<Vec<Edge>, Memory>
     requires meaning { IsMeaning meaning.now }
-    requires clean { flat_map (state_findings (text_of meaning.now) (message_names meaning.now) (state_names meaning.now))
+    requires clean { flat_map (state_mistakes (text_of meaning.now) (message_names meaning.now) (state_names meaning.now))
         (states_in meaning.now) ≡ [] }
     ensures { IfOk result (λ edges. edges.items ≡ edges_from (meanings meaning.now) meaning.now.states_before (states_in meaning.now)) }
 {
@@ -39,7 +39,7 @@ fn add_paths(
     edges: &mut Vec<Edge>,
 ) -> Result<(), Memory>
     requires meaning { IsMeaning meaning.now }
-    requires clean { flat_map (path_findings (text_of meaning.now) (message_names meaning.now) (state_names meaning.now))
+    requires clean { flat_map (path_mistakes (text_of meaning.now) (message_names meaning.now) (state_names meaning.now))
         (map path_tree paths.now) ≡ [] }
     requires room { state + 1 + length (flat_map unnamed_of (map path_tree paths.now)) < 2 ^ 32 }
     ensures { OnOk result (edges.new.items ≡ edges.old.items ++ paths_edges (meanings meaning.now) state (map path_tree paths.now)) }
@@ -61,7 +61,7 @@ fn add_path(
     edges: &mut Vec<Edge>,
 ) -> Result<(), Memory>
     requires meaning { IsMeaning meaning.now }
-    requires clean { path_findings (text_of meaning.now) (message_names meaning.now) (state_names meaning.now) (path_tree path.now) ≡ [] }
+    requires clean { path_mistakes (text_of meaning.now) (message_names meaning.now) (state_names meaning.now) (path_tree path.now) ≡ [] }
     requires room { unnamed + length path.now.others.items < 2 ^ 32 }
     ensures { OnOk result (edges.new.items ≡ edges.old.items ++ path_edges (meanings meaning.now) state unnamed (path_tree path.now)) }
 {

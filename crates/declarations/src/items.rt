@@ -3,8 +3,8 @@
 ghost use Rattle.std.specs.Prelude.{◌≡◌, ◌++◌, map, IfOk, OnOk};
 ghost use Rattle.std.specs.List.{flat_map};
 ghost use Rattle.tree.specs.Trees.{ClassTree, StructTree, item_tree, definition_tree, method_tree};
-ghost use Rattle.declarations.specs.Found.{Adds};
-ghost use Rattle.declarations.specs.ItemFindings.{struct_findings, items_findings, methods_in};
+ghost use Rattle.declarations.specs.Mistakes.{Adds};
+ghost use Rattle.declarations.specs.ItemMistakes.{struct_mistakes, items_mistakes, methods_in};
 ghost use Rattle.declarations.specs.Kinds.{type_unknown};
 ghost use Rattle.declarations.specs.Listed.{twice_among};
 ghost use Rattle.declarations.specs.Program.{Program};
@@ -13,23 +13,23 @@ ghost use Rattle.declarations.specs.Scopes.{IsScope, AreFields, AreMethods};
 use crate::fields::{Fields, names_of_fields};
 use crate::judging::{judge_limit, judge_twice};
 use crate::members::{Methods, names_of_methods};
+use crate::mistake::{Limit, Mistake};
 use crate::scope::{Scope, names_of_items};
 use crate::types::judge_type;
-use program::{MOST_FIELDS, MOST_METHODS};
-use source::{Finding, Memory, Span};
+use source::{Memory, Span};
 use std::alloc::{AllocError, Global};
 use tree::{Definition, Field, Item, Method};
 
 /// Adds each item whose name an earlier one has, and the method one past the limit.
 ///
 /// `Memory` is returned if a growth was refused.
-pub fn judge_items(alloc: Global, scope: &Scope<'_>, found: &mut Vec<Finding>) -> Result<(), Memory>
-    ensures { (p : Program) → IsScope p scope.now → OnOk result (Adds found.old.items found.new.items (items_findings p)) }
+pub fn judge_items(alloc: Global, scope: &Scope<'_>, found: &mut Vec<Mistake>) -> Result<(), Memory>
+    ensures { (p : Program) → IsScope p scope.now → OnOk result (Adds found.old.items found.new.items (items_mistakes p)) }
 {
     let names = names_of_items(alloc, scope.items)?;
-    judge_twice(alloc, scope.text, &scope.names, &names, found)?;
+    judge_twice(scope.text, &scope.names, &names, found)?;
     let methods = all_method_names(alloc, scope.items)?;
-    judge_limit(alloc, MOST_METHODS, &methods, found)
+    judge_limit(Limit::Methods, &methods, found)
 }
 
 /// Adds each field of a struct whose name an earlier one has, the names in the types of its fields that are not declared,
@@ -40,29 +40,24 @@ pub fn judge_struct(
     alloc: Global,
     scope: &Scope<'_>,
     fields: &Fields<'_>,
-    found: &mut Vec<Finding>,
+    found: &mut Vec<Mistake>,
 ) -> Result<(), Memory>
     ensures { (p : Program) (s : StructTree) → IsScope p scope.now → AreFields p.text s fields.now
-        → OnOk result (Adds found.old.items found.new.items (struct_findings p s)) }
+        → OnOk result (Adds found.old.items found.new.items (struct_mistakes p s)) }
 {
     let names = names_of_fields(alloc, fields.list)?;
-    judge_twice(alloc, scope.text, &fields.table, &names, found)?;
-    judge_types(alloc, scope, fields.list, found)?;
+    judge_twice(scope.text, &fields.table, &names, found)?;
+    judge_types(scope, fields.list, found)?;
     let owning = names_of_fields(alloc, &fields.owning)?;
-    judge_limit(alloc, MOST_FIELDS, &owning, found)
+    judge_limit(Limit::Fields, &owning, found)
 }
 
-fn judge_types(
-    alloc: Global,
-    scope: &Scope<'_>,
-    fields: &[Field],
-    found: &mut Vec<Finding>,
-) -> Result<(), Memory>
+fn judge_types(scope: &Scope<'_>, fields: &[Field], found: &mut Vec<Mistake>) -> Result<(), Memory>
     ensures { (p : Program) → IsScope p scope.now
         → OnOk result (Adds found.old.items found.new.items (flat_map (λ f. type_unknown p f.kind) fields.now)) }
 {
     for field in fields {
-        judge_type(alloc, scope, field.kind, found)?;
+        judge_type(scope, field.kind, found)?;
     }
     Ok(())
 }
@@ -74,13 +69,13 @@ pub fn judge_method_names(
     alloc: Global,
     scope: &Scope<'_>,
     methods: &Methods<'_>,
-    found: &mut Vec<Finding>,
+    found: &mut Vec<Mistake>,
 ) -> Result<(), Memory>
     ensures { (p : Program) (c : ClassTree) → IsScope p scope.now → AreMethods p.text c methods.now
         → OnOk result (Adds found.old.items found.new.items (twice_among p.text (map (λ m. m.name) c.methods))) }
 {
     let names = names_of_methods(alloc, methods.list)?;
-    judge_twice(alloc, scope.text, &methods.table, &names, found)
+    judge_twice(scope.text, &methods.table, &names, found)
 }
 
 /// The names of all methods in these items, in order.

@@ -2,54 +2,60 @@
 
 ghost use Rattle.std.specs.Prelude.{◌≡◌, List, ◌∷◌, [], OnOk, slice_get};
 ghost use Rattle.source.specs.declared.token.Span.{Span};
-ghost use Rattle.declarations.specs.Listed.{twice_among, past_limit, asked_name};
-ghost use Rattle.declarations.specs.Found.{Adds, unknown};
+ghost use Rattle.declarations.specs.Listed.{asked_name, name_among, past_limit, twice, twice_among};
+ghost use Rattle.declarations.specs.Mistakes.{Adds};
 ghost use Rattle.tables.specs.Tables.{IsTable};
 ghost use Rattle.tables.specs.Words.{words_at};
 
-use source::{Finding, Memory, Span, texts};
-use std::alloc::Global;
+use crate::mistake::{Limit, Mistake};
+use source::{Memory, Span};
 use tables::Table;
 
 /// Adds a name that nothing declares.
 ///
 /// `Memory` is returned if a growth was refused.
-pub fn add_unknown(
-    alloc: Global,
-    text: &[u8],
-    name: Span,
-    found: &mut Vec<Finding>,
-) -> Result<(), Memory>
-    ensures { OnOk result (Adds found.old.items found.new.items (unknown text.now name ∷ [])) }
+pub fn add_unknown(name: Span, found: &mut Vec<Mistake>) -> Result<(), Memory>
+    ensures { OnOk result (Adds found.old.items found.new.items (Mistake.Unknown name ∷ [])) }
 {
-    found.push(texts::unknown(alloc, name.place, name.slice(text))?)?;
+    found.push(Mistake::Unknown(name))?;
     Ok(())
 }
 
 /// Adds the name if its table lacks it.
 pub(crate) fn judge_name(
-    alloc: Global,
     text: &[u8],
     table: &Table<'_>,
     name: Span,
-    found: &mut Vec<Finding>,
+    found: &mut Vec<Mistake>,
 ) -> Result<(), Memory>
     ensures { (names : List Span) → IsTable (words_at text.now names) table.now
         → OnOk result (Adds found.old.items found.new.items (asked_name text.now names name)) }
 {
     match table.find(name.slice(text)) {
         Some(_) => Ok(()),
-        None => add_unknown(alloc, text, name, found),
+        None => add_unknown(name, found),
     }
+}
+
+/// Adds a name that an earlier one has, if one has it.
+///
+/// `Memory` is returned if a growth was refused.
+pub fn add_twice(name: Span, earlier: Option<Span>, found: &mut Vec<Mistake>) -> Result<(), Memory>
+    ensures { OnOk result (Adds found.old.items found.new.items (twice name earlier)) }
+{
+    match earlier {
+        Some(first) => found.push(Mistake::DeclaredTwice(name, first.place))?,
+        None => {}
+    }
+    Ok(())
 }
 
 /// Adds each name that an earlier one has.
 pub(crate) fn judge_twice(
-    alloc: Global,
     text: &[u8],
     table: &Table<'_>,
     names: &[Span],
-    found: &mut Vec<Finding>,
+    found: &mut Vec<Mistake>,
 ) -> Result<(), Memory>
     ensures { IsTable (words_at text.now names.now) table.now
         → OnOk result (Adds found.old.items found.new.items (twice_among text.now names.now)) }
@@ -58,25 +64,31 @@ pub(crate) fn judge_twice(
         return Ok(());
     }
     for (place, name) in names.iter().enumerate() {
-        let word = name.slice(text);
-        if !table.is_first(word, place) {
-            found.push(texts::declared_twice(alloc, name.place, word)?)?;
+        if !table.is_first(name.slice(text), place) {
+            add_twice(*name, first_named(text, table, names, *name), found)?;
         }
     }
     Ok(())
 }
 
+/// The first of these names that is written so.
+fn first_named(text: &[u8], table: &Table<'_>, names: &[Span], name: Span) -> Option<Span>
+    ensures { IsTable (words_at text.now names.now) table.now → result ≡ name_among text.now names.now name }
+{
+    let first = table.find(name.slice(text))?;
+    name_at(names, first)
+}
+
 /// Adds the name one past the limit.
 pub(crate) fn judge_limit(
-    alloc: Global,
-    most: usize,
+    limit: Limit,
     names: &[Span],
-    found: &mut Vec<Finding>,
+    found: &mut Vec<Mistake>,
 ) -> Result<(), Memory>
-    ensures { OnOk result (Adds found.old.items found.new.items (past_limit most names.now)) }
+    ensures { OnOk result (Adds found.old.items found.new.items (past_limit limit names.now)) }
 {
-    match name_at(names, most) {
-        Some(name) => found.push(texts::limit_passed(alloc, name.place)?)?,
+    match name_at(names, limit.most()) {
+        Some(name) => found.push(Mistake::LimitPassed(name.place, limit))?,
         None => {}
     }
     Ok(())

@@ -3,17 +3,17 @@
 ghost use Rattle.std.specs.Prelude.{◌≡◌, map, OnOk, IfOk};
 ghost use Rattle.std.specs.List.{flat_map};
 ghost use Rattle.tree.specs.Trees.{message_tree};
-ghost use Rattle.declarations.specs.ContractFindings.{message_findings, param_names};
-ghost use Rattle.declarations.specs.Found.{Adds};
+ghost use Rattle.declarations.specs.ContractMistakes.{message_mistakes, param_names};
+ghost use Rattle.declarations.specs.Mistakes.{Adds};
 ghost use Rattle.declarations.specs.Kinds.{type_unknown};
 ghost use Rattle.declarations.specs.Program.{Program};
 ghost use Rattle.declarations.specs.Scopes.{IsScope};
 
 use crate::judging::{judge_limit, judge_twice};
+use crate::mistake::{Limit, Mistake};
 use crate::scope::Scope;
 use crate::types::judge_type;
-use program::MOST_PARAMETERS;
-use source::{Finding, Memory, Span};
+use source::{Memory, Span};
 use std::alloc::Global;
 use tables::Table;
 use tree::{Message, Param};
@@ -23,29 +23,24 @@ pub(crate) fn judge_message(
     alloc: Global,
     scope: &Scope<'_>,
     message: &Message,
-    found: &mut Vec<Finding>,
+    found: &mut Vec<Mistake>,
 ) -> Result<(), Memory>
     ensures { (p : Program) → IsScope p scope.now
-        → OnOk result (Adds found.old.items found.new.items (message_findings p (message_tree message.now))) }
+        → OnOk result (Adds found.old.items found.new.items (message_mistakes p (message_tree message.now))) }
 {
-    judge_types(alloc, scope, &message.params, found)?;
+    judge_types(scope, &message.params, found)?;
     let names = names_of(alloc, &message.params)?;
     let table = Table::of(alloc, scope.text, &names)?;
-    judge_twice(alloc, scope.text, &table, &names, found)?;
-    judge_limit(alloc, MOST_PARAMETERS, &names, found)
+    judge_twice(scope.text, &table, &names, found)?;
+    judge_limit(Limit::Parameters, &names, found)
 }
 
-fn judge_types(
-    alloc: Global,
-    scope: &Scope<'_>,
-    params: &[Param],
-    found: &mut Vec<Finding>,
-) -> Result<(), Memory>
+fn judge_types(scope: &Scope<'_>, params: &[Param], found: &mut Vec<Mistake>) -> Result<(), Memory>
     ensures { (p : Program) → IsScope p scope.now
         → OnOk result (Adds found.old.items found.new.items (flat_map (λ x. type_unknown p x.kind) params.now)) }
 {
     for param in params {
-        judge_type(alloc, scope, param.kind, found)?;
+        judge_type(scope, param.kind, found)?;
     }
     Ok(())
 }
@@ -65,10 +60,10 @@ pub(crate) fn judge_messages(
     alloc: Global,
     scope: &Scope<'_>,
     messages: &[&Message],
-    found: &mut Vec<Finding>,
+    found: &mut Vec<Mistake>,
 ) -> Result<(), Memory>
     ensures { (p : Program) → IsScope p scope.now → OnOk result
-        (Adds found.old.items found.new.items (flat_map (message_findings p) (map (λ m. message_tree m.now) messages.now))) }
+        (Adds found.old.items found.new.items (flat_map (message_mistakes p) (map (λ m. message_tree m.now) messages.now))) }
 {
     for message in messages {
         judge_message(alloc, scope, message, found)?;

@@ -3,7 +3,7 @@
 ghost use Rattle.std.specs.Prelude.{◌≡◌, [], ◌∷◌, ◌++◌, ◌+◌, ◌^◌, ◌<◌, All, length, map, IfOk, OnOk};
 ghost use Rattle.tree.specs.Trees.{contracts_of};
 ghost use Rattle.declarations.specs.Declarations.{counted_states};
-ghost use Rattle.declarations.specs.ItemFindings.{contracts_findings};
+ghost use Rattle.declarations.specs.ItemMistakes.{contracts_mistakes};
 ghost use Rattle.declarations.specs.Outlines.{outlined_messages, outlined_states};
 ghost use Rattle.declarations.specs.Ready.{IsReady, declared_in, declared_messages, declared_states, resolved_declared, all_resolved};
 ghost use Rattle.declarations.specs.Resolution.{message_count, resolved_contracts};
@@ -29,7 +29,7 @@ use std::alloc::Global;
 /// `Memory` is returned if a growth was refused.
 pub fn resolve_contracts(alloc: Global, scope: &Scope<'_>) -> Result<Vec<Contract>, Memory>
     requires scope { IsScope (program_of_scope scope.now) scope.now }
-    requires clean { contracts_findings (program_of_scope scope.now) ≡ [] }
+    requires clean { contracts_mistakes (program_of_scope scope.now) ≡ [] }
     requires few { message_count (contracts_of (program_of_scope scope.now).items) < 2 ^ 32 }
     ensures resolved { IfOk result (λ contracts. map contract_seen contracts.items
         ≡ resolved_contracts scope.now.text.now (contracts_of (program_of_scope scope.now).items)) }

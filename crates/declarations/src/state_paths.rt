@@ -4,8 +4,8 @@ ghost use Rattle.std.specs.Prelude.{List, OnOk};
 ghost use Rattle.std.specs.List.{flat_map};
 ghost use Rattle.source.specs.declared.token.Span.{Span};
 ghost use Rattle.tree.specs.Trees.{path_tree, state_tree};
-ghost use Rattle.declarations.specs.ContractFindings.{path_findings, state_findings};
-ghost use Rattle.declarations.specs.Found.{Adds};
+ghost use Rattle.declarations.specs.ContractMistakes.{path_mistakes, state_mistakes};
+ghost use Rattle.declarations.specs.Mistakes.{Adds};
 ghost use Rattle.declarations.specs.Listed.{asked_name};
 ghost use Rattle.declarations.specs.Outlines.{outlined_states};
 ghost use Rattle.tables.specs.Tables.{IsTable};
@@ -13,75 +13,71 @@ ghost use Rattle.tables.specs.Words.{words_at};
 
 use crate::judging::judge_name;
 use crate::members::Declared;
+use crate::mistake::Mistake;
 use crate::outline::paths;
-use source::{Finding, Memory};
-use std::alloc::Global;
+use source::Memory;
 use tables::Table;
 use tree::{Edge, Path, State};
 
 /// Adds the messages and states on the paths of a state that its contract does not declare.
 pub(crate) fn judge_state(
-    alloc: Global,
     text: &[u8],
     declared: &Declared<'_>,
     state: &State,
-    found: &mut Vec<Finding>,
+    found: &mut Vec<Mistake>,
 ) -> Result<(), Memory>
     ensures { (messages states : List Span) → IsTable (words_at text.now messages) declared.now.messages
         → IsTable (words_at text.now states) declared.now.states → OnOk result
-        (Adds found.old.items found.new.items (state_findings text.now messages states (state_tree state.now))) }
+        (Adds found.old.items found.new.items (state_mistakes text.now messages states (state_tree state.now))) }
 {
     for path in paths(state) {
-        judge_path(alloc, text, declared, path, found)?;
+        judge_path(text, declared, path, found)?;
     }
     Ok(())
 }
 
 fn judge_path(
-    alloc: Global,
     text: &[u8],
     declared: &Declared<'_>,
     path: &Path,
-    found: &mut Vec<Finding>,
+    found: &mut Vec<Mistake>,
 ) -> Result<(), Memory>
     ensures { (messages states : List Span) → IsTable (words_at text.now messages) declared.now.messages
         → IsTable (words_at text.now states) declared.now.states → OnOk result
-        (Adds found.old.items found.new.items (path_findings text.now messages states (path_tree path.now))) }
+        (Adds found.old.items found.new.items (path_mistakes text.now messages states (path_tree path.now))) }
 {
-    judge_name(alloc, text, &declared.messages, path.first.message, found)?;
-    judge_edges(alloc, text, &declared.messages, &path.others, found)?;
-    judge_name(alloc, text, &declared.states, path.target, found)
+    judge_name(text, &declared.messages, path.first.message, found)?;
+    judge_edges(text, &declared.messages, &path.others, found)?;
+    judge_name(text, &declared.states, path.target, found)
 }
 
 fn judge_edges(
-    alloc: Global,
     text: &[u8],
     table: &Table<'_>,
     edges: &[Edge],
-    found: &mut Vec<Finding>,
+    found: &mut Vec<Mistake>,
 ) -> Result<(), Memory>
     ensures { (names : List Span) → IsTable (words_at text.now names) table.now → OnOk result
         (Adds found.old.items found.new.items (flat_map (λ e. asked_name text.now names e.message) edges.now)) }
 {
     for edge in edges {
-        judge_name(alloc, text, table, edge.message, found)?;
+        judge_name(text, table, edge.message, found)?;
     }
     Ok(())
 }
 
 /// Adds the messages and states on the paths of these states that their contract does not declare.
 pub(crate) fn judge_states(
-    alloc: Global,
     text: &[u8],
     declared: &Declared<'_>,
-    found: &mut Vec<Finding>,
+    found: &mut Vec<Mistake>,
 ) -> Result<(), Memory>
     ensures { (messages states : List Span) → IsTable (words_at text.now messages) declared.now.messages
         → IsTable (words_at text.now states) declared.now.states → OnOk result (Adds found.old.items found.new.items
-        (flat_map (state_findings text.now messages states) (outlined_states declared.now.outline))) }
+        (flat_map (state_mistakes text.now messages states) (outlined_states declared.now.outline))) }
 {
     for state in &declared.outline.states {
-        judge_state(alloc, text, declared, state, found)?;
+        judge_state(text, declared, state, found)?;
     }
     Ok(())
 }

@@ -2,7 +2,7 @@
 
 ghost use Rattle.std.specs.Prelude.{◌≡◌, OnOk};
 ghost use Rattle.tree.specs.Trees.{ContractTree};
-ghost use Rattle.declarations.specs.Found.{Adds};
+ghost use Rattle.declarations.specs.Mistakes.{Adds};
 ghost use Rattle.declarations.specs.Kinds.{is_heap, type_kind, pointer_kind, endpoint_kind};
 ghost use Rattle.declarations.specs.Kinds.{type_unknown, pointer_unknown, endpoint_unknown};
 ghost use Rattle.declarations.specs.Program.{Program, contract_named, struct_named};
@@ -11,10 +11,10 @@ ghost use Rattle.declarations.specs.Scopes.{IsScope, IsDeclared};
 use crate::judging::{add_unknown, judge_name};
 use crate::kinds::Kind;
 use crate::members::Declared;
+use crate::mistake::Mistake;
 use crate::scope::Scope;
 use program::Side;
-use source::{Finding, Memory, Span};
-use std::alloc::Global;
+use source::{Memory, Span};
 use tree::{Heap, Type};
 
 /// Whether it is a type of the exchange heap.
@@ -113,71 +113,55 @@ fn kind_of_end_in(
 /// Adds the names in a type that are not declared.
 ///
 /// `Memory` is returned if a growth was refused.
-pub fn judge_type(
-    alloc: Global,
-    scope: &Scope<'_>,
-    kind: Type,
-    found: &mut Vec<Finding>,
-) -> Result<(), Memory>
+pub fn judge_type(scope: &Scope<'_>, kind: Type, found: &mut Vec<Mistake>) -> Result<(), Memory>
     ensures { (p : Program) → IsScope p scope.now → OnOk result (Adds found.old.items found.new.items (type_unknown p kind)) }
 {
     match kind {
         Type::Scalar(_) => Ok(()),
-        Type::Heap(heap) => judge_heap(alloc, scope, heap, found),
+        Type::Heap(heap) => judge_heap(scope, heap, found),
     }
 }
 
-fn judge_heap(
-    alloc: Global,
-    scope: &Scope<'_>,
-    kind: Heap,
-    found: &mut Vec<Finding>,
-) -> Result<(), Memory>
+fn judge_heap(scope: &Scope<'_>, kind: Heap, found: &mut Vec<Mistake>) -> Result<(), Memory>
     ensures { (p : Program) → IsScope p scope.now → OnOk result (Adds found.old.items found.new.items (type_unknown p (Type.Heap kind))) }
 {
     match kind {
-        Heap::Pointer { name, .. } => judge_pointer(alloc, scope, name, found),
+        Heap::Pointer { name, .. } => judge_pointer(scope, name, found),
         Heap::Array { .. } => Ok(()),
         Heap::Endpoint {
             contract,
             state,
             ..
-        } => judge_endpoint(alloc, scope, contract, state, found),
+        } => judge_endpoint(scope, contract, state, found),
     }
 }
 
 /// Adds the name unless a struct has it.
-fn judge_pointer(
-    alloc: Global,
-    scope: &Scope<'_>,
-    name: Span,
-    found: &mut Vec<Finding>,
-) -> Result<(), Memory>
+fn judge_pointer(scope: &Scope<'_>, name: Span, found: &mut Vec<Mistake>) -> Result<(), Memory>
     ensures { (p : Program) → IsScope p scope.now
-        → OnOk result (Adds found.old.items found.new.items (pointer_unknown p.text (struct_named p name) name)) }
+        → OnOk result (Adds found.old.items found.new.items (pointer_unknown (struct_named p name) name)) }
 {
     match scope.structure(name) {
         Some(_) => Ok(()),
-        None => add_unknown(alloc, scope.text, name, found),
+        None => add_unknown(name, found),
     }
 }
 
 /// Adds the contract, or the state, of an endpoint's type if it is not declared.
 fn judge_endpoint(
-    alloc: Global,
     scope: &Scope<'_>,
     contract: Span,
     state: Option<Span>,
-    found: &mut Vec<Finding>,
+    found: &mut Vec<Mistake>,
 ) -> Result<(), Memory>
     ensures { (p : Program) → IsScope p scope.now
         → OnOk result (Adds found.old.items found.new.items (endpoint_unknown p.text (contract_named p contract) contract state)) }
 {
     match (scope.contract(contract), state) {
         (Some((_, declared)), Some(state)) => {
-            judge_name(alloc, scope.text, &declared.states, state, found)
+            judge_name(scope.text, &declared.states, state, found)
         }
         (Some(_), None) => Ok(()),
-        (None, _) => add_unknown(alloc, scope.text, contract, found),
+        (None, _) => add_unknown(contract, found),
     }
 }

@@ -1,7 +1,7 @@
 -- The names that a case binds, one after another.
 use Rattle.std.proofs.Common.{◌≡◌, ℕ, zero, suc, ◌+◌, ◌<◌, List, [], ◌∷◌, length, drop, get_or, Option, Some, None, sym, refl, ap, ◌∙◌, subst, arith, add-one}
 use Rattle.std.specs.Prelude.{slice_get}
-use Rattle.source.specs.declared.finding.Finding.{Finding}
+use Rattle.declarations.specs.declared.mistake.Mistake.{Mistake}
 use Rattle.tree.specs.declared.statement.Bind.{Bind}
 use Rattle.tree.specs.declared.contract.Param.{Param}
 use Rattle.names.specs.Cases.{bind_turn, binds_turn}
@@ -25,7 +25,7 @@ next_bound p (x ∷ params) (c ∷ binds) zero d b lt is = ap (λ k. bound_next 
 next_bound p [] (c ∷ binds) (suc i) d b lt is = ap (λ ps. binds_turn p ps (drop i binds)) (sym (none_left i)) ∙ next_bound p [] binds i d b (omega (arith, lt)) is
 next_bound p (x ∷ params) (c ∷ binds) (suc i) d b lt is = next_bound p params binds i d b (omega (arith, lt)) is
 
-pub bound_less : {text : List ℕ} {old mid : List Finding} {v : Variables} {whole : Turn} (p : Program) (params : List Param) (binds : List Bind) (i : ℕ) (d b : Bind) (param : Option Param) → i < length binds → b ≡ get_or binds i d → param ≡ slice_get params i
+pub bound_less : {text : List ℕ} {old mid : List Mistake} {v : Variables} {whole : Turn} (p : Program) (params : List Param) (binds : List Bind) (i : ℕ) (d b : Bind) (param : Option Param) → i < length binds → b ≡ get_or binds i d → param ≡ slice_get params i
     → Ongoing text old mid v whole (binds_turn p (drop i params) (drop i binds))
     → Ongoing text old mid v whole (λ f. follow (bind_turn p param b f) (binds_turn p (drop (i + 1) params) (drop (i + 1) binds)))
 bound_less {text = text} {old = old} {mid = mid} {v = v} {whole = whole} p params binds i d b param lt is at o =

@@ -5,7 +5,7 @@ use Rattle.std.specs.Option.{option_map}
 use Rattle.std.proofs.Math.ListN.{get_or-map}
 use Rattle.std.proofs.Math.Seq.{drop-cons}
 use Rattle.std.proofs.lemmas.List.{drop_all}
-use Rattle.source.specs.declared.finding.Finding.{Finding}
+use Rattle.declarations.specs.declared.mistake.Mistake.{Mistake}
 use Rattle.tree.specs.StatementTrees as trees
 use Rattle.tree.specs.StatementTrees.{BlockTree, CaseTree, block_tree, test_tree, case_tree, case_row, other_row, switch_tree}
 use Rattle.tree.specs.declared.statement as made
@@ -16,14 +16,14 @@ use Rattle.names.specs.declared.variables.Variables.{Variables}
 use Rattle.names.proofs.TurnLemmas.{Ongoing}
 
 -- behind the last test of an `if` its last block is left
-pub last_branch : {text : List ℕ} {old mid : List Finding} {v : Variables} {whole : Turn} (m : Surroundings) (ts : List made.Test.Test) (i : ℕ) (otherwise : Option made.Block.Block) (block : made.Block.Block) → length ts ≤ i → otherwise ≡ Some block
+pub last_branch : {text : List ℕ} {old mid : List Mistake} {v : Variables} {whole : Turn} (m : Surroundings) (ts : List made.Test.Test) (i : ℕ) (otherwise : Option made.Block.Block) (block : made.Block.Block) → length ts ≤ i → otherwise ≡ Some block
     → Ongoing text old mid v whole (others_turn m (other_row (map test_tree (drop i ts)) (option_map block_tree otherwise))) → Ongoing text old mid v whole (block_turn m (block_tree block))
 last_branch {text = text} {old = old} {mid = mid} {v = v} {whole = whole} m ts i otherwise block past is o =
     subst (λ last. Ongoing text old mid v whole (others_turn m (other_row [] (option_map block_tree last)))) is
     (subst (λ rest. Ongoing text old mid v whole (others_turn m (other_row (map test_tree rest) (option_map block_tree otherwise)))) (drop_all i ts past) o)
 
 -- behind the last test of an `if` with no last block nothing is left
-pub no_branch : {text : List ℕ} {old mid : List Finding} {v : Variables} {whole : Turn} (m : Surroundings) (ts : List made.Test.Test) (i : ℕ) (otherwise : Option made.Block.Block) → length ts ≤ i → otherwise ≡ None
+pub no_branch : {text : List ℕ} {old mid : List Mistake} {v : Variables} {whole : Turn} (m : Surroundings) (ts : List made.Test.Test) (i : ℕ) (otherwise : Option made.Block.Block) → length ts ≤ i → otherwise ≡ None
     → Ongoing text old mid v whole (others_turn m (other_row (map test_tree (drop i ts)) (option_map block_tree otherwise))) → Ongoing text old mid v whole (turn [])
 no_branch {text = text} {old = old} {mid = mid} {v = v} {whole = whole} m ts i otherwise past is o =
     subst (λ last. Ongoing text old mid v whole (others_turn m (other_row [] (option_map block_tree last)))) is

@@ -5,35 +5,33 @@ use Rattle.std.specs.List.{flat_map}
 use Rattle.std.proofs.lemmas.Bool.{eqb-true}
 use Rattle.std.proofs.lemmas.List.{nil_from_length}
 use Rattle.lemmas.proofs.Lists.{nil_left, nil_right}
-use Rattle.source.specs.declared.finding.Finding.{Finding}
+use Rattle.declarations.specs.declared.mistake.Mistake.{Mistake}
 use Rattle.tree.specs.Trees.{ContractTree, DefinitionTree, Contract, Struct, Class, ItemTree, contract_of, contracts_of, item_tree}
 use Rattle.tree.specs.declared.item as tree
-use Rattle.declarations.specs.ContractFindings.{contract_findings}
-use Rattle.declarations.specs.Found.{Adds}
-use Rattle.declarations.specs.ItemFindings.{contracts_findings, counted_findings, items_findings}
+use Rattle.declarations.specs.ContractMistakes.{contract_mistakes}
+use Rattle.declarations.specs.ItemMistakes.{contracts_mistakes, counted_mistakes, items_mistakes}
 use Rattle.declarations.specs.Program.{Program}
 use Rattle.declarations.specs.Scopes.{IsScope, program_of_scope}
 use Rattle.declarations.specs.declared.scope.Scope.{Scope}
-use Rattle.names.specs.Findings.{definition_findings, program_findings}
-use Rattle.names.proofs.FoundLemmas.{nothing_found}
+use Rattle.names.specs.Findings.{definition_mistakes, program_mistakes}
 
 -- where nothing is wrong within the items, nothing is within the contracts among them
-one_clean : (p : Program) (d : DefinitionTree) (cs : List ContractTree) → definition_findings p d ≡ [] → flat_map (contract_findings p) cs ≡ [] → flat_map (contract_findings p) (contract_of d ++ cs) ≡ []
-one_clean p (Contract c) cs none rest = ap (λ l. l ++ flat_map (contract_findings p) cs) none ∙ rest
+one_clean : (p : Program) (d : DefinitionTree) (cs : List ContractTree) → definition_mistakes p d ≡ [] → flat_map (contract_mistakes p) cs ≡ [] → flat_map (contract_mistakes p) (contract_of d ++ cs) ≡ []
+one_clean p (Contract c) cs none rest = ap (λ l. l ++ flat_map (contract_mistakes p) cs) none ∙ rest
 one_clean p (Struct s) cs none rest = rest
 one_clean p (Class c) cs none rest = rest
 
-all_clean : (p : Program) (items : List ItemTree) → flat_map (λ i. definition_findings p i.definition) items ≡ [] → flat_map (contract_findings p) (contracts_of items) ≡ []
+all_clean : (p : Program) (items : List ItemTree) → flat_map (λ i. definition_mistakes p i.definition) items ≡ [] → flat_map (contract_mistakes p) (contracts_of items) ≡ []
 all_clean p [] none = refl
 all_clean p (i ∷ items) none =
-    let here = definition_findings p i.definition in
+    let here = definition_mistakes p i.definition in
     one_clean p i.definition (contracts_of items) (nil_left here _ none) (all_clean p items (nil_right here _ none))
 
-pub contracts_clean : (p : Program) → program_findings p ≡ [] → contracts_findings p ≡ []
+pub contracts_clean : (p : Program) → program_mistakes p ≡ [] → contracts_mistakes p ≡ []
 contracts_clean p nothing =
-    let behind = nil_right (items_findings p) _ nothing in
-    ap (λ l. l ++ flat_map (contract_findings p) (contracts_of p.items)) (nil_left (counted_findings p) _ behind)
-    ∙ all_clean p p.items (nil_right (counted_findings p) _ behind)
+    let behind = nil_right (items_mistakes p) _ nothing in
+    ap (λ l. l ++ flat_map (contract_mistakes p) (contracts_of p.items)) (nil_left (counted_mistakes p) _ behind)
+    ∙ all_clean p p.items (nil_right (counted_mistakes p) _ behind)
 
 -- the program of a scope is the one whose names it has
 own_program : (p : Program) (scope : Scope) → IsScope p scope → program_of_scope scope ≡ p
@@ -43,24 +41,24 @@ own_program p scope h =
 
 -- what is known of a scope with whose names nothing is wrong
 pub record IsCleared (p : Program) (scope : Scope) : Type 0 where
-  pub clean : program_findings p ≡ []
+  pub clean : program_mistakes p ≡ []
   pub same : program_of_scope scope ≡ p
   pub own : IsScope (program_of_scope scope) scope
-  pub contracts : contracts_findings (program_of_scope scope) ≡ []
+  pub contracts : contracts_mistakes (program_of_scope scope) ≡ []
 
--- where judging it has added nothing
-pub cleared_by : (text : List ℕ) (items shown : List tree.Item.Item) (scope : Scope) (old new : List Finding) (many : ℕ) → shown ≡ items → old ≡ [] → many ≡ length new → (many == 0) ≡ true
-    → IsScope (record { text = text; items = map item_tree shown }) scope → ((p : Program) → IsScope p scope → Adds old new (program_findings p))
+-- where nothing was found to be wrong
+pub cleared_by : (text : List ℕ) (items shown : List tree.Item.Item) (scope : Scope) (found : List Mistake) (many : ℕ) → shown ≡ items → many ≡ length found → (many == 0) ≡ true
+    → IsScope (record { text = text; items = map item_tree shown }) scope → ((p : Program) → IsScope p scope → found ≡ program_mistakes p)
     → IsCleared (record { text = text; items = map item_tree items }) scope
-cleared_by text items shown scope old new many same none size empty h adds =
+cleared_by text items shown scope found many same size empty h are =
     let p : Program = record { text = text; items = map item_tree items } in
     let here : IsScope p scope = subst (λ l. IsScope (record { text = text; items = map item_tree l }) scope) same h in
     let zero = eqb-true many 0 empty in
-    let nothing = nothing_found none (adds p here) (nil_from_length new (omega (arith, size, zero))) in
+    let nothing : program_mistakes p ≡ [] = sym (are p here) ∙ nil_from_length found (omega (arith, size, zero)) in
     let is = own_program p scope here in
     record {
       clean = nothing;
       same = is;
       own = subst (λ q. IsScope q scope) (sym is) here;
-      contracts = ap contracts_findings is ∙ contracts_clean p nothing;
+      contracts = ap contracts_mistakes is ∙ contracts_clean p nothing;
     }

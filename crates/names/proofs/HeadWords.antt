@@ -16,10 +16,11 @@ use Rattle.tree.specs.declared.statement as made
 use Rattle.tree.specs.declared.statement.Awaited.{Awaited}
 use Rattle.tree.specs.declared.statement.Awaited.TheVariants.{Message, Closed}
 use Rattle.names.specs.Bodies.{head_of, heads_of}
-use Rattle.names.specs.Cases.{Head, same_name, same_awaited, is_closed, case_twice, twice_findings, kind_head_findings, other_head_findings, awaits_too, names_endpoint, awaits_closed}
+use Rattle.names.specs.Cases.{Head, same_name, same_awaited, is_closed, awaited_span, twice_mistakes, kind_head_mistakes, other_head_mistakes, awaits_too, names_endpoint, awaits_closed}
 use Rattle.names.specs.Expressions.{InScope}
-use Rattle.source.specs.declared.finding.Finding.{Finding}
-use Rattle.declarations.specs.Found.{Adds}
+use Rattle.declarations.specs.declared.mistake.Mistake.{Mistake}
+use Rattle.declarations.specs.declared.mistake.Mistake.TheVariants.{CaseTwice}
+use Rattle.declarations.specs.Mistakes.{Adds}
 use Rattle.declarations.specs.Kinds.{is_silent}
 use Rattle.declarations.specs.declared.kinds.Kind.{Kind}
 use Rattle.declarations.specs.declared.kinds.Kind.TheVariants as kind
@@ -145,7 +146,7 @@ switch_heads_are s =
     ∙ mapped head_of case_tree (made.Switch.out-Switch s).others.items)
 
 -- a case on what is no endpoint
-pub no_endpoint : (s : InScope) (all earlier : List Head) (k : Kind) (h : Head) → ((end : Side) (n : ℕ) → k ≡ kind.Endpoint end n → ⊥) → kind_head_findings s all earlier k h ≡ (if is_silent k then [] else other_head_findings h)
+pub no_endpoint : (s : InScope) (all earlier : List Head) (k : Kind) (h : Head) → ((end : Side) (n : ℕ) → k ≡ kind.Endpoint end n → ⊥) → kind_head_mistakes s all earlier k h ≡ (if is_silent k then [] else other_head_mistakes k h)
 no_endpoint s all earlier (kind.Scalar t) h other = refl
 no_endpoint s all earlier (kind.Pointer n) h other = refl
 no_endpoint s all earlier (kind.Array t) h other = refl
@@ -158,9 +159,7 @@ pub told_unless : {X : Type 0} (b : Bool) (xs : List X) → (if not b then xs el
 told_unless true xs = refl
 told_unless false xs = refl
 
--- that a case stands twice, where the text of the tokens is the program's
-pub told_twice : {T E : Type 0} {tokens : List ℕ} (r : Result T E) (mid new : List Finding) (s : InScope) (earlier : List Head) (h : Head) (twice : Bool) → tokens ≡ s.program.text → twice ≡ awaits_too s.program.text h earlier
-    → OnOk r (Adds mid new (if twice then case_twice tokens h ∷ [] else [])) → OnOk r (Adds mid new (twice_findings s earlier h))
-told_twice r mid new s earlier h twice text is told =
-    subst (λ b. OnOk r (Adds mid new (if b then case_twice s.program.text h ∷ [] else []))) is
-    (subst (λ t. OnOk r (Adds mid new (if twice then case_twice t h ∷ [] else []))) text told)
+-- that a case stands twice
+pub told_twice : {T E : Type 0} (r : Result T E) (mid new : List Mistake) (s : InScope) (earlier : List Head) (h : Head) (twice : Bool) → twice ≡ awaits_too s.program.text h earlier
+    → OnOk r (Adds mid new (if twice then CaseTwice h.endpoint (awaited_span h.awaited) ∷ [] else [])) → OnOk r (Adds mid new (twice_mistakes s earlier h))
+told_twice r mid new s earlier h twice is told = subst (λ b. OnOk r (Adds mid new (if b then CaseTwice h.endpoint (awaited_span h.awaited) ∷ [] else []))) is told

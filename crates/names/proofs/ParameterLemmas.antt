@@ -1,9 +1,9 @@
 -- Parameters of a method, one after another.
 use Rattle.std.proofs.Common.{◌≡◌, ℕ, ◌+◌, ◌<◌, List, [], ◌∷◌, ◌++◌, length, take, get_or, sym, ap, ◌∙◌, append_assoc, append-nil}
 use Rattle.std.proofs.lemmas.List.{take_more}
-use Rattle.source.specs.declared.finding.Finding.{Finding}
+use Rattle.declarations.specs.declared.mistake.Mistake.{Mistake}
 use Rattle.tree.specs.declared.class as made
-use Rattle.declarations.specs.Found.{Adds, FindingParts}
+use Rattle.declarations.specs.Mistakes.{Adds}
 use Rattle.names.specs.Frames.{Turned}
 use Rattle.names.specs.Methods.{parameter_turn, parameters_turn}
 use Rattle.declarations.specs.Program.{Program}
@@ -11,10 +11,10 @@ use Rattle.names.specs.Variables.{Frame, Turn, turn, before, follow}
 use Rattle.names.specs.declared.variables.Variables.{Variables}
 use Rattle.declarations.proofs.AddLemmas.{adds_then}
 
-pub turned_before : {text : List ℕ} {old mid new : List Finding} {found : List FindingParts} {v : Variables} {t : Turn} → Adds old mid found → Turned text mid new v t → Turned text old new v (before found t)
+pub turned_before : {text : List ℕ} {old mid new : List Mistake} {found : List Mistake} {v : Variables} {t : Turn} → Adds old mid found → Turned text mid new v t → Turned text old new v (before found t)
 turned_before first second = record { found = adds_then first second.found; frame = second.frame }
 
-pub turned_follow : {text : List ℕ} {old mid new : List Finding} {v w : Variables} {t : Turn} (next : Frame → Turn) → Turned text old mid v t → Turned text mid new w (next t.frame) → Turned text old new w (follow t next)
+pub turned_follow : {text : List ℕ} {old mid new : List Mistake} {v w : Variables} {t : Turn} (next : Frame → Turn) → Turned text old mid v t → Turned text mid new w (next t.frame) → Turned text old new w (follow t next)
 turned_follow next first second = record { found = adds_then first.found second.found; frame = second.frame }
 
 parameters_push : (p : Program) (params : List made.Parameter.Parameter) (x : made.Parameter.Parameter) (f : Frame) → parameters_turn p (params ++ x ∷ []) f ≡ follow (parameters_turn p params f) (parameter_turn p x)

@@ -2,14 +2,14 @@
 use Rattle.std.proofs.Common.{◌≡◌, [], ℕ, List, ◌++◌, Option, Some, None, refl, sym, ap}
 use Rattle.std.specs.Prelude.{Result, Ok, Err, OnOk, option_map}
 use Rattle.std.specs.Option.{option_map_or}
-use Rattle.source.specs.declared.finding.Finding.{Finding}
+use Rattle.declarations.specs.declared.mistake.Mistake.{Mistake}
 use Rattle.tree.specs.Trees.{ClassTree, StructTree}
 use Rattle.tree.specs.declared.class as made
-use Rattle.declarations.specs.Found.{Adds, FindingParts}
+use Rattle.declarations.specs.Mistakes.{Adds}
 use Rattle.declarations.specs.Owning.{owning_fields}
 use Rattle.declarations.specs.Scopes.{AreMethods, IsClass}
 use Rattle.declarations.specs.declared.members.Methods.{Methods}
-use Rattle.names.specs.Values.{class_meant, Role, send_findings, argument_findings}
+use Rattle.names.specs.Values.{class_meant, Role, send_mistakes, argument_mistakes}
 use Rattle.names.specs.Expressions.{InScope}
 use Rattle.declarations.specs.Kinds.{is_silent, unless}
 use Rattle.names.specs.Shapes.{Shape}
@@ -17,9 +17,11 @@ use Rattle.declarations.specs.declared.kinds.Kind.{Kind}
 use Rattle.declarations.specs.declared.kinds.Kind.TheVariants as kind
 use Rattle.source.specs.declared.token.Span.{Span}
 use Rattle.program.specs.declared.kind.Side.{Side}
+use Rattle.declarations.specs.declared.mistake.Demand.TheVariants as demand
+use Rattle.declarations.specs.declared.mistake.Mismatch.TheVariants.{Given}
 use Rattle.declarations.proofs.AddLemmas.{adds_then}
 
-pub on_adds : {T E : Type 0} (r : Result T E) (old mid new : List Finding) (a b : List FindingParts) → Adds old mid a → OnOk r (Adds mid new b) → OnOk r (Adds old new (a ++ b))
+pub on_adds : {T E : Type 0} (r : Result T E) (old mid new : List Mistake) (a b : List Mistake) → Adds old mid a → OnOk r (Adds mid new b) → OnOk r (Adds old new (a ++ b))
 on_adds (Ok x) old mid new a b first second = adds_then first second
 on_adds (Err e) old mid new a b first second = second
 
@@ -28,7 +30,7 @@ class_lacks text None h = refl
 class_lacks text (Some c) h = absurd h
 
 -- a call on what is no endpoint
-pub no_send : (s : InScope) (k : Kind) (role : Role) (variable word : Span) (arguments : List Shape) → ((end : Side) (n : ℕ) → k ≡ kind.Endpoint end n → ⊥) → send_findings s k role variable word arguments ≡ unless (is_silent k) variable.place ++ argument_findings s [] arguments
+pub no_send : (s : InScope) (k : Kind) (role : Role) (variable word : Span) (arguments : List Shape) → ((end : Side) (n : ℕ) → k ≡ kind.Endpoint end n → ⊥) → send_mistakes s k role variable word arguments ≡ unless (is_silent k) variable.place (Given demand.Endpoint k) ++ argument_mistakes s [] arguments
 no_send s (kind.Scalar t) role variable word arguments other = refl
 no_send s (kind.Pointer n) role variable word arguments other = refl
 no_send s (kind.Array t) role variable word arguments other = refl

@@ -4,73 +4,74 @@ use Rattle.std.specs.Prelude.{slice_get}
 use Rattle.std.proofs.Math.ListN.{get_or-map}
 use Rattle.std.proofs.lemmas.List.{length-map, take-map}
 use Rattle.source.specs.declared.place.Place.{Place}
-use Rattle.source.specs.declared.finding.Finding.{Finding}
+use Rattle.declarations.specs.declared.mistake.Mistake.{Mistake}
+use Rattle.declarations.specs.declared.mistake.Mistake.TheVariants.{WrongNumber}
 use Rattle.tree.specs.Expressions.{ExpressionTree}
 use Rattle.tree.specs.Operators.{Joined, Or}
 use Rattle.names.specs.Expressions.{InScope}
-use Rattle.declarations.specs.Found.{Adds, FindingParts, finding_parts}
+use Rattle.declarations.specs.Mistakes.{Adds}
 use Rattle.names.specs.Shapes.{Shape, shape}
-use Rattle.names.specs.Values.{argument_asked, argument_findings, wrong_number, number_of_arguments}
+use Rattle.names.specs.Values.{argument_asked, argument_mistakes, number_of_arguments}
 use Rattle.declarations.specs.declared.kinds.Kind.{Kind}
 
 -- of all that was to be added, the rest still is
-pub record Pends (old new : List Finding) (all rest : List FindingParts) : Type 0 where
-  pub is : map finding_parts old ++ all ≡ map finding_parts new ++ rest
+pub record Pends (old new : List Mistake) (all rest : List Mistake) : Type 0 where
+  pub is : old ++ all ≡ new ++ rest
 
-pub pends_all : (old : List Finding) (all : List FindingParts) → Pends old old all all
+pub pends_all : (old : List Mistake) (all : List Mistake) → Pends old old all all
 pends_all old all = record { is = refl }
 
-pub pends_less : {old mid new : List Finding} {all more rest : List FindingParts} → Pends old mid all (more ++ rest) → Adds mid new more → Pends old new all rest
+pub pends_less : {old mid new : List Mistake} {all more rest : List Mistake} → Pends old mid all (more ++ rest) → Adds mid new more → Pends old new all rest
 pends_less {mid = mid} {more = more} {rest = rest} pends adds =
-    record { is = pends.is ∙ sym (append_assoc (map finding_parts mid) more rest) ∙ ap (λ l. l ++ rest) (sym adds.all) }
+    record { is = pends.is ∙ sym (append_assoc mid more rest) ∙ ap (λ l. l ++ rest) (sym adds.all) }
 
-pub pends_none : {old new : List Finding} {all : List FindingParts} → Pends old new all [] → Adds old new all
-pends_none {new = new} pends = record { all = sym (append-nil (map finding_parts new)) ∙ sym pends.is }
+pub pends_none : {old new : List Mistake} {all : List Mistake} → Pends old new all [] → Adds old new all
+pends_none {new = new} pends = record { all = sym (append-nil new) ∙ sym pends.is }
 
 none_left : (i : ℕ) → drop {A = Kind} i [] ≡ []
 none_left zero = refl
 none_left (suc i) = refl
 
 -- an argument, and those behind it
-argument_next : (s : InScope) (kinds : List Kind) (es : List Shape) (i : ℕ) (e : Shape) → i < length es → argument_findings s (drop i kinds) (drop i es) ≡ argument_asked s (slice_get kinds i) (get_or es i e) ++ argument_findings s (drop (suc i) kinds) (drop (suc i) es)
+argument_next : (s : InScope) (kinds : List Kind) (es : List Shape) (i : ℕ) (e : Shape) → i < length es → argument_mistakes s (drop i kinds) (drop i es) ≡ argument_asked s (slice_get kinds i) (get_or es i e) ++ argument_mistakes s (drop (suc i) kinds) (drop (suc i) es)
 argument_next s kinds [] i e lt = absurd (omega (arith, lt))
 argument_next s [] (x ∷ es) zero e lt = refl
 argument_next s (k ∷ kinds) (x ∷ es) zero e lt = refl
-argument_next s [] (x ∷ es) (suc i) e lt = ap (λ kinds. argument_findings s kinds (drop i es)) (sym (none_left i)) ∙ argument_next s [] es i e (omega (arith, lt))
+argument_next s [] (x ∷ es) (suc i) e lt = ap (λ kinds. argument_mistakes s kinds (drop i es)) (sym (none_left i)) ∙ argument_next s [] es i e (omega (arith, lt))
 argument_next s (k ∷ kinds) (x ∷ es) (suc i) e lt = argument_next s kinds es i e (omega (arith, lt))
 
 -- kinds behind the last argument are not looked at
-pub kinds_enough : (s : InScope) (kinds : List Kind) (es : List Shape) → argument_findings s (take (length es) kinds) es ≡ argument_findings s kinds es
+pub kinds_enough : (s : InScope) (kinds : List Kind) (es : List Shape) → argument_mistakes s (take (length es) kinds) es ≡ argument_mistakes s kinds es
 kinds_enough s kinds [] = refl
 kinds_enough s [] (e ∷ es) = refl
 kinds_enough s (k ∷ kinds) (e ∷ es) = ap (λ l. argument_asked s (Some k) e ++ l) (kinds_enough s kinds es)
 
 -- an argument in memory, and those behind it
-pub argument_less : {X : Type 0} {old mid new : List Finding} {all : List FindingParts} (tree : X → ExpressionTree) (s : InScope) (kinds : List Kind) (xs : List X) (i : ℕ) (x : X) (k : Option Kind)
+pub argument_less : {X : Type 0} {old mid new : List Mistake} {all : List Mistake} (tree : X → ExpressionTree) (s : InScope) (kinds : List Kind) (xs : List X) (i : ℕ) (x : X) (k : Option Kind)
     → i < length xs → x ≡ get_or xs i x → k ≡ slice_get kinds i
-    → Pends old mid all (argument_findings s (drop i kinds) (drop i (map shape (map tree xs))))
+    → Pends old mid all (argument_mistakes s (drop i kinds) (drop i (map shape (map tree xs))))
     → Adds mid new (argument_asked s k (shape (tree x)))
-    → Pends old new all (argument_findings s (drop (i + 1) kinds) (drop (i + 1) (map shape (map tree xs))))
+    → Pends old new all (argument_mistakes s (drop (i + 1) kinds) (drop (i + 1) (map shape (map tree xs))))
 argument_less {old = old} {mid = mid} {new = new} {all = all} tree s kinds xs i x k lt is at pends adds =
     let es : List Shape = map shape (map tree xs) in
-    let rest = argument_findings s (drop (i + 1) kinds) (drop (i + 1) es) in
+    let rest = argument_mistakes s (drop (i + 1) kinds) (drop (i + 1) es) in
     let here : get_or es i (shape (tree x)) ≡ shape (tree x) = get_or-map shape (map tree xs) i (tree x) ∙ ap shape (get_or-map tree xs i x ∙ ap tree (sym is)) in
     let less : i < length es = omega (arith, lt, length-map (map tree xs) (shape {l = Joined Or}), length-map xs tree) in
     let next = argument_next s kinds es i (shape (tree x)) less
-    ∙ ap (λ n. argument_asked s (slice_get kinds i) (get_or es i (shape (tree x))) ++ argument_findings s (drop n kinds) (drop n es)) (sym (add-one i))
+    ∙ ap (λ n. argument_asked s (slice_get kinds i) (get_or es i (shape (tree x))) ++ argument_mistakes s (drop n kinds) (drop n es)) (sym (add-one i))
     ∙ ap (λ e. argument_asked s (slice_get kinds i) e ++ rest) here ∙ ap (λ o. argument_asked s o (shape (tree x)) ++ rest) (sym at) in
     pends_less (subst (Pends old mid all) next pends) adds
 
 -- kinds of as many parameters as there are arguments
-pub enough_kinds : {X Y : Type 0} (tree : X → ExpressionTree) (kind : Y → Kind) (s : InScope) (params : List Y) (xs : List X) → argument_findings s (map kind (take (length xs) params)) (map shape (map tree xs)) ≡ argument_findings s (map kind params) (map shape (map tree xs))
+pub enough_kinds : {X Y : Type 0} (tree : X → ExpressionTree) (kind : Y → Kind) (s : InScope) (params : List Y) (xs : List X) → argument_mistakes s (map kind (take (length xs) params)) (map shape (map tree xs)) ≡ argument_mistakes s (map kind params) (map shape (map tree xs))
 enough_kinds tree kind s params xs =
     let es : List Shape = map shape (map tree xs) in
     let size : length es ≡ length xs = length-map (map tree xs) (shape {l = Joined Or}) ∙ length-map xs tree in
-    ap (λ kinds. argument_findings s kinds es) (sym (take-map kind (length xs) params) ∙ ap (λ n. take n (map kind params)) (sym size)) ∙ kinds_enough s (map kind params) es
+    ap (λ kinds. argument_mistakes s kinds es) (sym (take-map kind (length xs) params) ∙ ap (λ n. take n (map kind params)) (sym size)) ∙ kinds_enough s (map kind params) es
 
 -- as many arguments as there are expressions
-pub numbered : {X Y : Type 0} {old new : List Finding} (tree : X → ExpressionTree) (params : List Y) (n : ℕ) (xs : List X) (place : Place) → n ≡ length params → Adds old new (if n == length xs then [] else wrong_number place ∷ []) → Adds old new (number_of_arguments params (map (shape {l = Joined Or}) (map tree xs)) place)
+pub numbered : {X Y : Type 0} {old new : List Mistake} (tree : X → ExpressionTree) (params : List Y) (n : ℕ) (xs : List X) (place : Place) → n ≡ length params → Adds old new (if n == length xs then [] else WrongNumber place n (length xs) ∷ []) → Adds old new (number_of_arguments params (map (shape {l = Joined Or}) (map tree xs)) place)
 numbered {old = old} {new = new} tree params n xs place is adds =
     let size = length-map (map tree xs) (shape {l = Joined Or}) ∙ length-map xs tree in
-    subst (λ k. Adds old new (if length params == k then [] else wrong_number place ∷ [])) (sym size)
-    (subst (λ k. Adds old new (if k == length xs then [] else wrong_number place ∷ [])) is adds)
+    subst (λ k. Adds old new (if length params == k then [] else WrongNumber place (length params) k ∷ [])) (sym size)
+    (subst (λ k. Adds old new (if k == length xs then [] else WrongNumber place k (length xs) ∷ [])) is adds)

@@ -1,5 +1,5 @@
 -- Variables that come into scope and go out of it.
-use Rattle.std.proofs.Common.{◌≡◌, ℕ, if◌then◌else◌, ◌+◌, ◌-◌, ◌<◌, List, [], ◌∷◌, ◌++◌, length, map, take, Bool, true, false, sym, refl, ap, ◌∙◌, subst, arith, append_assoc, append-nil}
+use Rattle.std.proofs.Common.{◌≡◌, ℕ, if◌then◌else◌, ◌+◌, ◌-◌, ◌<◌, List, [], ◌∷◌, ◌++◌, length, map, take, Bool, true, sym, refl, ap, ◌∙◌, subst, arith, append_assoc, append-nil}
 use Rattle.std.specs.Prelude.{Result, Ok, Err, OnOk, Option, None, Some, is_some, option_map, option_and_then, slice_get}
 use Rattle.std.proofs.lemmas.List.{map-append, length-map, take-take}
 use Rattle.std.proofs.lemmas.List.Quantifiers.{position-Some}
@@ -7,10 +7,11 @@ use Rattle.std.proofs.lemmas.Option.{slice_get-map, slice_get-get_or}
 use Rattle.lemmas.proofs.Options.{none_is}
 use Rattle.lemmas.proofs.Lists.{front_of}
 use Rattle.source.specs.declared.fault.Memory.{Memory}
-use Rattle.source.specs.declared.finding.Finding.{Finding}
+use Rattle.declarations.specs.declared.mistake.Mistake.{Mistake}
 use Rattle.source.specs.declared.token.Span.{Span}
 use Rattle.tables.specs.Firsts.{first_of}
-use Rattle.declarations.specs.Found.{Adds, declared_twice}
+use Rattle.declarations.specs.Mistakes.{Adds}
+use Rattle.declarations.specs.Listed.{twice}
 use Rattle.names.specs.Frames.{AreApart, IsFrame, Turned, variable_seen, words_in}
 use Rattle.tables.specs.Tables.{IsTable}
 use Rattle.names.specs.Variables as model
@@ -67,29 +68,21 @@ some_there text variables name (Some k) is =
 pub is_named : (text : List ℕ) (variables : List model.Variable) (name : Span) → is_some (variable_named text variables name) ≡ is_some (first_of (words_in text variables) (word_at text name))
 is_named text variables name = some_there text variables name (first_of (words_in text variables) (word_at text name)) refl
 
-abbrev entered_if : Bool → List ℕ → Span → Kind → Frame → Turn
-entered_if taken text name k f = turn (if taken then declared_twice text name ∷ [] else [])
-    (record { variables = if taken then f.variables else f.variables ++ record { name = name; kind = k } ∷ []; heap = f.heap })
-
--- a name that is taken already
-pub entered_taken : (text : List ℕ) (f : Frame) (v : Variables) (name : Span) (k : Kind) (word : List ℕ) (found : Option ℕ) (old new : List Finding) → IsFrame text f v → word ≡ word_at text name
-    → ((words : List (List ℕ)) → IsTable words v.names → found ≡ first_of words word) → is_some found ≡ true → Adds old new (declared_twice text name ∷ []) → Turned text old new v (entered_variable text name k f)
-entered_taken text f v name k word found old new h at is taken adds =
-    let there = is_named text f.variables name ∙ ap (λ w. is_some (first_of (words_in text f.variables) w)) (sym at) ∙ sym (ap is_some (is (words_in text f.variables) h.names)) ∙ taken in
-    subst (λ b. Turned text old new v (entered_if b text name k f)) (sym there) (record { found = adds; frame = h })
+abbrev entered_by : Option model.Variable → Span → Kind → Frame → Turn
+entered_by known name k f = turn (twice name (option_map (λ v. v.name) known))
+    (record { variables = if is_some known then f.variables else f.variables ++ record { name = name; kind = k } ∷ []; heap = f.heap })
 
 -- a new name
-pub entered_new : (text : List ℕ) (f : Frame) (v w : Variables) (name : Span) (k : Kind) (word : List ℕ) (found : Option ℕ) (old : List Finding) → IsFrame text f v → word ≡ word_at text name
-    → ((words : List (List ℕ)) → IsTable words v.names → found ≡ first_of words word) → is_some found ≡ false
+pub entered_new : (text : List ℕ) (f : Frame) (v w : Variables) (name : Span) (k : Kind) (word : List ℕ) (old : List Mistake) → IsFrame text f v → word ≡ word_at text name
+    → None ≡ variable_named text f.variables name
     → ((words : List (List ℕ)) → IsTable words v.names → first_of words word ≡ None → IsTable (words ++ word ∷ []) w.names)
     → w.list.items ≡ v.list.items ++ record { name = name; kind = k } ∷ [] → w.heap ≡ v.heap → Turned text old old w (entered_variable text name k f)
-entered_new text f v w name k word found old h at is taken table list heap =
+entered_new text f v w name k word old h at unnamed table list heap =
     let words = words_in text f.variables in
-    let found_none : first_of words word ≡ None = sym (is words h.names) ∙ none_is found taken in
-    let none : first_of words (word_at text name) ≡ None = subst (λ x. first_of words x ≡ None) at found_none in
-    let there = is_named text f.variables name ∙ ap is_some none in
+    let none : first_of words (word_at text name) ≡ None = none_is (first_of words (word_at text name)) (sym (is_named text f.variables name) ∙ ap is_some (sym unnamed)) in
+    let found_none : first_of words word ≡ None = subst (λ x. first_of words x ≡ None) (sym at) none in
     let more = words_push text f.variables (record { name = name; kind = k }) in
-    subst (λ b. Turned text old old w (entered_if b text name k f)) (sym there) (record {
+    subst (λ o. Turned text old old w (entered_by o name k f)) unnamed (record {
       found = adds_none old;
       frame = record {
         list = ap (map variable_seen) list ∙ map-append variable_seen v.list.items (record { name = name; kind = k } ∷ []) ∙ ap (λ l. l ++ record { name = name; kind = k } ∷ []) h.list;
@@ -100,7 +93,7 @@ entered_new text f v w name k word found old h at is taken table list heap =
     })
 
 -- one of the exchange heap is counted, and comes into scope
-pub declared_counted : (text : List ℕ) (f : Frame) (v : Variables) (name : Span) (k : Kind) (heap : Bool) (old mid new : List Finding) (r : Result (Unit {0}) Memory) → heap ≡ true → Adds old mid (past_heap name f.heap)
+pub declared_counted : (text : List ℕ) (f : Frame) (v : Variables) (name : Span) (k : Kind) (heap : Bool) (old mid new : List Mistake) (r : Result (Unit {0}) Memory) → heap ≡ true → Adds old mid (past_heap name f.heap)
     → OnOk r (Turned text mid new v (entered_variable text name k (record { variables = f.variables; heap = f.heap + 1 }))) → OnOk r (Turned text old new v (declared_variable text name k heap f))
 declared_counted text f v name k heap old mid new (Err e) is first second = tt
 declared_counted text f v name k heap old mid new (Ok u) is first second =

@@ -5,7 +5,10 @@ use Rattle.std.specs.Option.{option_map_or}
 use Rattle.source.specs.declared.place.Place.{Place}
 use Rattle.source.specs.declared.token.Span.{Span}
 use Rattle.program.specs.declared.kind.Scalar.TheVariants as scalar
-use Rattle.declarations.specs.Found.{FindingParts, unknown}
+use Rattle.declarations.specs.declared.mistake.Mistake.{Mistake}
+use Rattle.declarations.specs.declared.mistake.Mistake.TheVariants.{Unknown}
+use Rattle.declarations.specs.declared.mistake.Demand.TheVariants as demand
+use Rattle.declarations.specs.declared.mistake.Mismatch.TheVariants.{Given, FieldOwns}
 use Rattle.declarations.specs.Named.{field_named}
 use Rattle.declarations.specs.Kinds.{is_silent, is_unknown, is_number, is_truth, is_block, is_heap, type_kind, unless}
 use Rattle.declarations.specs.Program.{Program, as_struct, item_at}
@@ -96,82 +99,83 @@ kind_of s (Joined joint left right) = if is_unknown (kind_of s left) || is_unkno
     else joined_kind joint
 
 -- what is asked of an operand
-abbrev pub asked_number : Kind → Place → List FindingParts
-asked_number k place = unless (is_silent k || is_number k) place
+abbrev pub asked_number : Kind → Place → List Mistake
+asked_number k place = unless (is_silent k || is_number k) place (Given demand.Number k)
 
-abbrev pub asked_truth : Kind → Place → List FindingParts
-asked_truth k place = unless (is_silent k || is_truth k) place
+abbrev pub asked_truth : Kind → Place → List Mistake
+asked_truth k place = unless (is_silent k || is_truth k) place (Given demand.Truth k)
 
-abbrev pub asked_either : Kind → Place → List FindingParts
-asked_either k place = unless (is_silent k || (is_number k || is_truth k)) place
+abbrev pub asked_either : Kind → Place → List Mistake
+asked_either k place = unless (is_silent k || (is_number k || is_truth k)) place (Given demand.Scalar k)
 
 -- Of two that are compared the left one decides, where it is a number or a truth value.
-abbrev pub asked_like : Kind → Kind → Place → List FindingParts
+abbrev pub asked_like : Kind → Kind → Place → List Mistake
 asked_like left k place = if is_number left then asked_number k place
     else (if is_truth left then asked_truth k place else asked_either k place)
 
-abbrev pub left_asked : Joint → Kind → Place → List FindingParts
+abbrev pub left_asked : Joint → Kind → Place → List Mistake
 left_asked Logic k place = asked_truth k place
 left_asked Likeness k place = asked_either k place
 left_asked Order k place = asked_number k place
 left_asked Sum k place = asked_number k place
 
-abbrev pub right_asked : Joint → Kind → Kind → Place → List FindingParts
+abbrev pub right_asked : Joint → Kind → Kind → Place → List Mistake
 right_asked Logic left k place = asked_truth k place
 right_asked Likeness left k place = asked_like left k place
 right_asked Order left k place = asked_number k place
 right_asked Sum left k place = asked_number k place
 
-abbrev pub sign_asked : Sign → Kind → Place → List FindingParts
+abbrev pub sign_asked : Sign → Kind → Place → List Mistake
 sign_asked Denial k place = asked_truth k place
 sign_asked Minus k place = asked_number k place
 
 -- a variable has to be declared
-abbrev pub variable_findings : InScope → Span → List FindingParts
-variable_findings s name = if is_some (meant s name) then [] else unknown s.program.text name ∷ []
+abbrev pub variable_mistakes : InScope → Span → List Mistake
+variable_mistakes s name = if is_some (meant s name) then [] else Unknown name ∷ []
 
 -- a variable of the exchange heap does not stand within an expression
-abbrev pub mention_findings : InScope → Span → List FindingParts
-mention_findings s name = variable_findings s name ++ unless (not (is_block (held (meant s name)))) name.place
+abbrev pub mention_mistakes : InScope → Span → List Mistake
+mention_mistakes s name = variable_mistakes s name
+    ++ unless (not (is_block (held (meant s name)))) name.place (Given demand.NoBlock (held (meant s name)))
 
 -- only an array has elements
-abbrev pub element_findings : Kind → Span → List FindingParts
-element_findings (kind.Array element) name = []
-element_findings k name = unless (is_silent k) name.place
+abbrev pub element_mistakes : Kind → Span → List Mistake
+element_mistakes (kind.Array element) name = []
+element_mistakes k name = unless (is_silent k) name.place (Given demand.Array k)
 
 -- a struct has its fields, an array its length, anything else none
-abbrev pub field_findings : InScope → Kind → Span → Span → List FindingParts
-field_findings s (kind.Array element) name field = if is_length s field then [] else unknown s.program.text field ∷ []
-field_findings s (kind.Pointer n) name field =
-    option_map_or (λ x. if is_some (field_named s.program.text x.1 field) then [] else unknown s.program.text field ∷ [])
+abbrev pub field_mistakes : InScope → Kind → Span → Span → List Mistake
+field_mistakes s (kind.Array element) name field = if is_length s field then [] else Unknown field ∷ []
+field_mistakes s (kind.Pointer n) name field =
+    option_map_or (λ x. if is_some (field_named s.program.text x.1 field) then [] else Unknown field ∷ [])
     (item_at as_struct s.program n) []
-field_findings s k name field = unless (is_silent k) name.place
+field_mistakes s k name field = unless (is_silent k) name.place (Given demand.Fields k)
 
-abbrev pub expression_findings : InScope → Shape → List FindingParts
-expression_findings s (Number place) = []
-expression_findings s (Truth place) = []
-expression_findings s (Mention name) = mention_findings s name
-expression_findings s (Field name field) =
-    variable_findings s name ++ (field_findings s (held (meant s name)) name field
-    ++ unless (not (owns s (held (meant s name)) field)) name.place)
-expression_findings s (Element name index) =
-    expression_findings s index ++ (asked_number (kind_of s index) (place_of index)
-    ++ (variable_findings s name ++ element_findings (held (meant s name)) name))
-expression_findings s (Parens place inner) = expression_findings s inner
-expression_findings s (Signed sign place inner) = expression_findings s inner ++ sign_asked sign (kind_of s inner) (place_of inner)
-expression_findings s (Joined joint left right) =
-    expression_findings s left ++ (expression_findings s right
+abbrev pub expression_mistakes : InScope → Shape → List Mistake
+expression_mistakes s (Number place) = []
+expression_mistakes s (Truth place) = []
+expression_mistakes s (Mention name) = mention_mistakes s name
+expression_mistakes s (Field name field) =
+    variable_mistakes s name ++ (field_mistakes s (held (meant s name)) name field
+    ++ unless (not (owns s (held (meant s name)) field)) name.place FieldOwns)
+expression_mistakes s (Element name index) =
+    expression_mistakes s index ++ (asked_number (kind_of s index) (place_of index)
+    ++ (variable_mistakes s name ++ element_mistakes (held (meant s name)) name))
+expression_mistakes s (Parens place inner) = expression_mistakes s inner
+expression_mistakes s (Signed sign place inner) = expression_mistakes s inner ++ sign_asked sign (kind_of s inner) (place_of inner)
+expression_mistakes s (Joined joint left right) =
+    expression_mistakes s left ++ (expression_mistakes s right
     ++ (left_asked joint (kind_of s left) (place_of left) ++ right_asked joint (kind_of s left) (kind_of s right) (place_of right)))
 
 -- An expression that is the whole of a value, an argument or what is returned: a variable of the exchange heap may stand
 -- there alone.
-abbrev pub whole_findings : InScope → Shape → List FindingParts
-whole_findings s (Mention name) = variable_findings s name
-whole_findings s e = expression_findings s e
+abbrev pub whole_mistakes : InScope → Shape → List Mistake
+whole_mistakes s (Mention name) = variable_mistakes s name
+whole_mistakes s e = expression_mistakes s e
 
 -- an expression of which a truth value, or a number, is asked
-abbrev pub truth_findings : InScope → Shape → List FindingParts
-truth_findings s e = expression_findings s e ++ asked_truth (kind_of s e) (place_of e)
+abbrev pub truth_mistakes : InScope → Shape → List Mistake
+truth_mistakes s e = expression_mistakes s e ++ asked_truth (kind_of s e) (place_of e)
 
-abbrev pub number_findings : InScope → Shape → List FindingParts
-number_findings s e = expression_findings s e ++ asked_number (kind_of s e) (place_of e)
+abbrev pub number_mistakes : InScope → Shape → List Mistake
+number_mistakes s e = expression_mistakes s e ++ asked_number (kind_of s e) (place_of e)

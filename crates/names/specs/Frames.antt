@@ -1,9 +1,9 @@
 -- The variables in scope, and what stands round a statement, as the code has them.
 use Rattle.std.specs.Prelude.{◌≡◌, ℕ, ◌+◌, min, List, [], ◌∷◌, ◌++◌, map, None}
-use Rattle.source.specs.declared.finding.Finding.{Finding}
+use Rattle.declarations.specs.declared.mistake.Mistake.{Mistake}
 use Rattle.names.specs.Bodies as bodies
 use Rattle.tables.specs.Firsts.{first_of}
-use Rattle.declarations.specs.Found.{Adds}
+use Rattle.declarations.specs.Mistakes.{Adds}
 use Rattle.declarations.specs.Scopes.{IsScope, AreMethods}
 use Rattle.tables.specs.Tables.{IsTable}
 use Rattle.names.specs.Variables as model
@@ -38,7 +38,7 @@ pub record IsFrame (text : List ℕ) (f : Frame) (v : Variables) : Type 0 where
   pub heap : v.heap ≡ min f.heap (MOST_VARIABLES + 1)
 
 -- all is added to the findings that a turn adds, and its frame is the one that stands now
-pub record Turned (text : List ℕ) (old new : List Finding) (variables : Variables) (t : Turn) : Type 0 where
+pub record Turned (text : List ℕ) (old new : List Mistake) (variables : Variables) (t : Turn) : Type 0 where
   pub found : Adds old new t.found
   pub frame : IsFrame text t.frame variables
 

@@ -1,8 +1,8 @@
 -- What is judged of the variables in expressions and targets.
 use Rattle.std.specs.Prelude.{◌≡◌, List}
-use Rattle.source.specs.declared.finding.Finding.{Finding}
+use Rattle.declarations.specs.declared.mistake.Mistake.{Mistake}
 use Rattle.names.specs.Expressions.{InScope}
-use Rattle.declarations.specs.Found.{Adds, FindingParts}
+use Rattle.declarations.specs.Mistakes.{Adds}
 use Rattle.names.specs.Frames.{IsFrame}
 use Rattle.names.specs.Operands.{in_frame}
 use Rattle.declarations.specs.Program.{Program}
@@ -13,17 +13,17 @@ use Rattle.declarations.specs.declared.scope.Scope.{Scope}
 use Rattle.names.specs.declared.variables.Variables.{Variables}
 
 -- it is of this kind, and these findings were added
-pub record IsGiven (is : Kind) (more : List FindingParts) (old new : List Finding) (k : Kind) : Type 0 where
+pub record IsGiven (is : Kind) (more : List Mistake) (old new : List Mistake) (k : Kind) : Type 0 where
   pub kind : k ≡ is
   pub found : Adds old new more
 
 -- whatever is in scope, of that program
-pub record GivesIn (scope : Scope) (kind : InScope → Kind) (more : InScope → List FindingParts) (old new : List Finding)
+pub record GivesIn (scope : Scope) (kind : InScope → Kind) (more : InScope → List Mistake) (old new : List Mistake)
     (k : Kind) : Type 0 where
   pub all : (s : InScope) → IsScope s.program scope → IsGiven (kind s) (more s) old new k
 
 -- whatever these have in scope
-pub record Gives (scope : Scope) (variables : Variables) (kind : InScope → Kind) (more : InScope → List FindingParts)
-    (old new : List Finding) (k : Kind) : Type 0 where
+pub record Gives (scope : Scope) (variables : Variables) (kind : InScope → Kind) (more : InScope → List Mistake)
+    (old new : List Mistake) (k : Kind) : Type 0 where
   pub all : (p : Program) (f : Frame) → IsScope p scope → IsFrame p.text f variables
       → IsGiven (kind (in_frame p f)) (more (in_frame p f)) old new k

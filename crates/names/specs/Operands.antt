@@ -1,11 +1,11 @@
 -- What the parts of an expression are judged to be.
 use Rattle.std.specs.Prelude.{◌≡◌, ◌++◌, ◌||◌, List, Option, Some, None, if◌then◌else◌}
-use Rattle.source.specs.declared.finding.Finding.{Finding}
+use Rattle.declarations.specs.declared.mistake.Mistake.{Mistake}
 use Rattle.source.specs.declared.place.Place.{Place}
 use Rattle.source.specs.declared.token.Span.{Span}
-use Rattle.names.specs.Expressions.{InScope, kind_of, place_of, expression_findings, whole_findings}
+use Rattle.names.specs.Expressions.{InScope, kind_of, place_of, expression_mistakes, whole_mistakes}
 use Rattle.names.specs.Expressions.{joined_kind, left_asked, right_asked, signed_kind, sign_asked}
-use Rattle.declarations.specs.Found.{Adds}
+use Rattle.declarations.specs.Mistakes.{Adds}
 use Rattle.names.specs.Frames.{IsFrame}
 use Rattle.declarations.specs.Kinds.{is_unknown}
 use Rattle.declarations.specs.Program.{Program}
@@ -22,32 +22,32 @@ abbrev pub in_frame : Program → Frame → InScope
 in_frame p f = record { program = p; variables = f.variables }
 
 -- an operand is of the kind and at the place of this expression, and what is wrong in it was added
-pub record IsJudged (s : InScope) (e : Shape) (old new : List Finding) (o : Operand) : Type 0 where
+pub record IsJudged (s : InScope) (e : Shape) (old new : List Mistake) (o : Operand) : Type 0 where
   pub kind : o.kind ≡ kind_of s e
   pub place : o.place ≡ place_of e
-  pub found : Adds old new (expression_findings s e)
+  pub found : Adds old new (expression_mistakes s e)
 
 -- the same for the whole of a value, an argument or what is returned
-pub record IsJudgedWhole (s : InScope) (e : Shape) (old new : List Finding) (o : Operand) : Type 0 where
+pub record IsJudgedWhole (s : InScope) (e : Shape) (old new : List Mistake) (o : Operand) : Type 0 where
   pub kind : o.kind ≡ kind_of s e
   pub place : o.place ≡ place_of e
-  pub found : Adds old new (whole_findings s e)
+  pub found : Adds old new (whole_mistakes s e)
 
 -- whatever these have in scope
-pub record Judges (scope : Scope) (variables : Variables) (e : Shape) (old new : List Finding) (o : Operand) : Type 0 where
+pub record Judges (scope : Scope) (variables : Variables) (e : Shape) (old new : List Mistake) (o : Operand) : Type 0 where
   pub all : (p : Program) (f : Frame) → IsScope p scope → IsFrame p.text f variables → IsJudged (in_frame p f) e old new o
 
-pub record JudgesWhole (scope : Scope) (variables : Variables) (e : Shape) (old new : List Finding) (o : Operand) : Type 0 where
+pub record JudgesWhole (scope : Scope) (variables : Variables) (e : Shape) (old new : List Mistake) (o : Operand) : Type 0 where
   pub all : (p : Program) (f : Frame) → IsScope p scope → IsFrame p.text f variables → IsJudgedWhole (in_frame p f) e old new o
 
 -- two operands, joined
-pub record IsJoined (joint : Joint) (left right : Operand) (old new : List Finding) (o : Operand) : Type 0 where
+pub record IsJoined (joint : Joint) (left right : Operand) (old new : List Mistake) (o : Operand) : Type 0 where
   pub kind : o.kind ≡ (if is_unknown left.kind || is_unknown right.kind then kind.Unknown else joined_kind joint)
   pub place : o.place ≡ left.place
   pub found : Adds old new (left_asked joint left.kind left.place ++ right_asked joint left.kind right.kind right.place)
 
 -- an operand with a sign before it
-pub record IsSigned (sign : Sign) (place : Place) (inner : Operand) (old new : List Finding) (o : Operand) : Type 0 where
+pub record IsSigned (sign : Sign) (place : Place) (inner : Operand) (old new : List Mistake) (o : Operand) : Type 0 where
   pub kind : o.kind ≡ (if is_unknown inner.kind then kind.Unknown else signed_kind sign)
   pub at : o.place ≡ place
   pub found : Adds old new (sign_asked sign inner.kind inner.place)

@@ -2,7 +2,7 @@
 use Rattle.std.specs.Prelude.{◌≢◌, ◌↔◌, List, [], map, Contains}
 use Rattle.source.specs.declared.finding.Finding.{Finding}
 use Rattle.names.specs.Findings.{program_findings}
-use Rattle.declarations.specs.Found.{FindingParts, finding_parts}
+use Rattle.source.specs.Findings.{FindingParts, finding_parts}
 use Rattle.declarations.specs.Program.{Program}
 use Rattle.names.specs.declared.fault.NameFaults.{NameFaults}
 use Rattle.names.specs.declared.fault.NameFaults.TheVariants as faults

@@ -1,11 +1,11 @@
 -- The terms of a sum, while its factors are judged from the left.
 use Rattle.std.specs.Prelude.{◌≡◌, ◌++◌, List, [], ◌∷◌, Option, Some, None}
-use Rattle.source.specs.declared.finding.Finding.{Finding}
+use Rattle.declarations.specs.declared.mistake.Mistake.{Mistake}
 use Rattle.tree.specs.Factors.{FactorTree}
 use Rattle.tree.specs.declared.expression.FactorOperator.{FactorOperator}
 use Rattle.tree.specs.declared.expression.FactorOperator.TheVariants as operators
-use Rattle.names.specs.Expressions.{InScope, kind_of, place_of, expression_findings}
-use Rattle.declarations.specs.Found.{Adds, FindingParts}
+use Rattle.names.specs.Expressions.{InScope, kind_of, place_of, expression_mistakes}
+use Rattle.declarations.specs.Mistakes.{Adds}
 use Rattle.names.specs.Frames.{IsFrame}
 use Rattle.names.specs.Operands.{in_frame}
 use Rattle.declarations.specs.Program.{Program}
@@ -55,17 +55,17 @@ IsBefore s (Some e) (Some o) = (o.kind ≡ kind_of s e) × (o.place ≡ place_of
 IsBefore s _ _ = ⊥
 
 -- what is wrong in them
-abbrev pub before_findings : InScope → Option Shape → List FindingParts
-before_findings s None = []
-before_findings s (Some e) = expression_findings s e
+abbrev pub before_mistakes : InScope → Option Shape → List Mistake
+before_mistakes s None = []
+before_mistakes s (Some e) = expression_mistakes s e
 
 -- the terms are of these kinds and at these places, and what is wrong in them was added
-pub record IsJudgedTerms (s : InScope) (t : TermShapes) (old new : List Finding) (terms : Terms) : Type 0 where
+pub record IsJudgedTerms (s : InScope) (t : TermShapes) (old new : List Mistake) (terms : Terms) : Type 0 where
   pub before : IsBefore s t.before terms.before
   pub kind : terms.last.kind ≡ kind_of s t.last
   pub place : terms.last.place ≡ place_of t.last
-  pub found : Adds old new (before_findings s t.before ++ expression_findings s t.last)
+  pub found : Adds old new (before_mistakes s t.before ++ expression_mistakes s t.last)
 
 -- whatever these have in scope
-pub record JudgesTerms (scope : Scope) (variables : Variables) (t : TermShapes) (old new : List Finding) (terms : Terms) : Type 0 where
+pub record JudgesTerms (scope : Scope) (variables : Variables) (t : TermShapes) (old new : List Mistake) (terms : Terms) : Type 0 where
   pub all : (p : Program) (f : Frame) → IsScope p scope → IsFrame p.text f variables → IsJudgedTerms (in_frame p f) t old new terms

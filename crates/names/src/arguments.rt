@@ -2,40 +2,39 @@
 
 ghost use Rattle.std.specs.Prelude.{◌≡◌, map, take, List, OnOk, IfOk, slice_get};
 ghost use Rattle.tree.specs.ExpressionTrees.{expression_tree};
-ghost use Rattle.declarations.specs.Found.{Adds};
+ghost use Rattle.declarations.specs.Mistakes.{Adds};
 ghost use Rattle.names.specs.Frames.{IsFrame};
 ghost use Rattle.declarations.specs.Kinds.{type_kind};
 ghost use Rattle.declarations.specs.Program.{Program};
 ghost use Rattle.declarations.specs.Scopes.{IsScope};
 ghost use Rattle.names.specs.Shapes.{shape};
-ghost use Rattle.names.specs.Values.{asked_findings, argument_asked, argument_findings};
+ghost use Rattle.names.specs.Values.{asked_mistakes, argument_asked, argument_mistakes};
 ghost use Rattle.names.specs.Variables.{Frame};
 
 use crate::expressions::judge_whole;
 use crate::variables::Variables;
 use crate::wholes::judge_asked;
-use declarations::{Kind, Scope};
-use source::{Finding, Memory};
+use declarations::{Kind, Mistake, Scope};
+use source::Memory;
 use std::alloc::Global;
 use tree::{Expression, Field, Param, Parameter};
 
 /// Adds what is wrong with an argument for a parameter of this kind, if there is one.
 fn judge_argument(
-    alloc: Global,
     scope: &Scope<'_>,
     variables: &Variables<'_>,
     asked: Option<Kind>,
     argument: &Expression,
-    found: &mut Vec<Finding>,
+    found: &mut Vec<Mistake>,
 ) -> Result<(), Memory>
     ensures { (p : Program) (f : Frame) → IsScope p scope.now
         → IsFrame p.text f variables.now → OnOk result (Adds found.old.items found.new.items
         (argument_asked (record { program = p; variables = f.variables }) asked (shape (expression_tree argument.now)))) }
 {
     match asked {
-        Some(kind) => judge_asked(alloc, scope, variables, kind, argument, found),
+        Some(kind) => judge_asked(scope, variables, kind, argument, found),
         None => {
-            judge_whole(alloc, scope, variables, argument, found)?;
+            judge_whole(scope, variables, argument, found)?;
             Ok(())
         }
     }
@@ -49,20 +48,19 @@ fn kind_at(kinds: &[Kind], place: usize) -> Option<Kind>
 
 /// Adds what is wrong with arguments for parameters of these kinds.
 pub(crate) fn judge_arguments(
-    alloc: Global,
     scope: &Scope<'_>,
     variables: &Variables<'_>,
     asked: &[Kind],
     arguments: &[Expression],
-    found: &mut Vec<Finding>,
+    found: &mut Vec<Mistake>,
 ) -> Result<(), Memory>
     ensures { (p : Program) (f : Frame) → IsScope p scope.now → IsFrame p.text f variables.now
-        → OnOk result (Adds found.old.items found.new.items (argument_findings
+        → OnOk result (Adds found.old.items found.new.items (argument_mistakes
         (record { program = p; variables = f.variables }) asked.now (map shape (map expression_tree arguments.now)))) }
 {
     for (place, argument) in arguments.iter().enumerate() {
         let kind = kind_at(asked, place);
-        judge_argument(alloc, scope, variables, kind, argument, found)?;
+        judge_argument(scope, variables, kind, argument, found)?;
     }
     Ok(())
 }
@@ -125,14 +123,14 @@ pub(crate) fn judge_parameter_arguments(
     variables: &Variables<'_>,
     parameters: &[Parameter],
     arguments: &[Expression],
-    found: &mut Vec<Finding>,
+    found: &mut Vec<Mistake>,
 ) -> Result<(), Memory>
     ensures { (p : Program) (f : Frame) → IsScope p scope.now → IsFrame p.text f variables.now
-        → OnOk result (Adds found.old.items found.new.items (argument_findings (record { program = p; variables = f.variables })
+        → OnOk result (Adds found.old.items found.new.items (argument_mistakes (record { program = p; variables = f.variables })
         (map (λ x. type_kind p x.kind) parameters.now) (map shape (map expression_tree arguments.now)))) }
 {
     let kinds = parameter_kinds(alloc, scope, parameters, arguments.len())?;
-    judge_arguments(alloc, scope, variables, &kinds, arguments, found)
+    judge_arguments(scope, variables, &kinds, arguments, found)
 }
 
 /// Adds what is wrong with arguments for the parameters of a message.
@@ -142,14 +140,14 @@ pub(crate) fn judge_message_arguments(
     variables: &Variables<'_>,
     parameters: &[Param],
     arguments: &[Expression],
-    found: &mut Vec<Finding>,
+    found: &mut Vec<Mistake>,
 ) -> Result<(), Memory>
     ensures { (p : Program) (f : Frame) → IsScope p scope.now → IsFrame p.text f variables.now
-        → OnOk result (Adds found.old.items found.new.items (argument_findings (record { program = p; variables = f.variables })
+        → OnOk result (Adds found.old.items found.new.items (argument_mistakes (record { program = p; variables = f.variables })
         (map (λ x. type_kind p x.kind) parameters.now) (map shape (map expression_tree arguments.now)))) }
 {
     let kinds = message_kinds(alloc, scope, parameters, arguments.len())?;
-    judge_arguments(alloc, scope, variables, &kinds, arguments, found)
+    judge_arguments(scope, variables, &kinds, arguments, found)
 }
 
 /// Adds what is wrong with arguments for these fields.
@@ -159,12 +157,12 @@ pub(crate) fn judge_field_arguments(
     variables: &Variables<'_>,
     fields: &[Field],
     arguments: &[Expression],
-    found: &mut Vec<Finding>,
+    found: &mut Vec<Mistake>,
 ) -> Result<(), Memory>
     ensures { (p : Program) (f : Frame) → IsScope p scope.now → IsFrame p.text f variables.now
-        → OnOk result (Adds found.old.items found.new.items (argument_findings (record { program = p; variables = f.variables })
+        → OnOk result (Adds found.old.items found.new.items (argument_mistakes (record { program = p; variables = f.variables })
         (map (λ x. type_kind p x.kind) fields.now) (map shape (map expression_tree arguments.now)))) }
 {
     let kinds = field_kinds(alloc, scope, fields, arguments.len())?;
-    judge_arguments(alloc, scope, variables, &kinds, arguments, found)
+    judge_arguments(scope, variables, &kinds, arguments, found)
 }

@@ -6,7 +6,7 @@ ghost use Rattle.program.specs.declared.kind.Side.{Side};
 ghost use Rattle.tree.specs.declared.contract.Param.{Param};
 ghost use Rattle.names.specs.Cases.{typed_turn, bind_turn, binds_turn, brings_heap};
 ghost use Rattle.declarations.specs.Kinds.{brought_kind};
-ghost use Rattle.declarations.specs.Found.{Adds};
+ghost use Rattle.declarations.specs.Mistakes.{Adds};
 ghost use Rattle.names.specs.Frames.{IsFrame, Turned};
 ghost use Rattle.declarations.specs.Kinds.{agree, is_heap, type_kind, type_unknown, unless};
 ghost use Rattle.declarations.specs.Program.{Program};
@@ -15,8 +15,8 @@ ghost use Rattle.names.specs.Variables.{Frame, declared_variable};
 
 use crate::operands::ask;
 use crate::variables::{Variable, Variables};
-use declarations::{Kind, Scope, is_heap, judge_type};
-use source::{Finding, Memory, Span};
+use declarations::{Demand, Kind, Mismatch, Mistake, Scope, is_heap, judge_type};
+use source::{Memory, Span};
 use std::alloc::Global;
 use tree::{Bind, Param, Type};
 
@@ -42,19 +42,20 @@ fn brings_heap(parameter: Option<&Param>) -> bool
 
 /// Adds what is wrong with a type that is bound where this kind is brought.
 fn judge_bound_type(
-    alloc: Global,
     scope: &Scope<'_>,
     kind: Type,
     brought: Kind,
     name: Span,
-    found: &mut Vec<Finding>,
+    found: &mut Vec<Mistake>,
 ) -> Result<(), Memory>
     ensures { (p : Program) → IsScope p scope.now → OnOk result
-        (Adds found.old.items found.new.items (type_unknown p kind ++ unless (agree (type_kind p kind) brought) name.place)) }
+        (Adds found.old.items found.new.items (type_unknown p kind ++ unless (agree (type_kind p kind) brought) name.place
+        (Mismatch.Given (Demand.Kind brought) (type_kind p kind)))) }
 {
-    judge_type(alloc, scope, kind, found)?;
+    judge_type(scope, kind, found)?;
     let bound = scope.kind(kind);
-    ask(alloc, bound.agrees(brought), name.place, found)
+    let mismatch = Mismatch::Given(Demand::Kind(brought), bound);
+    ask(bound.agrees(brought), name.place, mismatch, found)
 }
 
 /// Declares a variable in the scope of a program, unless one in scope has its name, and adds what is wrong with that.
@@ -64,7 +65,7 @@ fn declare_in<'a>(
     variables: &mut Variables<'a>,
     variable: Variable,
     heap: bool,
-    found: &mut Vec<Finding>,
+    found: &mut Vec<Mistake>,
 ) -> Result<(), Memory>
     ensures { (p : Program) (f : Frame) → IsScope p scope.now → IsFrame p.text f variables.old
         → OnOk result (Turned p.text found.old.items found.new.items variables.new
@@ -80,7 +81,7 @@ fn judge_bind<'a>(
     variables: &mut Variables<'a>,
     parameter: Option<&Param>,
     bind: Bind,
-    found: &mut Vec<Finding>,
+    found: &mut Vec<Mistake>,
 ) -> Result<(), Memory>
     ensures { (p : Program) (f : Frame) → IsScope p scope.now → IsFrame p.text f variables.old → OnOk result
         (Turned p.text found.old.items found.new.items variables.new (bind_turn p (option_map (λ x. x.now) parameter.entry) bind f)) }
@@ -88,7 +89,7 @@ fn judge_bind<'a>(
     let brought = brought_kind(scope, parameter);
     match bind.kind {
         Some(kind) => {
-            judge_bound_type(alloc, scope, kind, brought, bind.name, found)?;
+            judge_bound_type(scope, kind, brought, bind.name, found)?;
             let variable = Variable {
                 name: bind.name,
                 kind: scope.kind(kind),
@@ -119,7 +120,7 @@ pub(crate) fn judge_bound<'a>(
     variables: &mut Variables<'a>,
     parameters: &[Param],
     binds: &[Bind],
-    found: &mut Vec<Finding>,
+    found: &mut Vec<Mistake>,
 ) -> Result<(), Memory>
     ensures { (p : Program) (f : Frame) → IsScope p scope.now → IsFrame p.text f variables.old
         → OnOk result (Turned p.text found.old.items found.new.items variables.new (binds_turn p parameters.now binds.now f)) }

@@ -7,16 +7,16 @@ ghost use Rattle.tree.specs.Trees.{ContractTree, MethodTree, ClassTree, message_
 ghost use Rattle.tree.specs.Values.{call_tree};
 ghost use Rattle.names.specs.Bodies as bodies;
 ghost use Rattle.names.specs.Expressions.{meant, held};
-ghost use Rattle.declarations.specs.Found.{Adds, unknown};
+ghost use Rattle.declarations.specs.Mistakes.{Adds};
 ghost use Rattle.names.specs.Frames.{IsContext, IsFrame, AreSurroundings, variable_seen};
 ghost use Rattle.declarations.specs.Program.{Program, class_named};
 ghost use Rattle.declarations.specs.Scopes.{IsScope, IsCallee};
 ghost use Rattle.names.specs.Operands.{in_frame};
 ghost use Rattle.names.specs.Shapes.{shape};
-ghost use Rattle.names.specs.Values.{argument_findings, result_fits, start_findings, method_findings};
+ghost use Rattle.names.specs.Values.{argument_mistakes, result_fits, result_kind, demand_of, start_mistakes, method_mistakes};
 ghost use Rattle.declarations.specs.Owning.{can_start};
-ghost use Rattle.names.specs.Values.{sends, is_alone, message_findings, contract_message, send_findings};
-ghost use Rattle.names.specs.Values.{class_findings, class_meant, member_findings, call_findings};
+ghost use Rattle.names.specs.Values.{sends, is_alone, message_mistakes, contract_message, send_mismatch, send_mistakes};
+ghost use Rattle.names.specs.Values.{class_mistakes, class_meant, member_mistakes, call_mistakes};
 ghost use Rattle.names.specs.Variables.{Frame};
 ghost use Rattle.names.specs.Variables as model;
 ghost use Rattle.tables.specs.Words.{word_at, same_word};
@@ -24,12 +24,11 @@ ghost use Rattle.tables.specs.Words.{word_at, same_word};
 use crate::arguments::{judge_arguments, judge_message_arguments, judge_parameter_arguments};
 use crate::operands::ask;
 use crate::surroundings::{NameContext, Surroundings};
-use crate::told::{add_not_started, judge_number};
+use crate::told::judge_count;
 use crate::variables::Variables;
-use declarations::{Callee, Kind, Scope, add_unknown};
+use declarations::{Callee, Demand, Kind, Mismatch, Mistake, Scope, add_unknown};
 use program::{Direction, Side};
-use source::{Finding, Memory, Span};
-use std::alloc::Global;
+use source::{Memory, Span};
 use tree::{Call, Expression, Message, Type};
 
 /// What is done with what a call gives.
@@ -65,20 +64,38 @@ fn result_fits(scope: &Scope<'_>, given: Option<Type>, role: Role) -> bool
     }
 }
 
+/// The kind of what a method gives, if it gives anything.
+fn kind_given(scope: &Scope<'_>, given: Option<Type>) -> Kind
+    ensures { (p : Program) → IsScope p scope.now → result ≡ result_kind p given }
+{
+    match given {
+        Some(written) => scope.kind(written),
+        None => Kind::Missing,
+    }
+}
+
+/// What is asked of it: a block that a method gives has to be taken.
+fn demand_of(role: Role) -> Demand
+    ensures { result ≡ demand_of role }
+{
+    match role {
+        Role::Asked(kind) => Demand::Kind(kind),
+        _ => Demand::NoBlock,
+    }
+}
+
 /// Adds that a method cannot be started, where that is asked of it.
 fn judge_start(
     context: &NameContext<'_, '_>,
     startable: bool,
     site: &CallSite<'_>,
-    found: &mut Vec<Finding>,
+    found: &mut Vec<Mistake>,
 ) -> Result<(), Memory>
     ensures { (p : Program) (m : MethodTree) → IsScope p context.now.scope.now → startable ≡ can_start m
-        → OnOk result (Adds found.old.items found.new.items (start_findings p.text m site.now.role site.now.name)) }
+        → OnOk result (Adds found.old.items found.new.items (start_mistakes m site.now.role site.now.name)) }
 {
     match site.role {
-        Role::Started if !startable => {
-            add_not_started(context.alloc, context.scope.text, site.name, found)
-        }
+        Role::Started if !startable => Ok(found.push(Mistake::NotStarted(site.name))?),
         _ => Ok(()),
     }
 }
@@ -88,11 +105,11 @@ fn judge_known_method(
     context: &NameContext<'_, '_>,
     callee: Callee<'_>,
     site: &CallSite<'_>,
-    found: &mut Vec<Finding>,
+    found: &mut Vec<Mistake>,
 ) -> Result<(), Memory>
     ensures { (p : Program) (f : Frame) → IsContext p f context.now
         → callee.entry.startable ≡ can_start (method_tree callee.entry.method.now)
-        → OnOk result (Adds found.old.items found.new.items (method_findings (in_frame p f)
+        → OnOk result (Adds found.old.items found.new.items (method_mistakes (in_frame p f)
         (Some (method_tree callee.entry.method.now)) site.now.role site.now.name
         (map shape (map expression_tree site.now.arguments.now)))) }
 {
@@ -103,11 +120,17 @@ fn judge_known_method(
     } = *context;
     let method = callee.method;
     let (place, arguments) = (site.name.place, site.arguments);
-    judge_number(alloc, method.params.len(), arguments.len(), place, found)?;
+    judge_count(method.params.len(), arguments.len(), place, found)?;
     judge_parameter_arguments(alloc, scope, variables, &method.params, arguments, found)?;
     judge_start(context, callee.startable, site, found)?;
     let fits = result_fits(scope, method.result, site.role);
-    ask(alloc, fits, place, found)
+    let given = kind_given(scope, method.result);
+    ask(
+        fits,
+        place,
+        Mismatch::Given(demand_of(site.role), given),
+        found,
+    )
 }
 
 /// Adds that this name is not declared, and what is wrong with the arguments behind it.
@@ -115,19 +138,19 @@ pub(crate) fn judge_unknown(
     context: &NameContext<'_, '_>,
     name: Span,
     arguments: &[Expression],
-    found: &mut Vec<Finding>,
+    found: &mut Vec<Mistake>,
 ) -> Result<(), Memory>
     ensures { (p : Program) (f : Frame) → IsContext p f context.now
-        → OnOk result (Adds found.old.items found.new.items (unknown p.text name
-        ∷ argument_findings (in_frame p f) [] (map shape (map expression_tree arguments.now)))) }
+        → OnOk result (Adds found.old.items found.new.items (Mistake.Unknown name
+        ∷ argument_mistakes (in_frame p f) [] (map shape (map expression_tree arguments.now)))) }
 {
     let NameContext {
-        alloc,
         scope,
         variables,
+        ..
     } = *context;
-    add_unknown(alloc, scope.text, name, found)?;
-    judge_arguments(alloc, scope, variables, &[], arguments, found)
+    add_unknown(name, found)?;
+    judge_arguments(scope, variables, &[], arguments, found)
 }
 
 /// Adds what is wrong with a call of a method, if there is one.
@@ -135,10 +158,10 @@ fn judge_method(
     context: &NameContext<'_, '_>,
     callee: Option<Callee<'_>>,
     site: &CallSite<'_>,
-    found: &mut Vec<Finding>,
+    found: &mut Vec<Mistake>,
 ) -> Result<(), Memory>
     ensures { (p : Program) (f : Frame) (m : Option MethodTree) → IsContext p f context.now → IsCallee m callee.entry
-        → OnOk result (Adds found.old.items found.new.items (method_findings (in_frame p f) m site.now.role site.now.name
+        → OnOk result (Adds found.old.items found.new.items (method_mistakes (in_frame p f) m site.now.role site.now.name
         (map shape (map expression_tree site.now.arguments.now)))) }
 {
     match callee {
@@ -176,10 +199,10 @@ fn judge_known_message(
     message: &Message,
     end: Side,
     site: &CallSite<'_>,
-    found: &mut Vec<Finding>,
+    found: &mut Vec<Mistake>,
 ) -> Result<(), Memory>
     ensures { (p : Program) (f : Frame) → IsContext p f context.now
-        → OnOk result (Adds found.old.items found.new.items (message_findings (in_frame p f)
+        → OnOk result (Adds found.old.items found.new.items (message_mistakes (in_frame p f)
         (Some (message_tree message.now)) end site.now.role site.now.name
         (map shape (map expression_tree site.now.arguments.now)))) }
 {
@@ -190,9 +213,20 @@ fn judge_known_message(
     } = *context;
     let (place, arguments) = (site.name.place, site.arguments);
     let well = is_sent(site.role, end, message.direction);
-    ask(alloc, well, place, found)?;
-    judge_number(alloc, message.params.len(), arguments.len(), place, found)?;
+    ask(well, place, send_mismatch(site.role, end, site.name), found)?;
+    judge_count(message.params.len(), arguments.len(), place, found)?;
     judge_message_arguments(alloc, scope, variables, &message.params, arguments, found)
+}
+
+/// Why this send at this end is wrong.
+fn send_mismatch(role: Role, end: Side, word: Span) -> Mismatch
+    ensures { result ≡ send_mismatch role end word }
+{
+    match role {
+        Role::Alone => Mismatch::NotSent(end, word),
+        Role::Started => Mismatch::SendStarted,
+        Role::Asked(kind) => Mismatch::Given(Demand::Kind(kind), Kind::Missing),
+    }
 }
 
 /// Adds what is wrong with a send at an end of the contract that is the item at this place.
@@ -201,10 +235,10 @@ fn judge_end(
     place: usize,
     end: Side,
     site: &CallSite<'_>,
-    found: &mut Vec<Finding>,
+    found: &mut Vec<Mistake>,
 ) -> Result<(), Memory>
     ensures { (p : Program) (f : Frame) → IsContext p f context.now
-        → OnOk result (Adds found.old.items found.new.items (message_findings (in_frame p f)
+        → OnOk result (Adds found.old.items found.new.items (message_mistakes (in_frame p f)
         (contract_message (in_frame p f) place site.now.name) end site.now.role site.now.name
         (map shape (map expression_tree site.now.arguments.now)))) }
 {
@@ -220,22 +254,23 @@ fn judge_send(
     kind: Kind,
     variable: Span,
     site: &CallSite<'_>,
-    found: &mut Vec<Finding>,
+    found: &mut Vec<Mistake>,
 ) -> Result<(), Memory>
     ensures { (p : Program) (f : Frame) → IsContext p f context.now
-        → OnOk result (Adds found.old.items found.new.items (send_findings (in_frame p f) kind site.now.role variable site.now.name
+        → OnOk result (Adds found.old.items found.new.items (send_mistakes (in_frame p f) kind site.now.role variable site.now.name
         (map shape (map expression_tree site.now.arguments.now)))) }
 {
     let NameContext {
-        alloc,
         scope,
         variables,
+        ..
     } = *context;
     match kind {
         Kind::Endpoint(end, place) => judge_end(context, place, end, site, found),
         _ => {
-            ask(alloc, kind.is_silent(), variable.place, found)?;
-            judge_arguments(alloc, scope, variables, &[], site.arguments, found)
+            let mismatch = Mismatch::Given(Demand::Endpoint, kind);
+            ask(kind.is_silent(), variable.place, mismatch, found)?;
+            judge_arguments(scope, variables, &[], site.arguments, found)
         }
     }
 }
@@ -245,10 +280,10 @@ fn judge_class(
     context: &NameContext<'_, '_>,
     class: Span,
     site: &CallSite<'_>,
-    found: &mut Vec<Finding>,
+    found: &mut Vec<Mistake>,
 ) -> Result<(), Memory>
     ensures { (p : Program) (f : Frame) → IsContext p f context.now
-        → OnOk result (Adds found.old.items found.new.items (class_findings (in_frame p f)
+        → OnOk result (Adds found.old.items found.new.items (class_mistakes (in_frame p f)
         (class_meant (class_named p class)) site.now.role class site.now.name
         (map shape (map expression_tree site.now.arguments.now)))) }
 {
@@ -266,10 +301,10 @@ fn judge_member(
     context: &NameContext<'_, '_>,
     front: Span,
     site: &CallSite<'_>,
-    found: &mut Vec<Finding>,
+    found: &mut Vec<Mistake>,
 ) -> Result<(), Memory>
     ensures { (p : Program) (f : Frame) → IsContext p f context.now
-        → OnOk result (Adds found.old.items found.new.items (member_findings (in_frame p f)
+        → OnOk result (Adds found.old.items found.new.items (member_mistakes (in_frame p f)
         (meant (in_frame p f) front) site.now.role front site.now.name
         (map shape (map expression_tree site.now.arguments.now)))) }
 {
@@ -285,10 +320,10 @@ pub(crate) fn judge_call<'a>(
     variables: &Variables<'a>,
     role: Role,
     call: &Call,
-    found: &mut Vec<Finding>,
+    found: &mut Vec<Mistake>,
 ) -> Result<(), Memory>
     ensures { (m : bodies.Surroundings) (f : Frame) → AreSurroundings m around.now → IsFrame m.program.text f variables.now
-        → OnOk result (Adds found.old.items found.new.items (call_findings (bodies.inside_of m f) role (call_tree call.now))) }
+        → OnOk result (Adds found.old.items found.new.items (call_mistakes (bodies.inside_of m f) role (call_tree call.now))) }
 {
     let context = around.context(variables);
     match call.member {

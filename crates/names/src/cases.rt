@@ -2,11 +2,11 @@
 
 ghost use Rattle.std.specs.Prelude.{◌≡◌, List, Some, [], take, if◌then◌else◌, OnOk, option_map, option_and_then, slice_get};
 ghost use Rattle.tree.specs.Trees.{message_tree};
-ghost use Rattle.names.specs.Cases.{Head, awaits_too, awaited_findings, endpoint_head_findings, kind_head_findings};
-ghost use Rattle.names.specs.Cases.{other_head_findings, head_findings, binds_turn, awaited_message};
+ghost use Rattle.names.specs.Cases.{Head, awaits_too, awaited_mistakes, endpoint_head_mistakes, kind_head_mistakes};
+ghost use Rattle.names.specs.Cases.{other_head_mistakes, head_mistakes, binds_turn, awaited_message};
 ghost use Rattle.declarations.specs.Declarations.{bound_params};
 ghost use Rattle.names.specs.Expressions.{meant, held};
-ghost use Rattle.declarations.specs.Found.{Adds};
+ghost use Rattle.declarations.specs.Mistakes.{Adds};
 ghost use Rattle.names.specs.Frames.{IsContext, IsFrame, Turned};
 ghost use Rattle.names.specs.Operands.{in_frame};
 ghost use Rattle.names.specs.Heads.{IsHeads, case_head};
@@ -25,9 +25,9 @@ use crate::heads::{Heads, awaiting_at};
 use crate::simple_statements::{judge_use, kind_held};
 use crate::surroundings::NameContext;
 use crate::variables::Variables;
-use declarations::{Kind, Scope, add_unknown};
+use declarations::{Kind, Mistake, Scope, add_unknown};
 use program::Side;
-use source::{Finding, Memory, Span};
+use source::{Memory, Span};
 use std::alloc::Global;
 use tree::{Awaited, Case, Message, Param};
 
@@ -45,24 +45,24 @@ pub(crate) fn judge_head<'a>(
     heads: &Heads<'a>,
     place: usize,
     case: &Case,
-    found: &mut Vec<Finding>,
+    found: &mut Vec<Mistake>,
 ) -> Result<(), Memory>
     ensures { (p : Program) (f : Frame) (all : List Head) → IsContext p f context.now → IsHeads p.text all heads.now
         → OnOk result (Adds found.old.items found.new.items
-        (head_findings (in_frame p f) all (take place all) (case_head case.now))) }
+        (head_mistakes (in_frame p f) all (take place all) (case_head case.now))) }
 {
     let NameContext {
-        alloc,
         scope,
         variables,
+        ..
     } = *context;
-    judge_use(alloc, scope, variables, case.endpoint, found)?;
+    judge_use(scope, variables, case.endpoint, found)?;
     match kind_held(scope, variables, case.endpoint) {
         Kind::Endpoint(side, item) => {
             let end = ContractEnd { side, item };
             judge_endpoint_head(context, heads, place, end, case, found)
         }
-        kind => judge_no_endpoint(alloc, kind, case, found),
+        kind => judge_no_endpoint(kind, case, found),
     }
 }
 
@@ -73,17 +73,17 @@ fn judge_endpoint_head<'a>(
     place: usize,
     end: ContractEnd,
     case: &Case,
-    found: &mut Vec<Finding>,
+    found: &mut Vec<Mistake>,
 ) -> Result<(), Memory>
     ensures { (p : Program) (f : Frame) (all : List Head) → IsScope p context.now.scope.now → IsHeads p.text all heads.now
-        → OnOk result (Adds found.old.items found.new.items (kind_head_findings (in_frame p f) all
+        → OnOk result (Adds found.old.items found.new.items (kind_head_mistakes (in_frame p f) all
         (take place all) (Kind.Endpoint end.side end.item) (case_head case.now))) }
 {
     let text = context.scope.text;
     let twice = heads.is_twice(text, place, awaiting_at(case));
     judge_awaited(context, end, twice, case, found)?;
     let lacking = heads.is_lacking(text, place, case.endpoint);
-    judge_lacking(context.alloc, text, lacking, case.endpoint, found)
+    judge_lacking(lacking, case.endpoint, found)
 }
 
 /// Adds what is wrong with what such a case awaits. An earlier one may await the same.
@@ -92,17 +92,16 @@ fn judge_awaited(
     end: ContractEnd,
     twice: bool,
     case: &Case,
-    found: &mut Vec<Finding>,
+    found: &mut Vec<Mistake>,
 ) -> Result<(), Memory>
     ensures { (p : Program) (f : Frame) (earlier : List Head) → IsScope p context.now.scope.now
         → twice ≡ awaits_too p.text (case_head case.now) earlier → OnOk result (Adds found.old.items found.new.items
-        (endpoint_head_findings (in_frame p f) earlier (Kind.Endpoint end.side end.item) end.side (case_head case.now))) }
+        (endpoint_head_mistakes (in_frame p f) earlier (Kind.Endpoint end.side end.item) end.side (case_head case.now))) }
 {
     match case.message {
         Awaited::Closed(word) => {
-            let (alloc, text) = (context.alloc, context.scope.text);
-            judge_closed(alloc, &case.binds, word, found)?;
-            judge_case_twice(alloc, text, twice, case.endpoint, case.message, found)
+            judge_closed(&case.binds, word, found)?;
+            judge_case_twice(twice, case.endpoint, case.message, found)
         }
         Awaited::Message(word) => judge_message(context, end, twice, word, case, found),
     }
@@ -115,36 +114,31 @@ fn judge_message(
     twice: bool,
     word: Span,
     case: &Case,
-    found: &mut Vec<Finding>,
+    found: &mut Vec<Mistake>,
 ) -> Result<(), Memory>
     ensures { (p : Program) (f : Frame) (earlier : List Head) → IsScope p context.now.scope.now
         → case.now.message ≡ Awaited.Message word → twice ≡ awaits_too p.text (case_head case.now) earlier
-        → OnOk result (Adds found.old.items found.new.items (awaited_findings (in_frame p f) earlier
+        → OnOk result (Adds found.old.items found.new.items (awaited_mistakes (in_frame p f) earlier
         (Kind.Endpoint end.side end.item) end.side (case_head case.now) (Awaited.Message word))) }
 {
-    let (alloc, text) = (context.alloc, context.scope.text);
     match context.scope.message(end.item, word) {
         Some(message) => {
-            judge_message_case(alloc, message, end.side, word, &case.binds, found)?;
-            judge_case_twice(alloc, text, twice, case.endpoint, case.message, found)
+            judge_message_case(message, end.side, word, &case.binds, found)?;
+            judge_case_twice(twice, case.endpoint, case.message, found)
         }
-        None => add_unknown(alloc, text, word, found),
+        None => add_unknown(word, found),
     }
 }
 
 /// Adds what is wrong with a case on what is no endpoint, unless its kind is unknown.
-fn judge_no_endpoint(
-    alloc: Global,
-    kind: Kind,
-    case: &Case,
-    found: &mut Vec<Finding>,
-) -> Result<(), Memory>
-    ensures { OnOk result (Adds found.old.items found.new.items (if is_silent kind then [] else other_head_findings (case_head case.now))) }
+fn judge_no_endpoint(kind: Kind, case: &Case, found: &mut Vec<Mistake>) -> Result<(), Memory>
+    ensures { OnOk result (Adds found.old.items found.new.items
+        (if is_silent kind then [] else other_head_mistakes kind (case_head case.now))) }
 {
     if kind.is_silent() {
         return Ok(());
     }
-    judge_other_head(alloc, case.endpoint, case.message, &case.binds, found)
+    judge_other_head(kind, case.endpoint, case.message, &case.binds, found)
 }
 
 /// Adds what is wrong with what a case binds, and declares it.
@@ -153,7 +147,7 @@ pub(crate) fn judge_binds<'a>(
     scope: &Scope<'a>,
     variables: &mut Variables<'a>,
     case: &Case,
-    found: &mut Vec<Finding>,
+    found: &mut Vec<Mistake>,
 ) -> Result<(), Memory>
     ensures { (p : Program) (f : Frame) → IsScope p scope.now → IsFrame p.text f variables.old → OnOk result
         (Turned p.text found.old.items found.new.items variables.new (binds_turn p (bound_params (awaited_message (in_frame p f)

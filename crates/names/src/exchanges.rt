@@ -1,9 +1,9 @@
 //! What is wrong with the names and kinds in exchanges.
 
 ghost use Rattle.std.specs.Prelude.{◌++◌, ◌||◌, OnOk, IfOk};
-ghost use Rattle.names.specs.Bodies.{exchanged_kind, holder_findings, exchange_findings};
-ghost use Rattle.names.specs.Expressions.{field_kind, field_findings};
-ghost use Rattle.declarations.specs.Found.{Adds};
+ghost use Rattle.names.specs.Bodies.{exchanged_kind, holder_mistakes, exchange_mistakes};
+ghost use Rattle.names.specs.Expressions.{field_kind, field_mistakes};
+ghost use Rattle.declarations.specs.Mistakes.{Adds};
 ghost use Rattle.names.specs.Frames.{IsFrame};
 ghost use Rattle.declarations.specs.Kinds.{unless, is_silent, is_block};
 ghost use Rattle.names.specs.Mentions.{GivesIn};
@@ -14,44 +14,43 @@ ghost use Rattle.names.specs.Variables.{Frame};
 use crate::mentions::{judge_field, judge_variable};
 use crate::operands::ask;
 use crate::variables::Variables;
-use declarations::{Kind, Scope};
-use source::{Finding, Memory, Span};
-use std::alloc::Global;
+use declarations::{Demand, Kind, Mismatch, Mistake, Scope};
+use source::{Memory, Span};
 use tree::Exchange;
 
 /// Adds what is wrong with an exchange.
 pub(crate) fn judge_exchange(
-    alloc: Global,
     scope: &Scope<'_>,
     variables: &Variables<'_>,
     exchange: Exchange,
-    found: &mut Vec<Finding>,
+    found: &mut Vec<Mistake>,
 ) -> Result<(), Memory>
     ensures { (p : Program) (f : Frame) → IsScope p scope.now → IsFrame p.text f variables.now → OnOk result
-        (Adds found.old.items found.new.items (exchange_findings (record { program = p; variables = f.variables }) exchange)) }
+        (Adds found.old.items found.new.items (exchange_mistakes (record { program = p; variables = f.variables }) exchange)) }
 {
-    let held = judge_variable(alloc, scope, variables, exchange.holder, found)?;
-    let asked = judge_holder(alloc, scope, held, exchange.holder, exchange.field, found)?;
-    let given = judge_variable(alloc, scope, variables, exchange.given, found)?;
-    ask(alloc, given.agrees(asked), exchange.given.place, found)
+    let held = judge_variable(scope, variables, exchange.holder, found)?;
+    let asked = judge_holder(scope, held, exchange.holder, exchange.field, found)?;
+    let given = judge_variable(scope, variables, exchange.given, found)?;
+    let mismatch = Mismatch::Given(Demand::Kind(asked), given);
+    ask(given.agrees(asked), exchange.given.place, mismatch, found)
 }
 
 /// The kind of the field with which something is exchanged; adds what is wrong with the field, or with what has it.
 fn judge_holder(
-    alloc: Global,
     scope: &Scope<'_>,
     held: Kind,
     holder: Span,
     field: Span,
-    found: &mut Vec<Finding>,
+    found: &mut Vec<Mistake>,
 ) -> Result<Kind, Memory>
     ensures { IfOk result (GivesIn scope.now (λ s. exchanged_kind s held field)
-        (λ s. holder_findings s held holder field) found.old.items found.new.items) }
+        (λ s. holder_mistakes s held holder field) found.old.items found.new.items) }
 {
     match held {
-        Kind::Pointer(_) => judge_owning(alloc, scope, held, holder, field, found),
+        Kind::Pointer(_) => judge_owning(scope, held, holder, field, found),
         _ => {
-            ask(alloc, held.is_silent(), holder.place, found)?;
+            let mismatch = Mismatch::Given(Demand::Pointer, held);
+            ask(held.is_silent(), holder.place, mismatch, found)?;
             Ok(Kind::Unknown)
         }
     }
@@ -59,22 +58,23 @@ fn judge_holder(
 
 /// The kind of a field of what a variable holds; adds what is wrong with it, and one that does not own.
 fn judge_owning(
-    alloc: Global,
     scope: &Scope<'_>,
     held: Kind,
     holder: Span,
     field: Span,
-    found: &mut Vec<Finding>,
+    found: &mut Vec<Mistake>,
 ) -> Result<Kind, Memory>
-    ensures { IfOk result (GivesIn scope.now (λ s. field_kind s held field) (λ s. field_findings s held holder field
-        ++ unless (is_silent (field_kind s held field) || is_block (field_kind s held field)) field.place)
+    ensures { IfOk result (GivesIn scope.now (λ s. field_kind s held field) (λ s. field_mistakes s held holder field
+        ++ unless (is_silent (field_kind s held field) || is_block (field_kind s held field)) field.place
+        (Mismatch.Given Demand.Block (field_kind s held field)))
         found.old.items found.new.items) }
 {
-    let kind = judge_field(alloc, scope, held, holder, field, found)?;
+    let kind = judge_field(scope, held, holder, field, found)?;
+    let well = kind.is_silent() || kind.is_block();
     ask(
-        alloc,
-        kind.is_silent() || kind.is_block(),
+        well,
         field.place,
+        Mismatch::Given(Demand::Block, kind),
         found,
     )?;
     Ok(kind)

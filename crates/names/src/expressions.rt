@@ -1,11 +1,11 @@
 //! What is wrong with the names and kinds in expressions.
 
 ghost use Rattle.std.specs.Prelude.{◌≡◌, ℕ, List, OnOk, IfOk};
-ghost use Rattle.source.specs.declared.finding.Finding.{Finding};
+ghost use Rattle.declarations.specs.declared.mistake.Mistake.{Mistake as MistakeSeen};
 ghost use Rattle.tree.specs.ExpressionTrees.{expression_tree, disjunction_tree, conjunction_tree, equality_tree, relation_tree};
 ghost use Rattle.tree.specs.ExpressionTrees.{sum_tree, factors_tree, factor_tree, unary_tree, prefixed_tree, atom_tree, target_tree};
-ghost use Rattle.names.specs.Expressions.{InScope, kind_of, expression_findings, whole_findings};
-ghost use Rattle.declarations.specs.Found.{Adds};
+ghost use Rattle.names.specs.Expressions.{InScope, kind_of, expression_mistakes, whole_mistakes};
+ghost use Rattle.declarations.specs.Mistakes.{Adds};
 ghost use Rattle.names.specs.Frames.{IsFrame};
 ghost use Rattle.names.specs.Operands.{IsJudged, Judges};
 ghost use Rattle.declarations.specs.Program.{Program};
@@ -19,9 +19,8 @@ use crate::operands::{Joint, Operand, join, sign};
 use crate::terms::{Terms, joined_terms};
 use crate::variables::Variables;
 use crate::wholes::judge_whole_operand;
-use declarations::{Kind, Scope};
-use source::{Finding, Memory};
-use std::alloc::Global;
+use declarations::{Kind, Mistake, Scope};
+use source::Memory;
 use tree::{
     Atom, Conjunction, Disjunction, Equality, Expression, Factor, FactorOperator, Factors, Prefix,
     Prefixed, Relation, Sum, Target, Unary,
@@ -30,35 +29,33 @@ use tree::{
 /// The kind of an expression, and where it begins; adds what is wrong in it.
 #[cycle(expressions)]
 pub(crate) fn judge_operand(
-    alloc: Global,
     scope: &Scope<'_>,
     variables: &Variables<'_>,
     expression: &Expression,
-    found: &mut Vec<Finding>,
+    found: &mut Vec<Mistake>,
 ) -> Result<Operand, Memory>
     ensures { IfOk result (Judges scope.now variables.now (shape (expression_tree expression.now)) found.old.items found.new.items) }
 {
     match expression {
-        Expression::Sum(sum) => judge_sum(alloc, scope, variables, sum, found),
-        Expression::Joined(joined) => judge_disjunction(alloc, scope, variables, joined, found),
+        Expression::Sum(sum) => judge_sum(scope, variables, sum, found),
+        Expression::Joined(joined) => judge_disjunction(scope, variables, joined, found),
     }
 }
 
 /// The same of a disjunction.
 #[cycle(expressions)]
 fn judge_disjunction(
-    alloc: Global,
     scope: &Scope<'_>,
     variables: &Variables<'_>,
     disjunction: &Disjunction,
-    found: &mut Vec<Finding>,
+    found: &mut Vec<Mistake>,
 ) -> Result<Operand, Memory>
     ensures { IfOk result (Judges scope.now variables.now (shape (disjunction_tree disjunction.now)) found.old.items found.new.items) }
 {
-    let mut left = judge_conjunction(alloc, scope, variables, &disjunction.first, found)?;
+    let mut left = judge_conjunction(scope, variables, &disjunction.first, found)?;
     'each: for conjunction in &disjunction.others {
-        let right = judge_conjunction(alloc, scope, variables, conjunction, found)?;
-        left = join(alloc, Joint::Logic, left, right, found)?;
+        let right = judge_conjunction(scope, variables, conjunction, found)?;
+        left = join(Joint::Logic, left, right, found)?;
     }
     Ok(left)
 }
@@ -66,18 +63,17 @@ fn judge_disjunction(
 /// The same of a conjunction.
 #[cycle(expressions)]
 fn judge_conjunction(
-    alloc: Global,
     scope: &Scope<'_>,
     variables: &Variables<'_>,
     conjunction: &Conjunction,
-    found: &mut Vec<Finding>,
+    found: &mut Vec<Mistake>,
 ) -> Result<Operand, Memory>
     ensures { IfOk result (Judges scope.now variables.now (shape (conjunction_tree conjunction.now)) found.old.items found.new.items) }
 {
-    let mut left = judge_equality(alloc, scope, variables, &conjunction.first, found)?;
+    let mut left = judge_equality(scope, variables, &conjunction.first, found)?;
     'each: for equality in &conjunction.others {
-        let right = judge_equality(alloc, scope, variables, equality, found)?;
-        left = join(alloc, Joint::Logic, left, right, found)?;
+        let right = judge_equality(scope, variables, equality, found)?;
+        left = join(Joint::Logic, left, right, found)?;
     }
     Ok(left)
 }
@@ -85,18 +81,17 @@ fn judge_conjunction(
 /// The same of an equality.
 #[cycle(expressions)]
 fn judge_equality(
-    alloc: Global,
     scope: &Scope<'_>,
     variables: &Variables<'_>,
     equality: &Equality,
-    found: &mut Vec<Finding>,
+    found: &mut Vec<Mistake>,
 ) -> Result<Operand, Memory>
     ensures { IfOk result (Judges scope.now variables.now (shape (equality_tree equality.now)) found.old.items found.new.items) }
 {
-    let mut left = judge_relation(alloc, scope, variables, &equality.first, found)?;
+    let mut left = judge_relation(scope, variables, &equality.first, found)?;
     'each: for step in &equality.others {
-        let right = judge_relation(alloc, scope, variables, &step.relation, found)?;
-        left = join(alloc, Joint::Likeness, left, right, found)?;
+        let right = judge_relation(scope, variables, &step.relation, found)?;
+        left = join(Joint::Likeness, left, right, found)?;
     }
     Ok(left)
 }
@@ -104,18 +99,17 @@ fn judge_equality(
 /// The same of a relation.
 #[cycle(expressions)]
 fn judge_relation(
-    alloc: Global,
     scope: &Scope<'_>,
     variables: &Variables<'_>,
     relation: &Relation,
-    found: &mut Vec<Finding>,
+    found: &mut Vec<Mistake>,
 ) -> Result<Operand, Memory>
     ensures { IfOk result (Judges scope.now variables.now (shape (relation_tree relation.now)) found.old.items found.new.items) }
 {
-    let mut left = judge_sum(alloc, scope, variables, &relation.first, found)?;
+    let mut left = judge_sum(scope, variables, &relation.first, found)?;
     'each: for step in &relation.others {
-        let right = judge_sum(alloc, scope, variables, &step.sum, found)?;
-        left = join(alloc, Joint::Order, left, right, found)?;
+        let right = judge_sum(scope, variables, &step.sum, found)?;
+        left = join(Joint::Order, left, right, found)?;
     }
     Ok(left)
 }
@@ -123,62 +117,60 @@ fn judge_relation(
 /// The same of a sum.
 #[cycle(expressions)]
 fn judge_sum(
-    alloc: Global,
     scope: &Scope<'_>,
     variables: &Variables<'_>,
     sum: &Sum,
-    found: &mut Vec<Finding>,
+    found: &mut Vec<Mistake>,
 ) -> Result<Operand, Memory>
     ensures { IfOk result (Judges scope.now variables.now (shape (sum_tree sum.now)) found.old.items found.new.items) }
 {
     match sum {
-        Sum::Unary(unary) => judge_unary(alloc, scope, variables, unary, found),
-        Sum::Factors(factors) => judge_factors(alloc, scope, variables, factors, found),
+        Sum::Unary(unary) => judge_unary(scope, variables, unary, found),
+        Sum::Factors(factors) => judge_factors(scope, variables, factors, found),
     }
 }
 
 /// The same of a row of factors.
 #[cycle(expressions)]
 fn judge_factors(
-    alloc: Global,
     scope: &Scope<'_>,
     variables: &Variables<'_>,
     factors: &Factors,
-    found: &mut Vec<Finding>,
+    found: &mut Vec<Mistake>,
 ) -> Result<Operand, Memory>
     ensures { IfOk result (Judges scope.now variables.now (shape (factors_tree factors.now)) found.old.items found.new.items) }
 {
-    let first = judge_unary(alloc, scope, variables, &factors.first, found)?;
+    let first = judge_unary(scope, variables, &factors.first, found)?;
     let mut terms = Terms::from_first(first);
-    judge_factor(alloc, scope, variables, &factors.second, &mut terms, found)?;
+    judge_factor(scope, variables, &factors.second, &mut terms, found)?;
     'each: for factor in &factors.others {
-        judge_factor(alloc, scope, variables, factor, &mut terms, found)?;
+        judge_factor(scope, variables, factor, &mut terms, found)?;
     }
-    joined_terms(alloc, terms, found)
+    joined_terms(terms, found)
 }
 
 /// Takes one more factor into the terms of a sum; adds what is wrong with that.
 #[inline(always)]
 #[cycle(expressions)]
 fn judge_factor(
-    alloc: Global,
     scope: &Scope<'_>,
     variables: &Variables<'_>,
     factor: &Factor,
     terms: &mut Terms,
-    found: &mut Vec<Finding>,
+    found: &mut Vec<Mistake>,
 ) -> Result<(), Memory>
-    ensures { OnOk result ((t : TermShapes) (start : List Finding) → JudgesTerms scope.now variables.now t start found.old.items terms.old
+    ensures { OnOk result ((t : TermShapes) (start : List MistakeSeen)
+        → JudgesTerms scope.now variables.now t start found.old.items terms.old
         → JudgesTerms scope.now variables.now (with_factor t (factor_tree factor.now)) start found.new.items terms.new) }
 {
     match factor.operator {
         FactorOperator::Times => {
-            let right = judge_unary(alloc, scope, variables, &factor.unary, found)?;
-            terms.last = join(alloc, Joint::Sum, terms.last, right, found)?;
+            let right = judge_unary(scope, variables, &factor.unary, found)?;
+            terms.last = join(Joint::Sum, terms.last, right, found)?;
         }
         FactorOperator::Sum(_) => {
-            terms.before = Some(joined_terms(alloc, *terms, found)?);
-            terms.last = judge_unary(alloc, scope, variables, &factor.unary, found)?;
+            terms.before = Some(joined_terms(*terms, found)?);
+            terms.last = judge_unary(scope, variables, &factor.unary, found)?;
         }
     }
     Ok(())
@@ -188,50 +180,47 @@ fn judge_factor(
 #[inline(always)]
 #[cycle(expressions)]
 fn judge_unary(
-    alloc: Global,
     scope: &Scope<'_>,
     variables: &Variables<'_>,
     unary: &Unary,
-    found: &mut Vec<Finding>,
+    found: &mut Vec<Mistake>,
 ) -> Result<Operand, Memory>
     ensures { IfOk result (Judges scope.now variables.now (shape (unary_tree unary.now)) found.old.items found.new.items) }
 {
     match unary {
-        Unary::Atom(atom) => judge_atom(alloc, scope, variables, atom, found),
-        Unary::Prefixed(prefixed) => judge_prefixed(alloc, scope, variables, prefixed, found),
+        Unary::Atom(atom) => judge_atom(scope, variables, atom, found),
+        Unary::Prefixed(prefixed) => judge_prefixed(scope, variables, prefixed, found),
     }
 }
 
 /// The same where something stands before the atom.
 #[cycle(expressions)]
 fn judge_prefixed(
-    alloc: Global,
     scope: &Scope<'_>,
     variables: &Variables<'_>,
     prefixed: &Prefixed,
-    found: &mut Vec<Finding>,
+    found: &mut Vec<Mistake>,
 ) -> Result<Operand, Memory>
     ensures { IfOk result (Judges scope.now variables.now (shape (prefixed_tree prefixed.now)) found.old.items found.new.items) }
 {
-    let atom = judge_atom(alloc, scope, variables, &prefixed.atom, found)?;
-    judge_signs(alloc, &prefixed.prefixes, atom, found)
+    let atom = judge_atom(scope, variables, &prefixed.atom, found)?;
+    judge_signs(&prefixed.prefixes, atom, found)
 }
 
 /// An operand with all of these before it, from the last on; adds what is wrong with that.
 fn judge_signs(
-    alloc: Global,
     prefixes: &[Prefix],
     inner: Operand,
-    found: &mut Vec<Finding>,
+    found: &mut Vec<Mistake>,
 ) -> Result<Operand, Memory>
-    ensures { IfOk result (λ o. (s : InScope) (e : Shape) (start : List Finding) → IsJudged s e start found.old.items inner
+    ensures { IfOk result (λ o. (s : InScope) (e : Shape) (start : List MistakeSeen) → IsJudged s e start found.old.items inner
         → IsJudged s (signed prefixes.now e) start found.new.items o) }
 {
     let mut operand = inner;
     let mut left = prefixes.len();
     while left > 0 {
         left -= 1;
-        operand = sign(alloc, prefixes[left], operand, found)?;
+        operand = sign(prefixes[left], operand, found)?;
     }
     Ok(operand)
 }
@@ -240,11 +229,10 @@ fn judge_signs(
 #[inline(always)]
 #[cycle(expressions)]
 fn judge_atom(
-    alloc: Global,
     scope: &Scope<'_>,
     variables: &Variables<'_>,
     atom: &Atom,
-    found: &mut Vec<Finding>,
+    found: &mut Vec<Mistake>,
 ) -> Result<Operand, Memory>
     ensures { IfOk result (Judges scope.now variables.now (atom_shape (atom_tree atom.now)) found.old.items found.new.items) }
 {
@@ -252,9 +240,9 @@ fn judge_atom(
         Atom::Number(span) => Ok(Operand::number(span.place)),
         Atom::True(span) => Ok(Operand::truth(span.place)),
         Atom::False(span) => Ok(Operand::truth(span.place)),
-        Atom::Target(target) => judge_mentioned(alloc, scope, variables, target, found),
+        Atom::Target(target) => judge_mentioned(scope, variables, target, found),
         Atom::Parens { open, inner } => {
-            let inner = judge_operand(alloc, scope, variables, inner, found)?;
+            let inner = judge_operand(scope, variables, inner, found)?;
             Ok(Operand {
                 kind: inner.kind,
                 place: open.place,
@@ -266,58 +254,55 @@ fn judge_atom(
 /// The same of a target within an expression.
 #[cycle(expressions)]
 fn judge_mentioned(
-    alloc: Global,
     scope: &Scope<'_>,
     variables: &Variables<'_>,
     target: &Target,
-    found: &mut Vec<Finding>,
+    found: &mut Vec<Mistake>,
 ) -> Result<Operand, Memory>
     ensures { IfOk result (Judges scope.now variables.now (target_shape (target_tree target.now)) found.old.items found.new.items) }
 {
     match target {
-        Target::Variable(name) => mentions::judge_mention(alloc, scope, variables, *name, found),
+        Target::Variable(name) => mentions::judge_mention(scope, variables, *name, found),
         Target::Field(part) => {
-            mentions::judge_field_of(alloc, scope, variables, part.variable, part.field, found)
+            mentions::judge_field_of(scope, variables, part.variable, part.field, found)
         }
         Target::Element(part) => {
-            let index = judge_operand(alloc, scope, variables, &part.index, found)?;
-            mentions::judge_element_of(alloc, scope, variables, part.variable, index, found)
+            let index = judge_operand(scope, variables, &part.index, found)?;
+            mentions::judge_element_of(scope, variables, part.variable, index, found)
         }
     }
 }
 
 /// The kind of an expression; adds what is wrong in it.
 pub(crate) fn judge_expression(
-    alloc: Global,
     scope: &Scope<'_>,
     variables: &Variables<'_>,
     expression: &Expression,
-    found: &mut Vec<Finding>,
+    found: &mut Vec<Mistake>,
 ) -> Result<Kind, Memory>
     ensures kind { IfOk result (λ kind. (p : Program) (f : Frame) → IsScope p scope.now → IsFrame p.text f variables.now
         → kind ≡ kind_of (record { program = p; variables = f.variables }) (shape (expression_tree expression.now))) }
     ensures found { (p : Program) (f : Frame) → IsScope p scope.now
         → IsFrame p.text f variables.now → OnOk result (Adds found.old.items found.new.items
-        (expression_findings (record { program = p; variables = f.variables }) (shape (expression_tree expression.now)))) }
+        (expression_mistakes (record { program = p; variables = f.variables }) (shape (expression_tree expression.now)))) }
 {
-    let operand = judge_operand(alloc, scope, variables, expression, found)?;
+    let operand = judge_operand(scope, variables, expression, found)?;
     Ok(operand.kind)
 }
 
 /// The same of an expression that is the whole of a value, an argument or what is returned: a variable of the exchange
 /// heap may stand there alone.
 pub(crate) fn judge_whole(
-    alloc: Global,
     scope: &Scope<'_>,
     variables: &Variables<'_>,
     expression: &Expression,
-    found: &mut Vec<Finding>,
+    found: &mut Vec<Mistake>,
 ) -> Result<Kind, Memory>
     ensures kind { IfOk result (λ kind. (p : Program) (f : Frame) → IsScope p scope.now → IsFrame p.text f variables.now
         → kind ≡ kind_of (record { program = p; variables = f.variables }) (shape (expression_tree expression.now))) }
     ensures found { (p : Program) (f : Frame) → IsScope p scope.now → IsFrame p.text f variables.now → OnOk result (Adds found.old.items
-        found.new.items (whole_findings (record { program = p; variables = f.variables }) (shape (expression_tree expression.now)))) }
+        found.new.items (whole_mistakes (record { program = p; variables = f.variables }) (shape (expression_tree expression.now)))) }
 {
-    let operand = judge_whole_operand(alloc, scope, variables, expression, found)?;
+    let operand = judge_whole_operand(scope, variables, expression, found)?;
     Ok(operand.kind)
 }

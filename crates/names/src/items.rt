@@ -3,23 +3,25 @@
 ghost use Rattle.std.specs.Prelude.{◌≡◌, OnOk};
 ghost use Rattle.std.specs.List.{flat_map};
 ghost use Rattle.tree.specs.Trees.{DefinitionTree};
-ghost use Rattle.declarations.specs.Found.{Adds};
+ghost use Rattle.declarations.specs.Mistakes.{Adds};
 ghost use Rattle.declarations.specs.Program.{Program};
 ghost use Rattle.declarations.specs.Scopes.{IsScope, AreMembers};
-ghost use Rattle.names.specs.Findings.{definition_findings, program_findings};
+ghost use Rattle.names.specs.Findings.{definition_mistakes, program_mistakes};
 
 use crate::methods::judge_class;
-use declarations::{Members, Scope, judge_contract, judge_counted, judge_items, judge_struct};
-use source::{Finding, Memory};
+use declarations::{
+    Members, Mistake, Scope, judge_contract, judge_counted, judge_items, judge_struct,
+};
+use source::Memory;
 use std::alloc::Global;
 
 /// Adds all that is wrong with the names and kinds of a program.
 pub(crate) fn judge_program(
     alloc: Global,
     scope: &Scope<'_>,
-    found: &mut Vec<Finding>,
+    found: &mut Vec<Mistake>,
 ) -> Result<(), Memory>
-    ensures { (p : Program) → IsScope p scope.now → OnOk result (Adds found.old.items found.new.items (program_findings p)) }
+    ensures { (p : Program) → IsScope p scope.now → OnOk result (Adds found.old.items found.new.items (program_mistakes p)) }
 {
     judge_items(alloc, scope, found)?;
     judge_counted(alloc, scope, found)?;
@@ -30,10 +32,10 @@ pub(crate) fn judge_program(
 fn judge_definitions(
     alloc: Global,
     scope: &Scope<'_>,
-    found: &mut Vec<Finding>,
+    found: &mut Vec<Mistake>,
 ) -> Result<(), Memory>
     ensures { (p : Program) → IsScope p scope.now
-        → OnOk result (Adds found.old.items found.new.items (flat_map (λ i. definition_findings p i.definition) p.items)) }
+        → OnOk result (Adds found.old.items found.new.items (flat_map (λ i. definition_mistakes p i.definition) p.items)) }
 {
     for members in scope.members() {
         judge_definition(alloc, scope, members, found)?;
@@ -46,10 +48,10 @@ fn judge_definition<'a>(
     alloc: Global,
     scope: &Scope<'a>,
     members: &Members<'a>,
-    found: &mut Vec<Finding>,
+    found: &mut Vec<Mistake>,
 ) -> Result<(), Memory>
     ensures { (p : Program) (d : DefinitionTree) → IsScope p scope.now → AreMembers p.text d members.now
-        → OnOk result (Adds found.old.items found.new.items (definition_findings p d)) }
+        → OnOk result (Adds found.old.items found.new.items (definition_mistakes p d)) }
 {
     match members {
         Members::Contract(declared) => judge_contract(alloc, scope, declared, found),

@@ -26,9 +26,10 @@ mod values;
 mod variables;
 mod wholes;
 
+pub use declarations::{Demand, Limit, Mismatch, Mistake};
 pub use fault::NameFaults;
 pub use program::{
     ContractId, MOST_CONTRACTS, MOST_FIELDS, MOST_METHODS, MOST_PARAMETERS, MOST_STATES,
     MOST_VARIABLES, MessageId, MethodId, Resolved, StateId, VarId,
 };
-pub use resolving::resolve;
+pub use resolving::{mistakes_of, resolve};

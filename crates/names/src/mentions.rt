@@ -1,13 +1,13 @@
 //! What is wrong with the variables in an expression, their fields and their elements.
 
 ghost use Rattle.std.specs.Prelude.{◌≡◌, ℕ, List, [], ◌∷◌, OnOk, IfOk, is_some, codes, if◌then◌else◌};
-ghost use Rattle.source.specs.declared.finding.Finding.{Finding};
+ghost use Rattle.declarations.specs.declared.mistake.Mistake.{Mistake as MistakeSeen};
 ghost use Rattle.source.specs.declared.token.Span.{Span};
 ghost use Rattle.tree.specs.Trees.{StructTree};
-ghost use Rattle.names.specs.Expressions.{InScope, meant, held, variable_findings, field_kind, field_findings};
-ghost use Rattle.names.specs.Expressions.{element_kind, element_findings, struct_field_kind, is_owning, owns};
+ghost use Rattle.names.specs.Expressions.{InScope, meant, held, variable_mistakes, field_kind, field_mistakes};
+ghost use Rattle.names.specs.Expressions.{element_kind, element_mistakes, struct_field_kind, is_owning, owns};
 ghost use Rattle.declarations.specs.Named.{field_named};
-ghost use Rattle.declarations.specs.Found.{Adds, unknown};
+ghost use Rattle.declarations.specs.Mistakes.{Adds};
 ghost use Rattle.names.specs.Mentions.{Gives, GivesIn, IsGiven};
 ghost use Rattle.names.specs.Operands.{Judges};
 ghost use Rattle.declarations.specs.Scopes.{IsScope, AreFields};
@@ -17,27 +17,25 @@ ghost use Rattle.tables.specs.Words.{word_at, same_word};
 
 use crate::operands::{Operand, ask, ask_number};
 use crate::variables::Variables;
-use declarations::{Fields, Kind, Scope, add_unknown, is_heap};
+use declarations::{Demand, Fields, Kind, Mismatch, Mistake, Scope, add_unknown, is_heap};
 use program::Scalar;
-use source::{Finding, Memory, Span};
-use std::alloc::Global;
+use source::{Memory, Span};
 use tree::Field;
 
 /// What a variable holds; adds the name if nothing declares it.
 pub(crate) fn judge_variable(
-    alloc: Global,
     scope: &Scope<'_>,
     variables: &Variables<'_>,
     name: Span,
-    found: &mut Vec<Finding>,
+    found: &mut Vec<Mistake>,
 ) -> Result<Kind, Memory>
     ensures { IfOk result
-        (Gives scope.now variables.now (λ s. held (meant s name)) (λ s. variable_findings s name) found.old.items found.new.items) }
+        (Gives scope.now variables.now (λ s. held (meant s name)) (λ s. variable_mistakes s name) found.old.items found.new.items) }
 {
     match variables.find(scope.text, name) {
         Some(variable) => Ok(variable.kind),
         None => {
-            add_unknown(alloc, scope.text, name, found)?;
+            add_unknown(name, found)?;
             Ok(Kind::Unknown)
         }
     }
@@ -45,16 +43,16 @@ pub(crate) fn judge_variable(
 
 /// A variable within an expression; adds what is wrong with it.
 pub(crate) fn judge_mention(
-    alloc: Global,
     scope: &Scope<'_>,
     variables: &Variables<'_>,
     name: Span,
-    found: &mut Vec<Finding>,
+    found: &mut Vec<Mistake>,
 ) -> Result<Operand, Memory>
     ensures { IfOk result (Judges scope.now variables.now (shapes.Mention name) found.old.items found.new.items) }
 {
-    let kind = judge_variable(alloc, scope, variables, name, found)?;
-    ask(alloc, !kind.is_block(), name.place, found)?;
+    let kind = judge_variable(scope, variables, name, found)?;
+    let mismatch = Mismatch::Given(Demand::NoBlock, kind);
+    ask(!kind.is_block(), name.place, mismatch, found)?;
     Ok(Operand {
         kind,
         place: name.place,
@@ -63,23 +61,18 @@ pub(crate) fn judge_mention(
 
 /// A field of a variable within an expression; adds what is wrong with it.
 pub(crate) fn judge_field_of(
-    alloc: Global,
     scope: &Scope<'_>,
     variables: &Variables<'_>,
     variable: Span,
     field: Span,
-    found: &mut Vec<Finding>,
+    found: &mut Vec<Mistake>,
 ) -> Result<Operand, Memory>
     ensures { IfOk result (Judges scope.now variables.now (shapes.Field variable field) found.old.items found.new.items) }
 {
-    let held = judge_variable(alloc, scope, variables, variable, found)?;
-    let kind = judge_field(alloc, scope, held, variable, field, found)?;
-    ask(
-        alloc,
-        !owns(scope, held, field, kind),
-        variable.place,
-        found,
-    )?;
+    let held = judge_variable(scope, variables, variable, found)?;
+    let kind = judge_field(scope, held, variable, field, found)?;
+    let well = !owns(scope, held, field, kind);
+    ask(well, variable.place, Mismatch::FieldOwns, found)?;
     Ok(Operand {
         kind,
         place: variable.place,
@@ -89,19 +82,18 @@ pub(crate) fn judge_field_of(
 /// An element of a variable within an expression, where the index was judged; adds what is wrong with it.
 #[inline(always)]
 pub(crate) fn judge_element_of(
-    alloc: Global,
     scope: &Scope<'_>,
     variables: &Variables<'_>,
     variable: Span,
     index: Operand,
-    found: &mut Vec<Finding>,
+    found: &mut Vec<Mistake>,
 ) -> Result<Operand, Memory>
-    ensures { IfOk result (λ o. (e : Shape) (start : List Finding) → Judges scope.now variables.now e start found.old.items index
+    ensures { IfOk result (λ o. (e : Shape) (start : List MistakeSeen) → Judges scope.now variables.now e start found.old.items index
         → Judges scope.now variables.now (shapes.Element variable e) start found.new.items o) }
 {
-    ask_number(alloc, index.kind, index.place, found)?;
-    let held = judge_variable(alloc, scope, variables, variable, found)?;
-    judge_element(alloc, held, variable, found)?;
+    ask_number(index.kind, index.place, found)?;
+    let held = judge_variable(scope, variables, variable, found)?;
+    judge_element(held, variable, found)?;
     Ok(Operand {
         kind: kind_of_element(held, index.kind.is_unknown()),
         place: variable.place,
@@ -109,17 +101,15 @@ pub(crate) fn judge_element_of(
 }
 
 /// Adds a variable that has no elements.
-fn judge_element(
-    alloc: Global,
-    held: Kind,
-    variable: Span,
-    found: &mut Vec<Finding>,
-) -> Result<(), Memory>
-    ensures { OnOk result (Adds found.old.items found.new.items (element_findings held variable)) }
+fn judge_element(held: Kind, variable: Span, found: &mut Vec<Mistake>) -> Result<(), Memory>
+    ensures { OnOk result (Adds found.old.items found.new.items (element_mistakes held variable)) }
 {
     match held {
         Kind::Array(_) => Ok(()),
-        _ => ask(alloc, held.is_silent(), variable.place, found),
+        _ => {
+            let mismatch = Mismatch::Given(Demand::Array, held);
+            ask(held.is_silent(), variable.place, mismatch, found)
+        }
     }
 }
 
@@ -137,22 +127,22 @@ fn kind_of_element(held: Kind, lost: bool) -> Kind
 
 /// The kind of a field of what a variable holds; adds what is wrong with it.
 pub(crate) fn judge_field(
-    alloc: Global,
     scope: &Scope<'_>,
     held: Kind,
     variable: Span,
     field: Span,
-    found: &mut Vec<Finding>,
+    found: &mut Vec<Mistake>,
 ) -> Result<Kind, Memory>
     ensures { IfOk result
-        (GivesIn scope.now (λ s. field_kind s held field) (λ s. field_findings s held variable field) found.old.items found.new.items) }
+        (GivesIn scope.now (λ s. field_kind s held field) (λ s. field_mistakes s held variable field) found.old.items found.new.items) }
 {
     match held {
-        Kind::Array(_) => judge_length(alloc, scope.text, field, found),
-        Kind::Pointer(place) => judge_struct_field(alloc, scope, place, field, found),
+        Kind::Array(_) => judge_length(scope.text, field, found),
+        Kind::Pointer(place) => judge_struct_field(scope, place, field, found),
         Kind::Unknown => Ok(Kind::Unknown),
         _ => {
-            ask(alloc, held.is_silent(), variable.place, found)?;
+            let mismatch = Mismatch::Given(Demand::Fields, held);
+            ask(held.is_silent(), variable.place, mismatch, found)?;
             Ok(Kind::Missing)
         }
     }
@@ -189,20 +179,15 @@ fn is_owning(field: Option<Field>) -> bool
 }
 
 /// The kind of a field of an array; adds any but its length.
-fn judge_length(
-    alloc: Global,
-    text: &[u8],
-    field: Span,
-    found: &mut Vec<Finding>,
-) -> Result<Kind, Memory>
+fn judge_length(text: &[u8], field: Span, found: &mut Vec<Mistake>) -> Result<Kind, Memory>
     ensures { IfOk result (let is_length = same_word (word_at text.now field) (codes "Length") in
         IsGiven (if is_length then Kind.Scalar Scalar.Int else Kind.Unknown)
-        (if is_length then [] else unknown text.now field ∷ []) found.old.items found.new.items) }
+        (if is_length then [] else Mistake.Unknown field ∷ []) found.old.items found.new.items) }
 {
     if is_length(text, field) {
         return Ok(Kind::Scalar(Scalar::Int));
     }
-    add_unknown(alloc, text, field, found)?;
+    add_unknown(field, found)?;
     Ok(Kind::Unknown)
 }
 
@@ -216,38 +201,36 @@ pub(crate) fn is_length(text: &[u8], name: Span) -> bool
 /// The kind of a field of what a pointer leads to; adds one that the struct lacks.
 // Nothing is said of the pointer's own name, so in the clause that of the field stands for it.
 fn judge_struct_field(
-    alloc: Global,
     scope: &Scope<'_>,
     place: usize,
     field: Span,
-    found: &mut Vec<Finding>,
+    found: &mut Vec<Mistake>,
 ) -> Result<Kind, Memory>
     ensures { IfOk result (GivesIn scope.now (λ s. field_kind s (Kind.Pointer place) field)
-        (λ s. field_findings s (Kind.Pointer place) field field) found.old.items found.new.items) }
+        (λ s. field_mistakes s (Kind.Pointer place) field field) found.old.items found.new.items) }
 {
     match scope.structure_at(place) {
-        Some(fields) => judge_field_in(alloc, scope, fields, field, found),
+        Some(fields) => judge_field_in(scope, fields, field, found),
         None => Ok(Kind::Unknown),
     }
 }
 
 /// The kind of a field of a struct; adds one that it lacks.
 fn judge_field_in(
-    alloc: Global,
     scope: &Scope<'_>,
     fields: &Fields<'_>,
     field: Span,
-    found: &mut Vec<Finding>,
+    found: &mut Vec<Mistake>,
 ) -> Result<Kind, Memory>
     ensures { IfOk result (λ k. (s : InScope) (x : StructTree) → IsScope s.program scope.now → AreFields scope.now.text.now x fields.now
         → IsGiven (struct_field_kind s (field_named scope.now.text.now x field))
-        (if is_some (field_named scope.now.text.now x field) then [] else unknown scope.now.text.now field ∷ [])
+        (if is_some (field_named scope.now.text.now x field) then [] else Mistake.Unknown field ∷ [])
         found.old.items found.new.items k) }
 {
     match fields.find(scope.text, field) {
         Some(declared) => Ok(scope.kind(declared.kind)),
         None => {
-            add_unknown(alloc, scope.text, field, found)?;
+            add_unknown(field, found)?;
             Ok(Kind::Unknown)
         }
     }

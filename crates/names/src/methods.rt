@@ -3,9 +3,9 @@
 ghost use Rattle.std.specs.Prelude.{OnOk};
 ghost use Rattle.std.specs.List.{flat_map};
 ghost use Rattle.tree.specs.Trees.{ClassTree, method_tree};
-ghost use Rattle.declarations.specs.Found.{Adds};
+ghost use Rattle.declarations.specs.Mistakes.{Adds};
 ghost use Rattle.names.specs.Frames.{IsFrame, Turned};
-ghost use Rattle.names.specs.Methods.{result_unknown, parameter_turn, parameters_turn, method_turn, class_findings};
+ghost use Rattle.names.specs.Methods.{result_unknown, parameter_turn, parameters_turn, method_turn, class_mistakes};
 ghost use Rattle.declarations.specs.Program.{Program};
 ghost use Rattle.declarations.specs.Scopes.{IsScope, AreMethods};
 ghost use Rattle.names.specs.Variables.{Frame};
@@ -13,8 +13,8 @@ ghost use Rattle.names.specs.Variables.{Frame};
 use crate::statements::judge_block;
 use crate::surroundings::Surroundings;
 use crate::variables::{Variable, Variables};
-use declarations::{Methods, Scope, is_heap, judge_method_names, judge_type};
-use source::{Finding, Memory};
+use declarations::{Methods, Mistake, Scope, is_heap, judge_method_names, judge_type};
+use source::Memory;
 use std::alloc::Global;
 use tree::{Method, Parameter, Type};
 
@@ -23,10 +23,10 @@ pub(crate) fn judge_class<'a>(
     alloc: Global,
     scope: &Scope<'a>,
     methods: &Methods<'a>,
-    found: &mut Vec<Finding>,
+    found: &mut Vec<Mistake>,
 ) -> Result<(), Memory>
     ensures { (p : Program) (c : ClassTree) → IsScope p scope.now → AreMethods p.text c methods.now
-        → OnOk result (Adds found.old.items found.new.items (class_findings p c)) }
+        → OnOk result (Adds found.old.items found.new.items (class_mistakes p c)) }
 {
     judge_method_names(alloc, scope, methods, found)?;
     judge_methods(alloc, scope, methods, found)
@@ -37,7 +37,7 @@ fn judge_methods<'a>(
     alloc: Global,
     scope: &Scope<'a>,
     methods: &Methods<'a>,
-    found: &mut Vec<Finding>,
+    found: &mut Vec<Mistake>,
 ) -> Result<(), Memory>
     ensures { (p : Program) (c : ClassTree) → IsScope p scope.now → AreMethods p.text c methods.now
         → OnOk result (Adds found.old.items found.new.items (flat_map (λ m. (method_turn p c m).found) c.methods)) }
@@ -54,12 +54,12 @@ fn judge_method<'a>(
     scope: &Scope<'a>,
     methods: &Methods<'a>,
     method: &Method,
-    found: &mut Vec<Finding>,
+    found: &mut Vec<Mistake>,
 ) -> Result<(), Memory>
     ensures { (p : Program) (c : ClassTree) → IsScope p scope.now → AreMethods p.text c methods.now
         → OnOk result (Adds found.old.items found.new.items (method_turn p c (method_tree method.now)).found) }
 {
-    judge_result(alloc, scope, method.result, found)?;
+    judge_result(scope, method.result, found)?;
     let mut variables = Variables::new(alloc);
     judge_parameters(alloc, scope, &mut variables, &method.params, found)?;
     let around = Surroundings {
@@ -75,15 +75,14 @@ fn judge_method<'a>(
 
 /// Adds the names in the type that a method gives, if it gives anything, that are not declared.
 fn judge_result(
-    alloc: Global,
     scope: &Scope<'_>,
     kind: Option<Type>,
-    found: &mut Vec<Finding>,
+    found: &mut Vec<Mistake>,
 ) -> Result<(), Memory>
     ensures { (p : Program) → IsScope p scope.now → OnOk result (Adds found.old.items found.new.items (result_unknown p kind)) }
 {
     match kind {
-        Some(kind) => judge_type(alloc, scope, kind, found),
+        Some(kind) => judge_type(scope, kind, found),
         None => Ok(()),
     }
 }
@@ -94,7 +93,7 @@ fn judge_parameters<'a>(
     scope: &Scope<'a>,
     variables: &mut Variables<'a>,
     params: &[Parameter],
-    found: &mut Vec<Finding>,
+    found: &mut Vec<Mistake>,
 ) -> Result<(), Memory>
     ensures { (p : Program) (f : Frame) → IsScope p scope.now → IsFrame p.text f variables.old
         → OnOk result (Turned p.text found.old.items found.new.items variables.new (parameters_turn p params.now f)) }
@@ -111,12 +110,12 @@ fn judge_parameter<'a>(
     scope: &Scope<'a>,
     variables: &mut Variables<'a>,
     parameter: Parameter,
-    found: &mut Vec<Finding>,
+    found: &mut Vec<Mistake>,
 ) -> Result<(), Memory>
     ensures { (p : Program) (f : Frame) → IsScope p scope.now → IsFrame p.text f variables.old
         → OnOk result (Turned p.text found.old.items found.new.items variables.new (parameter_turn p parameter f)) }
 {
-    judge_type(alloc, scope, parameter.kind, found)?;
+    judge_type(scope, parameter.kind, found)?;
     let kind = scope.kind(parameter.kind);
     let heap = is_heap(parameter.kind);
     let variable = Variable {

@@ -1,17 +1,16 @@
 //! Operands: what is asked of them, and what operators make of them.
 
 ghost use Rattle.std.specs.Prelude.{◌≡◌, ◌||◌, IfOk, OnOk, ◌∷◌, [], if◌then◌else◌};
-ghost use Rattle.declarations.specs.Found.{Adds};
-ghost use Rattle.declarations.specs.Kinds.{unless, wrong_type, is_unknown};
+ghost use Rattle.declarations.specs.Mistakes.{Adds};
+ghost use Rattle.declarations.specs.Kinds.{unless, is_unknown};
 ghost use Rattle.names.specs.Expressions.{asked_number, asked_truth, asked_either, asked_like};
 ghost use Rattle.names.specs.Expressions.{left_asked, right_asked, joined_kind, signed_kind, sign_asked};
 ghost use Rattle.names.specs.Operands.{IsJoined, IsSigned};
 ghost use Rattle.names.specs.Shapes.{sign_of};
 
-use declarations::Kind;
+use declarations::{Demand, Kind, Mismatch, Mistake};
 use program::Scalar;
-use source::{Finding, Memory, Place, texts};
-use std::alloc::Global;
+use source::{Memory, Place};
 use tree::{Prefix, PrefixOperator};
 
 /// What an expression gives, and where it begins.
@@ -53,120 +52,104 @@ pub(crate) enum Joint {
 }
 
 /// Adds a wrong type.
+#[cold]
 pub(crate) fn add_wrong_type(
-    alloc: Global,
     place: Place,
-    found: &mut Vec<Finding>,
+    mismatch: Mismatch,
+    found: &mut Vec<Mistake>,
 ) -> Result<(), Memory>
-    ensures { OnOk result (Adds found.old.items found.new.items (wrong_type place ∷ [])) }
+    ensures { OnOk result (Adds found.old.items found.new.items (Mistake.WrongType place mismatch ∷ [])) }
 {
-    found.push(texts::wrong_type(alloc, place)?)?;
+    found.push(Mistake::WrongType(place, mismatch))?;
     Ok(())
 }
 
 /// Adds a wrong type, unless all is well.
+// Inlined, so that what is wrong is put together only where something is.
+#[inline(always)]
 pub(crate) fn ask(
-    alloc: Global,
     well: bool,
     place: Place,
-    found: &mut Vec<Finding>,
+    mismatch: Mismatch,
+    found: &mut Vec<Mistake>,
 ) -> Result<(), Memory>
-    ensures { OnOk result (Adds found.old.items found.new.items (unless well place)) }
+    ensures { OnOk result (Adds found.old.items found.new.items (unless well place mismatch)) }
 {
     if well {
         return Ok(());
     }
-    add_wrong_type(alloc, place, found)
+    add_wrong_type(place, mismatch, found)
 }
 
 /// Asks for a number.
-pub(crate) fn ask_number(
-    alloc: Global,
-    kind: Kind,
-    place: Place,
-    found: &mut Vec<Finding>,
-) -> Result<(), Memory>
+pub(crate) fn ask_number(kind: Kind, place: Place, found: &mut Vec<Mistake>) -> Result<(), Memory>
     ensures { OnOk result (Adds found.old.items found.new.items (asked_number kind place)) }
 {
-    ask(alloc, kind.is_silent() || kind.is_number(), place, found)
+    if kind.is_silent() || kind.is_number() {
+        return Ok(());
+    }
+    add_wrong_type(place, Mismatch::Given(Demand::Number, kind), found)
 }
 
 /// Asks for a truth value.
-pub(crate) fn ask_truth(
-    alloc: Global,
-    kind: Kind,
-    place: Place,
-    found: &mut Vec<Finding>,
-) -> Result<(), Memory>
+pub(crate) fn ask_truth(kind: Kind, place: Place, found: &mut Vec<Mistake>) -> Result<(), Memory>
     ensures { OnOk result (Adds found.old.items found.new.items (asked_truth kind place)) }
 {
-    ask(alloc, kind.is_silent() || kind.is_truth(), place, found)
+    if kind.is_silent() || kind.is_truth() {
+        return Ok(());
+    }
+    add_wrong_type(place, Mismatch::Given(Demand::Truth, kind), found)
 }
 
 /// Asks for a number or a truth value.
-fn ask_either(
-    alloc: Global,
-    kind: Kind,
-    place: Place,
-    found: &mut Vec<Finding>,
-) -> Result<(), Memory>
+fn ask_either(kind: Kind, place: Place, found: &mut Vec<Mistake>) -> Result<(), Memory>
     ensures { OnOk result (Adds found.old.items found.new.items (asked_either kind place)) }
 {
-    let well = kind.is_silent() || kind.is_number() || kind.is_truth();
-    ask(alloc, well, place, found)
+    if kind.is_silent() || kind.is_number() || kind.is_truth() {
+        return Ok(());
+    }
+    add_wrong_type(place, Mismatch::Given(Demand::Scalar, kind), found)
 }
 
 /// Asks for what can be compared with what stands on the left.
-fn ask_like(
-    alloc: Global,
-    left: Kind,
-    kind: Kind,
-    place: Place,
-    found: &mut Vec<Finding>,
-) -> Result<(), Memory>
+fn ask_like(left: Kind, kind: Kind, place: Place, found: &mut Vec<Mistake>) -> Result<(), Memory>
     ensures { OnOk result (Adds found.old.items found.new.items (asked_like left kind place)) }
 {
     if left.is_number() {
-        return ask_number(alloc, kind, place, found);
+        return ask_number(kind, place, found);
     }
     if left.is_truth() {
-        return ask_truth(alloc, kind, place, found);
+        return ask_truth(kind, place, found);
     }
-    ask_either(alloc, kind, place, found)
+    ask_either(kind, place, found)
 }
 
 /// What is asked on the left of an operator.
-fn ask_left(
-    alloc: Global,
-    joint: Joint,
-    left: Operand,
-    found: &mut Vec<Finding>,
-) -> Result<(), Memory>
+fn ask_left(joint: Joint, left: Operand, found: &mut Vec<Mistake>) -> Result<(), Memory>
     ensures { OnOk result (Adds found.old.items found.new.items (left_asked joint left.kind left.place)) }
 {
     match joint {
-        Joint::Logic => ask_truth(alloc, left.kind, left.place, found),
-        Joint::Likeness => ask_either(alloc, left.kind, left.place, found),
-        Joint::Order => ask_number(alloc, left.kind, left.place, found),
-        Joint::Sum => ask_number(alloc, left.kind, left.place, found),
+        Joint::Logic => ask_truth(left.kind, left.place, found),
+        Joint::Likeness => ask_either(left.kind, left.place, found),
+        Joint::Order => ask_number(left.kind, left.place, found),
+        Joint::Sum => ask_number(left.kind, left.place, found),
     }
 }
 
 /// What is asked on the right of an operator.
 fn ask_right(
-    alloc: Global,
     joint: Joint,
     left: Kind,
     right: Operand,
-    found: &mut Vec<Finding>,
+    found: &mut Vec<Mistake>,
 ) -> Result<(), Memory>
     ensures { OnOk result (Adds found.old.items found.new.items (right_asked joint left right.kind right.place)) }
 {
     match joint {
-        Joint::Logic => ask_truth(alloc, right.kind, right.place, found),
-        Joint::Likeness => ask_like(alloc, left, right.kind, right.place, found),
-        Joint::Order => ask_number(alloc, right.kind, right.place, found),
-        Joint::Sum => ask_number(alloc, right.kind, right.place, found),
+        Joint::Logic => ask_truth(right.kind, right.place, found),
+        Joint::Likeness => ask_like(left, right.kind, right.place, found),
+        Joint::Order => ask_number(right.kind, right.place, found),
+        Joint::Sum => ask_number(right.kind, right.place, found),
     }
 }
 
@@ -186,16 +169,15 @@ fn kind_joined(joint: Joint, left: Kind, right: Kind) -> Kind
 /// Two operands, joined; adds what is wrong with that.
 #[inline(always)]
 pub(crate) fn join(
-    alloc: Global,
     joint: Joint,
     left: Operand,
     right: Operand,
-    found: &mut Vec<Finding>,
+    found: &mut Vec<Mistake>,
 ) -> Result<Operand, Memory>
     ensures { IfOk result (IsJoined joint left right found.old.items found.new.items) }
 {
-    ask_left(alloc, joint, left, found)?;
-    ask_right(alloc, joint, left.kind, right, found)?;
+    ask_left(joint, left, found)?;
+    ask_right(joint, left.kind, right, found)?;
     Ok(Operand {
         kind: kind_joined(joint, left.kind, right.kind),
         place: left.place,
@@ -204,16 +186,15 @@ pub(crate) fn join(
 
 /// What is asked behind a sign.
 fn ask_signed(
-    alloc: Global,
     operator: PrefixOperator,
     inner: Operand,
-    found: &mut Vec<Finding>,
+    found: &mut Vec<Mistake>,
 ) -> Result<(), Memory>
     ensures { OnOk result (Adds found.old.items found.new.items (sign_asked (sign_of operator) inner.kind inner.place)) }
 {
     match operator {
-        PrefixOperator::Not => ask_truth(alloc, inner.kind, inner.place, found),
-        PrefixOperator::Negate => ask_number(alloc, inner.kind, inner.place, found),
+        PrefixOperator::Not => ask_truth(inner.kind, inner.place, found),
+        PrefixOperator::Negate => ask_number(inner.kind, inner.place, found),
     }
 }
 
@@ -232,14 +213,13 @@ fn kind_signed(operator: PrefixOperator, inner: Kind) -> Kind
 
 /// An operand with a sign before it; adds what is wrong with that.
 pub(crate) fn sign(
-    alloc: Global,
     prefix: Prefix,
     inner: Operand,
-    found: &mut Vec<Finding>,
+    found: &mut Vec<Mistake>,
 ) -> Result<Operand, Memory>
     ensures { IfOk result (IsSigned (sign_of prefix.operator) prefix.place.place inner found.old.items found.new.items) }
 {
-    ask_signed(alloc, prefix.operator, inner, found)?;
+    ask_signed(prefix.operator, inner, found)?;
     Ok(Operand {
         kind: kind_signed(prefix.operator, inner.kind),
         place: prefix.place.place,

@@ -5,10 +5,10 @@ ghost use Rattle.tree.specs.ExpressionTrees.{expression_tree};
 ghost use Rattle.tree.specs.StatementTrees.{declare_tree, assign_tree};
 ghost use Rattle.tree.specs.Values.{value_tree};
 ghost use Rattle.names.specs.Bodies as bodies;
-ghost use Rattle.names.specs.Bodies.{given_findings, declaration_turn, delete_findings, is_end_of, same_end};
-ghost use Rattle.names.specs.Bodies.{ends_findings, new_ends_findings, channel_findings, return_findings};
-ghost use Rattle.names.specs.Expressions.{variable_findings, meant, held};
-ghost use Rattle.declarations.specs.Found.{Adds};
+ghost use Rattle.names.specs.Bodies.{given_mistakes, declaration_turn, delete_mistakes, is_end_of, same_end};
+ghost use Rattle.names.specs.Bodies.{demand_beside, ends_mistakes, new_ends_mistakes, channel_mistakes, return_mistakes};
+ghost use Rattle.names.specs.Expressions.{variable_mistakes, meant, held};
+ghost use Rattle.declarations.specs.Mistakes.{Adds};
 ghost use Rattle.names.specs.Frames.{IsContext, IsFrame, Turned, AreSurroundings};
 ghost use Rattle.names.specs.Operands.{in_frame};
 ghost use Rattle.declarations.specs.Kinds.{unless, is_heap};
@@ -16,7 +16,7 @@ ghost use Rattle.program.specs.Kinds.{same_side};
 ghost use Rattle.declarations.specs.Program.{Program, contract_named};
 ghost use Rattle.declarations.specs.Scopes.{IsScope};
 ghost use Rattle.names.specs.Shapes.{shape};
-ghost use Rattle.names.specs.Values.{target_kind, target_findings, value_findings};
+ghost use Rattle.names.specs.Values.{target_kind, target_mistakes, value_mistakes};
 ghost use Rattle.names.specs.Variables.{Frame};
 
 use crate::expressions::judge_whole;
@@ -27,9 +27,9 @@ use crate::targets::judge_target;
 use crate::values::judge_value;
 use crate::variables::{Variable, Variables};
 use crate::wholes::judge_asked;
-use declarations::{Kind, Scope, add_unknown, is_heap, judge_type};
-use source::{Finding, Memory, Span};
-use std::alloc::Global;
+use declarations::{Demand, Kind, Mismatch, Mistake, Scope, add_unknown, is_heap, judge_type};
+use program::Side;
+use source::{Memory, Span};
 use tree::{Assign, Declare, Expression, NewChannel, Type, Value};
 
 /// Adds what is wrong with the value of a declaration, if it has one.
@@ -38,10 +38,10 @@ fn judge_given<'a>(
     variables: &Variables<'a>,
     asked: Kind,
     value: &Option<Value>,
-    found: &mut Vec<Finding>,
+    found: &mut Vec<Mistake>,
 ) -> Result<(), Memory>
     ensures { (m : bodies.Surroundings) (f : Frame) → AreSurroundings m around.now → IsFrame m.program.text f variables.now → OnOk
-        result (Adds found.old.items found.new.items (given_findings (bodies.inside_of m f) asked (option_map value_tree value.now))) }
+        result (Adds found.old.items found.new.items (given_mistakes (bodies.inside_of m f) asked (option_map value_tree value.now))) }
 {
     match value {
         Some(value) => judge_value(around, variables, asked, value, found),
@@ -54,14 +54,14 @@ pub(crate) fn judge_declare<'a>(
     around: &Surroundings<'_, 'a>,
     variables: &mut Variables<'a>,
     declare: &Declare,
-    found: &mut Vec<Finding>,
+    found: &mut Vec<Mistake>,
 ) -> Result<(), Memory>
     ensures { (m : bodies.Surroundings) (f : Frame) → AreSurroundings m around.now → IsFrame m.program.text f variables.old → OnOk
         result (Turned m.program.text found.old.items found.new.items variables.new (declaration_turn m (declare_tree declare.now) f)) }
 {
     let (alloc, scope) = (around.alloc, around.scope);
     let kind = scope.kind(declare.kind);
-    judge_type(alloc, scope, declare.kind, found)?;
+    judge_type(scope, declare.kind, found)?;
     judge_given(around, variables, kind, &declare.value, found)?;
     let variable = Variable {
         name: declare.name,
@@ -76,14 +76,14 @@ pub(crate) fn judge_assign<'a>(
     around: &Surroundings<'_, 'a>,
     variables: &Variables<'a>,
     assign: &Assign,
-    found: &mut Vec<Finding>,
+    found: &mut Vec<Mistake>,
 ) -> Result<(), Memory>
     ensures { (m : bodies.Surroundings) (f : Frame) → AreSurroundings m around.now
         → IsFrame m.program.text f variables.now → OnOk result
-        (Adds found.old.items found.new.items (target_findings (bodies.scope_in m f) (assign_tree assign.now).target ++ value_findings
+        (Adds found.old.items found.new.items (target_mistakes (bodies.scope_in m f) (assign_tree assign.now).target ++ value_mistakes
         (bodies.inside_of m f) (target_kind (bodies.scope_in m f) (assign_tree assign.now).target) (assign_tree assign.now).value)) }
 {
-    let asked = judge_target(around.alloc, around.scope, variables, &assign.target, found)?;
+    let asked = judge_target(around.scope, variables, &assign.target, found)?;
     judge_value(around, variables, asked, &assign.value, found)
 }
 
@@ -100,36 +100,35 @@ pub(crate) fn kind_held(scope: &Scope<'_>, variables: &Variables<'_>, name: Span
 
 /// Adds that no variable has this name.
 pub(crate) fn judge_use(
-    alloc: Global,
     scope: &Scope<'_>,
     variables: &Variables<'_>,
     name: Span,
-    found: &mut Vec<Finding>,
+    found: &mut Vec<Mistake>,
 ) -> Result<(), Memory>
     ensures { (p : Program) (f : Frame) → IsScope p scope.now → IsFrame p.text f variables.now → OnOk result
-        (Adds found.old.items found.new.items (variable_findings (record { program = p; variables = f.variables }) name)) }
+        (Adds found.old.items found.new.items (variable_mistakes (record { program = p; variables = f.variables }) name)) }
 {
-    judge_variable(alloc, scope, variables, name, found)?;
+    judge_variable(scope, variables, name, found)?;
     Ok(())
 }
 
 /// Adds what is wrong with deleting what this name means.
 pub(crate) fn judge_delete(
-    alloc: Global,
     scope: &Scope<'_>,
     variables: &Variables<'_>,
     name: Span,
-    found: &mut Vec<Finding>,
+    found: &mut Vec<Mistake>,
 ) -> Result<(), Memory>
     ensures { (p : Program) (f : Frame) → IsScope p scope.now → IsFrame p.text f variables.now
-        → OnOk result (Adds found.old.items found.new.items (delete_findings (record { program = p; variables = f.variables }) name)) }
+        → OnOk result (Adds found.old.items found.new.items (delete_mistakes (record { program = p; variables = f.variables }) name)) }
 {
-    judge_use(alloc, scope, variables, name, found)?;
+    judge_use(scope, variables, name, found)?;
     let kind = kind_held(scope, variables, name);
+    let well = kind.is_silent() || kind.is_block();
     ask(
-        alloc,
-        kind.is_silent() || kind.is_block(),
+        well,
         name.place,
+        Mismatch::Given(Demand::Block, kind),
         found,
     )
 }
@@ -154,67 +153,80 @@ fn same_end(first: Kind, second: Kind) -> bool
     }
 }
 
+/// What is asked of the second end of a new channel of the contract that is the item at this place: the other end, where the first
+/// is one.
+fn demand_beside(place: usize, first: Kind) -> Demand
+    ensures { result ≡ demand_beside place first }
+{
+    match first {
+        Kind::Endpoint(Side::Imp, contract) if place == contract => {
+            Demand::Kind(Kind::Endpoint(Side::Exp, place))
+        }
+        Kind::Endpoint(Side::Exp, contract) if place == contract => {
+            Demand::Kind(Kind::Endpoint(Side::Imp, place))
+        }
+        _ => Demand::EndOf(place),
+    }
+}
+
 /// Adds what is wrong with these kinds for the two ends of a new channel of a contract.
 fn judge_ends(
-    alloc: Global,
     place: usize,
     kinds: (Kind, Kind),
     first: Span,
     second: Span,
-    found: &mut Vec<Finding>,
+    found: &mut Vec<Mistake>,
 ) -> Result<(), Memory>
-    ensures { OnOk result (Adds found.old.items found.new.items (ends_findings place kinds.0 kinds.1 first second)) }
+    ensures { OnOk result (Adds found.old.items found.new.items (ends_mistakes place kinds.0 kinds.1 first second)) }
 {
     let (left, right) = kinds;
     let is_left = is_end_of(place, left);
-    ask(alloc, left.is_silent() || is_left, first.place, found)?;
+    let first_mismatch = Mismatch::Given(Demand::EndOf(place), left);
+    ask(
+        left.is_silent() || is_left,
+        first.place,
+        first_mismatch,
+        found,
+    )?;
     let apart = !(is_left && same_end(left, right));
     let well = right.is_silent() || (is_end_of(place, right) && apart);
-    ask(alloc, well, second.place, found)
+    let second_mismatch = Mismatch::Given(demand_beside(place, left), right);
+    ask(well, second.place, second_mismatch, found)
 }
 
 /// Adds what is wrong with the contract and the kinds of the ends of a new channel.
 fn judge_new_ends(
-    alloc: Global,
     scope: &Scope<'_>,
     variables: &Variables<'_>,
     channel: NewChannel,
-    found: &mut Vec<Finding>,
+    found: &mut Vec<Mistake>,
 ) -> Result<(), Memory>
     ensures { (p : Program) (f : Frame) → IsScope p scope.now → IsFrame p.text f variables.now
-        → OnOk result (Adds found.old.items found.new.items (new_ends_findings (record { program = p; variables = f.variables })
+        → OnOk result (Adds found.old.items found.new.items (new_ends_mistakes (record { program = p; variables = f.variables })
         (contract_named p channel.contract) channel.contract channel.first channel.second)) }
 {
     let left = kind_held(scope, variables, channel.first);
     let right = kind_held(scope, variables, channel.second);
     match scope.contract_place(channel.contract) {
-        Some(place) => judge_ends(
-            alloc,
-            place,
-            (left, right),
-            channel.first,
-            channel.second,
-            found,
-        ),
-        None => add_unknown(alloc, scope.text, channel.contract, found),
+        Some(place) => judge_ends(place, (left, right), channel.first, channel.second, found),
+        None => add_unknown(channel.contract, found),
     }
 }
 
 /// Adds what is wrong with a new channel.
 pub(crate) fn judge_channel(
-    alloc: Global,
     scope: &Scope<'_>,
     variables: &Variables<'_>,
     channel: NewChannel,
-    found: &mut Vec<Finding>,
+    found: &mut Vec<Mistake>,
 ) -> Result<(), Memory>
     ensures { (p : Program) (f : Frame) → IsScope p scope.now
         → IsFrame p.text f variables.now → OnOk result (Adds found.old.items found.new.items
-        (channel_findings (record { program = p; variables = f.variables }) channel.contract channel.first channel.second)) }
+        (channel_mistakes (record { program = p; variables = f.variables }) channel.contract channel.first channel.second)) }
 {
-    judge_new_ends(alloc, scope, variables, channel, found)?;
-    judge_use(alloc, scope, variables, channel.first, found)?;
-    judge_use(alloc, scope, variables, channel.second, found)
+    judge_new_ends(scope, variables, channel, found)?;
+    judge_use(scope, variables, channel.first, found)?;
+    judge_use(scope, variables, channel.second, found)
 }
 
 /// Adds what is wrong with a value that a void method returns.
@@ -222,21 +234,15 @@ fn judge_needless(
     context: &NameContext<'_, '_>,
     word: Span,
     value: &Option<Box<Expression>>,
-    found: &mut Vec<Finding>,
+    found: &mut Vec<Mistake>,
 ) -> Result<(), Memory>
     ensures { (p : Program) (f : Frame) → IsContext p f context.now → OnOk result (Adds found.old.items found.new.items
-        (return_findings (in_frame p f) None word (option_map (λ e. expression_tree e.value) value.now))) }
+        (return_mistakes (in_frame p f) None word (option_map (λ e. expression_tree e.value) value.now))) }
 {
     match value {
         Some(value) => {
-            judge_whole(
-                context.alloc,
-                context.scope,
-                context.variables,
-                value,
-                found,
-            )?;
-            add_wrong_type(context.alloc, word.place, found)
+            judge_whole(context.scope, context.variables, value, found)?;
+            add_wrong_type(word.place, Mismatch::ValueReturned, found)
         }
         None => Ok(()),
     }
@@ -248,19 +254,20 @@ fn judge_returned(
     asked: Type,
     word: Span,
     value: &Option<Box<Expression>>,
-    found: &mut Vec<Finding>,
+    found: &mut Vec<Mistake>,
 ) -> Result<(), Memory>
     ensures { (p : Program) (f : Frame) → IsContext p f context.now → OnOk result (Adds found.old.items found.new.items
-        (return_findings (in_frame p f) (Some asked) word (option_map (λ e. expression_tree e.value) value.now))) }
+        (return_mistakes (in_frame p f) (Some asked) word (option_map (λ e. expression_tree e.value) value.now))) }
 {
     let NameContext {
-        alloc,
         scope,
         variables,
+        ..
     } = *context;
+    let kind = scope.kind(asked);
     match value {
-        Some(value) => judge_asked(alloc, scope, variables, scope.kind(asked), value, found),
-        None => add_wrong_type(alloc, word.place, found),
+        Some(value) => judge_asked(scope, variables, kind, value, found),
+        None => add_wrong_type(word.place, Mismatch::NoValue(kind), found),
     }
 }
 
@@ -270,10 +277,10 @@ pub(crate) fn judge_return(
     asked: Option<Type>,
     word: Span,
     value: &Option<Box<Expression>>,
-    found: &mut Vec<Finding>,
+    found: &mut Vec<Mistake>,
 ) -> Result<(), Memory>
     ensures { (p : Program) (f : Frame) → IsContext p f context.now → OnOk result (Adds found.old.items found.new.items
-        (return_findings (in_frame p f) asked word (option_map (λ e. expression_tree e.value) value.now))) }
+        (return_mistakes (in_frame p f) asked word (option_map (λ e. expression_tree e.value) value.now))) }
 {
     match asked {
         Some(asked) => judge_returned(context, asked, word, value, found),

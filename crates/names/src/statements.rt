@@ -22,7 +22,8 @@ use crate::surroundings::Surroundings;
 use crate::told::{judge_break, judge_continue};
 use crate::variables::Variables;
 use crate::wholes::judge_truth;
-use source::{Finding, Memory};
+use declarations::Mistake;
+use source::Memory;
 use tree::{Block, Case, If, Statement, Switch, Test};
 
 /// The same within a loop.
@@ -52,7 +53,7 @@ pub(crate) fn judge_block<'a>(
     around: &Surroundings<'_, 'a>,
     variables: &mut Variables<'a>,
     block: &Block,
-    found: &mut Vec<Finding>,
+    found: &mut Vec<Mistake>,
 ) -> Result<(), Memory>
     ensures { (m : bodies.Surroundings) (f : Frame) → AreSurroundings m around.now → IsFrame m.program.text f variables.old
         → OnOk result (Turned m.program.text found.old.items found.new.items variables.new (block_turn m (block_tree block.now) f)) }
@@ -69,7 +70,7 @@ fn judge_statements<'a>(
     around: &Surroundings<'_, 'a>,
     variables: &mut Variables<'a>,
     statements: &[Statement],
-    found: &mut Vec<Finding>,
+    found: &mut Vec<Mistake>,
 ) -> Result<(), Memory>
     ensures { (m : bodies.Surroundings) (f : Frame) → AreSurroundings m around.now → IsFrame m.program.text f variables.old
         → OnOk result (Turned m.program.text found.old.items found.new.items variables.new
@@ -87,13 +88,13 @@ fn judge_statement<'a>(
     around: &Surroundings<'_, 'a>,
     variables: &mut Variables<'a>,
     statement: &Statement,
-    found: &mut Vec<Finding>,
+    found: &mut Vec<Mistake>,
 ) -> Result<(), Memory>
     ensures { (m : bodies.Surroundings) (f : Frame) → AreSurroundings m around.now
         → IsFrame m.program.text f variables.old → OnOk result
         (Turned m.program.text found.old.items found.new.items variables.new (statement_turn m (statement_tree statement.now) f)) }
 {
-    let (alloc, scope) = (around.alloc, around.scope);
+    let scope = around.scope;
     match statement {
         Statement::Block(block) => judge_block(around, variables, block, found),
         Statement::Declare(declare) => judge_declare(around, variables, declare, found),
@@ -102,16 +103,16 @@ fn judge_statement<'a>(
         Statement::Start { call, .. } => {
             judge_call(around, variables, Role::Started, call, found)
         }
-        Statement::Delete(name) => judge_delete(alloc, scope, variables, *name, found),
-        Statement::Exchange(exchange) => judge_exchange(alloc, scope, variables, **exchange, found),
-        Statement::NewChannel(channel) => judge_channel(alloc, scope, variables, **channel, found),
+        Statement::Delete(name) => judge_delete(scope, variables, *name, found),
+        Statement::Exchange(exchange) => judge_exchange(scope, variables, **exchange, found),
+        Statement::NewChannel(channel) => judge_channel(scope, variables, **channel, found),
         Statement::If(branches) => judge_if(around, variables, branches, found),
         Statement::While(test) => {
             let inner = within_loop(around);
             judge_test(&inner, variables, test, found)
         }
-        Statement::Break(word) => { judge_break(alloc, around.breaks, word.place, found) }
-        Statement::Continue(word) => judge_continue(alloc, around.continues, word.place, found),
+        Statement::Break(word) => judge_break(around.breaks, *word, found),
+        Statement::Continue(word) => judge_continue(around.continues, *word, found),
         Statement::Return { word, value } => {
             let context = around.context(variables);
             judge_return(&context, around.result, *word, value, found)
@@ -129,12 +130,12 @@ fn judge_test<'a>(
     around: &Surroundings<'_, 'a>,
     variables: &mut Variables<'a>,
     test: &Test,
-    found: &mut Vec<Finding>,
+    found: &mut Vec<Mistake>,
 ) -> Result<(), Memory>
     ensures { (m : bodies.Surroundings) (f : Frame) → AreSurroundings m around.now → IsFrame m.program.text f variables.old
         → OnOk result (Turned m.program.text found.old.items found.new.items variables.new (test_turn m (test_tree test.now) f)) }
 {
-    judge_truth(around.alloc, around.scope, variables, &test.test, found)?;
+    judge_truth(around.scope, variables, &test.test, found)?;
     judge_block(around, variables, &test.body, found)
 }
 
@@ -144,7 +145,7 @@ fn judge_if<'a>(
     around: &Surroundings<'_, 'a>,
     variables: &mut Variables<'a>,
     branches: &If,
-    found: &mut Vec<Finding>,
+    found: &mut Vec<Mistake>,
 ) -> Result<(), Memory>
     ensures { (m : bodies.Surroundings) (f : Frame) → AreSurroundings m around.now → IsFrame m.program.text f variables.old
         → OnOk result (Turned m.program.text found.old.items found.new.items variables.new
@@ -166,7 +167,7 @@ fn judge_switch<'a>(
     around: &Surroundings<'_, 'a>,
     variables: &mut Variables<'a>,
     switch: &Switch,
-    found: &mut Vec<Finding>,
+    found: &mut Vec<Mistake>,
 ) -> Result<(), Memory>
     ensures { (m : bodies.Surroundings) (f : Frame) → AreSurroundings m around.now → IsFrame m.program.text f variables.old
         → OnOk result (Turned m.program.text found.old.items found.new.items variables.new
@@ -189,7 +190,7 @@ fn judge_case<'a>(
     heads: &Heads<'a>,
     place: usize,
     case: &Case,
-    found: &mut Vec<Finding>,
+    found: &mut Vec<Mistake>,
 ) -> Result<(), Memory>
     ensures { (m : bodies.Surroundings) (f : Frame) (all : List Head) → AreSurroundings m around.now
         → IsFrame m.program.text f variables.old → IsHeads m.program.text all heads.now

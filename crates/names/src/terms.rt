@@ -1,15 +1,15 @@
 //! The terms of a sum, while its factors are judged from the left.
 
 ghost use Rattle.std.specs.Prelude.{IfOk, List};
-ghost use Rattle.source.specs.declared.finding.Finding.{Finding};
+ghost use Rattle.declarations.specs.declared.mistake.Mistake.{Mistake as MistakeSeen};
 ghost use Rattle.names.specs.Expressions.{InScope};
 ghost use Rattle.names.specs.Operands.{IsJudged};
 ghost use Rattle.names.specs.Shapes.{Shape};
 ghost use Rattle.names.specs.Terms.{IsJudgedTerms, TermShapes, first_term, whole};
 
 use crate::operands::{Joint, Operand, join};
-use source::{Finding, Memory};
-use std::alloc::Global;
+use declarations::Mistake;
+use source::Memory;
 
 /// The terms before the last one, joined, if there are some, and the last one.
 #[derive(Clone, Copy)]
@@ -21,7 +21,7 @@ pub(crate) struct Terms {
 impl Terms {
     /// The first factor of a sum.
     pub(crate) fn from_first(first: Operand) -> Terms
-        ensures { (s : InScope) (e : Shape) (old new : List Finding) → IsJudged s e old new first
+        ensures { (s : InScope) (e : Shape) (old new : List MistakeSeen) → IsJudged s e old new first
             → IsJudgedTerms s (first_term e) old new result }
     {
         Terms {
@@ -32,16 +32,12 @@ impl Terms {
 }
 
 /// All terms as one operand; adds what is wrong with the operator before the last one.
-pub(crate) fn joined_terms(
-    alloc: Global,
-    terms: Terms,
-    found: &mut Vec<Finding>,
-) -> Result<Operand, Memory>
-    ensures { IfOk result (λ o. (s : InScope) (t : TermShapes) (start : List Finding) → IsJudgedTerms s t start found.old.items terms
+pub(crate) fn joined_terms(terms: Terms, found: &mut Vec<Mistake>) -> Result<Operand, Memory>
+    ensures { IfOk result (λ o. (s : InScope) (t : TermShapes) (start : List MistakeSeen) → IsJudgedTerms s t start found.old.items terms
         → IsJudged s (whole t) start found.new.items o) }
 {
     match terms.before {
         None => Ok(terms.last),
-        Some(before) => join(alloc, Joint::Sum, before, terms.last, found),
+        Some(before) => join(Joint::Sum, before, terms.last, found),
     }
 }

@@ -4,26 +4,25 @@ ghost use Rattle.std.specs.Prelude.{◌≡◌, map, OnOk, IfOk};
 ghost use Rattle.tree.specs.ExpressionTrees.{expression_tree};
 ghost use Rattle.tree.specs.Values.{value_tree, new_tree, made_tree};
 ghost use Rattle.names.specs.Bodies as bodies;
-ghost use Rattle.declarations.specs.Found.{Adds};
+ghost use Rattle.declarations.specs.Mistakes.{Adds};
 ghost use Rattle.names.specs.Frames.{AreSurroundings, IsContext, IsFrame};
 ghost use Rattle.names.specs.Operands.{in_frame};
 ghost use Rattle.declarations.specs.Kinds.{pointer_kind};
 ghost use Rattle.declarations.specs.Program.{Program, struct_named};
 ghost use Rattle.declarations.specs.Scopes.{IsScope};
 ghost use Rattle.names.specs.Shapes.{shape};
-ghost use Rattle.names.specs.Values.{made_kind, made_findings, struct_made_findings, new_findings, value_findings};
+ghost use Rattle.names.specs.Values.{made_kind, made_mistakes, struct_made_mistakes, new_mistakes, value_mistakes};
 ghost use Rattle.names.specs.Variables.{Frame};
 
 use crate::arguments::judge_field_arguments;
 use crate::calls::{Role, judge_call, judge_unknown};
 use crate::operands::ask;
 use crate::surroundings::{NameContext, Surroundings};
-use crate::told;
+use crate::told::judge_count;
 use crate::variables::Variables;
 use crate::wholes::{judge_asked, judge_number};
-use declarations::{Kind, Scope};
-use source::{Finding, Memory, Span};
-use std::alloc::Global;
+use declarations::{Demand, Kind, Mismatch, Mistake, Scope};
+use source::{Memory, Span};
 use tree::{Expression, Made, New, Value};
 
 /// The kind of a pointer to the struct of this name; adds that there is none, and what is wrong with what is given for its
@@ -32,11 +31,11 @@ fn judge_structure(
     context: &NameContext<'_, '_>,
     name: Span,
     arguments: &[Expression],
-    found: &mut Vec<Finding>,
+    found: &mut Vec<Mistake>,
 ) -> Result<Kind, Memory>
     ensures kind { IfOk result (λ kind. (p : Program) → IsScope p context.now.scope.now → kind ≡ pointer_kind (struct_named p name)) }
     ensures found { (p : Program) (f : Frame) → IsContext p f context.now
-        → OnOk result (Adds found.old.items found.new.items (struct_made_findings (in_frame p f)
+        → OnOk result (Adds found.old.items found.new.items (struct_made_mistakes (in_frame p f)
         (struct_named p name) name (map shape (map expression_tree arguments.now)))) }
 {
     let NameContext {
@@ -46,7 +45,7 @@ fn judge_structure(
     } = *context;
     match scope.owning_fields(name) {
         Some((place, owning)) => {
-            told::judge_number(alloc, owning.len(), arguments.len(), name.place, found)?;
+            judge_count(owning.len(), arguments.len(), name.place, found)?;
             judge_field_arguments(alloc, scope, variables, owning, arguments, found)?;
             Ok(Kind::Pointer(place))
         }
@@ -61,12 +60,12 @@ fn judge_structure(
 fn judge_made(
     context: &NameContext<'_, '_>,
     made: &Made,
-    found: &mut Vec<Finding>,
+    found: &mut Vec<Mistake>,
 ) -> Result<Kind, Memory>
     ensures kind { IfOk result (λ kind. (p : Program) (f : Frame) → IsScope p context.now.scope.now
         → kind ≡ made_kind (in_frame p f) (made_tree made.now)) }
     ensures found { (p : Program) (f : Frame) → IsContext p f context.now
-        → OnOk result (Adds found.old.items found.new.items (made_findings (in_frame p f) (made_tree made.now))) }
+        → OnOk result (Adds found.old.items found.new.items (made_mistakes (in_frame p f) (made_tree made.now))) }
 {
     match made {
         Made::Struct {
@@ -78,13 +77,7 @@ fn judge_made(
             Ok(kind)
         }
         Made::Array { element, length } => {
-            judge_number(
-                context.alloc,
-                context.scope,
-                context.variables,
-                length,
-                found,
-            )?;
+            judge_number(context.scope, context.variables, length, found)?;
             Ok(Kind::Array(*element))
         }
     }
@@ -95,13 +88,14 @@ fn judge_new(
     context: &NameContext<'_, '_>,
     asked: Kind,
     new: &New,
-    found: &mut Vec<Finding>,
+    found: &mut Vec<Mistake>,
 ) -> Result<(), Memory>
     ensures { (p : Program) (f : Frame) → IsContext p f context.now
-        → OnOk result (Adds found.old.items found.new.items (new_findings (in_frame p f) asked (new_tree new.now))) }
+        → OnOk result (Adds found.old.items found.new.items (new_mistakes (in_frame p f) asked (new_tree new.now))) }
 {
     let kind = judge_made(context, &new.made, found)?;
-    ask(context.alloc, kind.agrees(asked), new.word.place, found)
+    let mismatch = Mismatch::Given(Demand::Kind(asked), kind);
+    ask(kind.agrees(asked), new.word.place, mismatch, found)
 }
 
 /// Adds what is wrong with a value of which this kind is asked.
@@ -110,15 +104,13 @@ pub(crate) fn judge_value<'a>(
     variables: &Variables<'a>,
     asked: Kind,
     value: &Value,
-    found: &mut Vec<Finding>,
+    found: &mut Vec<Mistake>,
 ) -> Result<(), Memory>
     ensures { (m : bodies.Surroundings) (f : Frame) → AreSurroundings m around.now → IsFrame m.program.text f variables.now
-        → OnOk result (Adds found.old.items found.new.items (value_findings (bodies.inside_of m f) asked (value_tree value.now))) }
+        → OnOk result (Adds found.old.items found.new.items (value_mistakes (bodies.inside_of m f) asked (value_tree value.now))) }
 {
     match value {
-        Value::Expression(e) => {
-            judge_asked(around.alloc, around.scope, variables, asked, e, found)
-        }
+        Value::Expression(e) => { judge_asked(around.scope, variables, asked, e, found) }
         Value::Call(call) => judge_call(around, variables, Role::Asked(asked), call, found),
         Value::New(new) => judge_new(&around.context(variables), asked, new, found),
     }

@@ -1,14 +1,13 @@
 //! The variables in scope.
 
 ghost use Rattle.std.specs.Prelude.{◌≡◌, ◌+◌, ◌-◌, ℕ, List, [], length, take, OnOk, option_map};
-ghost use Rattle.declarations.specs.Found.{Adds};
+ghost use Rattle.declarations.specs.Mistakes.{Adds};
 ghost use Rattle.names.specs.Frames.{IsFrame, Turned, variable_seen};
 ghost use Rattle.names.specs.Variables.{Frame, variable_named, past_heap, entered_variable, declared_variable};
 
-use crate::told::add_twice;
-use declarations::Kind;
+use declarations::{Kind, Limit, Mistake, add_twice};
 use program::MOST_VARIABLES;
-use source::{Finding, Memory, Span, texts};
+use source::{Memory, Span};
 use std::alloc::Global;
 use tables::Table;
 
@@ -63,7 +62,7 @@ impl<'a> Variables<'a> {
         text: &'a [u8],
         variable: Variable,
         heap: bool,
-        found: &mut Vec<Finding>,
+        found: &mut Vec<Mistake>,
     ) -> Result<(), Memory>
         ensures { (f : Frame) → IsFrame text.now f self.old → OnOk result (Turned text.now found.old.items
             found.new.items self.new (declared_variable text.now variable.name variable.kind heap f)) }
@@ -71,20 +70,20 @@ impl<'a> Variables<'a> {
         if !heap {
             return self.enter(alloc, text, variable, found);
         }
-        self.judge_heap(alloc, variable.name, found)?;
+        self.judge_heap(variable.name, found)?;
         self.count();
         self.enter(alloc, text, variable, found)
     }
 
     /// Adds the name of one more of the exchange heap if it is one past the limit.
-    fn judge_heap(&self, alloc: Global, name: Span, found: &mut Vec<Finding>) -> Result<(), Memory>
+    fn judge_heap(&self, name: Span, found: &mut Vec<Mistake>) -> Result<(), Memory>
         ensures { (text : List ℕ) (f : Frame) → IsFrame text f self.now
             → OnOk result (Adds found.old.items found.new.items (past_heap name f.heap)) }
     {
         if self.heap != MOST_VARIABLES {
             return Ok(());
         }
-        found.push(texts::limit_passed(alloc, name.place)?)?;
+        found.push(Mistake::LimitPassed(name.place, Limit::Variables))?;
         Ok(())
     }
 
@@ -104,19 +103,19 @@ impl<'a> Variables<'a> {
         alloc: Global,
         text: &'a [u8],
         variable: Variable,
-        found: &mut Vec<Finding>,
+        found: &mut Vec<Mistake>,
     ) -> Result<(), Memory>
         ensures { (f : Frame) → IsFrame text.now f self.old → OnOk result (Turned text.now found.old.items
             found.new.items self.new (entered_variable text.now variable.name variable.kind f)) }
     {
-        let word = variable.name.slice(text);
-        if self.names.find(word).is_some() {
-            add_twice(alloc, text, variable.name, found)?;
-            return Ok(());
+        match self.find(text, variable.name) {
+            Some(known) => add_twice(variable.name, Some(known.name), found),
+            None => {
+                self.names.add(alloc, variable.name.slice(text))?;
+                self.list.push(variable)?;
+                Ok(())
+            }
         }
-        self.names.add(alloc, word)?;
-        self.list.push(variable)?;
-        Ok(())
     }
 
     /// Leaves a scope: the first so many stay.

@@ -3,93 +3,89 @@
 ghost use Rattle.std.specs.Prelude.{◌≡◌, IfOk, OnOk, Option};
 ghost use Rattle.tree.specs.ExpressionTrees.{expression_tree, disjunction_tree, conjunction_tree, equality_tree, relation_tree};
 ghost use Rattle.tree.specs.ExpressionTrees.{sum_tree, unary_tree, prefixed_tree, atom_tree, target_tree};
-ghost use Rattle.names.specs.Expressions.{truth_findings, number_findings};
-ghost use Rattle.declarations.specs.Found.{Adds};
+ghost use Rattle.names.specs.Expressions.{truth_mistakes, number_mistakes};
+ghost use Rattle.declarations.specs.Mistakes.{Adds};
 ghost use Rattle.names.specs.Frames.{IsFrame};
 ghost use Rattle.names.specs.Operands.{JudgesWhole, in_frame, mentioned};
 ghost use Rattle.declarations.specs.Program.{Program};
 ghost use Rattle.declarations.specs.Scopes.{IsScope};
 ghost use Rattle.names.specs.Shapes.{shape, atom_shape, target_shape};
-ghost use Rattle.names.specs.Values.{asked_findings};
+ghost use Rattle.names.specs.Values.{asked_mistakes};
 ghost use Rattle.names.specs.Variables.{Frame};
 
 use crate::expressions::judge_operand;
 use crate::mentions::judge_variable;
 use crate::operands::{Operand, ask, ask_number, ask_truth};
 use crate::variables::Variables;
-use declarations::{Kind, Scope};
-use source::{Finding, Memory, Span};
-use std::alloc::Global;
+use declarations::{Demand, Kind, Mismatch, Mistake, Scope};
+use source::{Memory, Span};
 use tree::{
     Atom, Conjunction, Disjunction, Equality, Expression, Prefixed, Relation, Sum, Target, Unary,
 };
 
 /// The kind of an expression that is the whole of something, and where it begins; adds what is wrong in it.
 pub(crate) fn judge_whole_operand(
-    alloc: Global,
     scope: &Scope<'_>,
     variables: &Variables<'_>,
     expression: &Expression,
-    found: &mut Vec<Finding>,
+    found: &mut Vec<Mistake>,
 ) -> Result<Operand, Memory>
     ensures { IfOk result (JudgesWhole scope.now variables.now (shape (expression_tree expression.now)) found.old.items found.new.items) }
 {
     match mention_alone(expression) {
         Some(name) => {
-            let kind = judge_variable(alloc, scope, variables, name, found)?;
+            let kind = judge_variable(scope, variables, name, found)?;
             Ok(Operand {
                 kind,
                 place: name.place,
             })
         }
-        None => judge_operand(alloc, scope, variables, expression, found),
+        None => judge_operand(scope, variables, expression, found),
     }
 }
 
 /// An expression of which this kind is asked.
 pub(crate) fn judge_asked(
-    alloc: Global,
     scope: &Scope<'_>,
     variables: &Variables<'_>,
     asked: Kind,
     expression: &Expression,
-    found: &mut Vec<Finding>,
+    found: &mut Vec<Mistake>,
 ) -> Result<(), Memory>
     ensures { (p : Program) (f : Frame) → IsScope p scope.now → IsFrame p.text f variables.now → OnOk result
-        (Adds found.old.items found.new.items (asked_findings (in_frame p f) asked (shape (expression_tree expression.now)))) }
+        (Adds found.old.items found.new.items (asked_mistakes (in_frame p f) asked (shape (expression_tree expression.now)))) }
 {
-    let operand = judge_whole_operand(alloc, scope, variables, expression, found)?;
-    ask(alloc, operand.kind.agrees(asked), operand.place, found)
+    let operand = judge_whole_operand(scope, variables, expression, found)?;
+    let mismatch = Mismatch::Given(Demand::Kind(asked), operand.kind);
+    ask(operand.kind.agrees(asked), operand.place, mismatch, found)
 }
 
 /// An expression of which a truth value is asked.
 pub(crate) fn judge_truth(
-    alloc: Global,
     scope: &Scope<'_>,
     variables: &Variables<'_>,
     expression: &Expression,
-    found: &mut Vec<Finding>,
+    found: &mut Vec<Mistake>,
 ) -> Result<(), Memory>
     ensures { (p : Program) (f : Frame) → IsScope p scope.now → IsFrame p.text f variables.now
-        → OnOk result (Adds found.old.items found.new.items (truth_findings (in_frame p f) (shape (expression_tree expression.now)))) }
+        → OnOk result (Adds found.old.items found.new.items (truth_mistakes (in_frame p f) (shape (expression_tree expression.now)))) }
 {
-    let operand = judge_operand(alloc, scope, variables, expression, found)?;
-    ask_truth(alloc, operand.kind, operand.place, found)
+    let operand = judge_operand(scope, variables, expression, found)?;
+    ask_truth(operand.kind, operand.place, found)
 }
 
 /// An expression of which a number is asked.
 pub(crate) fn judge_number(
-    alloc: Global,
     scope: &Scope<'_>,
     variables: &Variables<'_>,
     expression: &Expression,
-    found: &mut Vec<Finding>,
+    found: &mut Vec<Mistake>,
 ) -> Result<(), Memory>
     ensures { (p : Program) (f : Frame) → IsScope p scope.now → IsFrame p.text f variables.now
-        → OnOk result (Adds found.old.items found.new.items (number_findings (in_frame p f) (shape (expression_tree expression.now)))) }
+        → OnOk result (Adds found.old.items found.new.items (number_mistakes (in_frame p f) (shape (expression_tree expression.now)))) }
 {
-    let operand = judge_operand(alloc, scope, variables, expression, found)?;
-    ask_number(alloc, operand.kind, operand.place, found)
+    let operand = judge_operand(scope, variables, expression, found)?;
+    ask_number(operand.kind, operand.place, found)
 }
 
 /// The variable, if an expression is one and nothing more.

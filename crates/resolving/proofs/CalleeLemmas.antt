@@ -20,7 +20,7 @@ use Rattle.tree.specs.declared.item as tree
 use Rattle.tree.specs.declared.class.Parameter.{Parameter}
 use Rattle.tree.specs.declared.expression.Expression.{Expression}
 use Rattle.declarations.specs.Declarations.{first_among}
-use Rattle.declarations.specs.ItemFindings.{methods_in}
+use Rattle.declarations.specs.ItemMistakes.{methods_in}
 use Rattle.declarations.specs.Program.{Program, Numbered, as_class, item_at}
 use Rattle.program.specs.Statements.{CallSeen}
 use Rattle.program.specs.declared.call.Argument.{Argument}

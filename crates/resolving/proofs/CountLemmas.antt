@@ -7,7 +7,7 @@ use Rattle.std.proofs.lemmas.List.FromFn.{get_or-map-range_with_len, length-map-
 use Rattle.tree.specs.Trees.{ItemTree, DefinitionTree, Contract, Struct, Class, contract_of, item_tree, definition_tree, method_tree}
 use Rattle.tree.specs.declared.class as made
 use Rattle.tree.specs.declared.item.Item.{Item}
-use Rattle.declarations.specs.ItemFindings.{methods_in}
+use Rattle.declarations.specs.ItemMistakes.{methods_in}
 use Rattle.program.specs.declared.limits.TheConstants.{MOST_METHODS}
 use Rattle.resolving.specs.Callees.{all_methods, methods_before}
 use Rattle.resolving.specs.Counts.{before, contracts_before, counts, struct_among, structs_before}

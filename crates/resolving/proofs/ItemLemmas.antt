@@ -1,16 +1,14 @@
 -- The methods of items, item by item.
-use Rattle.std.proofs.Common.{◌≡◌, ℕ, ◌+◌, ◌<◌, ◌≤◌, List, [], ◌∷◌, ◌++◌, length, map, take, get_or, sym, refl, ap, ◌∙◌, arith, append_assoc, ⊎_elim}
-use Rattle.std.specs.Option.{option_map_or}
+use Rattle.std.proofs.Common.{◌≡◌, ℕ, ◌+◌, ◌<◌, ◌≤◌, List, [], ◌∷◌, ◌++◌, length, map, take, get_or, sym, refl, ap, ◌∙◌, arith, append_assoc}
 use Rattle.std.specs.List.{enumerate_from, flat_map}
 use Rattle.std.proofs.lemmas.List.{flat_map_more, length-append, length-map, length-take-le, map-append, take_all, take_more}
-use Rattle.std.proofs.lemmas.Option.{slice_get_cases}
 use Rattle.lemmas.proofs.Lists.{nil_right, enumerate_push}
-use Rattle.source.specs.declared.token.Span.{Span}
 use Rattle.tree.specs.Trees.{ItemTree, item_tree}
 use Rattle.tree.specs.declared.item.Item.{Item}
-use Rattle.declarations.specs.Found.{limit_passed}
-use Rattle.declarations.specs.Listed.{past_limit, twice_among}
-use Rattle.declarations.specs.ItemFindings.{items_findings, method_names, methods_in}
+use Rattle.declarations.proofs.ReadyLemmas.{not_past}
+use Rattle.declarations.specs.declared.mistake.Limit.TheVariants as limit
+use Rattle.declarations.specs.Listed.{twice_among}
+use Rattle.declarations.specs.ItemMistakes.{items_mistakes, method_names, methods_in}
 use Rattle.declarations.specs.Program.{Program, item_names}
 use Rattle.program.specs.declared.limits.TheConstants.{MOST_METHODS}
 use Rattle.program.specs.Methods.{MethodSeen}
@@ -54,16 +52,9 @@ told_many p n (i ∷ items) =
     ∙ ap (λ k. k + length (flat_map (item_told p) (enumerate_from (n + 1) items))) (length-map methods (method_told p n))
     ∙ ap (λ k. length methods + k) (told_many p (n + 1) items) ∙ sym (length-append methods (all_methods items))
 
-not_past : (most : ℕ) (names : List Span) → past_limit most names ≡ [] → length names ≤ most
-not_past most names none =
-    ⊎_elim
-    (λ w. let past : limit_passed w.0 ∷ [] ≡ [] = sym (ap (λ o. option_map_or (λ name. limit_passed name ∷ []) o []) w.2) ∙ none in cc)
-    (λ w. w.0)
-    (slice_get_cases names most).1
-
 -- Where nothing is wrong with the names of items, there are no more than the limit.
-pub few_methods : (p : Program) → items_findings p ≡ [] → length (all_methods p.items) ≤ MOST_METHODS
+pub few_methods : (p : Program) → items_mistakes p ≡ [] → length (all_methods p.items) ≤ MOST_METHODS
 few_methods p clean =
-    let few = not_past MOST_METHODS (method_names p) (nil_right (twice_among p.text (item_names p)) _ clean) in
+    let few = not_past limit.Methods (method_names p) (nil_right (twice_among p.text (item_names p)) _ clean) in
     let many = length-map (all_methods p.items) (λ m. m.name) in
     omega (arith, few, many)

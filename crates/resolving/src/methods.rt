@@ -2,7 +2,7 @@
 
 ghost use Rattle.std.specs.Prelude.{◌≡◌, ◌≤◌, ◌<◌, ◌^◌, ◌++◌, ℕ, List, [], length, map, IfOk, OnOk};
 ghost use Rattle.tree.specs.Trees.{ItemTree, contracts_of, program_tree, item_tree, definition_tree, method_tree};
-ghost use Rattle.declarations.specs.ItemFindings.{items_findings, methods_in};
+ghost use Rattle.declarations.specs.ItemMistakes.{items_mistakes, methods_in};
 ghost use Rattle.declarations.specs.Program as model;
 ghost use Rattle.declarations.specs.Program.{program_of};
 ghost use Rattle.program.specs.Parts.{contract_seen};
@@ -212,7 +212,7 @@ pub fn resolve_methods(
     requires contracts { map contract_seen contracts.now.contracts.items
         ≡ resolved_contracts text.now (contracts_of (program_tree tree.now)) }
     requires room { length contracts.now.contracts.items < 2 ^ 32 }
-    requires clean { items_findings (program_of text.now tree.now) ≡ [] }
+    requires clean { items_mistakes (program_of text.now tree.now) ≡ [] }
     ensures messages { IfOk result (λ program. rows program.messages.items ≡ messages_told (program_of text.now tree.now)) }
     ensures structs { IfOk result (λ program. rows program.structs.items ≡ structs_told (program_of text.now tree.now)) }
     ensures resolved { IfOk result (λ program. map method_seen program.methods.items

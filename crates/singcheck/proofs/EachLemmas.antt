@@ -1,5 +1,5 @@
 -- Each text has an answer: stage by stage, that there is none is refuted.
-use Rattle.std.proofs.Common.{◌≡◌, ℕ, ◌⊎◌, List, [], ◌∷◌, ◌++◌, refl, sym, subst, ⊎_elim}
+use Rattle.std.proofs.Common.{◌≡◌, ℕ, ◌⊎◌, List, [], ◌∷◌, ◌++◌, refl, sym, subst, ⊎_elim, map}
 use Rattle.std.specs.Prelude.{All, Contains, length, slice_get}
 use Rattle.std.specs.List.{AllZip, concat}
 use Rattle.std.proofs.lemmas.List.Elements.{All-head, All-tail}
@@ -16,7 +16,9 @@ use Rattle.program.specs.Parts.{ContractSeen, IsWhole, Parts}
 use Rattle.program.specs.Programs.{ProgramSeen}
 use Rattle.program.specs.declared.kind.Side.{Side}
 use Rattle.program.specs.declared.kind.Side.TheVariants.{Exp, Imp}
-use Rattle.names.specs.Findings.{program_findings}
+use Rattle.declarations.specs.Mistakes.{finding_in}
+use Rattle.names.specs.Findings.{program_findings, program_mistakes}
+use Rattle.declarations.specs.declared.mistake.Mistake.{Mistake}
 use Rattle.declarations.specs.Program.{Program}
 use Rattle.declarations.specs.Resolution.{resolved_contracts}
 use Rattle.contracts.specs.Bounds.{IsBound, sign_to}
@@ -39,7 +41,7 @@ pub record Answered : Type 0 where
   pub cut : (text : List ℕ) → ((tokens : List Token) × AreTokens text tokens) ⊎ ((fault : TextFault) × IsFault text fault)
   pub parsed : (tokens : List Token)
       → ((items : List ItemTree) → Spells program items tokens → ⊥) → ((k : ℕ) → IsFirstWrong program tokens k → ⊥) → ⊥
-  pub whole : (p : Program) → program_findings p ≡ []
+  pub whole : (p : Program) → program_mistakes p ≡ []
       → All (λ (c : ContractSeen). IsWhole c.parts) (resolved_contracts p.text (contracts_of p.items))
   pub judged : (parts : Parts) → ((found : List FindingParts) → AreExactly (conditions.IsFault parts) found → ⊥) → ⊥
   pub bounded : (parts : Parts) → IsWhole parts → IsSound parts → (side : Side)
@@ -59,13 +61,17 @@ module _ (laws : Answered) (text : List ℕ) (clean : (found : List FindingParts
       (λ faulty. clean (fault_findings faulty.0) (OfText (record { fault = faulty.0; first = faulty.1; are = refl })))
       (laws.cut text)
 
+  nothing_told : (mistakes : List Mistake) → map (finding_in text) mistakes ≡ [] → mistakes ≡ []
+  nothing_told [] none = refl
+  nothing_told (m ∷ mistakes) none = cc
+
   -- nothing is wrong with its names
-  names_clean : (items : List ItemTree) → IsProgram text items → program_findings (record { text = text; items = items }) ≡ []
+  names_clean : (items : List ItemTree) → IsProgram text items → program_mistakes (record { text = text; items = items }) ≡ []
   names_clean items parsed =
       let found = program_findings (record { text = text; items = items }) in
       let all : AreExactly (Contains found) found = record { right = λ f h. h; all = λ f h. h } in
       ⊎_elim
-      (λ none. none)
+      (λ none. nothing_told (program_mistakes (record { text = text; items = items })) none)
       (λ some. absurd (clean found (OfNames (record { items = items; parsed = parsed; some = some; are = all }))))
       (empty_or_not found)
 

@@ -7,7 +7,7 @@ use Rattle.std.specs.Prelude.{nat_eq, IfNone, IfSome}
 use Rattle.std.specs.Cmp.Lexicographic.{pointwise, same_text, other_text}
 use Rattle.std.specs.List.{enumerate_from, flat_map}
 use Rattle.program.specs.Lists.{Each}
-use Rattle.declarations.specs.ItemFindings.{methods_in}
+use Rattle.declarations.specs.ItemMistakes.{methods_in}
 use Rattle.declarations.specs.Program.{Program}
 use Rattle.resolving.specs.Methods.{item_told, method_told}
 use Rattle.tree.specs.Trees.{DefinitionTree, Contract, Struct, Class, ItemTree}

@@ -3,7 +3,7 @@ use Rattle.std.proofs.Common.{◌≡◌, ℕ, zero, suc, List, [], ◌∷◌, So
 use Rattle.std.specs.Prelude.{All, slice_get}
 use Rattle.std.proofs.lemmas.List.Elements.{All-head, All-tail}
 use Rattle.tree.specs.Trees.{contracts_of}
-use Rattle.names.specs.Findings.{program_findings}
+use Rattle.names.specs.Findings.{program_mistakes}
 use Rattle.declarations.specs.Program.{Program}
 use Rattle.declarations.specs.Resolution.{resolved_contracts}
 use Rattle.program.specs.Lists.{Each}
@@ -22,8 +22,8 @@ use Rattle.singcheck.specs.Checks.{HasProgram}
 
 -- what the crates below say of programs with nothing wrong in their names
 pub record CleanPrograms : Type 0 where
-  pub whole : (p : Program) → program_findings p ≡ [] → All (λ (c : ContractSeen). IsWhole c.parts) (resolved_contracts p.text (contracts_of p.items))
-  pub formed : (p : Program) → program_findings p ≡ [] → AreWellFormed (resolved_contracts p.text (contracts_of p.items)) (messages_told p) (structs_told p) (methods_told p)
+  pub whole : (p : Program) → program_mistakes p ≡ [] → All (λ (c : ContractSeen). IsWhole c.parts) (resolved_contracts p.text (contracts_of p.items))
+  pub formed : (p : Program) → program_mistakes p ≡ [] → AreWellFormed (resolved_contracts p.text (contracts_of p.items)) (messages_told p) (structs_told p) (methods_told p)
   pub bare : (p : Program) → Each IsBare (methods_told p)
 
 -- the items of a text whose program this is, with the text

@@ -7,7 +7,7 @@ use Rattle.program.specs.Parts.{ContractSeen, IsWhole, Parts}
 use Rattle.program.specs.Programs.{ProgramSeen}
 use Rattle.program.specs.declared.kind.Side.{Side}
 use Rattle.program.specs.declared.kind.Side.TheVariants.{Exp, Imp}
-use Rattle.names.specs.Findings.{program_findings}
+use Rattle.names.specs.Findings.{program_mistakes}
 use Rattle.declarations.specs.Program.{Program}
 use Rattle.declarations.specs.Resolution.{resolved_contracts}
 use Rattle.contracts.specs.Bounds.{IsBound, sign_to}
@@ -18,7 +18,7 @@ use Rattle.singcheck.specs.Checks.{HasProgram}
 
 -- what the crates below say of contracts
 pub record Bounded : Type 0 where
-  pub whole : (p : Program) → program_findings p ≡ [] → All (λ (c : ContractSeen). IsWhole c.parts) (resolved_contracts p.text (contracts_of p.items))
+  pub whole : (p : Program) → program_mistakes p ≡ [] → All (λ (c : ContractSeen). IsWhole c.parts) (resolved_contracts p.text (contracts_of p.items))
   pub bounded : (parts : Parts) → IsWhole parts → IsSound parts → (side : Side) → ((n : ℕ) → IsBound parts.edges parts.first (sign_to side) n → ⊥) → ⊥
 
 -- these are the bounds of contracts, which stand in a row

@@ -1,5 +1,5 @@
 -- A text has one program, one list of contracts, and findings in one stage alone.
-use Rattle.std.proofs.Common.{◌≡◌, ℕ, ◌+◌, ◌<◌, ◌≤◌, List, [], ◌∷◌, ◌++◌, length, take, drop, slice_get, refl, sym, ap, ◌∙◌, subst, arith, ⊎_elim, take-append-drop}
+use Rattle.std.proofs.Common.{◌≡◌, ℕ, ◌+◌, ◌<◌, ◌≤◌, List, [], ◌∷◌, ◌++◌, length, take, drop, slice_get, refl, sym, ap, ◌∙◌, subst, arith, ⊎_elim, take-append-drop, map}
 use Rattle.std.specs.Prelude.{Contains, ◌≢◌, All}
 use Rattle.std.specs.List.{AllZip, concat}
 use Rattle.std.proofs.Math.Logic.{∥∥₁_elim}
@@ -18,6 +18,7 @@ use Rattle.tree.specs.Programs.{program}
 use Rattle.tree.specs.Symbols.{Symbol, End, symbols}
 use Rattle.tree.specs.Trees.{ItemTree, contracts_of}
 use Rattle.program.specs.declared.contract.Sign.{Sign}
+use Rattle.declarations.specs.Mistakes.{finding_in}
 use Rattle.names.specs.Findings.{program_findings}
 use Rattle.program.specs.Parts.{ContractSeen}
 use Rattle.declarations.specs.Resolution.{resolved_contracts}
@@ -89,7 +90,7 @@ names_or_clean : Laws → (text : List ℕ) (found : List FindingParts) (contrac
 names_or_clean laws text found contracts wrong resolved =
     let first = some_in found wrong.some in
     let same = one_program laws text wrong.items resolved.items wrong.parsed resolved.parsed in
-    nothing_in first.0 (subst (λ l. Contains l first.0) (ap (λ l. program_findings (record { text = text; items = l })) same ∙ resolved.clean) (wrong.are.right first.0 first.1))
+    nothing_in first.0 (subst (λ l. Contains l first.0) (ap (λ l. program_findings (record { text = text; items = l })) same ∙ ap (map (finding_in text)) resolved.clean) (wrong.are.right first.0 first.1))
 
 broken_or_sound : (contracts : List ContractSeen) (f : FindingParts) → All (λ c. IsSound c.parts) contracts → IsBroken contracts f → ⊥
 broken_or_sound contracts f sound broken = All-contains (λ c. IsSound c.parts) contracts broken.0 sound broken.1 f broken.2

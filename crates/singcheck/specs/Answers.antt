@@ -16,7 +16,7 @@ use Rattle.syntax.specs.Parsing.{IsFirstWrong}
 use Rattle.tree.specs.Programs.{program}
 use Rattle.tree.specs.Trees.{ItemTree, contracts_of}
 use Rattle.program.specs.declared.kind.Side.TheVariants.{Exp, Imp}
-use Rattle.names.specs.Findings.{program_findings}
+use Rattle.names.specs.Findings.{program_findings, program_mistakes}
 use Rattle.program.specs.Parts.{ContractSeen}
 use Rattle.declarations.specs.Resolution.{resolved_contracts}
 use Rattle.contracts.specs.Bounds.{IsBound, sign_to}
@@ -72,7 +72,7 @@ pub record IsMisnamed (text : List ℕ) (found : List FindingParts) : Type 0 whe
 pub record IsResolved (text : List ℕ) (contracts : List ContractSeen) : Type 0 where
   pub items : List ItemTree
   pub parsed : IsProgram text items
-  pub clean : program_findings (record { text = text; items = items }) ≡ []
+  pub clean : program_mistakes (record { text = text; items = items }) ≡ []
   pub are : contracts ≡ resolved_contracts text (contracts_of items)
 
 -- a condition is broken in one of the contracts, which is this finding

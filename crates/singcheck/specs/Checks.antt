@@ -3,7 +3,7 @@
 use Rattle.std.specs.Prelude.{◌≡◌, ◌≢◌, ◌<◌, ℕ, List, [], length, All}
 use Rattle.source.specs.Findings.{FindingParts}
 use Rattle.tree.specs.Trees.{ItemTree, contracts_of}
-use Rattle.names.specs.Findings.{program_findings}
+use Rattle.names.specs.Findings.{program_mistakes}
 use Rattle.program.specs.Parts.{ContractSeen}
 use Rattle.declarations.specs.Resolution.{resolved_contracts}
 use Rattle.contracts.specs.Conditions.{AreExactly, IsSound}
@@ -21,7 +21,7 @@ use Rattle.singcheck.specs.declared.fault.Status.TheVariants.{Empty, Found}
 -- the text is a program of these items and contracts, and nothing is wrong with them
 pub record IsSoundProgram (text : List ℕ) (items : List ItemTree) (contracts : List ContractSeen) : Type 0 where
   pub parsed : IsProgram text items
-  pub clean : program_findings (record { text = text; items = items }) ≡ []
+  pub clean : program_mistakes (record { text = text; items = items }) ≡ []
   pub are : contracts ≡ resolved_contracts text (contracts_of items)
   pub sound : All (λ c. IsSound c.parts) contracts
 

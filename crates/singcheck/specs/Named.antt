@@ -2,7 +2,7 @@
 use Rattle.std.specs.Prelude.{◌≡◌, ◌<◌, ◌≤◌, ◌^◌, ℕ, List, [], length, map, All}
 use Rattle.source.specs.Findings.{FindingParts, finding_parts}
 use Rattle.tree.specs.Trees.{ItemTree, contracts_of}
-use Rattle.names.specs.Findings.{program_findings}
+use Rattle.names.specs.Findings.{program_mistakes}
 use Rattle.declarations.specs.Resolution.{resolved_contracts}
 use Rattle.program.specs.Parts.{ContractSeen, IsWhole}
 use Rattle.program.specs.Programs.{ProgramSeen, contracts_seen, program_seen}
@@ -25,7 +25,7 @@ use Rattle.singcheck.specs.declared.programs.Named.TheVariants as named
 -- the text is a program of these items, nothing is wrong with its names, and this is what it comes to
 pub record HasNames (text : List ℕ) (items : List ItemTree) (p : ProgramSeen) : Type 0 where
   pub parsed : IsProgram text items
-  pub clean : program_findings (record { text = text; items = items }) ≡ []
+  pub clean : program_mistakes (record { text = text; items = items }) ≡ []
   pub contracts : p.contracts ≡ resolved_contracts text (contracts_of items)
   pub messages : p.messages ≡ messages_told (record { text = text; items = items })
   pub structs : p.structs ≡ structs_told (record { text = text; items = items })

@@ -7,11 +7,11 @@ use Rattle.source.specs.declared.token.Span.{Span}
 use Rattle.tree.specs.Expressions.{ExpressionTree}
 use Rattle.tree.specs.declared.class.Parameter.{Parameter}
 use Rattle.tree.specs.declared.contract.Param.{Param}
-use Rattle.names.specs.Expressions.{kind_of, place_of, held, whole_findings}
+use Rattle.names.specs.Expressions.{kind_of, place_of, held, whole_mistakes}
 use Rattle.declarations.specs.Kinds.{agree, alike, is_block, type_kind, type_unknown, unless}
 use Rattle.declarations.specs.Program.{Program}
 use Rattle.names.specs.Shapes.{shape}
-use Rattle.names.specs.Values.{argument_findings, asked_findings, parameter_kinds}
+use Rattle.names.specs.Values.{argument_mistakes, asked_mistakes, parameter_kinds}
 use Rattle.names.specs.Variables as names
 use Rattle.declarations.specs.declared.kinds as declared
 use Rattle.program.specs.Methods.{VariableSeen}
@@ -58,14 +58,14 @@ lone_of : (p : Program) (class : ℕ) (f : Frame) (e : ExpressionTree) (o : Opti
 lone_of p class f e o is = ap (option_and_then (mention p.text f.locals)) is
 
 scalar_name : (p : Program) (class : ℕ) (vs : List VariableSeen) (f : Frame) (g : names.Frame) → AreStanding p vs f g → (e : ExpressionTree) (o : Option Span) → lone_name e ≡ o
-    → whole_findings (scope_of p g) (shape e) ≡ [] → is_block (kind_of (scope_of p g) (shape e)) ≡ false → lone p class f e ≡ None
+    → whole_mistakes (scope_of p g) (shape e) ≡ [] → is_block (kind_of (scope_of p g) (shape e)) ≡ false → lone p class f e ≡ None
 scalar_name p class vs f g standing e None is none scalar = lone_of p class f e None is
 scalar_name p class vs f g standing e (Some name) is none scalar =
     let shaped = lone_shape e name is in
-    lone_of p class f e (Some name) is ∙ scalar_not_mentioned p vs f g name standing (subst (λ x. whole_findings (scope_of p g) x ≡ []) shaped none) (subst (λ x. is_block (kind_of (scope_of p g) x) ≡ false) shaped scalar)
+    lone_of p class f e (Some name) is ∙ scalar_not_mentioned p vs f g name standing (subst (λ x. whole_mistakes (scope_of p g) x ≡ []) shaped none) (subst (λ x. is_block (kind_of (scope_of p g) x) ≡ false) shaped scalar)
 
 pub scalar_lone : (p : Program) (class : ℕ) (vs : List VariableSeen) (f : Frame) (g : names.Frame) → AreStanding p vs f g → (e : ExpressionTree)
-    → whole_findings (scope_of p g) (shape e) ≡ [] → is_block (kind_of (scope_of p g) (shape e)) ≡ false → lone p class f e ≡ None
+    → whole_mistakes (scope_of p g) (shape e) ≡ [] → is_block (kind_of (scope_of p g) (shape e)) ≡ false → lone p class f e ≡ None
 scalar_lone p class vs f g standing e none scalar = scalar_name p class vs f g standing e (lone_name e) refl none scalar
 
 -- an expression of a kind of the exchange heap is a variable that holds what the kind says
@@ -77,7 +77,7 @@ pub record IsGiven (p : Program) (class : ℕ) (s : Setting) (f : Frame) (g : na
   pub holds : IsHeld p (kind_of (scope_of p g) (shape e)) variable.kind
 
 pub block_given : (p : Program) (class : ℕ) (s : Setting) (f : Frame) (g : names.Frame) → AreStanding p s.variables f g → (e : ExpressionTree)
-    → whole_findings (scope_of p g) (shape e) ≡ [] → is_block (kind_of (scope_of p g) (shape e)) ≡ true → IsGiven p class s f g e
+    → whole_mistakes (scope_of p g) (shape e) ≡ [] → is_block (kind_of (scope_of p g) (shape e)) ≡ true → IsGiven p class s f g e
 block_given p class s f g standing e none block =
     let l = block_lone p s.variables f g standing e none block in
     record {
@@ -94,16 +94,16 @@ holds_there s k m v there same = subst (λ o. IsSomeAnd o (λ x. same_type x.kin
 
 -- an expression of which a kind is asked
 pub record IsAsked (p : Program) (g : names.Frame) (k : declared.Kind.Kind) (e : ExpressionTree) : Type 0 where
-  pub whole : whole_findings (scope_of p g) (shape e) ≡ []
+  pub whole : whole_mistakes (scope_of p g) (shape e) ≡ []
   pub like : alike (kind_of (scope_of p g) (shape e)) k ≡ true
 
 pub asked_known : (p : Program) (vs : List VariableSeen) (f : Frame) (g : names.Frame) → AreStanding p vs f g → (k : declared.Kind.Kind) (e : ExpressionTree) → IsKnown p k
-    → asked_findings (scope_of p g) k (shape e) ≡ [] → IsAsked p g k e
+    → asked_mistakes (scope_of p g) k (shape e) ≡ [] → IsAsked p g k e
 asked_known p vs f g standing k e known none =
-    let both = both_none (whole_findings (scope_of p g) (shape e)) (unless (agree (kind_of (scope_of p g) (shape e)) k) (place_of (shape e))) none in
+    let both = both_none (whole_mistakes (scope_of p g) (shape e)) (unless (agree (kind_of (scope_of p g) (shape e)) k) (place_of (shape e)) _) none in
     record {
       whole = both.0;
-      like = agree_alike p (kind_of (scope_of p g) (shape e)) k (whole_known p vs f g standing (shape e) both.0) known (unless_none (agree (kind_of (scope_of p g) (shape e)) k) (place_of (shape e)) both.1);
+      like = agree_alike p (kind_of (scope_of p g) (shape e)) k (whole_known p vs f g standing (shape e) both.0) known (unless_none _ (agree (kind_of (scope_of p g) (shape e)) k) (place_of (shape e)) both.1);
     }
 
 -- a scalar for a scalar: nothing is given
@@ -151,13 +151,13 @@ one_given p class s f g standing x e known asked true block hs gs rest =
 
 -- what is given for the parameters of a method
 pub arguments_given : (p : Program) (class : ℕ) (s : Setting) (f : Frame) (g : names.Frame) → AreStanding p s.variables f g → (params : List Parameter) (es : List ExpressionTree)
-    → Each (λ x. type_unknown p x.kind ≡ []) params → length params ≡ length es → argument_findings (scope_of p g) (parameter_kinds p params) (map shape es) ≡ []
+    → Each (λ x. type_unknown p x.kind ≡ []) params → length params ≡ length es → argument_mistakes (scope_of p g) (parameter_kinds p params) (map shape es) ≡ []
     → GivenFor s (flat_map (heading p) params) (arguments p class f params es)
 arguments_given p class s f g standing [] es known many none = tt
 arguments_given p class s f g standing (x ∷ params) [] known many none = cc
 arguments_given p class s f g standing (x ∷ params) (e ∷ es) known many none =
     let k = type_kind p x.kind in
-    let both = both_none (asked_findings (scope_of p g) k (shape e)) (argument_findings (scope_of p g) (parameter_kinds p params) (map shape es)) none in
+    let both = both_none (asked_mistakes (scope_of p g) k (shape e)) (argument_mistakes (scope_of p g) (parameter_kinds p params) (map shape es)) none in
     let asked = asked_known p s.variables f g standing k e (type_known p x.kind known.0) both.0 in
     let rest = arguments_given p class s f g standing params es known.1 (omega (arith, many)) both.1 in
     one_given p class s f g standing x e known.0 asked (is_block k) refl (flat_map (heading p) params) (arguments p class f params es) rest
@@ -187,14 +187,14 @@ one_payload p class s f g standing x e known asked true block ks ms rest =
 
 -- what is given for the parameters of a message
 pub payloads_given : (p : Program) (class : ℕ) (s : Setting) (f : Frame) (g : names.Frame) → AreStanding p s.variables f g → (params : List Param) (es : List ExpressionTree)
-    → Each (λ x. type_unknown p x.kind ≡ []) params → length params ≡ length es → argument_findings (scope_of p g) (map (λ x. type_kind p x.kind) params) (map shape es) ≡ []
+    → Each (λ x. type_unknown p x.kind ≡ []) params → length params ≡ length es → argument_mistakes (scope_of p g) (map (λ x. type_kind p x.kind) params) (map shape es) ≡ []
     → HoldAll s (params_held p params) (map (λ y. y.variable) (payloads p class f es))
 payloads_given p class s f g standing [] [] known many none = tt
 payloads_given p class s f g standing [] (e ∷ es) known many none = cc
 payloads_given p class s f g standing (x ∷ params) [] known many none = cc
 payloads_given p class s f g standing (x ∷ params) (e ∷ es) known many none =
     let k = type_kind p x.kind in
-    let both = both_none (asked_findings (scope_of p g) k (shape e)) (argument_findings (scope_of p g) (map (λ y. type_kind p y.kind) params) (map shape es)) none in
+    let both = both_none (asked_mistakes (scope_of p g) k (shape e)) (argument_mistakes (scope_of p g) (map (λ y. type_kind p y.kind) params) (map shape es)) none in
     let asked = asked_known p s.variables f g standing k e (type_known p x.kind known.0) both.0 in
     let rest = payloads_given p class s f g standing params es known.1 (omega (arith, many)) both.1 in
     one_payload p class s f g standing x e known.0 asked (is_block k) refl (params_held p params) (payloads p class f es) rest

@@ -6,7 +6,11 @@ use Rattle.tree.specs.declared.statement as made
 use Rattle.tree.specs.declared.types as type_nodes
 use Rattle.tree.specs.declared.contract.Param.{Param}
 use Rattle.names.specs.Cases.{bind_turn, binds_turn, typed_turn}
+use Rattle.declarations.specs.declared.mistake.Demand.TheVariants as demand
+use Rattle.declarations.specs.declared.mistake.Mismatch.TheVariants.{Given}
 use Rattle.declarations.specs.Kinds.{brought_kind}
+use Rattle.declarations.specs.declared.mistake.Demand.TheVariants as demand
+use Rattle.declarations.specs.declared.mistake.Mismatch.TheVariants.{Given}
 use Rattle.declarations.specs.Kinds.{agree, is_heap, type_kind, type_unknown, unless}
 use Rattle.declarations.specs.Program.{Program}
 use Rattle.names.specs.Variables as names
@@ -57,7 +61,7 @@ bind_stands : (p : Program) (vs : List VariableSeen) (x : Param) (name : Span) (
     → type_unknown p x.kind ≡ [] → AreStanding p vs f g → Within vs (declared p.text (bound_as p (Some x) name kind) f) → (typed_turn p (Some x) name kind g).found ≡ []
     → AreStanding p vs (declared p.text (bound_as p (Some x) name kind) f) (typed_turn p (Some x) name kind g).frame
 bind_stands p vs x name (Some t) f g brought standing within none =
-    let fits = unless (agree (type_kind p t) (brought_kind p (Some x))) name.place in
+    let fits = unless (agree (type_kind p t) (brought_kind p (Some x))) name.place (Given (demand.Kind (brought_kind p (Some x))) (type_kind p t)) in
     let entered = declared_variable p.text name (type_kind p t) (is_heap t) g in
     let clean = both_none (type_unknown p t ++ fits) entered.found none in
     let sure = both_none (type_unknown p t) fits clean.0 in

@@ -9,6 +9,8 @@ use Rattle.tree.specs.declared.types as type_nodes
 use Rattle.tree.specs.declared.contract.Param.{Param}
 use Rattle.names.specs.Cases.{bind_turn, binds_turn, typed_turn}
 use Rattle.declarations.specs.Declarations.{messages_of}
+use Rattle.declarations.specs.declared.mistake.Demand.TheVariants as demand
+use Rattle.declarations.specs.declared.mistake.Mismatch.TheVariants.{Given}
 use Rattle.declarations.specs.Kinds.{agree, alike, is_block, type_kind, type_unknown, unless}
 use Rattle.declarations.specs.Program.{Program}
 use Rattle.declarations.specs.Resolution.{resolved_contracts}
@@ -64,10 +66,10 @@ bound_holds : (p : Program) (s : Setting) (x : Param) (name : Span) (kind : Opti
     → HoldAll s (held_listed (type_held p x.kind) ++ ks) (one_number (next_number (bound_as p (Some x) name kind).held f) ++ vs)
 bound_holds p s x name (Some t) f g known within none ks vs rest =
     let k = type_kind p x.kind in
-    let fits = unless (agree (type_kind p t) k) name.place in
+    let fits = unless (agree (type_kind p t) k) name.place (Given (demand.Kind k) (type_kind p t)) in
     let clean = both_none (type_unknown p t) fits (both_none (type_unknown p t ++ fits) _ none).0 in
     let sure = type_known p t clean.0 in
-    let like = agree_alike p (type_kind p t) k sure known (unless_none (agree (type_kind p t) k) name.place clean.1) in
+    let like = agree_alike p (type_kind p t) k sure known (unless_none _ (agree (type_kind p t) k) name.place clean.1) in
     one_holds p s name (type_kind p t) k (state_in t) (state_in x.kind) f (is_block k) refl like sure known within ks vs rest
 bound_holds p s x name None f g known within none ks vs rest =
     let k = type_kind p x.kind in

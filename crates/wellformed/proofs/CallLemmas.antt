@@ -8,12 +8,13 @@ use Rattle.tree.specs.Expressions.{ExpressionTree}
 use Rattle.tree.specs.Trees.{ClassTree, MethodTree}
 use Rattle.tree.specs.Values.{CallTree}
 use Rattle.tree.specs.declared.types as tree
-use Rattle.names.specs.Expressions.{held, variable_findings}
-use Rattle.declarations.specs.Found.{unknown}
+use Rattle.names.specs.Expressions.{held, variable_mistakes}
+use Rattle.declarations.specs.declared.mistake.Mistake.TheVariants.{Unknown}
+use Rattle.declarations.specs.declared.mistake.Mismatch.TheVariants.{Given}
 use Rattle.declarations.specs.Kinds.{unless}
 use Rattle.declarations.specs.Program.{Program, Numbered, as_class, class_named, item_at}
 use Rattle.names.specs.Shapes.{shape}
-use Rattle.names.specs.Values.{argument_findings, call_findings, class_findings, class_meant, front_findings, is_alone, member_findings, method_findings, number_of_arguments, parameter_kinds, result_fits, start_findings}
+use Rattle.names.specs.Values.{demand_of, result_kind, argument_mistakes, call_mistakes, class_mistakes, class_meant, front_mistakes, is_alone, member_mistakes, method_mistakes, number_of_arguments, parameter_kinds, result_fits, start_mistakes}
 use Rattle.declarations.specs.Named.{method_named}
 use Rattle.names.specs.Variables as names
 use Rattle.names.specs.Variables.{variable_named}
@@ -42,38 +43,38 @@ pub record CallsMethod (p : Program) (class : ℕ) (f : Frame) (g : names.Frame)
   pub is : callee p class f.locals c ≡ Some (record { number = number; method = method })
   pub told : IsMethod p method number
   pub many : length method.params ≡ length c.arguments
-  pub given : argument_findings (scope_of p g) (parameter_kinds p method.params) (map shape c.arguments) ≡ []
+  pub given : argument_mistakes (scope_of p g) (parameter_kinds p method.params) (map shape c.arguments) ≡ []
   pub fits : Is method
   pub no_send : send_told p class f c ≡ None
 
 -- what is known of a method that a call in this role names
 record Fitting (p : Program) (g : names.Frame) (m : MethodTree) (Is : MethodTree → Type 0) (es : List ExpressionTree) : Type 0 where
   pub many : length m.params ≡ length es
-  pub given : argument_findings (scope_of p g) (parameter_kinds p m.params) (map shape es) ≡ []
+  pub given : argument_mistakes (scope_of p g) (parameter_kinds p m.params) (map shape es) ≡ []
   pub fits : Is m
 
 fitting : (p : Program) (g : names.Frame) (role : _) (name : Span) (m : MethodTree) (es : List ExpressionTree) (Is : MethodTree → Type 0)
-    → ((n : MethodTree) → start_findings p.text n role name ≡ [] → (F : Option tree.Type.Type → Bool) → ((r : Option tree.Type.Type) → F r ≡ result_fits p r role) → F n.result ≡ true → Is n)
-    → method_findings (scope_of p g) (Some m) role name (map shape es) ≡ [] → Fitting p g m Is es
+    → ((n : MethodTree) → start_mistakes n role name ≡ [] → (F : Option tree.Type.Type → Bool) → ((r : Option tree.Type.Type) → F r ≡ result_fits p r role) → F n.result ≡ true → Is n)
+    → method_mistakes (scope_of p g) (Some m) role name (map shape es) ≡ [] → Fitting p g m Is es
 fitting p g role name m es Is fits none =
     let shapes = map shape es in
     let many = number_of_arguments m.params shapes name.place in
-    let given = argument_findings (scope_of p g) (parameter_kinds p m.params) shapes in
-    let starts = start_findings p.text m role name in
-    let result = unless (result_fits p m.result role) name.place in
+    let given = argument_mistakes (scope_of p g) (parameter_kinds p m.params) shapes in
+    let starts = start_mistakes m role name in
+    let result = unless (result_fits p m.result role) name.place (Given (demand_of role) (result_kind p m.result)) in
     let behind = both_none many (given ++ (starts ++ result)) none in
     let last = both_none given (starts ++ result) behind.1 in
     let ends = both_none starts result last.1 in
     record {
       many = as_many m.params shapes name.place behind.0 ∙ length-map es shape;
       given = last.0;
-      fits = fits m ends.0 (λ r. result_fits p r role) (λ r. refl) (unless_none (result_fits p m.result role) name.place ends.1);
+      fits = fits m ends.0 (λ r. result_fits p r role) (λ r. refl) (unless_none _ (result_fits p m.result role) name.place ends.1);
     }
 
 -- a call by one name
 own_call : (p : Program) (class : ℕ) (t : ClassTree) (f : Frame) (g : names.Frame) (role : _) (c : CallTree) (Is : MethodTree → Type 0)
-    → ((n : MethodTree) → start_findings p.text n role c.name ≡ [] → (F : Option tree.Type.Type → Bool) → ((r : Option tree.Type.Type) → F r ≡ result_fits p r role) → F n.result ≡ true → Is n) → item_at as_class p class ≡ Some (class, t) → c.member ≡ None
-    → (o : Option MethodTree) → method_named p.text t c.name ≡ o → method_findings (scope_of p g) o role c.name (map shape c.arguments) ≡ [] → CallsMethod p class f g Is c
+    → ((n : MethodTree) → start_mistakes n role c.name ≡ [] → (F : Option tree.Type.Type → Bool) → ((r : Option tree.Type.Type) → F r ≡ result_fits p r role) → F n.result ≡ true → Is n) → item_at as_class p class ≡ Some (class, t) → c.member ≡ None
+    → (o : Option MethodTree) → method_named p.text t c.name ≡ o → method_mistakes (scope_of p g) o role c.name (map shape c.arguments) ≡ [] → CallsMethod p class f g Is c
 own_call p class t f g role c Is fits there member None found none = cc
 own_call p class t f g role c Is fits there member (Some m) found none =
     let a = method_answers p class t c.name m there found in
@@ -94,9 +95,9 @@ no_end p locals name free = ap (option_and_then (λ v. contract_of v.kind)) free
 
 -- a call by the name of a class and one of a method in it
 class_call : (p : Program) (class : ℕ) (f : Frame) (g : names.Frame) (role : _) (c : CallTree) (word : Span) (Is : MethodTree → Type 0)
-    → ((n : MethodTree) → start_findings p.text n role word ≡ [] → (F : Option tree.Type.Type → Bool) → ((r : Option tree.Type.Type) → F r ≡ result_fits p r role) → F n.result ≡ true → Is n) → c.member ≡ Some word → local_named p.text f.locals c.name ≡ None
+    → ((n : MethodTree) → start_mistakes n role word ≡ [] → (F : Option tree.Type.Type → Bool) → ((r : Option tree.Type.Type) → F r ≡ result_fits p r role) → F n.result ≡ true → Is n) → c.member ≡ Some word → local_named p.text f.locals c.name ≡ None
     → (n : ℕ) (t : ClassTree) → class_named p c.name ≡ Some (n, t)
-    → (o : Option MethodTree) → method_named p.text t word ≡ o → method_findings (scope_of p g) o role word (map shape c.arguments) ≡ [] → CallsMethod p class f g Is c
+    → (o : Option MethodTree) → method_named p.text t word ≡ o → method_mistakes (scope_of p g) o role word (map shape c.arguments) ≡ [] → CallsMethod p class f g Is c
 class_call p class f g role c word Is fits member free n t there None found none = cc
 class_call p class f g role c word Is fits member free n t there (Some m) found none =
     let a = member_answers p c.name word n t m there found in
@@ -113,8 +114,8 @@ class_call p class f g role c word Is fits member free n t there (Some m) found 
     }
 
 named_call : (p : Program) (class : ℕ) (f : Frame) (g : names.Frame) (role : _) (c : CallTree) (word : Span) (Is : MethodTree → Type 0)
-    → ((n : MethodTree) → start_findings p.text n role word ≡ [] → (F : Option tree.Type.Type → Bool) → ((r : Option tree.Type.Type) → F r ≡ result_fits p r role) → F n.result ≡ true → Is n) → c.member ≡ Some word → local_named p.text f.locals c.name ≡ None
-    → (o : Option (Numbered ClassTree)) → class_named p c.name ≡ o → class_findings (scope_of p g) (class_meant o) role c.name word (map shape c.arguments) ≡ [] → CallsMethod p class f g Is c
+    → ((n : MethodTree) → start_mistakes n role word ≡ [] → (F : Option tree.Type.Type → Bool) → ((r : Option tree.Type.Type) → F r ≡ result_fits p r role) → F n.result ≡ true → Is n) → c.member ≡ Some word → local_named p.text f.locals c.name ≡ None
+    → (o : Option (Numbered ClassTree)) → class_named p c.name ≡ o → class_mistakes (scope_of p g) (class_meant o) role c.name word (map shape c.arguments) ≡ [] → CallsMethod p class f g Is c
 named_call p class f g role c word Is fits member free None there none = cc
 named_call p class f g role c word Is fits member free (Some x) there none = class_call p class f g role c word Is fits member free x.0 x.1 there (method_named p.text x.1 word) refl none
 
@@ -123,29 +124,29 @@ abbrev Means : Program → ℕ → Setting → Frame → names.Frame → (Method
 Means p class s f g Is alone c = CallsMethod p class f g Is c ⊎ ((alone ≡ true) × SendsMessage p class s f c)
 
 member_means : (p : Program) (t : ClassTree) (class : ℕ) (result : Option tree.Type.Type) (s : Setting) (f : Frame) (g : names.Frame) (role : _) (c : CallTree) (word : Span) (Is : MethodTree → Type 0)
-    → ((n : MethodTree) (name : Span) → start_findings p.text n role name ≡ [] → (F : Option tree.Type.Type → Bool) → ((r : Option tree.Type.Type) → F r ≡ result_fits p r role) → F n.result ≡ true → Is n) → Around p t class result s
-    → AreStanding p s.variables f g → c.member ≡ Some word → (o : Option Local) → local_named p.text f.locals c.name ≡ o → member_findings (scope_of p g) (option_map named o) role c.name word (map shape c.arguments) ≡ []
+    → ((n : MethodTree) (name : Span) → start_mistakes n role name ≡ [] → (F : Option tree.Type.Type → Bool) → ((r : Option tree.Type.Type) → F r ≡ result_fits p r role) → F n.result ≡ true → Is n) → Around p t class result s
+    → AreStanding p s.variables f g → c.member ≡ Some word → (o : Option Local) → local_named p.text f.locals c.name ≡ o → member_mistakes (scope_of p g) (option_map named o) role c.name word (map shape c.arguments) ≡ []
     → Means p class s f g Is (is_alone role) c
 member_means p t class result s f g role c word Is fits around standing member None local none =
     inl (named_call p class f g role c word Is (λ n. fits n word) member local (class_named p c.name) refl none)
 member_means p t class result s f g role c word Is fits around standing member (Some l) local none =
     let meant_is = ap (λ vs. variable_named p.text vs c.name) (sym standing.same) ∙ same_named p.text f.locals c.name ∙ ap (option_map named) local in
-    let found : variable_findings (scope_of p g) c.name ≡ [] = ap (λ o. if is_some o then [] else unknown p.text c.name ∷ []) meant_is in
+    let found : variable_mistakes (scope_of p g) c.name ≡ [] = ap (λ o. if is_some o then [] else Unknown c.name ∷ []) meant_is in
     let known = subst (IsKnown p) (ap held meant_is) (held_known p s.variables f g c.name standing found) in
     inr (local_call p t class result s f g role c word around standing member l local meant_is known l.kind refl none)
 
 front_means : (p : Program) (t : ClassTree) (class : ℕ) (result : Option tree.Type.Type) (s : Setting) (f : Frame) (g : names.Frame) (role : _) (c : CallTree) (Is : MethodTree → Type 0)
-    → ((n : MethodTree) (name : Span) → start_findings p.text n role name ≡ [] → (F : Option tree.Type.Type → Bool) → ((r : Option tree.Type.Type) → F r ≡ result_fits p r role) → F n.result ≡ true → Is n) → Around p t class result s
-    → AreStanding p s.variables f g → (o : Option Span) → c.member ≡ o → front_findings (record { scope = scope_of p g; class = t }) role o c.name (map shape c.arguments) ≡ [] → Means p class s f g Is (is_alone role) c
+    → ((n : MethodTree) (name : Span) → start_mistakes n role name ≡ [] → (F : Option tree.Type.Type → Bool) → ((r : Option tree.Type.Type) → F r ≡ result_fits p r role) → F n.result ≡ true → Is n) → Around p t class result s
+    → AreStanding p s.variables f g → (o : Option Span) → c.member ≡ o → front_mistakes (record { scope = scope_of p g; class = t }) role o c.name (map shape c.arguments) ≡ [] → Means p class s f g Is (is_alone role) c
 front_means p t class result s f g role c Is fits around standing None member none =
     inl (own_call p class t f g role c Is (λ n. fits n c.name) around.class_is member (method_named p.text t c.name) refl none)
 front_means p t class result s f g role c Is fits around standing (Some word) member none =
     let meant_is = ap (λ vs. variable_named p.text vs c.name) (sym standing.same) ∙ same_named p.text f.locals c.name in
-    member_means p t class result s f g role c word Is fits around standing member (local_named p.text f.locals c.name) refl (subst (λ o. member_findings (scope_of p g) o role c.name word (map shape c.arguments) ≡ []) meant_is none)
+    member_means p t class result s f g role c word Is fits around standing member (local_named p.text f.locals c.name) refl (subst (λ o. member_mistakes (scope_of p g) o role c.name word (map shape c.arguments) ≡ []) meant_is none)
 
 pub call_means : (p : Program) (t : ClassTree) (class : ℕ) (result : Option tree.Type.Type) (s : Setting) (f : Frame) (g : names.Frame) (role : _) (c : CallTree) → Around p t class result s
-    → AreStanding p s.variables f g → call_findings (record { scope = scope_of p g; class = t }) role c ≡ []
-    → (Is : MethodTree → Type 0) → ((n : MethodTree) (name : Span) → start_findings p.text n role name ≡ [] → (F : Option tree.Type.Type → Bool) → ((r : Option tree.Type.Type) → F r ≡ result_fits p r role) → F n.result ≡ true → Is n) → Means p class s f g Is (is_alone role) c
+    → AreStanding p s.variables f g → call_mistakes (record { scope = scope_of p g; class = t }) role c ≡ []
+    → (Is : MethodTree → Type 0) → ((n : MethodTree) (name : Span) → start_mistakes n role name ≡ [] → (F : Option tree.Type.Type → Bool) → ((r : Option tree.Type.Type) → F r ≡ result_fits p r role) → F n.result ≡ true → Is n) → Means p class s f g Is (is_alone role) c
 call_means p t class result s f g role c around standing none Is fits = front_means p t class result s f g role c Is fits around standing c.member refl none
 
 -- a call of a method whose result is taken so

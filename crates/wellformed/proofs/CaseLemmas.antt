@@ -10,10 +10,11 @@ use Rattle.tree.specs.StatementTrees.{Case, CaseTree, CaseTrees, MoreCases, NoCa
 use Rattle.tree.specs.declared.statement.Awaited.{Awaited}
 use Rattle.tree.specs.declared.statement.Awaited.TheVariants.{Closed, Message}
 use Rattle.names.specs.Bodies.{Surroundings, case_turn, cases_turn, head_of, heads_of, scope_in}
-use Rattle.names.specs.Cases.{Head, awaits_closed, endpoint_head_findings, head_findings, is_closed, kind_head_findings, lack_findings, lacks_closed, names_endpoint, other_awaited_findings, same_name}
-use Rattle.names.specs.Expressions.{InScope, held, meant, variable_findings}
+use Rattle.names.specs.Cases.{Head, awaits_closed, endpoint_head_mistakes, head_mistakes, is_closed, kind_head_mistakes, lack_mistakes, names_endpoint, other_awaited_mistakes, same_name}
+use Rattle.names.specs.Expressions.{InScope, held, meant, variable_mistakes}
 use Rattle.tables.specs.Firsts.{first_of}
-use Rattle.declarations.specs.Found.{FindingParts}
+use Rattle.declarations.specs.declared.mistake.Mistake.{Mistake}
+use Rattle.declarations.specs.declared.mistake.Mistake.TheVariants.{LacksClosed}
 use Rattle.declarations.specs.Program.{Program}
 use Rattle.names.specs.Variables as names
 use Rattle.tables.specs.Words.{same_word, word_at, words_at}
@@ -31,12 +32,12 @@ use Rattle.wellformed.proofs.Standing.{AreStanding, IsKnown, scope_of}
 -- nothing is wrong with the heads of cases, behind these others of the same switch
 abbrev pub HeadsClean : Program → names.Frame → List Head → List Head → List Head → Type 0
 HeadsClean p g all before [] = Unit {0}
-HeadsClean p g all before (h ∷ heads) = (head_findings (scope_of p g) all before h ≡ []) × HeadsClean p g all (before ++ h ∷ []) heads
+HeadsClean p g all before (h ∷ heads) = (head_mistakes (scope_of p g) all before h ≡ []) × HeadsClean p g all (before ++ h ∷ []) heads
 
 -- that depends on what is in scope alone
 heads_kept : (p : Program) (g h : names.Frame) (all before heads : List Head) → scope_of p g ≡ scope_of p h → HeadsClean p g all before heads → HeadsClean p h all before heads
 heads_kept p g h all before [] same clean = tt
-heads_kept p g h all before (x ∷ heads) same clean = (subst (λ s. head_findings s all before x ≡ []) same clean.0, heads_kept p g h all (before ++ x ∷ []) heads same clean.1)
+heads_kept p g h all before (x ∷ heads) same clean = (subst (λ s. head_mistakes s all before x ≡ []) same clean.0, heads_kept p g h all (before ++ x ∷ []) heads same clean.1)
 
 -- so it is where nothing is wrong with the cases
 pub heads_clean : (m : Surroundings) (all before : List Head) (cases : CaseTrees) (f : names.Frame) → (cases_turn m all before cases f).found ≡ [] → HeadsClean m.program f all before (heads_of cases)
@@ -45,7 +46,7 @@ heads_clean m all before (MoreCases (Case word endpoint awaited left binds state
     let h : Head = record { endpoint = endpoint; awaited = awaited; binds = binds } in
     let here : names.Turn = case_turn m all before (Case word endpoint awaited left binds statements) f in
     let parts = both_none here.found (cases_turn m all (before ++ h ∷ []) cases here.frame).found none in (
-      (both_none (head_findings (scope_in m f) all before h) _ parts.0).0,
+      (both_none (head_mistakes (scope_in m f) all before h) _ parts.0).0,
       heads_kept m.program here.frame f all (before ++ h ∷ []) (heads_of cases) refl (heads_clean m all (before ++ h ∷ []) cases here.frame parts.1),
     )
 
@@ -71,20 +72,20 @@ named_closes text all (x ∷ before) name close named = ⊎_elim
     (λ later. named_closes text all before name close.1 later)
     (or_cases (same_name text x.endpoint name) (names_endpoint text name before) named)
 
-other_wrong : (h : Head) (a : Awaited) → other_awaited_findings h a ≡ [] → ⊥
-other_wrong h (Message word) none = cc
-other_wrong h (Closed word) none = cc
+other_wrong : (k : Kind) (h : Head) (a : Awaited) → other_awaited_mistakes k h a ≡ [] → ⊥
+other_wrong k h (Message word) none = cc
+other_wrong k h (Closed word) none = cc
 
 -- a head with which nothing is wrong names an endpoint, and this does not lack its close
-no_lack : (p : Program) (s : InScope) (all before : List Head) (h : Head) (k : Kind) → IsKnown p k → kind_head_findings s all before k h ≡ [] → lack_findings s all before h ≡ []
-no_lack p s all before h (kind.Endpoint end n) known none = (both_none (endpoint_head_findings s before (kind.Endpoint end n) end h) (lack_findings s all before h) none).1
-no_lack p s all before h (kind.Scalar t) known none = absurd (other_wrong h h.awaited none)
-no_lack p s all before h (kind.Array element) known none = absurd (other_wrong h h.awaited none)
-no_lack p s all before h (kind.Pointer n) known none = absurd (other_wrong h h.awaited none)
+no_lack : (p : Program) (s : InScope) (all before : List Head) (h : Head) (k : Kind) → IsKnown p k → kind_head_mistakes s all before k h ≡ [] → lack_mistakes s all before h ≡ []
+no_lack p s all before h (kind.Endpoint end n) known none = (both_none (endpoint_head_mistakes s before (kind.Endpoint end n) end h) (lack_mistakes s all before h) none).1
+no_lack p s all before h (kind.Scalar t) known none = absurd (other_wrong (kind.Scalar t) h h.awaited none)
+no_lack p s all before h (kind.Array element) known none = absurd (other_wrong (kind.Array element) h h.awaited none)
+no_lack p s all before h (kind.Pointer n) known none = absurd (other_wrong (kind.Pointer n) h h.awaited none)
 no_lack p s all before h kind.Missing known none = absurd known
 no_lack p s all before h kind.Unknown known none = absurd known
 
-nothing_lacks : (b : Bool) (x : FindingParts) → (if b then [] else x ∷ []) ≡ [] → b ≡ true
+nothing_lacks : (b : Bool) (x : Mistake) → (if b then [] else x ∷ []) ≡ [] → b ≡ true
 nothing_lacks true x none = refl
 nothing_lacks false x none = cc
 
@@ -92,9 +93,9 @@ heads_close : (p : Program) (vs : List VariableSeen) (f : Frame) (g : names.Fram
     → HeadsClean p g all before heads → Each (HasClose p.text all) heads
 heads_close p vs f g all before [] standing close clean = tt
 heads_close p vs f g all before (h ∷ heads) standing close clean =
-    let parts = both_none (variable_findings (scope_of p g) h.endpoint) (kind_head_findings (scope_of p g) all before (held (meant (scope_of p g) h.endpoint)) h) clean.0 in
+    let parts = both_none (variable_mistakes (scope_of p g) h.endpoint) (kind_head_mistakes (scope_of p g) all before (held (meant (scope_of p g) h.endpoint)) h) clean.0 in
     let lack = no_lack p (scope_of p g) all before h (held (meant (scope_of p g) h.endpoint)) (held_known p vs f g h.endpoint standing parts.0) parts.1 in
-    let told = nothing_lacks (names_endpoint p.text h.endpoint before || awaits_closed p.text h.endpoint all) (lacks_closed p.text h.endpoint) lack in
+    let told = nothing_lacks (names_endpoint p.text h.endpoint before || awaits_closed p.text h.endpoint all) (LacksClosed h.endpoint) lack in
     let here : HasClose p.text all h = ⊎_elim
     (λ named. named_closes p.text all before h.endpoint close named)
     (λ awaits. awaits)

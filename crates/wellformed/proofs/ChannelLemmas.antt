@@ -8,8 +8,8 @@ use Rattle.tree.specs.Trees.{ClassTree, ContractTree}
 use Rattle.tree.specs.declared.statement as made
 use Rattle.tree.specs.declared.types as type_nodes
 use Rattle.program.specs.declared.kind.Side.{Side}
-use Rattle.names.specs.Bodies.{channel_findings, ends_findings, is_end_of, new_ends_findings, same_end}
-use Rattle.names.specs.Expressions.{held, meant, variable_findings}
+use Rattle.names.specs.Bodies.{channel_mistakes, ends_mistakes, is_end_of, new_ends_mistakes, same_end}
+use Rattle.names.specs.Expressions.{held, meant, variable_mistakes}
 use Rattle.declarations.specs.Kinds.{is_block, is_silent, unless}
 use Rattle.program.specs.Kinds.{same_side}
 use Rattle.declarations.specs.Program.{Numbered, Program}
@@ -79,17 +79,17 @@ channel_contract p contract c side named known =
     ap (λ o. option_and_then (number_at p) (option_map (λ x. x.0) o)) named ∙ ap (option_map (λ x. contract_number p c.0)) at.is
 
 found_fits : (p : Program) (class : ℕ) (s : Setting) (f : Frame) (g : names.Frame) (n : made.NewChannel.NewChannel) (c : Numbered ContractTree) → items.contract_named p n.contract ≡ Some c
-    → s.scope ≡ last_of f → AreStanding p s.variables f g → variable_findings (scope_of p g) n.first ≡ [] → variable_findings (scope_of p g) n.second ≡ []
-    → ends_findings c.0 (held (meant (scope_of p g) n.first)) (held (meant (scope_of p g) n.second)) n.first n.second ≡ [] → IsAction s (channel p class f n)
+    → s.scope ≡ last_of f → AreStanding p s.variables f g → variable_mistakes (scope_of p g) n.first ≡ [] → variable_mistakes (scope_of p g) n.second ≡ []
+    → ends_mistakes c.0 (held (meant (scope_of p g) n.first)) (held (meant (scope_of p g) n.second)) n.first n.second ≡ [] → IsAction s (channel p class f n)
 found_fits p class s f g n c named here standing first second none =
     let a = held (meant (scope_of p g) n.first) in
     let b = held (meant (scope_of p g) n.second) in
     let known_a = held_known p s.variables f g n.first standing first in
     let known_b = held_known p s.variables f g n.second standing second in
     let other = not (is_end_of c.0 a && same_end a b) in
-    let both = both_none (unless (is_silent a || is_end_of c.0 a) n.first.place) (unless (is_silent b || (is_end_of c.0 b && other)) n.second.place) none in
-    let fits_a = unless_none (is_silent a || is_end_of c.0 a) n.first.place both.0 in
-    let fits_b = unless_none (is_silent b || (is_end_of c.0 b && other)) n.second.place both.1 in
+    let both = both_none (unless (is_silent a || is_end_of c.0 a) n.first.place _) (unless (is_silent b || (is_end_of c.0 b && other)) n.second.place _) none in
+    let fits_a = unless_none _ (is_silent a || is_end_of c.0 a) n.first.place both.0 in
+    let fits_b = unless_none _ (is_silent b || (is_end_of c.0 b && other)) n.second.place both.1 in
     let end_a = end_kind p c.0 a known_a fits_a in
     let end_b = end_kind p c.0 b known_b (left_of (is_silent b) (is_end_of c.0 b) other fits_b) in
     let differ = right_of (is_silent b) (is_end_of c.0 b) other (ap is_silent end_b.is) fits_b in
@@ -111,17 +111,17 @@ found_fits p class s f g n c named here standing first second none =
     )
 
 named_fits : (p : Program) (class : ℕ) (s : Setting) (f : Frame) (g : names.Frame) (n : made.NewChannel.NewChannel) (o : Option (Numbered ContractTree)) → items.contract_named p n.contract ≡ o
-    → s.scope ≡ last_of f → AreStanding p s.variables f g → variable_findings (scope_of p g) n.first ≡ [] → variable_findings (scope_of p g) n.second ≡ []
-    → new_ends_findings (scope_of p g) o n.contract n.first n.second ≡ [] → IsAction s (channel p class f n)
+    → s.scope ≡ last_of f → AreStanding p s.variables f g → variable_mistakes (scope_of p g) n.first ≡ [] → variable_mistakes (scope_of p g) n.second ≡ []
+    → new_ends_mistakes (scope_of p g) o n.contract n.first n.second ≡ [] → IsAction s (channel p class f n)
 named_fits p class s f g n None named here standing first second none = cc
 named_fits p class s f g n (Some c) named here standing first second none = found_fits p class s f g n c named here standing first second none
 
 -- a new channel
 pub channel_fits : (p : Program) (t : ClassTree) (class : ℕ) (result : Option type_nodes.Type.Type) (s : Setting) (f : Frame) (g : names.Frame) (n : made.NewChannel.NewChannel)
-    → Around p t class result s → s.scope ≡ last_of f → AreStanding p s.variables f g → channel_findings (scope_of p g) n.contract n.first n.second ≡ [] → IsAction s (channel p class f n)
+    → Around p t class result s → s.scope ≡ last_of f → AreStanding p s.variables f g → channel_mistakes (scope_of p g) n.contract n.first n.second ≡ [] → IsAction s (channel p class f n)
 channel_fits p t class result s f g n around here standing none =
     let named = items.contract_named p n.contract in
-    let ends = new_ends_findings (scope_of p g) named n.contract n.first n.second in
-    let both = both_none ends (variable_findings (scope_of p g) n.first ++ variable_findings (scope_of p g) n.second) none in
-    let halves = both_none (variable_findings (scope_of p g) n.first) (variable_findings (scope_of p g) n.second) both.1 in
+    let ends = new_ends_mistakes (scope_of p g) named n.contract n.first n.second in
+    let both = both_none ends (variable_mistakes (scope_of p g) n.first ++ variable_mistakes (scope_of p g) n.second) none in
+    let halves = both_none (variable_mistakes (scope_of p g) n.first) (variable_mistakes (scope_of p g) n.second) both.1 in
     named_fits p class s f g n named refl here standing halves.0 halves.1 both.0

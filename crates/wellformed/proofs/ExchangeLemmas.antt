@@ -7,10 +7,12 @@ use Rattle.tree.specs.Trees.{ClassTree, StructTree}
 use Rattle.tree.specs.declared.class.Field.{Field}
 use Rattle.tree.specs.declared.statement as made
 use Rattle.tree.specs.declared.types as type_nodes
-use Rattle.names.specs.Bodies.{exchange_findings, exchanged_kind, holder_findings}
+use Rattle.names.specs.Bodies.{exchange_mistakes, exchanged_kind, holder_mistakes}
 use Rattle.declarations.specs.Declarations.{first_among}
-use Rattle.names.specs.Expressions.{field_findings, field_kind, held, meant, struct_field_kind, variable_findings}
-use Rattle.declarations.specs.Found.{unknown}
+use Rattle.names.specs.Expressions.{field_mistakes, field_kind, held, meant, struct_field_kind, variable_mistakes}
+use Rattle.declarations.specs.declared.mistake.Mistake.TheVariants.{Unknown}
+use Rattle.declarations.specs.declared.mistake.Demand.TheVariants as demand
+use Rattle.declarations.specs.declared.mistake.Mismatch.TheVariants.{Given}
 use Rattle.declarations.specs.Kinds.{agree, is_block, is_silent, type_kind, type_unknown, unless}
 use Rattle.declarations.specs.Program.{Program, as_struct, item_at}
 use Rattle.names.specs.Variables as names
@@ -69,17 +71,17 @@ struct_field : (p : Program) (g : names.Frame) (s : StructTree) (field : Span) (
 struct_field p g s field f = ap (option_and_then (slice_get s.fields)) f.first ∙ f.at
 
 pointer_holder : (p : Program) (g : names.Frame) (n : ℕ) (name field : Span) → (clean : (s : StructTree) → item_at as_struct p n ≡ Some (n, s) → Each (λ f. type_unknown p f.kind ≡ []) s.fields)
-    → IsKnown p (kind.Pointer n) → field_findings (scope_of p g) (kind.Pointer n) name field ≡ []
+    → IsKnown p (kind.Pointer n) → field_mistakes (scope_of p g) (kind.Pointer n) name field ≡ []
     → (is_silent (field_kind (scope_of p g) (kind.Pointer n) field) || is_block (field_kind (scope_of p g) (kind.Pointer n) field)) ≡ true → IsHolder p g (kind.Pointer n) field
 pointer_holder p g n name field clean known none fits =
     let has : HasStruct p n = struct_known p n known in
     let s = has.tree in
     let place = first_among p.text (map (λ (x : Field). x.name) s.fields) field in
     let named = option_and_then (slice_get s.fields) place in
-    let none_there = sym (ap (λ o. option_map_or (λ (x : ℕ × StructTree). if is_some (option_and_then (slice_get x.1.fields) (first_among p.text (map (λ (y : Field). y.name) x.1.fields) field)) then [] else unknown p.text field ∷ []) o []) has.is) ∙ none in
+    let none_there = sym (ap (λ o. option_map_or (λ (x : ℕ × StructTree). if is_some (option_and_then (slice_get x.1.fields) (first_among p.text (map (λ (y : Field). y.name) x.1.fields) field)) then [] else Unknown field ∷ []) o []) has.is) ∙ none in
     let kind_is = ap (λ o. option_map_or (λ (x : ℕ × StructTree). struct_field_kind (scope_of p g) (option_and_then (slice_get x.1.fields) (first_among p.text (map (λ (y : Field). y.name) x.1.fields) field))) o kind.Unknown) has.is in
     let block = subst (λ k. (is_silent k || is_block k) ≡ true) kind_is fits in
-    let f = named_field p g s field place named (clean s has.is) refl refl (none_said (is_some named) (unknown p.text field) none_there) block in
+    let f = named_field p g s field place named (clean s has.is) refl refl (none_said (is_some named) (Unknown field) none_there) block in
     record {
       number = n;
       tree = s;
@@ -90,11 +92,11 @@ pointer_holder p g n name field clean known none fits =
     }
 
 holder_is : (p : Program) (g : names.Frame) (k : declared.Kind.Kind) (name field : Span) → (clean : (n : ℕ) (s : StructTree) → item_at as_struct p n ≡ Some (n, s) → Each (λ f. type_unknown p f.kind ≡ []) s.fields)
-    → IsKnown p k → holder_findings (scope_of p g) k name field ≡ [] → IsHolder p g k field
+    → IsKnown p k → holder_mistakes (scope_of p g) k name field ≡ [] → IsHolder p g k field
 holder_is p g (kind.Pointer n) name field clean known none =
     let x = exchanged_kind (scope_of p g) (kind.Pointer n) field in
-    let both = both_none (field_findings (scope_of p g) (kind.Pointer n) name field) (unless (is_silent x || is_block x) field.place) none in
-    pointer_holder p g n name field (clean n) known both.0 (unless_none (is_silent x || is_block x) field.place both.1)
+    let both = both_none (field_mistakes (scope_of p g) (kind.Pointer n) name field) (unless (is_silent x || is_block x) field.place _) none in
+    pointer_holder p g n name field (clean n) known both.0 (unless_none _ (is_silent x || is_block x) field.place both.1)
 holder_is p g (kind.Scalar x) name field clean known none = cc
 holder_is p g (kind.Array x) name field clean known none = cc
 holder_is p g (kind.Endpoint side n) name field clean known none = cc
@@ -125,7 +127,7 @@ held_block p t h = by (is_block (type_kind p t)) refl
         absurd (cc)
 
 -- what an exchange comes to
-exchange_is : (p : Program) (class : ℕ) (f : Frame) (g : names.Frame) (vs : List VariableSeen) (e : made.Exchange.Exchange) → AreStanding p vs f g → variable_findings (scope_of p g) e.holder ≡ [] → (n number : ℕ)
+exchange_is : (p : Program) (class : ℕ) (f : Frame) (g : names.Frame) (vs : List VariableSeen) (e : made.Exchange.Exchange) → AreStanding p vs f g → variable_mistakes (scope_of p g) e.holder ≡ [] → (n number : ℕ)
     → held (meant (scope_of p g) e.holder) ≡ kind.Pointer n → field_number p (kind.Pointer n) e.field ≡ Some number → (v w : Mention) → mention p.text f.locals e.holder ≡ Some v → mention p.text f.locals e.given ≡ Some w
     → exchange_found p class f e ≡ Some (exchange_of p class f e number v w)
 exchange_is p class f g vs e standing none n number is numbered v w holder given =
@@ -151,19 +153,19 @@ action_fits p class s f e number inside v w x y found holder given scope kinds s
 
 -- an exchange
 pub exchange_fits : (p : Program) (t : ClassTree) (class : ℕ) (result : Option type_nodes.Type.Type) (s : Setting) (f : Frame) (g : names.Frame) (e : made.Exchange.Exchange)
-    → Around p t class result s → s.scope ≡ last_of f → AreStanding p s.variables f g → exchange_findings (scope_of p g) e ≡ [] → IsAction s (exchanged p class f e)
+    → Around p t class result s → s.scope ≡ last_of f → AreStanding p s.variables f g → exchange_mistakes (scope_of p g) e ≡ [] → IsAction s (exchanged p class f e)
 exchange_fits p t class result s f g e around here standing none =
     let k = held (meant (scope_of p g) e.holder) in
     let a = held (meant (scope_of p g) e.given) in
     let asked = exchanged_kind (scope_of p g) k e.field in
-    let fits = unless (agree a asked) e.given.place in
-    let first = both_none (variable_findings (scope_of p g) e.holder) (holder_findings (scope_of p g) k e.holder e.field ++ (variable_findings (scope_of p g) e.given ++ fits)) none in
-    let second = both_none (holder_findings (scope_of p g) k e.holder e.field) (variable_findings (scope_of p g) e.given ++ fits) first.1 in
-    let third = both_none (variable_findings (scope_of p g) e.given) fits second.1 in
+    let fits = unless (agree a asked) e.given.place (Given (demand.Kind asked) a) in
+    let first = both_none (variable_mistakes (scope_of p g) e.holder) (holder_mistakes (scope_of p g) k e.holder e.field ++ (variable_mistakes (scope_of p g) e.given ++ fits)) none in
+    let second = both_none (holder_mistakes (scope_of p g) k e.holder e.field) (variable_mistakes (scope_of p g) e.given ++ fits) first.1 in
+    let third = both_none (variable_mistakes (scope_of p g) e.given) fits second.1 in
     let holder = holder_is p g k e.holder e.field (λ n x. fields_clean p n x around.clean) (held_known p s.variables f g e.holder standing first.0) second.0 in
     let part = holder.of in
     let field_kind_is = type_kind p part.tree.kind in
-    let agreed = subst (λ x. agree a x ≡ true) holder.exchanged (unless_none (agree a asked) e.given.place third.1) in
+    let agreed = subst (λ x. agree a x ≡ true) holder.exchanged (unless_none _ (agree a asked) e.given.place third.1) in
     let like = agree_alike p a field_kind_is (held_known p s.variables f g e.given standing third.0) part.known agreed in
     let v = block_mentioned p s.variables f g e.holder standing first.0 (ap is_block holder.is) in
     let block = alike_block a field_kind_is like in

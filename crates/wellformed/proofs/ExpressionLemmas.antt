@@ -12,9 +12,9 @@ use Rattle.tree.specs.declared.class as made
 use Rattle.tree.specs.declared.types as type_nodes
 use Rattle.tree.specs.declared.types.Type.TheVariants as type
 use Rattle.program.specs.declared.kind.Scalar.TheVariants as scalar
-use Rattle.names.specs.Expressions.{kind_of, place_of, held, meant, expression_findings, whole_findings, field_kind, field_findings, struct_field_kind, is_length, is_owning, owns, element_kind, element_findings, variable_findings, mention_findings, asked_number, sign_asked, left_asked, right_asked, signed_kind, joined_kind}
+use Rattle.names.specs.Expressions.{kind_of, place_of, held, meant, expression_mistakes, whole_mistakes, field_kind, field_mistakes, struct_field_kind, is_length, is_owning, owns, element_kind, element_mistakes, variable_mistakes, mention_mistakes, asked_number, sign_asked, left_asked, right_asked, signed_kind, joined_kind}
 use Rattle.declarations.specs.Named.{field_named}
-use Rattle.declarations.specs.Found.{unknown}
+use Rattle.declarations.specs.declared.mistake.Mistake.TheVariants.{Unknown}
 use Rattle.declarations.specs.Kinds.{is_block, is_heap, is_number, is_truth, is_unknown, type_kind, unless}
 use Rattle.declarations.specs.Program.{Program, Numbered, as_struct, item_at}
 use Rattle.names.specs.Shapes as shapes
@@ -83,23 +83,23 @@ part_scalar p g None is own = absurd (cc)
 part_scalar p g (Some x) is own = type_scalar p x.kind own
 
 struct_scalar : (p : Program) (g : names.Frame) (o : Option (Numbered StructTree)) (field : Span) → IsSomeAnd o (λ s. Unit {0})
-    → option_map_or (λ x. if is_some (field_named p.text x.1 field) then [] else unknown p.text field ∷ []) o [] ≡ []
+    → option_map_or (λ x. if is_some (field_named p.text x.1 field) then [] else Unknown field ∷ []) o [] ≡ []
     → option_map_or (λ x. is_owning (field_named p.text x.1 field)) o false ≡ false
     → IsKnown p (option_map_or (λ x. struct_field_kind (scope_of p g) (field_named p.text x.1 field)) o kind.Unknown) × (is_block (option_map_or (λ x. struct_field_kind (scope_of p g) (field_named p.text x.1 field)) o kind.Unknown) ≡ false)
 struct_scalar p g None field known none own = absurd known
-struct_scalar p g (Some x) field known none own = part_scalar p g (field_named p.text x.1 field) (none_said (is_some (field_named p.text x.1 field)) (unknown p.text field) none) own
+struct_scalar p g (Some x) field known none own = part_scalar p g (field_named p.text x.1 field) (none_said (is_some (field_named p.text x.1 field)) (Unknown field) none) own
 
 -- a field that does not own, or an element, is a scalar
-pub field_scalar : (p : Program) (g : names.Frame) (k : declared.Kind.Kind) (name field : Span) → IsKnown p k → field_findings (scope_of p g) k name field ≡ [] → owns (scope_of p g) k field ≡ false
+pub field_scalar : (p : Program) (g : names.Frame) (k : declared.Kind.Kind) (name field : Span) → IsKnown p k → field_mistakes (scope_of p g) k name field ≡ [] → owns (scope_of p g) k field ≡ false
     → IsKnown p (field_kind (scope_of p g) k field) × (is_block (field_kind (scope_of p g) k field) ≡ false)
 field_scalar p g (kind.Scalar s) name field known none own = absurd (cc)
-field_scalar p g (kind.Array element) name field known none own = length_scalar p (is_length (scope_of p g) field) (none_said (is_length (scope_of p g) field) (unknown p.text field) none)
+field_scalar p g (kind.Array element) name field known none own = length_scalar p (is_length (scope_of p g) field) (none_said (is_length (scope_of p g) field) (Unknown field) none)
 field_scalar p g (kind.Pointer n) name field known none own = struct_scalar p g (item_at as_struct p n) field known none own
 field_scalar p g (kind.Endpoint side n) name field known none own = absurd (cc)
 field_scalar p g kind.Missing name field known none own = absurd known
 field_scalar p g kind.Unknown name field known none own = absurd known
 
-pub element_scalar : (p : Program) (k : declared.Kind.Kind) (name : Span) → IsKnown p k → element_findings k name ≡ []
+pub element_scalar : (p : Program) (k : declared.Kind.Kind) (name : Span) → IsKnown p k → element_mistakes k name ≡ []
     → IsKnown p (element_kind k false) × (is_block (element_kind k false) ≡ false)
 element_scalar p (kind.Array element) name known none = (tt, refl)
 element_scalar p (kind.Scalar s) name known none = absurd (cc)
@@ -133,47 +133,47 @@ signed_counted shapes.Minus = refl
 joined_counted : (joint : _) → (is_number (joined_kind joint) || is_truth (joined_kind joint)) ≡ true
 joined_counted joint = grind arith
 
-mention_scalar : (p : Program) (vs : List VariableSeen) (f : Frame) (g : names.Frame) → AreStanding p vs f g → (name : Span) → mention_findings (scope_of p g) name ≡ []
+mention_scalar : (p : Program) (vs : List VariableSeen) (f : Frame) (g : names.Frame) → AreStanding p vs f g → (name : Span) → mention_mistakes (scope_of p g) name ≡ []
     → IsKnown p (held (meant (scope_of p g) name)) × (is_block (held (meant (scope_of p g) name)) ≡ false)
 mention_scalar p vs f g standing name none =
-    let both = both_none (variable_findings (scope_of p g) name) (unless (not (is_block (held (meant (scope_of p g) name)))) name.place) none in
-    (held_known p vs f g name standing both.0, not-true (is_block (held (meant (scope_of p g) name))) (unless_none (not (is_block (held (meant (scope_of p g) name)))) name.place both.1))
+    let both = both_none (variable_mistakes (scope_of p g) name) (unless (not (is_block (held (meant (scope_of p g) name)))) name.place _) none in
+    (held_known p vs f g name standing both.0, not-true (is_block (held (meant (scope_of p g) name))) (unless_none _ (not (is_block (held (meant (scope_of p g) name)))) name.place both.1))
 
 -- so is an expression with operators, numbers, fields and the like
 pub expression_scalar : (p : Program) (vs : List VariableSeen) (f : Frame) (g : names.Frame) → AreStanding p vs f g
-    → (e : Shape) → expression_findings (scope_of p g) e ≡ [] → IsKnown p (kind_of (scope_of p g) e) × (is_block (kind_of (scope_of p g) e) ≡ false)
+    → (e : Shape) → expression_mistakes (scope_of p g) e ≡ [] → IsKnown p (kind_of (scope_of p g) e) × (is_block (kind_of (scope_of p g) e) ≡ false)
 expression_scalar p vs f g standing (shapes.Number place) none = (tt, refl)
 expression_scalar p vs f g standing (shapes.Truth place) none = (tt, refl)
 expression_scalar p vs f g standing (shapes.Mention name) none = mention_scalar p vs f g standing name none
 expression_scalar p vs f g standing (shapes.Field name field) none =
     let s = scope_of p g in
     let k = held (meant s name) in
-    let both = both_none (variable_findings s name) (field_findings s k name field ++ unless (not (owns s k field)) name.place) none in
-    let inner = both_none (field_findings s k name field) (unless (not (owns s k field)) name.place) both.1 in
-    let own = not-true (owns s k field) (unless_none (not (owns s k field)) name.place inner.1) in
+    let both = both_none (variable_mistakes s name) (field_mistakes s k name field ++ unless (not (owns s k field)) name.place _) none in
+    let inner = both_none (field_mistakes s k name field) (unless (not (owns s k field)) name.place _) both.1 in
+    let own = not-true (owns s k field) (unless_none _ (not (owns s k field)) name.place inner.1) in
     field_scalar p g k name field (held_known p vs f g name standing both.0) inner.0 own
 expression_scalar p vs f g standing (shapes.Element name index) none =
     let s = scope_of p g in
     let k = held (meant s name) in
-    let first = both_none (expression_findings s index) (asked_number (kind_of s index) (place_of index) ++ (variable_findings s name ++ element_findings k name)) none in
-    let second = both_none (asked_number (kind_of s index) (place_of index)) (variable_findings s name ++ element_findings k name) first.1 in
-    let third = both_none (variable_findings s name) (element_findings k name) second.1 in
+    let first = both_none (expression_mistakes s index) (asked_number (kind_of s index) (place_of index) ++ (variable_mistakes s name ++ element_mistakes k name)) none in
+    let second = both_none (asked_number (kind_of s index) (place_of index)) (variable_mistakes s name ++ element_mistakes k name) first.1 in
+    let third = both_none (variable_mistakes s name) (element_mistakes k name) second.1 in
     let certain = known_certain p (kind_of s index) (expression_scalar p vs f g standing index first.0).0 in
     subst (λ lost. IsKnown p (element_kind k lost) × (is_block (element_kind k lost) ≡ false)) (sym certain) (element_scalar p k name (held_known p vs f g name standing third.0) third.1)
 expression_scalar p vs f g standing (shapes.Parens place inner) none = expression_scalar p vs f g standing inner none
 expression_scalar p vs f g standing (shapes.Signed sign place inner) none =
     let s = scope_of p g in
-    let both = both_none (expression_findings s inner) (sign_asked sign (kind_of s inner) (place_of inner)) none in
+    let both = both_none (expression_mistakes s inner) (sign_asked sign (kind_of s inner) (place_of inner)) none in
     gives_scalar p (is_unknown (kind_of s inner)) (signed_kind sign) (known_certain p (kind_of s inner) (expression_scalar p vs f g standing inner both.0).0) (counted_scalar p (signed_kind sign) (signed_counted sign))
 expression_scalar p vs f g standing (shapes.Joined joint left right) none =
     let s = scope_of p g in
-    let first = both_none (expression_findings s left) (expression_findings s right ++ (left_asked joint (kind_of s left) (place_of left) ++ right_asked joint (kind_of s left) (kind_of s right) (place_of right))) none in
-    let second = both_none (expression_findings s right) (left_asked joint (kind_of s left) (place_of left) ++ right_asked joint (kind_of s left) (kind_of s right) (place_of right)) first.1 in
+    let first = both_none (expression_mistakes s left) (expression_mistakes s right ++ (left_asked joint (kind_of s left) (place_of left) ++ right_asked joint (kind_of s left) (kind_of s right) (place_of right))) none in
+    let second = both_none (expression_mistakes s right) (left_asked joint (kind_of s left) (place_of left) ++ right_asked joint (kind_of s left) (kind_of s right) (place_of right)) first.1 in
     let certain = neither (is_unknown (kind_of s left)) (is_unknown (kind_of s right)) (known_certain p (kind_of s left) (expression_scalar p vs f g standing left first.0).0) (known_certain p (kind_of s right) (expression_scalar p vs f g standing right second.0).0) in
     gives_scalar p (is_unknown (kind_of s left) || is_unknown (kind_of s right)) (joined_kind joint) certain (counted_scalar p (joined_kind joint) (joined_counted joint))
 
 pub whole_known : (p : Program) (vs : List VariableSeen) (f : Frame) (g : names.Frame) → AreStanding p vs f g
-    → (e : Shape) → whole_findings (scope_of p g) e ≡ [] → IsKnown p (kind_of (scope_of p g) e)
+    → (e : Shape) → whole_mistakes (scope_of p g) e ≡ [] → IsKnown p (kind_of (scope_of p g) e)
 whole_known p vs f g standing (shapes.Mention name) none = held_known p vs f g name standing none
 whole_known p vs f g standing e none = (expression_scalar p vs f g standing e none).0
 
@@ -225,12 +225,12 @@ pub record IsLone (p : Program) (vs : List VariableSeen) (f : Frame) (g : names.
   pub mentioned : IsMentioned p vs f g name
 
 lone_by : (p : Program) (vs : List VariableSeen) (f : Frame) (g : names.Frame) → AreStanding p vs f g → (e : ExpressionTree) (x : Shape) → shape e ≡ x
-    → whole_findings (scope_of p g) x ≡ [] → is_block (kind_of (scope_of p g) x) ≡ true → IsLone p vs f g e
+    → whole_mistakes (scope_of p g) x ≡ [] → is_block (kind_of (scope_of p g) x) ≡ true → IsLone p vs f g e
 lone_by p vs f g standing e (shapes.Mention name) is none block = record { name = name; is = not_lone e name is; kind = ap (kind_of (scope_of p g)) is; mentioned = block_mentioned p vs f g name standing none block }
 lone_by p vs f g standing e x is none block =
     let scalar = (expression_scalar p vs f g standing x none).1 in
     absurd (cc)
 
 pub block_lone : (p : Program) (vs : List VariableSeen) (f : Frame) (g : names.Frame) → AreStanding p vs f g
-    → (e : ExpressionTree) → whole_findings (scope_of p g) (shape e) ≡ [] → is_block (kind_of (scope_of p g) (shape e)) ≡ true → IsLone p vs f g e
+    → (e : ExpressionTree) → whole_mistakes (scope_of p g) (shape e) ≡ [] → is_block (kind_of (scope_of p g) (shape e)) ≡ true → IsLone p vs f g e
 block_lone p vs f g standing e none block = lone_by p vs f g standing e (shape e) refl none block

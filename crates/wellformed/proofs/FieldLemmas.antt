@@ -1,4 +1,5 @@
 -- What structs have in fields that own: few kinds, which stand for something, by the numbers of structs.
+use Rattle.declarations.specs.declared.mistake.Limit.TheVariants as limit
 use Rattle.std.proofs.Common.{◌≡◌, ℕ, zero, suc, ◌+◌, ◌≤◌, List, [], ◌∷◌, ◌++◌, length, map, refl, ap, ◌∙◌, arith, length-append}
 use Rattle.std.proofs.lemmas.List.{length-map}
 use Rattle.std.proofs.lemmas.Option.{slice_get-map}
@@ -13,11 +14,12 @@ use Rattle.tree.specs.declared.contract.Param.{Param}
 use Rattle.tree.specs.declared.item.Access.{Access}
 use Rattle.tree.specs.declared.types as type_nodes
 use Rattle.tree.specs.declared.types.Type.TheVariants as type
-use Rattle.names.specs.Findings.{definition_findings, program_findings}
-use Rattle.declarations.specs.Found.{FindingParts, limit_passed}
+use Rattle.names.specs.Findings.{definition_mistakes, program_mistakes}
+use Rattle.declarations.specs.declared.mistake.Mistake.{Mistake}
 use Rattle.declarations.specs.Kinds.{is_heap, type_kind, type_unknown}
+use Rattle.declarations.proofs.ReadyLemmas.{not_past}
 use Rattle.declarations.specs.Listed.{past_limit, twice_among}
-use Rattle.declarations.specs.ItemFindings.{struct_findings}
+use Rattle.declarations.specs.ItemMistakes.{struct_mistakes}
 use Rattle.declarations.specs.Program.{Program, as_struct, item_at}
 use Rattle.declarations.specs.Resolution.{resolved_contracts}
 use Rattle.declarations.specs.Owning.{owning_fields}
@@ -38,41 +40,33 @@ use Rattle.wellformed.proofs.PlaceLemmas.{each_none, slice_behind}
 use Rattle.wellformed.proofs.ProgramLemmas.{item_clean, items_clean}
 
 -- what is wrong with the types of the fields of a struct
-abbrev pub types_unknown : Program → List Field → List FindingParts
+abbrev pub types_unknown : Program → List Field → List Mistake
 types_unknown p fields = flat_map (λ f. type_unknown p f.kind) fields
 
 -- nothing is wrong with the structs among items
-struct_none : (p : Program) (d : DefinitionTree) → definition_findings p d ≡ [] → Each (λ s. struct_findings p s ≡ []) (struct_among d)
+struct_none : (p : Program) (d : DefinitionTree) → definition_mistakes p d ≡ [] → Each (λ s. struct_mistakes p s ≡ []) (struct_among d)
 struct_none p (trees.Contract c) none = tt
 struct_none p (trees.Struct s) none = (none, tt)
 struct_none p (trees.Class c) none = tt
 
-structs_none : (p : Program) (items : List ItemTree) → flat_map (λ i. definition_findings p i.definition) items ≡ []
-    → Each (λ s. struct_findings p s ≡ []) (structs_of items)
+structs_none : (p : Program) (items : List ItemTree) → flat_map (λ i. definition_mistakes p i.definition) items ≡ []
+    → Each (λ s. struct_mistakes p s ≡ []) (structs_of items)
 structs_none p [] none = tt
 structs_none p (i ∷ items) none =
-    let both = both_none (definition_findings p i.definition) (flat_map (λ x. definition_findings p x.definition) items) none in
-    each_append (λ s. struct_findings p s ≡ []) (struct_among i.definition) (structs_of items) (struct_none p i.definition both.0) (structs_none p items both.1)
+    let both = both_none (definition_mistakes p i.definition) (flat_map (λ x. definition_mistakes p x.definition) items) none in
+    each_append (λ s. struct_mistakes p s ≡ []) (struct_among i.definition) (structs_of items) (struct_none p i.definition both.0) (structs_none p items both.1)
 
 -- a struct with which nothing is wrong has few fields that own, and their types are known
 record IsStruct (p : Program) (s : StructTree) : Type 0 where
   known : Each (λ f. type_unknown p f.kind ≡ []) s.fields
   few : length (owning_fields s) ≤ MOST_FIELDS
 
-few_by : {X Y : Type 0} → (f : X → List Y) (xs : List X) (most : ℕ) (finding : (x : X) → f x ≡ [] → ⊥) → option_map_or f (slice_get xs most) [] ≡ [] → length xs ≤ most
-few_by f [] most finding none = omega arith
-few_by f (x ∷ xs) zero finding none = absurd (finding x none)
-few_by f (x ∷ xs) (suc most) finding none = let rest = few_by f xs most finding none in omega (arith, rest)
-
-limit_told : (name : Span) → limit_passed name ∷ [] ≡ [] → ⊥
-limit_told name none = cc
-
-struct_is : (p : Program) (s : StructTree) → struct_findings p s ≡ [] → IsStruct p s
+struct_is : (p : Program) (s : StructTree) → struct_mistakes p s ≡ [] → IsStruct p s
 struct_is p s none =
     let names = map (λ (f : Field). f.name) (owning_fields s) in
-    let behind = both_none (twice_among p.text (map (λ (f : Field). f.name) s.fields)) (types_unknown p s.fields ++ past_limit MOST_FIELDS names) none in
-    let both = both_none (types_unknown p s.fields) (past_limit MOST_FIELDS names) behind.1 in
-    let few = few_by (λ name. limit_passed name ∷ []) names MOST_FIELDS limit_told both.1 in
+    let behind = both_none (twice_among p.text (map (λ (f : Field). f.name) s.fields)) (types_unknown p s.fields ++ past_limit limit.Fields names) none in
+    let both = both_none (types_unknown p s.fields) (past_limit limit.Fields names) behind.1 in
+    let few = not_past limit.Fields names both.1 in
     record {
       known = each_none (λ f. type_unknown p f.kind) s.fields both.0;
       few = omega (arith, few, length-map (owning_fields s) (λ (f : Field). f.name));
@@ -100,7 +94,7 @@ held_kinds p [] = tt
 held_kinds p (f ∷ fields) = each_append (IsKind (resolved_contracts p.text (contracts_of p.items))) (held_listed (type_held p f.kind)) (fields_held p fields)
     (type_kinds p f.kind (type_held p f.kind) refl) (held_kinds p fields)
 
-structs_kinds : (p : Program) (structs : List StructTree) → Each (λ s. struct_findings p s ≡ []) structs
+structs_kinds : (p : Program) (structs : List StructTree) → Each (λ s. struct_mistakes p s ≡ []) structs
     → Each (AreFields (resolved_contracts p.text (contracts_of p.items))) (map (λ s. fields_held p s.fields) structs)
 structs_kinds p [] none = tt
 structs_kinds p (s ∷ structs) none =
@@ -108,11 +102,11 @@ structs_kinds p (s ∷ structs) none =
     let few = is.few in
     (record { few = omega (arith, few, held_few p s.fields); kinds_are = held_kinds p s.fields }, structs_kinds p structs none.1)
 
-pub fields_kinds : (p : Program) → program_findings p ≡ [] → Each (AreFields (resolved_contracts p.text (contracts_of p.items))) (structs_told p)
+pub fields_kinds : (p : Program) → program_mistakes p ≡ [] → Each (AreFields (resolved_contracts p.text (contracts_of p.items))) (structs_told p)
 fields_kinds p clean = structs_kinds p (structs_of p.items) (structs_none p p.items (items_clean p clean))
 
 -- the types of the fields of a struct are known
-pub fields_clean : (p : Program) (n : ℕ) (s : StructTree) → program_findings p ≡ [] → item_at as_struct p n ≡ Some (n, s)
+pub fields_clean : (p : Program) (n : ℕ) (s : StructTree) → program_mistakes p ≡ [] → item_at as_struct p n ≡ Some (n, s)
     → Each (λ f. type_unknown p f.kind ≡ []) s.fields
 fields_clean p n s clean there =
     let is = struct_is p s (item_clean p n (trees.Struct s) clean (struct_item p n s there)) in

@@ -10,9 +10,9 @@ use Rattle.tree.specs.declared.types as type_nodes
 use Rattle.program.specs.declared.kind.Side.{Side}
 use Rattle.names.specs.Bodies.{params_of_case}
 use Rattle.names.specs.Cases as cases
-use Rattle.names.specs.Cases.{Head, closed_findings, endpoint_head_findings, head_findings, kind_head_findings, lack_findings, message_case_findings, twice_findings}
+use Rattle.names.specs.Cases.{Head, closed_mistakes, endpoint_head_mistakes, head_mistakes, kind_head_mistakes, lack_mistakes, message_case_mistakes, twice_mistakes}
 use Rattle.declarations.specs.Declarations.{bound_params}
-use Rattle.names.specs.Expressions.{held, meant, variable_findings}
+use Rattle.names.specs.Expressions.{held, meant, variable_mistakes}
 use Rattle.declarations.specs.Kinds.{is_block, type_unknown, unless}
 use Rattle.declarations.specs.Program.{Program, as_contract, item_at}
 use Rattle.program.specs.Parts.{ContractSeen}
@@ -51,7 +51,7 @@ pub record HeadFits (p : Program) (s : Setting) (f : Frame) (g : names.Frame) (h
 
 -- the endpoint of a case is one of a contract that is there
 end_fits : (p : Program) (t : ClassTree) (class : ℕ) (result : Option type_nodes.Type.Type) (s : Setting) (f : Frame) (g : names.Frame) (name : Span) (n : ℕ) (side : Side) (P : ContractSeen → Type 0)
-    → Around p t class result s → AreStanding p s.variables f g → variable_findings (scope_of p g) name ≡ [] → held (meant (scope_of p g) name) ≡ kind.Endpoint side n
+    → Around p t class result s → AreStanding p s.variables f g → variable_mistakes (scope_of p g) name ≡ [] → held (meant (scope_of p g) name) ≡ kind.Endpoint side n
     → ((r : ContractSeen) → contract_at p n ≡ Some r → P r) → IsEnd s P (case_endpoint p f name)
 end_fits p t class result s f g name n side P around standing none is each =
     let c = contract_known p n side (subst (IsKnown p) is (held_known p s.variables f g name standing none)) in
@@ -61,7 +61,7 @@ end_fits p t class result s f g name n side P around standing none is each =
 
 -- what its case awaits is looked up in that contract
 message_looked : (p : Program) (vs : List VariableSeen) (f : Frame) (g : names.Frame) (name : Span) (n : ℕ) (side : Side) (word : Span) → AreStanding p vs f g
-    → variable_findings (scope_of p g) name ≡ [] → held (meant (scope_of p g) name) ≡ kind.Endpoint side n → awaited_message p f name (waits.Message word) ≡ message_named p n word
+    → variable_mistakes (scope_of p g) name ≡ [] → held (meant (scope_of p g) name) ≡ kind.Endpoint side n → awaited_message p f name (waits.Message word) ≡ message_named p n word
 message_looked p vs f g name n side word standing none is =
     let m = meant_stands p vs f g name standing none in
     let same : m.local.kind ≡ kind.Endpoint side n = ap held (sym m.meant_is) ∙ is in
@@ -84,8 +84,8 @@ close_brings s (v ∷ bound) holds = absurd holds
 -- a case on a message of that contract
 message_fits : (p : Program) (t : ClassTree) (class : ℕ) (result : Option type_nodes.Type.Type) (s : Setting) (f : Frame) (g : names.Frame) (name : Span) (word : Span) (binds : List made.Bind.Bind) (n : ℕ) (side : Side)
     (c : ContractTree) (o : Option MessageTree)
-    → Around p t class result s → AreStanding p s.variables f g → variable_findings (scope_of p g) name ≡ [] → held (meant (scope_of p g) name) ≡ kind.Endpoint side n
-    → item_at as_contract p n ≡ Some (n, c) → message_written p.text c (word_at p.text word) ≡ o → message_case_findings (scope_of p g) o side word binds ≡ []
+    → Around p t class result s → AreStanding p s.variables f g → variable_mistakes (scope_of p g) name ≡ [] → held (meant (scope_of p g) name) ≡ kind.Endpoint side n
+    → item_at as_contract p n ≡ Some (n, c) → message_written p.text c (word_at p.text word) ≡ o → message_case_mistakes (scope_of p g) o side word binds ≡ []
     → HeadFits p s f g (record { endpoint = name; awaited = waits.Message word; binds = binds })
 message_fits p t class result s f g name word binds n side c None around standing none is there written found = absurd (cc)
 message_fits p t class result s f g name word binds n side c (Some m) around standing none is there written found =
@@ -96,7 +96,7 @@ message_fits p t class result s f g name word binds n side c (Some m) around sta
     ap (λ k. bound_params (cases.awaited_message (scope_of p g) k (waits.Message word))) is
     ∙ ap (λ x. bound_params (option_and_then (λ y. message_written p.text y.1 (word_at p.text word)) x)) there
     ∙ ap bound_params written in
-    let many = both_none (unless (receives side m.direction) word.place) (number_of_arguments m.params binds word.place) found in
+    let many = both_none (unless (receives side m.direction) word.place _) (number_of_arguments m.params binds word.place) found in
     let bring = ap (λ ms. slice_get ms a.meant.id.0) around.messages_are ∙ a.brings in
     record {
       end = subst (λ x. IsEnd s (IsAwaited s (awaited_as (waits.Message word) x)) (case_endpoint p f name)) (sym means)
@@ -110,12 +110,12 @@ message_fits p t class result s f g name word binds n side c (Some m) around sta
 -- a head by the kind of its endpoint
 head_by : (p : Program) (t : ClassTree) (class : ℕ) (result : Option type_nodes.Type.Type) (s : Setting) (f : Frame) (g : names.Frame) (all before : List Head) (name : Span) (awaited : made.Awaited.Awaited)
     (binds : List made.Bind.Bind) (k : declared.Kind.Kind)
-    → Around p t class result s → AreStanding p s.variables f g → variable_findings (scope_of p g) name ≡ [] → held (meant (scope_of p g) name) ≡ k → IsKnown p k
-    → kind_head_findings (scope_of p g) all before k (record { endpoint = name; awaited = awaited; binds = binds }) ≡ [] → HeadFits p s f g (record { endpoint = name; awaited = awaited; binds = binds })
+    → Around p t class result s → AreStanding p s.variables f g → variable_mistakes (scope_of p g) name ≡ [] → held (meant (scope_of p g) name) ≡ k → IsKnown p k
+    → kind_head_mistakes (scope_of p g) all before k (record { endpoint = name; awaited = awaited; binds = binds }) ≡ [] → HeadFits p s f g (record { endpoint = name; awaited = awaited; binds = binds })
 head_by p t class result s f g all before name (waits.Closed word) binds (kind.Endpoint side n) around standing none is known found =
     let h : Head = record { endpoint = name; awaited = waits.Closed word; binds = binds } in
-    let first = both_none (endpoint_head_findings (scope_of p g) before (kind.Endpoint side n) side h) (lack_findings (scope_of p g) all before h) found in
-    let second = both_none (closed_findings binds word) (twice_findings (scope_of p g) before h) first.0 in
+    let first = both_none (endpoint_head_mistakes (scope_of p g) before (kind.Endpoint side n) side h) (lack_mistakes (scope_of p g) all before h) found in
+    let second = both_none (closed_mistakes binds word) (twice_mistakes (scope_of p g) before h) first.0 in
     record {
       end = end_fits p t class result s f g name n side (IsAwaited s Closed) around standing none is (λ r at. tt);
       params = sym (ap (λ k. bound_params (cases.awaited_message (scope_of p g) k (waits.Closed word))) is);
@@ -126,12 +126,12 @@ head_by p t class result s f g all before name (waits.Closed word) binds (kind.E
 head_by p t class result s f g all before name (waits.Message word) binds (kind.Endpoint side n) around standing none is known found =
     let h : Head = record { endpoint = name; awaited = waits.Message word; binds = binds } in
     let o = cases.awaited_message (scope_of p g) (kind.Endpoint side n) (waits.Message word) in
-    let first = both_none (endpoint_head_findings (scope_of p g) before (kind.Endpoint side n) side h) (lack_findings (scope_of p g) all before h) found in
-    let second = both_none (message_case_findings (scope_of p g) o side word binds) (if is_some o then twice_findings (scope_of p g) before h else []) first.0 in
+    let first = both_none (endpoint_head_mistakes (scope_of p g) before (kind.Endpoint side n) side h) (lack_mistakes (scope_of p g) all before h) found in
+    let second = both_none (message_case_mistakes (scope_of p g) o side word binds) (if is_some o then twice_mistakes (scope_of p g) before h else []) first.0 in
     let c = contract_known p n side known in
     let same : o ≡ message_written p.text c.tree (word_at p.text word) = ap (option_and_then (λ x. message_written p.text x.1 (word_at p.text word))) c.is in
     message_fits p t class result s f g name word binds n side c.tree (message_written p.text c.tree (word_at p.text word)) around standing none is c.is refl
-    (subst (λ x. message_case_findings (scope_of p g) x side word binds ≡ []) same second.0)
+    (subst (λ x. message_case_mistakes (scope_of p g) x side word binds ≡ []) same second.0)
 head_by p t class result s f g all before name (waits.Closed word) binds (kind.Scalar x) around standing none is known found = absurd (cc)
 head_by p t class result s f g all before name (waits.Message word) binds (kind.Scalar x) around standing none is known found = absurd (cc)
 head_by p t class result s f g all before name (waits.Closed word) binds (kind.Pointer n) around standing none is known found = absurd (cc)
@@ -142,7 +142,7 @@ head_by p t class result s f g all before name awaited binds kind.Missing around
 head_by p t class result s f g all before name awaited binds kind.Unknown around standing none is known found = absurd known
 
 pub head_fits : (p : Program) (t : ClassTree) (class : ℕ) (result : Option type_nodes.Type.Type) (s : Setting) (f : Frame) (g : names.Frame) (all before : List Head) (h : Head)
-    → Around p t class result s → AreStanding p s.variables f g → head_findings (scope_of p g) all before h ≡ [] → HeadFits p s f g h
+    → Around p t class result s → AreStanding p s.variables f g → head_mistakes (scope_of p g) all before h ≡ [] → HeadFits p s f g h
 head_fits p t class result s f g all before h around standing none =
-    let both = both_none (variable_findings (scope_of p g) h.endpoint) (kind_head_findings (scope_of p g) all before (held (meant (scope_of p g) h.endpoint)) h) none in
+    let both = both_none (variable_mistakes (scope_of p g) h.endpoint) (kind_head_mistakes (scope_of p g) all before (held (meant (scope_of p g) h.endpoint)) h) none in
     head_by p t class result s f g all before h.endpoint h.awaited h.binds (held (meant (scope_of p g) h.endpoint)) around standing both.0 refl (held_known p s.variables f g h.endpoint standing both.0) both.1

@@ -4,8 +4,8 @@ use Rattle.std.proofs.lemmas.Option.{option_and_then_some, slice_get_within}
 use Rattle.std.specs.Prelude.{Option, None, Some, is_some, slice_get, option_map, option_and_then, IsSomeAnd}
 use Rattle.source.specs.declared.token.Span.{Span}
 use Rattle.declarations.specs.Declarations.{first_among}
-use Rattle.names.specs.Expressions.{held, meant, variable_findings}
-use Rattle.declarations.specs.Found.{unknown}
+use Rattle.names.specs.Expressions.{held, meant, variable_mistakes}
+use Rattle.declarations.specs.declared.mistake.Mistake.TheVariants.{Unknown}
 use Rattle.declarations.specs.Kinds.{is_block}
 use Rattle.declarations.specs.Program.{Program}
 use Rattle.names.specs.Variables as names
@@ -40,19 +40,19 @@ meant_as : (p : Program) (vs : List VariableSeen) (f : Frame) (g : names.Frame) 
 meant_as p vs f g name standing = ap (λ variables. variable_named p.text variables name) (sym standing.same) ∙ same_named p.text f.locals name
 
 meant_by : (p : Program) (vs : List VariableSeen) (f : Frame) (g : names.Frame) (name : Span) (o : Option Local) → AreStanding p vs f g
-    → local_named p.text f.locals name ≡ o → meant (scope_of p g) name ≡ option_map named o → variable_findings (scope_of p g) name ≡ [] → IsMeant p vs f g name
+    → local_named p.text f.locals name ≡ o → meant (scope_of p g) name ≡ option_map named o → variable_mistakes (scope_of p g) name ≡ [] → IsMeant p vs f g name
 meant_by p vs f g name None standing is means none =
-    let wrong : unknown p.text name ∷ [] ≡ [] = subst (λ (o : Option names.Variable). (if is_some o then [] else unknown p.text name ∷ []) ≡ []) means none in
+    let wrong : Unknown name ∷ [] ≡ [] = subst (λ (o : Option names.Variable). (if is_some o then [] else Unknown name ∷ []) ≡ []) means none in
     absurd (cc)
 meant_by p vs f g name (Some l) standing is means none = record { local = l; is = is; meant_is = means; stands = local_stands p vs f g name l standing is }
 
 pub meant_stands : (p : Program) (vs : List VariableSeen) (f : Frame) (g : names.Frame) (name : Span) → AreStanding p vs f g
-    → variable_findings (scope_of p g) name ≡ [] → IsMeant p vs f g name
+    → variable_mistakes (scope_of p g) name ≡ [] → IsMeant p vs f g name
 meant_stands p vs f g name standing none = meant_by p vs f g name (local_named p.text f.locals name) standing refl (meant_as p vs f g name standing) none
 
 -- so its kind is known
 pub held_known : (p : Program) (vs : List VariableSeen) (f : Frame) (g : names.Frame) (name : Span) → AreStanding p vs f g
-    → variable_findings (scope_of p g) name ≡ [] → IsKnown p (held (meant (scope_of p g) name))
+    → variable_mistakes (scope_of p g) name ≡ [] → IsKnown p (held (meant (scope_of p g) name))
 held_known p vs f g name standing none =
     let m = meant_stands p vs f g name standing none in
     subst (λ o. IsKnown p (held o)) (sym m.meant_is) m.stands.known
@@ -101,7 +101,7 @@ mentioned_by p vs f g name m (Some n) number block =
     }
 
 pub block_mentioned : (p : Program) (vs : List VariableSeen) (f : Frame) (g : names.Frame) (name : Span) → AreStanding p vs f g
-    → variable_findings (scope_of p g) name ≡ [] → is_block (held (meant (scope_of p g) name)) ≡ true → IsMentioned p vs f g name
+    → variable_mistakes (scope_of p g) name ≡ [] → is_block (held (meant (scope_of p g) name)) ≡ true → IsMentioned p vs f g name
 block_mentioned p vs f g name standing none block =
     let m = meant_stands p vs f g name standing none in
     mentioned_by p vs f g name m m.local.number refl block
@@ -116,7 +116,7 @@ scalar_numbered p vs l (Some n) number stands scalar =
 
 -- a scalar is no mention
 pub scalar_not_mentioned : (p : Program) (vs : List VariableSeen) (f : Frame) (g : names.Frame) (name : Span) → AreStanding p vs f g
-    → variable_findings (scope_of p g) name ≡ [] → is_block (held (meant (scope_of p g) name)) ≡ false → mention p.text f.locals name ≡ None
+    → variable_mistakes (scope_of p g) name ≡ [] → is_block (held (meant (scope_of p g) name)) ≡ false → mention p.text f.locals name ≡ None
 scalar_not_mentioned p vs f g name standing none scalar =
     let m = meant_stands p vs f g name standing none in
     mention_by p.text f name m.local None m.is (scalar_numbered p vs m.local m.local.number refl m.stands (ap (λ o. is_block (held o)) (sym m.meant_is) ∙ scalar))

@@ -8,7 +8,7 @@ use Rattle.tree.specs.Trees.{ClassTree, MethodTree, contracts_of}
 use Rattle.tree.specs.declared.class.Parameter.{Parameter}
 use Rattle.tree.specs.declared.types as tree
 use Rattle.names.specs.Bodies.{Surroundings, block_turn}
-use Rattle.names.specs.Findings.{program_findings}
+use Rattle.names.specs.Findings.{program_mistakes}
 use Rattle.declarations.specs.Kinds.{is_heap, type_kind, type_unknown}
 use Rattle.names.specs.Methods.{parameter_turn, parameters_turn, result_unknown}
 use Rattle.declarations.specs.Program.{Program, as_class, item_at}
@@ -168,7 +168,7 @@ result_kind p None (Some held) is = cc
 result_kind p (Some t) (Some held) is = held_kind p (type_kind p t) held (record { state = state_in t; is = is })
 
 -- a method of a class
-method_fits : (p : Program) (class : ℕ) (c : ClassTree) (m : MethodTree) (place : ℕ) → program_findings p ≡ [] → item_at as_class p class ≡ Some (class, c) → slice_get c.methods place ≡ Some m
+method_fits : (p : Program) (class : ℕ) (c : ClassTree) (m : MethodTree) (place : ℕ) → program_mistakes p ≡ [] → item_at as_class p class ≡ Some (class, c) → slice_get c.methods place ≡ Some m
     → IsWellFormed (contracts p) (messages_told p) (structs_told p) (methods_told p) (method_told p class m)
 method_fits p class c m place clean there at =
     let seen = method_told p class m in
@@ -207,7 +207,7 @@ method_fits p class c m place clean there at =
       statements = fits.statements;
     }
 
-pub well_formed : (p : Program) → program_findings p ≡ [] → AreWellFormed (resolved_contracts p.text (contracts_of p.items)) (messages_told p) (structs_told p) (methods_told p)
+pub well_formed : (p : Program) → program_mistakes p ≡ [] → AreWellFormed (resolved_contracts p.text (contracts_of p.items)) (messages_told p) (structs_told p) (methods_told p)
 well_formed p clean = record {
   messages_are = brought_kinds p;
   structs_are = fields_kinds p clean;

@@ -7,7 +7,7 @@ use Rattle.std.specs.Prelude.{Option, None, Some, option_map, option_and_then, s
 use Rattle.source.specs.declared.token.Span.{Span}
 use Rattle.tree.specs.Trees.{ItemTree, DefinitionTree, Contract, Struct, Class, ClassTree, ContractTree, MethodTree, StructTree}
 use Rattle.declarations.specs.Declarations.{first_among}
-use Rattle.declarations.specs.ItemFindings.{methods_in}
+use Rattle.declarations.specs.ItemMistakes.{methods_in}
 use Rattle.declarations.specs.Program.{Program, Numbered, as_class, as_contract, as_struct, class_named, item_at, item_names}
 use Rattle.declarations.specs.Named.{method_named}
 use Rattle.program.specs.Methods.{MethodSeen}

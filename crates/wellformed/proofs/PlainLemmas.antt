@@ -10,12 +10,13 @@ use Rattle.tree.specs.StatementTrees.{DeclareTree}
 use Rattle.tree.specs.Trees.{ClassTree}
 use Rattle.tree.specs.Values.{ValueTree}
 use Rattle.tree.specs.declared.types as tree
-use Rattle.names.specs.Bodies.{given_findings}
-use Rattle.names.specs.Expressions.{asked_number, expression_findings, held, meant, place_of, element_findings, element_kind, field_findings, kind_of, number_findings, owns, variable_findings}
+use Rattle.names.specs.Bodies.{given_mistakes}
+use Rattle.names.specs.Expressions.{asked_number, expression_mistakes, held, meant, place_of, element_mistakes, element_kind, field_mistakes, kind_of, number_mistakes, owns, variable_mistakes}
+use Rattle.declarations.specs.declared.mistake.Mismatch.TheVariants.{FieldOwns}
 use Rattle.declarations.specs.Kinds.{is_block, type_kind, type_unknown, unless}
 use Rattle.declarations.specs.Program.{Program}
 use Rattle.names.specs.Shapes.{shape}
-use Rattle.names.specs.Values.{length_findings, target_findings, target_kind, value_findings}
+use Rattle.names.specs.Values.{length_mistakes, target_mistakes, target_kind, value_mistakes}
 use Rattle.names.specs.Variables as names
 use Rattle.tables.specs.Words.{word_at}
 use Rattle.declarations.specs.declared.kinds as declared
@@ -52,8 +53,8 @@ name_mentioned p s f g standing name = name_within p s f g standing name (mentio
 
 -- a variable takes a value
 variable_fits : (p : Program) (t : ClassTree) (class : ℕ) (result : Option tree.Type.Type) (s : Setting) (f : Frame) (g : names.Frame) (name : Span) (value : ValueTree) (b : Bool)
-    → is_block (held (meant (scope_of p g) name)) ≡ b → Around p t class result s → s.scope ≡ last_of f → AreStanding p s.variables f g → variable_findings (scope_of p g) name ≡ []
-    → value_findings (record { scope = scope_of p g; class = t }) (held (meant (scope_of p g) name)) value ≡ [] → IsStatement s (assigned p class f (mention p.text f.locals name) value)
+    → is_block (held (meant (scope_of p g) name)) ≡ b → Around p t class result s → s.scope ≡ last_of f → AreStanding p s.variables f g → variable_mistakes (scope_of p g) name ≡ []
+    → value_mistakes (record { scope = scope_of p g; class = t }) (held (meant (scope_of p g) name)) value ≡ [] → IsStatement s (assigned p class f (mention p.text f.locals name) value)
 variable_fits p t class result s f g name value false scalar around here standing none given =
     let known = held_known p s.variables f g name standing none in
     subst (λ o. IsStatement s (assigned p class f o value)) (sym (scalar_not_mentioned p s.variables f g name standing none scalar))
@@ -66,25 +67,25 @@ variable_fits p t class result s f g name value true block around here standing 
 
 -- an assignment
 pub assign_fits : (p : Program) (t : ClassTree) (class : ℕ) (result : Option tree.Type.Type) (s : Setting) (f : Frame) (g : names.Frame) (target : TargetTree) (value : ValueTree)
-    → Around p t class result s → s.scope ≡ last_of f → AreStanding p s.variables f g → target_findings (scope_of p g) target ≡ []
-    → value_findings (record { scope = scope_of p g; class = t }) (target_kind (scope_of p g) target) value ≡ [] → IsStatement s (written p class f target value)
+    → Around p t class result s → s.scope ≡ last_of f → AreStanding p s.variables f g → target_mistakes (scope_of p g) target ≡ []
+    → value_mistakes (record { scope = scope_of p g; class = t }) (target_kind (scope_of p g) target) value ≡ [] → IsStatement s (written p class f target value)
 assign_fits p t class result s f g (trees.Variable name) value around here standing none given =
     variable_fits p t class result s f g name value (is_block (held (meant (scope_of p g) name))) refl around here standing none given
 assign_fits p t class result s f g (trees.Field name field) value around here standing none given =
     let k = held (meant (scope_of p g) name) in
     let own = owns (scope_of p g) k field in
-    let length = length_findings (scope_of p g) k field in
-    let both = both_none (variable_findings (scope_of p g) name) (field_findings (scope_of p g) k name field ++ (length ++ unless (not own) field.place)) none in
-    let fields = both_none (field_findings (scope_of p g) k name field) (length ++ unless (not own) field.place) both.1 in
-    let owning = not-true own (unless_none (not own) field.place (both_none length (unless (not own) field.place) fields.1).1) in
+    let length = length_mistakes (scope_of p g) k field in
+    let both = both_none (variable_mistakes (scope_of p g) name) (field_mistakes (scope_of p g) k name field ++ (length ++ unless (not own) field.place FieldOwns)) none in
+    let fields = both_none (field_mistakes (scope_of p g) k name field) (length ++ unless (not own) field.place FieldOwns) both.1 in
+    let owning = not-true own (unless_none _ (not own) field.place (both_none length (unless (not own) field.place FieldOwns) fields.1).1) in
     let scalar = field_scalar p g k name field (held_known p s.variables f g name standing both.0) fields.0 owning in
     part_taken_fits p t class result s f g (target_kind (scope_of p g) (trees.Field name field)) [] (mention p.text f.locals name) value around standing scalar.0 scalar.1 tt (name_mentioned p s f g standing name) given
 assign_fits p t class result s f g (trees.Element name index) value around here standing none given =
     let k = held (meant (scope_of p g) name) in
     let i = kind_of (scope_of p g) (shape index) in
-    let both = both_none (number_findings (scope_of p g) (shape index)) (variable_findings (scope_of p g) name ++ element_findings k name) none in
-    let whole = both_none (variable_findings (scope_of p g) name) (element_findings k name) both.1 in
-    let number = both_none (expression_findings (scope_of p g) (shape index)) (asked_number i (place_of (shape index))) both.0 in
+    let both = both_none (number_mistakes (scope_of p g) (shape index)) (variable_mistakes (scope_of p g) name ++ element_mistakes k name) none in
+    let whole = both_none (variable_mistakes (scope_of p g) name) (element_mistakes k name) both.1 in
+    let number = both_none (expression_mistakes (scope_of p g) (shape index)) (asked_number i (place_of (shape index))) both.0 in
     let certain = known_certain p i (expression_scalar p s.variables f g standing (shape index) number.0).0 in
     let scalar = element_scalar p k name (held_known p s.variables f g name standing whole.0) whole.1 in
     part_taken_fits p t class result s f g (target_kind (scope_of p g) (trees.Element name index)) (reads p.text f.locals index) (mention p.text f.locals name) value around standing
@@ -94,7 +95,7 @@ assign_fits p t class result s f g (trees.Element name index) value around here 
 first_fits : (p : Program) (t : ClassTree) (class : ℕ) (result : Option tree.Type.Type) (s : Setting) (f : Frame) (g : names.Frame) (name : Span) (k : declared.Kind.Kind) (state : Option Span) (role : Role) (value : ValueTree)
     (o : Option Kind) (rest : List VariableSeen) → kind_held p k state ≡ o → s.variables ≡ (declared_as p.text (record { name = name; kind = k; held = o; role = role }) o f).variables ++ rest → IsHeldAs p k o
     → s.scope ≡ last_of (declared_as p.text (record { name = name; kind = k; held = o; role = role }) o f) → Around p t class result s → AreStanding p s.variables f g → IsKnown p k
-    → value_findings (record { scope = scope_of p g; class = t }) k value ≡ [] → IsStatement s (assigned p class f (option_map (mention_of name) (next_number o f)) value)
+    → value_mistakes (record { scope = scope_of p g; class = t }) k value ≡ [] → IsStatement s (assigned p class f (option_map (mention_of name) (next_number o f)) value)
 first_fits p t class result s f g name k state role value None rest is within holds here around standing known none = scalar_taken_fits p t class result s f g k value around standing known holds none
 first_fits p t class result s f g name k state role value (Some held) rest is within holds here around standing known none =
     let v : VariableSeen = record { name = word_at p.text name; kind = held; role = role; outer = option_map number_of f.last } in
@@ -104,7 +105,7 @@ first_fits p t class result s f g name k state role value (Some held) rest is wi
 
 value_fits : (p : Program) (t : ClassTree) (class : ℕ) (result : Option tree.Type.Type) (s : Setting) (f : Frame) (g : names.Frame) (d : DeclareTree) (value : Option ValueTree)
     → s.scope ≡ last_of (frame_behind p class f (stated.Declare d)) → Around p t class result s → AreStanding p s.variables f g → Within s.variables (frame_behind p class f (stated.Declare d)) → type_unknown p d.kind ≡ []
-    → given_findings (record { scope = scope_of p g; class = t }) (type_kind p d.kind) value ≡ [] → IsStatement s (first_value p class f d.name (next_number (type_held p d.kind) f) value)
+    → given_mistakes (record { scope = scope_of p g; class = t }) (type_kind p d.kind) value ≡ [] → IsStatement s (first_value p class f d.name (next_number (type_held p d.kind) f) value)
 value_fits p t class result s f g d None here around standing within known none = (tt, tt)
 value_fits p t class result s f g d (Some value) here around standing within known none =
     let k = type_kind p d.kind in
@@ -113,7 +114,7 @@ value_fits p t class result s f g d (Some value) here around standing within kno
 
 pub declare_fits : (p : Program) (t : ClassTree) (class : ℕ) (result : Option tree.Type.Type) (s : Setting) (f : Frame) (g : names.Frame) (d : DeclareTree)
     → s.scope ≡ last_of (frame_behind p class f (stated.Declare d)) → Around p t class result s → AreStanding p s.variables f g → Within s.variables (frame_behind p class f (stated.Declare d)) → type_unknown p d.kind ≡ []
-    → given_findings (record { scope = scope_of p g; class = t }) (type_kind p d.kind) d.value ≡ []
+    → given_mistakes (record { scope = scope_of p g; class = t }) (type_kind p d.kind) d.value ≡ []
     → IsStatement s (first_value p class f d.name (next_number (type_held p d.kind) f) d.value)
 declare_fits p t class result s f g d here around standing within known none = value_fits p t class result s f g d d.value here around standing within known none
 

@@ -1,5 +1,5 @@
 -- Calls and starts that stand alone, and returns, with which nothing is wrong.
-use Rattle.std.proofs.Common.{◌≡◌, ℕ, ◌&&◌, Bool, true, false, not, [], sym, refl, subst, ◌⊎◌, inl, inr}
+use Rattle.std.proofs.Common.{◌≡◌, ℕ, ◌&&◌, Bool, true, false, not, [], ◌∷◌, sym, refl, subst, ◌⊎◌, inl, inr}
 use Rattle.std.specs.Option.{option_map_or}
 use Rattle.std.specs.Prelude.{Option, None, Some, is_some, option_map, IsSomeAnd}
 use Rattle.source.specs.declared.token.Span.{Span}
@@ -8,9 +8,11 @@ use Rattle.tree.specs.StatementTrees as stated
 use Rattle.tree.specs.Trees.{ClassTree}
 use Rattle.tree.specs.Values.{CallTree}
 use Rattle.tree.specs.declared.types as tree
-use Rattle.names.specs.Bodies.{return_findings, statement_turn}
-use Rattle.names.specs.Expressions.{whole_findings}
-use Rattle.declarations.specs.Kinds.{is_block, type_kind, unless}
+use Rattle.names.specs.Bodies.{return_mistakes, statement_turn}
+use Rattle.names.specs.Expressions.{whole_mistakes}
+use Rattle.declarations.specs.declared.mistake.Mismatch.TheVariants.{ValueReturned}
+use Rattle.declarations.specs.declared.mistake.Mistake.TheVariants.{WrongType}
+use Rattle.declarations.specs.Kinds.{is_block, type_kind}
 use Rattle.names.specs.Methods.{result_unknown}
 use Rattle.declarations.specs.Program.{Program}
 use Rattle.names.specs.Shapes.{shape}
@@ -68,7 +70,7 @@ start_fits p t class result s f g c word around standing none =
     (subst (λ o. IsSomeAnd o (IsStartOf s (call_of p class f c None [] (record { number = x.number; method = x.method })))) (sym (method_there p t class result s x.method x.number around x.told)) starts)
 
 -- a return of nothing
-empty_fits : (p : Program) (s : Setting) (g : names.Frame) (result : Option tree.Type.Type) (word : Span) → s.result ≡ result_held p result → return_findings (scope_of p g) result word None ≡ [] → IsTaken s s.result None
+empty_fits : (p : Program) (s : Setting) (g : names.Frame) (result : Option tree.Type.Type) (word : Span) → s.result ≡ result_held p result → return_mistakes (scope_of p g) result word None ≡ [] → IsTaken s s.result None
 empty_fits p s g None word is none = subst (λ o. IsTaken s o None) (sym is) tt
 empty_fits p s g (Some t) word is none = cc
 
@@ -83,16 +85,16 @@ given_fits p class s f g t e true block standing known asked =
     subst (λ o. IsTaken s o (lone p class f e)) (sym h.is) (subst (λ o. IsTaken s (Some h.held) o) (sym x.is) x.holds)
 
 value_returned : (p : Program) (class : ℕ) (s : Setting) (f : Frame) (g : names.Frame) (result : Option tree.Type.Type) (word : Span) (e : ExpressionTree) → s.result ≡ result_held p result → result_unknown p result ≡ []
-    → AreStanding p s.variables f g → return_findings (scope_of p g) result word (Some e) ≡ [] → IsTaken s s.result (lone p class f e)
+    → AreStanding p s.variables f g → return_mistakes (scope_of p g) result word (Some e) ≡ [] → IsTaken s s.result (lone p class f e)
 value_returned p class s f g None word e is known standing none =
-    let lost = (both_none (whole_findings (scope_of p g) (shape e)) (unless false word.place) none).1 in
+    let lost = (both_none (whole_mistakes (scope_of p g) (shape e)) (WrongType word.place ValueReturned ∷ []) none).1 in
     cc
 value_returned p class s f g (Some t) word e is known standing none =
     let sure = type_known p t known in
     subst (λ o. IsTaken s o (lone p class f e)) (sym is) (given_fits p class s f g t e (is_block (type_kind p t)) refl standing sure (asked_known p s.variables f g standing (type_kind p t) e sure none))
 
 pub return_fits : (p : Program) (t : ClassTree) (class : ℕ) (result : Option tree.Type.Type) (s : Setting) (f : Frame) (g : names.Frame) (word : Span) (value : Option ExpressionTree)
-    → Around p t class result s → AreStanding p s.variables f g → s.scope ≡ last_of f → return_findings (scope_of p g) result word value ≡ []
+    → Around p t class result s → AreStanding p s.variables f g → s.scope ≡ last_of f → return_mistakes (scope_of p g) result word value ≡ []
     → IsStatement s (returned p class f word.place value)
 return_fits p t class result s f g word None around standing here none =
     (tt, (empty_fits p s g result word around.result_is none, sym here))

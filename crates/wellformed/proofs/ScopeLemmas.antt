@@ -6,7 +6,8 @@ use Rattle.source.specs.declared.token.Span.{Span}
 use Rattle.declarations.specs.Declarations.{first_among}
 use Rattle.declarations.specs.Program.{Program}
 use Rattle.names.specs.Variables as names
-use Rattle.declarations.specs.Found.{limit_passed}
+use Rattle.declarations.specs.Listed.{limit_passed}
+use Rattle.declarations.specs.declared.mistake.Limit.TheVariants as limit
 use Rattle.declarations.specs.Kinds.{is_block}
 use Rattle.names.specs.Variables.{variable_named, declared_variable, past_heap}
 use Rattle.declarations.specs.declared.kinds.Kind.TheVariants as kinds
@@ -115,7 +116,7 @@ block_held p (kinds.Scalar x) held is = let none = is.is in cc
 block_held p kinds.Missing held is = let none = is.is in cc
 block_held p kinds.Unknown held is = let none = is.is in cc
 
-not_most : (name : Span) (heap : ℕ) (n : ℕ) (b : Bool) → (heap == MOST_VARIABLES) ≡ b → (if b then limit_passed name ∷ [] else []) ≡ [] → heap ≡ n → n ≤ MOST_VARIABLES → n < MOST_VARIABLES
+not_most : (name : Span) (heap : ℕ) (n : ℕ) (b : Bool) → (heap == MOST_VARIABLES) ≡ b → (if b then limit_passed limit.Variables name else []) ≡ [] → heap ≡ n → n ≤ MOST_VARIABLES → n < MOST_VARIABLES
 not_most name heap n true is none same few = cc
 not_most name heap n false is none same few = let differ : n ≢ MOST_VARIABLES = λ equal. (let full = eq-eqb heap MOST_VARIABLES (same ∙ equal) in cc) in omega arith
 

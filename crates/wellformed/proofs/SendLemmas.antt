@@ -9,15 +9,15 @@ use Rattle.tree.specs.Trees.{ClassTree, ContractTree, MessageTree, contracts_of}
 use Rattle.tree.specs.Values.{CallTree}
 use Rattle.tree.specs.declared.types as type_nodes
 use Rattle.program.specs.declared.kind.Side.{Side}
-use Rattle.names.specs.Expressions.{held, meant, variable_findings}
-use Rattle.names.specs.Findings.{program_findings}
-use Rattle.declarations.specs.Found.{unknown}
+use Rattle.names.specs.Expressions.{held, meant, variable_mistakes}
+use Rattle.names.specs.Findings.{program_mistakes}
+use Rattle.declarations.specs.declared.mistake.Mistake.TheVariants.{Unknown}
 use Rattle.declarations.specs.Kinds.{is_block, type_unknown, unless}
 use Rattle.declarations.specs.Program.{Program, as_contract, item_at}
 use Rattle.program.specs.Parts.{ContractSeen}
 use Rattle.declarations.specs.Resolution.{resolved_contracts}
 use Rattle.names.specs.Shapes.{shape}
-use Rattle.names.specs.Values.{argument_findings, is_alone, message_findings, number_of_arguments, message_kinds, send_findings, sends}
+use Rattle.names.specs.Values.{argument_mistakes, is_alone, message_mistakes, number_of_arguments, message_kinds, send_mistakes, sends}
 use Rattle.declarations.specs.Named.{message_written, sent_message}
 use Rattle.names.specs.Variables as names
 use Rattle.tables.specs.Words.{same_word, word_at}
@@ -62,24 +62,24 @@ record Sending (p : Program) (g : names.Frame) (n : ℕ) (word : Span) (es : Lis
   pub answer : AnswersMessage p n (message_sent p n word) message
   pub known : Each (λ x. type_unknown p x.kind ≡ []) message.params
   pub many : length message.params ≡ length es
-  pub given : argument_findings (scope_of p g) (message_kinds p message) (map shape es) ≡ []
+  pub given : argument_mistakes (scope_of p g) (message_kinds p message) (map shape es) ≡ []
 
 sent_written : (text word : List ℕ) (t : ContractTree) (m : MessageTree) (b : Bool) → (if b then message_written text t (drop 4 word) else None) ≡ Some m → message_written text t (drop 4 word) ≡ Some m
 sent_written text word t m true sent = sent
 sent_written text word t m false sent = cc
 
-sending : (p : Program) (g : names.Frame) (n : ℕ) (side : Side) (t : ContractTree) (role : _) (word : Span) (es : List ExpressionTree) → program_findings p ≡ [] → item_at as_contract p n ≡ Some (n, t)
-    → (o : Option MessageTree) → sent_message p.text t (word_at p.text word) ≡ o → message_findings (scope_of p g) o side role word (map shape es) ≡ [] → (is_alone role ≡ true) × Sending p g n word es
+sending : (p : Program) (g : names.Frame) (n : ℕ) (side : Side) (t : ContractTree) (role : _) (word : Span) (es : List ExpressionTree) → program_mistakes p ≡ [] → item_at as_contract p n ≡ Some (n, t)
+    → (o : Option MessageTree) → sent_message p.text t (word_at p.text word) ≡ o → message_mistakes (scope_of p g) o side role word (map shape es) ≡ [] → (is_alone role ≡ true) × Sending p g n word es
 sending p g n side t role word es clean there None found none = cc
 sending p g n side t role word es clean there (Some m) found none =
     let shapes = map shape es in
     let way = is_alone role && sends side m.direction in
     let many = number_of_arguments m.params shapes word.place in
-    let given = argument_findings (scope_of p g) (message_kinds p m) shapes in
-    let first = both_none (unless way word.place) (many ++ given) none in
+    let given = argument_mistakes (scope_of p g) (message_kinds p m) shapes in
+    let first = both_none (unless way word.place _) (many ++ given) none in
     let rest = both_none many given first.1 in
     let written = sent_written p.text (word_at p.text word) t m (same_word (take 4 (word_at p.text word)) (codes "Send")) found in (
-      (and_parts (is_alone role) (sends side m.direction) (unless_none way word.place first.0)).0,
+      (and_parts (is_alone role) (sends side m.direction) (unless_none _ way word.place first.0)).0,
       record {
         message = m;
         answer = message_given p n t word m there found;
@@ -95,14 +95,14 @@ end_of p locals name l n side local is = ap (option_and_then (λ v. contract_of 
 
 end_sends : (p : Program) (t : ClassTree) (class : ℕ) (result : Option type_nodes.Type.Type) (s : Setting) (f : Frame) (g : names.Frame) (role : _) (c : CallTree) (word : Span) → Around p t class result s
     → AreStanding p s.variables f g → c.member ≡ Some word → (l : Local) → local_named p.text f.locals c.name ≡ Some l → (n : ℕ) (side : Side) → l.kind ≡ kind.Endpoint side n → IsKnown p (kind.Endpoint side n)
-    → meant (scope_of p g) c.name ≡ Some (named l) → send_findings (scope_of p g) (kind.Endpoint side n) role c.name word (map shape c.arguments) ≡ [] → (is_alone role ≡ true) × SendsMessage p class s f c
+    → meant (scope_of p g) c.name ≡ Some (named l) → send_mistakes (scope_of p g) (kind.Endpoint side n) role c.name word (map shape c.arguments) ≡ [] → (is_alone role ≡ true) × SendsMessage p class s f c
 end_sends p t class result s f g role c word around standing member l local n side kind_is known meant_is none =
     let has : HasContract p n = contract_known p n side known in
     let of_contract = ap (option_and_then (λ x. sent_message p.text x.1 (word_at p.text word))) has.is in
-    let clean = subst (λ o. message_findings (scope_of p g) o side role word (map shape c.arguments) ≡ []) of_contract none in
+    let clean = subst (λ o. message_mistakes (scope_of p g) o side role word (map shape c.arguments) ≡ []) of_contract none in
     let x = sending p g n side has.tree role word c.arguments around.clean has.is (sent_message p.text has.tree (word_at p.text word)) refl clean in
     let held_is : held (meant (scope_of p g) c.name) ≡ kind.Endpoint side n = ap held meant_is ∙ kind_is in
-    let found : variable_findings (scope_of p g) c.name ≡ [] = ap (λ o. if is_some o then [] else unknown p.text c.name ∷ []) meant_is in
+    let found : variable_mistakes (scope_of p g) c.name ≡ [] = ap (λ o. if is_some o then [] else Unknown c.name ∷ []) meant_is in
     let m = block_mentioned p s.variables f g c.name standing found (ap is_block held_is) in
     let a = x.1.answer in
     let meant_by_is : meant_by p f c word ≡ Some a.meant = ap (option_and_then (λ k. message_sent p k word)) (end_of p f.locals c.name l n side local kind_is) ∙ a.is in
@@ -121,7 +121,7 @@ end_sends p t class result s f g role c word around standing member l local n si
 -- a call by the name of a variable and one of a message
 pub local_call : (p : Program) (t : ClassTree) (class : ℕ) (result : Option type_nodes.Type.Type) (s : Setting) (f : Frame) (g : names.Frame) (role : _) (c : CallTree) (word : Span) → Around p t class result s
     → AreStanding p s.variables f g → c.member ≡ Some word → (l : Local) → local_named p.text f.locals c.name ≡ Some l → meant (scope_of p g) c.name ≡ Some (named l) → IsKnown p l.kind → (k : declared.Kind.Kind) → l.kind ≡ k
-    → send_findings (scope_of p g) k role c.name word (map shape c.arguments) ≡ [] → (is_alone role ≡ true) × SendsMessage p class s f c
+    → send_mistakes (scope_of p g) k role c.name word (map shape c.arguments) ≡ [] → (is_alone role ≡ true) × SendsMessage p class s f c
 local_call p t class result s f g role c word around standing member l local meant_is known (kind.Endpoint side n) is none =
     end_sends p t class result s f g role c word around standing member l local n side is (subst (IsKnown p) is known) meant_is none
 local_call p t class result s f g role c word around standing member l local meant_is known (kind.Scalar x) is none = cc

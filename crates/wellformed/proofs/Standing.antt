@@ -7,7 +7,7 @@ use Rattle.tree.specs.Trees.{ClassTree, MethodTree, contracts_of}
 use Rattle.tree.specs.declared.class.Parameter.{Parameter}
 use Rattle.tree.specs.declared.types as tree
 use Rattle.names.specs.Expressions.{InScope}
-use Rattle.names.specs.Findings.{program_findings}
+use Rattle.names.specs.Findings.{program_mistakes}
 use Rattle.declarations.specs.Kinds.{is_block}
 use Rattle.names.specs.Methods.{result_unknown}
 use Rattle.declarations.specs.Program.{Program, as_class, as_contract, as_struct, item_at}
@@ -114,7 +114,7 @@ pub record AreStaying (s : Setting) (f : Frame) (stays : Staying) : Type 0 where
 -- Where a statement stands: in a method of the class that is the item at this place, which gives this result, of a program with
 -- whose names and kinds nothing is wrong.
 pub record Around (p : Program) (c : ClassTree) (class : ℕ) (result : Option tree.Type.Type) (s : Setting) : Type 0 where
-  pub clean : program_findings p ≡ []
+  pub clean : program_mistakes p ≡ []
   pub class_is : item_at as_class p class ≡ Some (class, c)
   pub contracts_are : s.contracts ≡ resolved_contracts p.text (contracts_of p.items)
   pub messages_are : s.messages ≡ messages_told p

@@ -8,10 +8,10 @@ use Rattle.names.specs.Bodies as bodies
 use Rattle.declarations.specs.Kinds.{is_heap, type_kind, type_unknown}
 use Rattle.names.specs.Shapes.{shape}
 use Rattle.names.specs.Bodies.{Surroundings, block_turn, case_turn, cases_turn, others_turn, statement_turn, statements_turn, test_turn, head_of, heads_of}
-use Rattle.names.specs.Cases.{Head, binds_turn, head_findings}
-use Rattle.names.specs.Expressions.{truth_findings}
+use Rattle.names.specs.Cases.{Head, binds_turn, head_mistakes}
+use Rattle.names.specs.Expressions.{truth_mistakes}
 use Rattle.declarations.specs.Program.{Program}
-use Rattle.names.specs.Values.{target_findings, target_kind, value_findings}
+use Rattle.names.specs.Values.{target_mistakes, target_kind, value_mistakes}
 use Rattle.names.specs.Variables as names
 use Rattle.resolving.specs.Binds.{binds_told}
 use Rattle.resolving.specs.Kinds.{state_in, type_held}
@@ -126,7 +126,7 @@ declaration_goes m class s around d f g standing within none =
     let p = m.program in
     let after = declared m.program.text (declaration_of m.program d) f in
     let unknown = type_unknown p d.kind in
-    let given = bodies.given_findings (bodies.inside_of m g) (type_kind p d.kind) d.value in
+    let given = bodies.given_mistakes (bodies.inside_of m g) (type_kind p d.kind) d.value in
     let enters = names.declared_variable p.text d.name (type_kind p d.kind) (is_heap d.kind) g in
     let parts = both_none (unknown ++ given) enters.found none in
     let first = both_none unknown given parts.0 in
@@ -160,7 +160,7 @@ mutual
       statement_passes m.program s (statement_told m.program class stays (trees.Block b) f).what f (block_told m.program class stays b f).frame _ staying.scope (record { fits = r.fits; standing = r.standing; same = r.same })
   statement_goes m class s around stays (trees.Declare d) f g standing staying within none = declaration_goes m class s around d f g standing within none
   statement_goes m class s around stays (trees.Assign a) f g standing staying within none =
-      let both = both_none (target_findings (scope_of m.program g) a.target) (value_findings (bodies.inside_of m g) (target_kind (scope_of m.program g) a.target) a.value) none in
+      let both = both_none (target_mistakes (scope_of m.program g) a.target) (value_mistakes (bodies.inside_of m g) (target_kind (scope_of m.program g) a.target) a.value) none in
       stands_still m.program s (statement_told m.program class stays (trees.Assign a) f).what f g staying.scope (assign_fits m.program m.class class m.result s f g a.target a.value around staying.scope standing both.0 both.1) standing
   statement_goes m class s around stays (trees.Call c) f g standing staying within none = stands_still m.program s (statement_told m.program class stays (trees.Call c) f).what f g staying.scope (call_stated_fits m.program m.class class m.result s f g c around standing none) standing
   statement_goes m class s around stays (trees.Start word c) f g standing staying within none = stands_still m.program s (statement_told m.program class stays (trees.Start word c) f).what f g staying.scope (start_fits m.program m.class class m.result s f g c word around standing none) standing
@@ -246,7 +246,7 @@ mutual
       → AreStanding m.program s.variables f g → AreStaying s f stays → Within s.variables (test_told m.program class stays t f).frame → (test_turn m t g).found ≡ []
       → Passes m.program s.variables (IsTest s (test_told m.program class stays t f).what) f (test_told m.program class stays t f).frame (test_turn m t g).frame
   test_goes m class s around stays (trees.Test word left test body) f g standing staying within none =
-      let both = both_none (truth_findings (scope_of m.program g) (shape test)) (block_turn m body g).found none in
+      let both = both_none (truth_mistakes (scope_of m.program g) (shape test)) (block_turn m body g).found none in
       let r = block_goes m class s around stays body f g standing staying within both.1 in
       record { fits = (reads_within m.program s.variables f g standing test, r.fits); standing = r.standing; same = r.same }
 
@@ -276,7 +276,7 @@ mutual
       let params = awaited_params (awaited_message p f endpoint awaited) in
       let bound = binds_told p params binds f in
       let last = (statements_told p class stays statements bound.frame).frame in
-      let both = both_none (head_findings (scope_of p g) all before h) (names.follow (binds_turn p (bodies.params_of_case (scope_of p g) h) binds g) (statements_turn m statements)).found none in
+      let both = both_none (head_mistakes (scope_of p g) all before h) (names.follow (binds_turn p (bodies.params_of_case (scope_of p g) h) binds g) (statements_turn m statements)).found none in
       let fits = head_fits p m.class class m.result s f g all before h around standing both.0 in
       let inside : Within s.variables last = record { rest = within.rest; is = within.is } in
       let clean = subst (λ x. (names.follow (binds_turn p x binds g) (statements_turn m statements)).found ≡ []) (sym fits.params) both.1 in

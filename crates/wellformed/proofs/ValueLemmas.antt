@@ -12,10 +12,10 @@ use Rattle.tree.specs.Values.{CallTree, MadeTree, NewTree, ValueTree}
 use Rattle.tree.specs.declared.types as tree
 use Rattle.declarations.specs.Kinds.{agree, alike, is_block, is_silent, pointer_kind, type_kind, unless}
 use Rattle.names.specs.Methods.{result_unknown}
-use Rattle.names.specs.Findings.{program_findings}
+use Rattle.names.specs.Findings.{program_mistakes}
 use Rattle.declarations.specs.Program.{Numbered, Program, as_struct, item_at, struct_named}
 use Rattle.names.specs.Shapes.{shape}
-use Rattle.names.specs.Values.{argument_findings, fields_asked, made_findings, made_kind, new_findings, number_of_arguments, struct_made_findings, value_findings}
+use Rattle.names.specs.Values.{argument_mistakes, fields_asked, made_mistakes, made_kind, new_mistakes, number_of_arguments, struct_made_mistakes, value_mistakes}
 use Rattle.declarations.specs.Owning.{owning_fields}
 use Rattle.names.specs.Variables as names
 use Rattle.declarations.specs.declared.kinds as declared
@@ -113,7 +113,7 @@ alone_call p t class result s f g c around standing x =
 
 -- a call as a value: a method that gives the kind that is asked
 asked_call : (p : Program) (t : ClassTree) (class : ℕ) (result : Option tree.Type.Type) (s : Setting) (f : Frame) (g : names.Frame) (k : declared.Kind.Kind) (c : CallTree)
-    → Around p t class result s → AreStanding p s.variables f g → value_findings (record { scope = scope_of p g; class = t }) k (values.Call c) ≡ []
+    → Around p t class result s → AreStanding p s.variables f g → value_mistakes (record { scope = scope_of p g; class = t }) k (values.Call c) ≡ []
     → CallsMethod p class f g (λ m. gives_asked p m.result k ≡ true) c
 asked_call p t class result s f g k c around standing none =
     no_send p class s f g (λ m. gives_asked p m.result k ≡ true) c _
@@ -143,21 +143,21 @@ array_made p s element (kind.Array e) held fits is = subst (λ h. IsMade s h [])
 array_made p s element k held fits is = cc
 
 -- what is given for a new struct
-given_fits : (p : Program) (class : ℕ) (s : Setting) (f : Frame) (g : names.Frame) (x : Numbered StructTree) (name : Span) (given : List ExpressionTree) → program_findings p ≡ [] → AreStanding p s.variables f g
-    → item_at as_struct p x.0 ≡ Some (x.0, x.1) → struct_made_findings (scope_of p g) (Some x) name (map shape given) ≡ [] → HoldAll s (fields_held p x.1.fields) (map (λ m. m.variable) (payloads p class f given))
+given_fits : (p : Program) (class : ℕ) (s : Setting) (f : Frame) (g : names.Frame) (x : Numbered StructTree) (name : Span) (given : List ExpressionTree) → program_mistakes p ≡ [] → AreStanding p s.variables f g
+    → item_at as_struct p x.0 ≡ Some (x.0, x.1) → struct_made_mistakes (scope_of p g) (Some x) name (map shape given) ≡ [] → HoldAll s (fields_held p x.1.fields) (map (λ m. m.variable) (payloads p class f given))
 given_fits p class s f g x name given clean standing there none =
     let asked = fields_asked p x.1 in
     let params = as_params x.1 in
-    let both = both_none (number_of_arguments asked (map shape given) name.place) (argument_findings (scope_of p g) asked (map shape given)) none in
+    let both = both_none (number_of_arguments asked (map shape given) name.place) (argument_mistakes (scope_of p g) asked (map shape given)) none in
     let many = as_many asked (map shape given) name.place both.0 ∙ length-map given shape in
     let same : map (λ y. type_kind p y.kind) params ≡ asked = asked_are p (owning_fields x.1) in
     let as_many_params : length params ≡ length given = sym (length-map params (λ y. type_kind p y.kind)) ∙ ap length same ∙ many in
     let known = params_known p x.1.fields (fields_clean p x.0 x.1 clean there) in
-    let found = subst (λ ks. argument_findings (scope_of p g) ks (map shape given) ≡ []) (sym same) both.1 in
+    let found = subst (λ ks. argument_mistakes (scope_of p g) ks (map shape given) ≡ []) (sym same) both.1 in
     subst (λ ks. HoldAll s ks (map (λ m. m.variable) (payloads p class f given))) (params_are p x.1.fields) (payloads_given p class s f g standing params given known as_many_params found)
 
 struct_made : (p : Program) (class : ℕ) (s : Setting) (f : Frame) (g : names.Frame) (k : declared.Kind.Kind) (held : Kind) (o : Option (Numbered StructTree)) (name : Span) (given : List ExpressionTree)
-    → program_findings p ≡ [] → s.structs ≡ structs_told p → AreStanding p s.variables f g → struct_named p name ≡ o → IsKnown p k → struct_made_findings (scope_of p g) o name (map shape given) ≡ []
+    → program_mistakes p ≡ [] → s.structs ≡ structs_told p → AreStanding p s.variables f g → struct_named p name ≡ o → IsKnown p k → struct_made_mistakes (scope_of p g) o name (map shape given) ≡ []
     → agree (pointer_kind o) k ≡ true → IsHeld p k held → IsMade s held (payloads p class f given)
 struct_made p class s f g k held None name given clean structs standing named known none fits is = cc
 struct_made p class s f g k held (Some x) name given clean structs standing named known none fits is =
@@ -167,8 +167,8 @@ struct_made p class s f g k held (Some x) name given clean structs standing name
     let holds = given_fits p class s f g x name given clean standing there none in
     subst (λ h. IsMade s h (payloads p class f given)) (sym same) (refl, subst (λ ks. HoldAll s ks (map (λ m. m.variable) (payloads p class f given))) (sym kinds) holds)
 
-made_fits : (p : Program) (class : ℕ) (s : Setting) (f : Frame) (g : names.Frame) (k : declared.Kind.Kind) (held : Kind) (m : MadeTree) → program_findings p ≡ [] → s.structs ≡ structs_told p
-    → AreStanding p s.variables f g → IsKnown p k → made_findings (scope_of p g) m ≡ [] → agree (made_kind (scope_of p g) m) k ≡ true → IsHeld p k held → IsMade s held (made_arguments p class f m)
+made_fits : (p : Program) (class : ℕ) (s : Setting) (f : Frame) (g : names.Frame) (k : declared.Kind.Kind) (held : Kind) (m : MadeTree) → program_mistakes p ≡ [] → s.structs ≡ structs_told p
+    → AreStanding p s.variables f g → IsKnown p k → made_mistakes (scope_of p g) m ≡ [] → agree (made_kind (scope_of p g) m) k ≡ true → IsHeld p k held → IsMade s held (made_arguments p class f m)
 made_fits p class s f g k held (values.Struct name left given) clean structs standing known none fits is =
     struct_made p class s f g k held (struct_named p name) name given clean structs standing refl known none fits is
 made_fits p class s f g k held (values.Array element length) clean structs standing known none fits is =
@@ -177,10 +177,10 @@ made_fits p class s f g k held (values.Array element length) clean structs stand
 -- a variable takes a new block
 new_fits : (p : Program) (t : ClassTree) (class : ℕ) (result : Option tree.Type.Type) (s : Setting) (f : Frame) (g : names.Frame) (k : declared.Kind.Kind) (target : Mention) (v : VariableSeen) (n : NewTree)
     → Around p t class result s → AreStanding p s.variables f g → IsKnown p k → slice_get s.variables target.variable.0 ≡ Some v → IsHeld p k v.kind
-    → IsIn s target.variable → new_findings (scope_of p g) k n ≡ [] → IsNew s (new_of p class f target n.made)
+    → IsIn s target.variable → new_mistakes (scope_of p g) k n ≡ [] → IsNew s (new_of p class f target n.made)
 new_fits p t class result s f g k target v n around standing known there holds inside none =
-    let both = both_none (made_findings (scope_of p g) n.made) (unless (agree (made_kind (scope_of p g) n.made) k) n.word.place) none in
-    let fits = unless_none (agree (made_kind (scope_of p g) n.made) k) n.word.place both.1 in
+    let both = both_none (made_mistakes (scope_of p g) n.made) (unless (agree (made_kind (scope_of p g) n.made) k) n.word.place _) none in
+    let fits = unless_none _ (agree (made_kind (scope_of p g) n.made) k) n.word.place both.1 in
     record {
       reads = made_within p class s f g standing n.made;
       in_scope = inside;
@@ -191,7 +191,7 @@ new_fits p t class result s f g k target v n around standing known there holds i
 -- a variable of the exchange heap takes a value
 pub taken_fits : (p : Program) (t : ClassTree) (class : ℕ) (result : Option tree.Type.Type) (s : Setting) (f : Frame) (g : names.Frame) (k : declared.Kind.Kind) (target : Mention) (v : VariableSeen) (value : ValueTree)
     → Around p t class result s → AreStanding p s.variables f g → IsKnown p k → is_block k ≡ true → slice_get s.variables target.variable.0 ≡ Some v → IsHeld p k v.kind
-    → IsIn s target.variable → value_findings (record { scope = scope_of p g; class = t }) k value ≡ [] → IsStatement s (taken p class f target value)
+    → IsIn s target.variable → value_mistakes (record { scope = scope_of p g; class = t }) k value ≡ [] → IsStatement s (taken p class f target value)
 taken_fits p t class result s f g k target v (values.Expression e) around standing known block there holds inside none =
     let given = asked_block p class s f g standing k v.kind e (asked_known p s.variables f g standing k e known none) block holds in
     (tt, move_fits s target v (lone p class f e) given.mention given.is there given.holds inside)
@@ -204,7 +204,7 @@ taken_fits p t class result s f g k target v (values.New n) around standing know
 -- a scalar takes a value
 pub scalar_taken_fits : (p : Program) (t : ClassTree) (class : ℕ) (result : Option tree.Type.Type) (s : Setting) (f : Frame) (g : names.Frame) (k : declared.Kind.Kind) (value : ValueTree)
     → Around p t class result s → AreStanding p s.variables f g → IsKnown p k → is_block k ≡ false
-    → value_findings (record { scope = scope_of p g; class = t }) k value ≡ [] → IsStatement s (scalar_taken p class f value)
+    → value_mistakes (record { scope = scope_of p g; class = t }) k value ≡ [] → IsStatement s (scalar_taken p class f value)
 scalar_taken_fits p t class result s f g k (values.Expression e) around standing known scalar none = (reads_within p s.variables f g standing e, tt)
 scalar_taken_fits p t class result s f g k (values.Call c) around standing known scalar none =
     let x = asked_call p t class result s f g k c around standing none in
@@ -218,7 +218,7 @@ use_fits s (Some m) h = h.0
 -- a part of a block takes a value
 pub part_taken_fits : (p : Program) (t : ClassTree) (class : ℕ) (result : Option tree.Type.Type) (s : Setting) (f : Frame) (g : names.Frame) (k : declared.Kind.Kind) (index : List Mention) (whole : Option Mention) (value : ValueTree)
     → Around p t class result s → AreStanding p s.variables f g → IsKnown p k → is_block k ≡ false → Each (IsMention s) index → Each (IsMention s) (listed whole)
-    → value_findings (record { scope = scope_of p g; class = t }) k value ≡ [] → IsStatement s (part_taken p class f index whole value)
+    → value_mistakes (record { scope = scope_of p g; class = t }) k value ≡ [] → IsStatement s (part_taken p class f index whole value)
 part_taken_fits p t class result s f g k index whole (values.Expression e) around standing known scalar indices wholes none =
     (each_append (IsMention s) index (reads p.text f.locals e) indices (reads_within p s.variables f g standing e), use_fits s whole wholes)
 part_taken_fits p t class result s f g k index whole (values.Call c) around standing known scalar indices wholes none =

@@ -4,7 +4,7 @@ ghost use Rattle.std.specs.Prelude.{◌≡◌, ◌≤◌, ◌<◌, ◌^◌, [], 
 ghost use Rattle.program.specs.Parts.{contract_seen};
 ghost use Rattle.program.specs.Programs.{contracts_seen, messages_seen, methods_seen, structs_seen};
 ghost use Rattle.tree.specs.Trees.{contracts_of, program_tree};
-ghost use Rattle.names.specs.Findings.{program_findings};
+ghost use Rattle.names.specs.Findings.{program_mistakes};
 ghost use Rattle.declarations.specs.Program.{program_of};
 ghost use Rattle.declarations.specs.Resolution.{resolved_contracts};
 ghost use Rattle.program.specs.declared.limits.TheConstants.{MOST_METHODS};
@@ -33,7 +33,7 @@ pub fn well_formed_methods(
     requires contracts { map contract_seen contracts.contracts.items
         ≡ resolved_contracts text.now (contracts_of (program_tree tree.now)) }
     requires room { length contracts.contracts.items < 2 ^ 32 }
-    requires clean { program_findings (program_of text.now tree.now) ≡ [] }
+    requires clean { program_mistakes (program_of text.now tree.now) ≡ [] }
     ensures contracts { IfOk result (λ m. contracts_seen m ≡ map contract_seen contracts.contracts.items) }
     ensures messages { IfOk result (λ m. messages_seen m ≡ messages_told (program_of text.now tree.now)) }
     ensures structs { IfOk result (λ m. structs_seen m ≡ structs_told (program_of text.now tree.now)) }

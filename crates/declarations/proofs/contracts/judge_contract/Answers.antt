@@ -4,8 +4,8 @@ use Rattle.std.specs.List.{flat_map}
 use Rattle.std.proofs.lemmas.Result.{on_ok_weaker}
 use Rattle.tree.specs.Trees.{message_tree}
 use Rattle.declarations.specs.Declarations.{messages_of, states_of, names_of_messages, names_of_states}
-use Rattle.declarations.specs.ContractFindings.{message_findings, state_findings}
-use Rattle.declarations.specs.Found.{Adds}
+use Rattle.declarations.specs.ContractMistakes.{message_mistakes, state_mistakes}
+use Rattle.declarations.specs.Mistakes.{Adds}
 use Rattle.declarations.specs.Listed.{twice_among}
 use Rattle.declarations.specs.Outlines.{outlined_states}
 use Rattle.tables.specs.Tables.{IsTable}
@@ -29,10 +29,10 @@ returns c = λ p contract h k.
     let second = subst (λ t. Adds c.judge_twice.new.found.items c.judge_twice-2.new.found.items (twice_among t states)) h.text_is
     (subst (λ n. Adds c.judge_twice.new.found.items c.judge_twice-2.new.found.items (twice_among here n)) state_names
     (c.in_ok-judge_twice-2.ensures (subst (λ n. IsTable (words_at here n) declared.states) (sym state_names) state_table))) in
-    let third = subst (λ l. Adds c.judge_twice-2.new.found.items c.judge_messages.new.found.items (flat_map (message_findings p) l))
+    let third = subst (λ l. Adds c.judge_twice-2.new.found.items c.judge_messages.new.found.items (flat_map (message_mistakes p) l))
     (ap (map (λ m. message_tree m.now)) c.deref-3.ensures.value ∙ k.outline.messages)
     (c.in_ok-judge_messages.ensures p h) in
-    let last = subst (λ l. OnOk c.judge_states.result (Adds c.judge_messages.new.found.items c.judge_states.new.found.items (flat_map (state_findings p.text messages states) l))) k.outline.states
-    (subst (λ t. OnOk c.judge_states.result (Adds c.judge_messages.new.found.items c.judge_states.new.found.items (flat_map (state_findings t messages states) (outlined_states declared.outline)))) h.text_is
+    let last = subst (λ l. OnOk c.judge_states.result (Adds c.judge_messages.new.found.items c.judge_states.new.found.items (flat_map (state_mistakes p.text messages states) l))) k.outline.states
+    (subst (λ t. OnOk c.judge_states.result (Adds c.judge_messages.new.found.items c.judge_states.new.found.items (flat_map (state_mistakes t messages states) (outlined_states declared.outline)))) h.text_is
     (c.judge_states.ensures messages states message_table state_table)) in
     on_ok_weaker c.judge_states.result (λ fourth. adds_then first (adds_then second (adds_then third fourth))) last

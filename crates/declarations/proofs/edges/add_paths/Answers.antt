@@ -4,7 +4,7 @@ use Rattle.std.proofs.lemmas.List.{length-append, length-map}
 use Rattle.lemmas.proofs.Lists.{flat_more}
 use Rattle.tree.specs.Trees.{path_tree}
 use Rattle.declarations.specs.Declarations.{unnamed_of}
-use Rattle.declarations.specs.ContractFindings.{path_findings}
+use Rattle.declarations.specs.ContractMistakes.{path_mistakes}
 use Rattle.declarations.specs.Meant.{meanings, message_names, state_names, text_of}
 use Rattle.declarations.specs.Resolution.{path_edges, paths_edges}
 use Rattle.declarations.proofs.BehindLemmas.{behind_more, flat_room, nothing_at}
@@ -13,7 +13,7 @@ use Rattle.declarations.proofs.edges.add_paths.Goals as goal
 pub add_path-requires-clause-clean : goal.add_path-requires-clause-clean
 add_path-requires-clause-clean c =
     let meaning = c.args.meaning.now in
-    nothing_at (path_findings (text_of meaning) (message_names meaning) (state_names meaning)) path_tree c.args.paths.now c.loop-path.path-index c.path-item.result c.loop-path-test.true c.path-item.is c.requires.clean
+    nothing_at (path_mistakes (text_of meaning) (message_names meaning) (state_names meaning)) path_tree c.args.paths.now c.loop-path.path-index c.path-item.result c.loop-path-test.true c.path-item.is c.requires.clean
 
 pub add_path-requires-clause-room : goal.add_path-requires-clause-room
 add_path-requires-clause-room c =

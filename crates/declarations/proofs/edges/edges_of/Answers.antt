@@ -3,7 +3,7 @@ use Rattle.std.specs.List.{flat_map}
 use Rattle.tree.specs.Trees.{path_tree, state_tree}
 use Rattle.tree.specs.declared.contract as tree
 use Rattle.declarations.specs.Declarations.{counted_in_state, counted_states, paths_of, unnamed_of}
-use Rattle.declarations.specs.ContractFindings.{path_findings, state_findings}
+use Rattle.declarations.specs.ContractMistakes.{path_mistakes, state_mistakes}
 use Rattle.declarations.specs.Meant.{meanings, message_names, state_names, text_of}
 use Rattle.declarations.specs.Resolution.{edges_from, paths_edges}
 use Rattle.declarations.proofs.BehindLemmas.{behind_more, flat_room, nothing_at}
@@ -46,8 +46,8 @@ add_paths-requires-clause-clean c =
     let view = λ (s : Bor tree.State.State). state_tree s.now in
     let lt = subst (λ l. c.loop-i.i < length l) c.deref-state-items.ensures.value c.loop-i-test.true in
     let is = c.state-item.is ∙ ap (λ l. get_or l c.loop-i.i c.state-item.result) c.deref-state-items.ensures.value in
-    ap (flat_map (path_findings (text_of meaning) (message_names meaning) (state_names meaning))) c.paths.ensures
-    ∙ nothing_at (state_findings (text_of meaning) (message_names meaning) (state_names meaning)) view states c.loop-i.i c.state-item.result lt is c.requires.clean
+    ap (flat_map (path_mistakes (text_of meaning) (message_names meaning) (state_names meaning))) c.paths.ensures
+    ∙ nothing_at (state_mistakes (text_of meaning) (message_names meaning) (state_names meaning)) view states c.loop-i.i c.state-item.result lt is c.requires.clean
 
 pub add_paths-requires-clause-room : goal.add_paths-requires-clause-room
 add_paths-requires-clause-room c =

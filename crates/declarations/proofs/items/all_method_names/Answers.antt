@@ -3,7 +3,7 @@ use Rattle.std.specs.List.{flat_map}
 use Rattle.std.proofs.lemmas.List.{take_all}
 use Rattle.tree.specs.Trees.{MethodTree, definition_tree}
 use Rattle.tree.specs.declared.item as tree
-use Rattle.declarations.specs.ItemFindings.{methods_in}
+use Rattle.declarations.specs.ItemMistakes.{methods_in}
 use Rattle.declarations.proofs.MethodLemmas.{names_within}
 use Rattle.declarations.proofs.items.all_method_names.Goals as goal
 

@@ -1,7 +1,7 @@
 use Rattle.std.proofs.Common.{◌≡◌, map, take}
 use Rattle.std.specs.List.{flat_map}
 use Rattle.tree.specs.Trees.{definition_tree}
-use Rattle.declarations.specs.ItemFindings.{methods_in}
+use Rattle.declarations.specs.ItemMistakes.{methods_in}
 use Rattle.declarations.proofs.items.all_method_names.Given as goal
 
 abbrev pub invariant-loop-item : goal.invariant-loop-item

@@ -1,7 +1,7 @@
 use Rattle.std.proofs.Common.{take}
 use Rattle.std.specs.List.{flat_map}
 use Rattle.declarations.specs.Kinds.{type_unknown}
-use Rattle.declarations.specs.Found.{Adds}
+use Rattle.declarations.specs.Mistakes.{Adds}
 use Rattle.declarations.specs.Program.{Program}
 use Rattle.declarations.specs.Scopes.{IsScope}
 use Rattle.declarations.proofs.items.judge_types.Given as goal

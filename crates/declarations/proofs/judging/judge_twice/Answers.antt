@@ -1,14 +1,12 @@
-use Rattle.std.proofs.Common.{◌++◌, ◌∷◌, [], codes, ap, ◌∙◌, sym, subst, get_or, true≢false}
-use Rattle.std.specs.Str.Lossy.{utf8_lossy}
-use Rattle.source.specs.declared.finding.Code.TheVariants.{N01}
+use Rattle.std.proofs.Common.{ap, ◌∙◌, sym, subst, get_or, true≢false}
+use Rattle.declarations.specs.Listed.{twice}
 use Rattle.source.specs.declared.token.Span.{Span}
 use Rattle.tables.specs.Firsts.{first_of}
-use Rattle.declarations.specs.Found.{Adds}
+use Rattle.declarations.specs.Mistakes.{Adds}
 use Rattle.tables.specs.Words.{words_at}
-use Rattle.declarations.proofs.AddLemmas.{adds_one}
 use Rattle.declarations.proofs.TwiceLemmas.{apart_adds, twice_start, twice_end, twice_step, twice_here, first_adds, later_adds}
 use Rattle.declarations.proofs.judging.judge_twice.Goals as goal
-use Rattle.declarations.proofs.judging.judge_twice.Goals.{then-not-is_first+in_ok-declared_twice+in_ok-push, else-not-is_first}
+use Rattle.declarations.proofs.judging.judge_twice.Goals.{then-not-is_first+in_ok-add_twice, else-not-is_first}
 
 nowhere : Span
 nowhere = record { start = 0; end = 0; place = record { line = 0; col = 0 } }
@@ -31,15 +29,14 @@ loop-place-preserved c = λ h.
     let first = c.is_first.ensures _ h in
     twice_step text names i nowhere _ old _ (c.loop-place.invariant h) c.loop-place-test.true
     (elim c.if-not-is_first.branch [
-      | then-not-is_first+in_ok-declared_twice+in_ok-push w ↦
-          let says = λ (word : _). record { place = name.place; code = N01; text = utf8_lossy word ++ codes " declared twice" } ∷ [] in
+      | then-not-is_first+in_ok-add_twice w ↦
           subst (λ v. Adds old v.items (twice_here text names i name)) (sym w.found-is)
           (later_adds text names i nowhere old _ c.loop-place-test.true
-          (λ e. true≢false (sym (first.1 (ap (first_of (words_at text names)) c.slice-word.ensures ∙ e)) ∙ w.if-not-is_first.true))
-          (subst (λ word. Adds old w.push.new.self.items (says word)) c.slice-word.ensures (adds_one w.in_ok-push.ensures.items w.in_ok-declared_twice.ensures)))
+          (λ e. true≢false (sym (first.1 (ap (first_of (words_at text names)) c.slice.ensures ∙ e)) ∙ w.if-not-is_first.true))
+          (subst (λ o. Adds old w.add_twice.new.found.items (twice name o)) (w.first_named.ensures h) w.in_ok-add_twice.ensures))
       | else-not-is_first w ↦
           subst (λ v. Adds old v.items (twice_here text names i name)) (sym w.found-is)
-          (first_adds text names i nowhere old c.loop-place-test.true (sym (ap (first_of (words_at text names)) c.slice-word.ensures) ∙ first.0 w.if-not-is_first.false))
+          (first_adds text names i nowhere old c.loop-place-test.true (sym (ap (first_of (words_at text names)) c.slice.ensures) ∙ first.0 w.if-not-is_first.false))
     ])
 
 pub returns : goal.returns

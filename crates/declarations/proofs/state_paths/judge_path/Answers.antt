@@ -2,7 +2,7 @@ use Rattle.std.proofs.Common.{subst}
 use Rattle.std.specs.List.{flat_map}
 use Rattle.std.proofs.lemmas.Result.{on_ok_weaker}
 use Rattle.declarations.specs.Listed.{asked_name}
-use Rattle.declarations.specs.Found.{Adds}
+use Rattle.declarations.specs.Mistakes.{Adds}
 use Rattle.declarations.proofs.AddLemmas.{adds_then}
 use Rattle.declarations.proofs.state_paths.judge_path.Goals as goal
 

@@ -3,8 +3,10 @@ use Rattle.std.specs.Prelude.{OnOk, option_map}
 use Rattle.tree.specs.declared.contract.Param.{Param}
 use Rattle.names.specs.Cases.{typed_turn, brings_heap}
 use Rattle.declarations.specs.Kinds.{brought_kind}
-use Rattle.declarations.specs.Found.{Adds}
+use Rattle.declarations.specs.Mistakes.{Adds}
 use Rattle.names.specs.Frames.{Turned}
+use Rattle.declarations.specs.declared.mistake.Demand.TheVariants as demand
+use Rattle.declarations.specs.declared.mistake.Mismatch.TheVariants.{Given}
 use Rattle.declarations.specs.Kinds.{agree, is_heap, type_kind, type_unknown, unless}
 use Rattle.names.specs.Variables.{declared_variable}
 use Rattle.names.proofs.TurnLemmas.{on_before}
@@ -23,8 +25,8 @@ returns-in_ok-judge_bound_type-in-Some c = λ p f scope frame.
     let result = c.declare_in.result in
     let bound = type_kind p kind in
     subst (λ o. OnOk result (Turned text old new w (typed_turn p param name o f))) (sym c.in-Some.is)
-    (on_before result text old mid new w (type_unknown p kind ++ unless (agree bound (brought_kind p param)) name.place) (declared_variable text name bound (is_heap kind) f)
-    (subst (λ k. Adds old mid (type_unknown p kind ++ unless (agree bound k) name.place)) (c.brought_kind-brought.ensures p scope) (c.in_ok-judge_bound_type-in-Some.ensures p scope))
+    (on_before result text old mid new w (type_unknown p kind ++ unless (agree bound (brought_kind p param)) name.place (Given (demand.Kind (brought_kind p param)) bound)) (declared_variable text name bound (is_heap kind) f)
+    (subst (λ k. Adds old mid (type_unknown p kind ++ unless (agree bound k) name.place (Given (demand.Kind k) bound))) (c.brought_kind-brought.ensures p scope) (c.in_ok-judge_bound_type-in-Some.ensures p scope))
     (subst (λ k. OnOk result (Turned text mid new w (declared_variable text name k (is_heap kind) f))) (c.kind.ensures p scope)
     (subst (λ b. OnOk result (Turned text mid new w (declared_variable text name c.kind.result b f))) c.is_heap.ensures (c.declare_in.ensures p f scope frame))))
 

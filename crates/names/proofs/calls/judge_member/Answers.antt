@@ -2,10 +2,10 @@ use Rattle.std.proofs.Common.{map, sym, ap, ◌∙◌, subst}
 use Rattle.std.specs.Prelude.{OnOk}
 use Rattle.tree.specs.ExpressionTrees.{expression_tree}
 use Rattle.names.specs.Operands.{in_frame}
-use Rattle.declarations.specs.Found.{Adds}
+use Rattle.declarations.specs.Mistakes.{Adds}
 use Rattle.names.specs.Frames.{IsFrame}
 use Rattle.names.specs.Shapes.{shape}
-use Rattle.names.specs.Values.{member_findings}
+use Rattle.names.specs.Values.{member_mistakes}
 use Rattle.names.specs.Variables.{variable_named}
 use Rattle.names.proofs.calls.judge_member.Goals as goal
 
@@ -14,7 +14,7 @@ returns-in-None c = λ p f here.
     let s = in_frame p f in
     let args = map shape (map expression_tree c.args.site.now.arguments.now) in
     let none = c.in-None.ensures f (subst (λ t. IsFrame t f c.args.context.now.variables.now) (sym here.scope.text_is) here.frame) in
-    subst (λ o. OnOk c.judge_class.result (Adds c.args.found.now.items c.judge_class.new.found.items (member_findings s o c.args.site.now.role c.args.front c.args.site.now.name args)))
+    subst (λ o. OnOk c.judge_class.result (Adds c.args.found.now.items c.judge_class.new.found.items (member_mistakes s o c.args.site.now.role c.args.front c.args.site.now.name args)))
     (none ∙ ap (λ t. variable_named t f.variables c.args.front) here.scope.text_is)
     (c.judge_class.ensures p f here)
 
@@ -23,6 +23,6 @@ returns-in-Some c = λ p f here.
     let s = in_frame p f in
     let args = map shape (map expression_tree c.args.site.now.arguments.now) in
     let some = c.in-Some.ensures f (subst (λ t. IsFrame t f c.args.context.now.variables.now) (sym here.scope.text_is) here.frame) in
-    subst (λ o. OnOk c.judge_send.result (Adds c.args.found.now.items c.judge_send.new.found.items (member_findings s o c.args.site.now.role c.args.front c.args.site.now.name args)))
+    subst (λ o. OnOk c.judge_send.result (Adds c.args.found.now.items c.judge_send.new.found.items (member_mistakes s o c.args.site.now.role c.args.front c.args.site.now.name args)))
     (some ∙ ap (λ t. variable_named t f.variables c.args.front) here.scope.text_is)
     (c.judge_send.ensures p f here)

@@ -4,7 +4,7 @@ use Rattle.std.proofs.lemmas.List.{take_all}
 use Rattle.std.proofs.lemmas.List.Folds.{flat_map-map}
 use Rattle.tree.specs.Trees.{MethodTree, method_tree}
 use Rattle.tree.specs.declared.class as made
-use Rattle.declarations.specs.Found.{Adds}
+use Rattle.declarations.specs.Mistakes.{Adds}
 use Rattle.names.specs.Methods.{method_turn}
 use Rattle.names.proofs.methods.judge_methods.Goals as goal
 

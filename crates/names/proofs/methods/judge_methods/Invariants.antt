@@ -1,7 +1,7 @@
 use Rattle.std.proofs.Common.{take}
 use Rattle.std.specs.List.{flat_map}
 use Rattle.tree.specs.Trees.{ClassTree, method_tree}
-use Rattle.declarations.specs.Found.{Adds}
+use Rattle.declarations.specs.Mistakes.{Adds}
 use Rattle.names.specs.Methods.{method_turn}
 use Rattle.declarations.specs.Program.{Program}
 use Rattle.declarations.specs.Scopes.{IsScope, AreMethods}

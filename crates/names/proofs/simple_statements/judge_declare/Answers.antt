@@ -2,8 +2,8 @@ use Rattle.std.proofs.Common.{◌++◌, sym, subst}
 use Rattle.std.specs.Prelude.{OnOk}
 use Rattle.std.specs.Option.{option_map}
 use Rattle.tree.specs.Values.{value_tree}
-use Rattle.names.specs.Bodies.{inside_of, given_findings}
-use Rattle.declarations.specs.Found.{Adds}
+use Rattle.names.specs.Bodies.{inside_of, given_mistakes}
+use Rattle.declarations.specs.Mistakes.{Adds}
 use Rattle.names.specs.Frames.{IsFrame, Turned}
 use Rattle.declarations.specs.Kinds.{is_heap, type_kind, type_unknown}
 use Rattle.names.specs.Variables.{declared_variable}
@@ -24,12 +24,12 @@ returns c = λ m f around frame.
     let given = c.judge_given.new.found.items in
     let new = c.declare.new.found.items in
     let unknown = type_unknown m.program declare.kind in
-    let value = given_findings (inside_of m f) kind (option_map value_tree declare.value) in
+    let value = given_mistakes (inside_of m f) kind (option_map value_tree declare.value) in
     let same = around.scope.text_is in
     let is = c.kind-kind.ensures m.program around.scope in
     on_before result text c.args.found.now.items given new w (unknown ++ value) (declared_variable text declare.name kind heap f)
     (adds_then (c.in_ok-judge_type.ensures m.program around.scope)
-    (subst (λ k. Adds typed given (given_findings (inside_of m f) k (option_map value_tree declare.value))) is (c.in_ok-judge_given.ensures m f around frame)))
+    (subst (λ k. Adds typed given (given_mistakes (inside_of m f) k (option_map value_tree declare.value))) is (c.in_ok-judge_given.ensures m f around frame)))
     (subst (λ k. OnOk result (Turned text given new w (declared_variable text declare.name k heap f))) is
     (subst (λ b. OnOk result (Turned text given new w (declared_variable text declare.name c.kind-kind.result b f))) c.is_heap-heap.ensures
     (subst (λ t. OnOk result (Turned t given new w (declared_variable t declare.name c.kind-kind.result c.is_heap-heap.result f))) same

@@ -1,4 +1,4 @@
-use Rattle.std.proofs.Common.{◌≡◌, ◌++◌, ◌∷◌, [], ◌+◌, Some, codes, map, take, drop, List, length, get_or, sym, ap, ◌∙◌, subst, arith}
+use Rattle.std.proofs.Common.{◌≡◌, ◌++◌, ◌∷◌, [], ◌+◌, Some, map, take, drop, List, length, get_or, sym, ap, ◌∙◌, subst, arith}
 use Rattle.std.specs.Prelude.{OnOk}
 use Rattle.std.specs.Option.{option_map}
 use Rattle.std.proofs.lemmas.List.{length-map}
@@ -6,15 +6,16 @@ use Rattle.tree.specs.ExpressionTrees.{expression_tree}
 use Rattle.tree.specs.StatementTrees.{statement_tree, statement_row, block_tree, if_tree, test_tree, other_row, case_tree, declare_tree, assign_tree, case_row, switch_tree, CaseTree, IfTree, SwitchTree}
 use Rattle.tree.specs.Values.{call_tree}
 use Rattle.tree.specs.declared.statement as made
-use Rattle.names.specs.Bodies.{inside_of, scope_in, declaration_turn, statement_turn, statements_turn, block_turn, test_turn, others_turn, case_turn, cases_turn, head_of, outside, delete_findings, exchange_findings, channel_findings, return_findings}
+use Rattle.declarations.specs.declared.mistake.Mistake.TheVariants.{BreakOutside, ContinueOutside}
+use Rattle.names.specs.Bodies.{inside_of, scope_in, declaration_turn, statement_turn, statements_turn, block_turn, test_turn, others_turn, case_turn, cases_turn, head_of, outside, delete_mistakes, exchange_mistakes, channel_mistakes, return_mistakes}
 use Rattle.names.specs.Cases.{binds_turn, awaited_message}
 use Rattle.declarations.specs.Declarations.{bound_params}
-use Rattle.names.specs.Expressions.{meant, held, truth_findings}
-use Rattle.declarations.specs.Found.{Adds}
+use Rattle.names.specs.Expressions.{meant, held, truth_mistakes}
+use Rattle.declarations.specs.Mistakes.{Adds}
 use Rattle.names.specs.Frames.{Turned}
 use Rattle.names.specs.Heads.{IsHeads, switch_heads}
 use Rattle.names.specs.Shapes.{shape}
-use Rattle.names.specs.Values.{Alone, Started, call_findings, target_findings, target_kind, value_findings}
+use Rattle.names.specs.Values.{Alone, Started, call_mistakes, target_mistakes, target_kind, value_mistakes}
 use Rattle.names.specs.Variables.{Frame, Turn, closed, follow}
 use Rattle.names.proofs.BranchLemmas.{last_branch, no_branch, next_test, next_case, case_there, last_case}
 use Rattle.names.proofs.KeepLemmas.{kept, statements_extend, case_extends}
@@ -67,7 +68,7 @@ judge_test-returns t c = λ m f around frame.
     let new = c.judge_block.new.found.items in
     let w = c.judge_block.new.variables in
     subst (λ x. OnOk c.judge_block.result (Turned text old new w (test_turn m x f))) (sym (test_is test))
-    (on_before c.judge_block.result text old mid new w (truth_findings (scope_in m f) (shape (expression_tree test.test))) (block_turn m (block_tree test.body) f)
+    (on_before c.judge_block.result text old mid new w (truth_mistakes (scope_in m f) (shape (expression_tree test.test))) (block_turn m (block_tree test.body) f)
     (c.in_ok-judge_truth.ensures m.program f around.scope frame)
     (c.judge_block.ensures m f around frame))
 
@@ -129,7 +130,7 @@ judge_statement-returns-in-Assign t c = λ m f around frame.
     let new = c.judge_assign.new.found.items in
     let v = c.args.variables.now in
     subst (λ x. OnOk result (Turned text old new v (statement_turn m x f))) (sym (ap statement_tree c.in-Assign.is ∙ of_assign c.in-Assign.assign))
-    (on_stays result text old new v (target_findings (scope_in m f) (assign_tree c.in-Assign.assign.value).target ++ value_findings (inside_of m f) (target_kind (scope_in m f) (assign_tree c.in-Assign.assign.value).target) (assign_tree c.in-Assign.assign.value).value) f frame (subst (λ a. OnOk result (Adds old new (target_findings (scope_in m f) (assign_tree a).target ++ value_findings (inside_of m f) (target_kind (scope_in m f) (assign_tree a).target) (assign_tree a).value))) c.deref-in-Assign.ensures (c.judge_assign.ensures m f around frame)))
+    (on_stays result text old new v (target_mistakes (scope_in m f) (assign_tree c.in-Assign.assign.value).target ++ value_mistakes (inside_of m f) (target_kind (scope_in m f) (assign_tree c.in-Assign.assign.value).target) (assign_tree c.in-Assign.assign.value).value) f frame (subst (λ a. OnOk result (Adds old new (target_mistakes (scope_in m f) (assign_tree a).target ++ value_mistakes (inside_of m f) (target_kind (scope_in m f) (assign_tree a).target) (assign_tree a).value))) c.deref-in-Assign.ensures (c.judge_assign.ensures m f around frame)))
 
 pub judge_statement-returns-in-Call : goal.judge_statement-returns-in-Call
 judge_statement-returns-in-Call t c = λ m f around frame.
@@ -139,7 +140,7 @@ judge_statement-returns-in-Call t c = λ m f around frame.
     let new = c.judge_call.new.found.items in
     let v = c.args.variables.now in
     subst (λ x. OnOk result (Turned text old new v (statement_turn m x f))) (sym (ap statement_tree c.in-Call.is ∙ of_call c.in-Call.call))
-    (on_stays result text old new v (call_findings (inside_of m f) Alone (call_tree c.in-Call.call.value)) f frame (subst (λ x. OnOk result (Adds old new (call_findings (inside_of m f) Alone (call_tree x)))) c.deref-in-Call.ensures (c.judge_call.ensures m f around frame)))
+    (on_stays result text old new v (call_mistakes (inside_of m f) Alone (call_tree c.in-Call.call.value)) f frame (subst (λ x. OnOk result (Adds old new (call_mistakes (inside_of m f) Alone (call_tree x)))) c.deref-in-Call.ensures (c.judge_call.ensures m f around frame)))
 
 pub judge_statement-returns-in-Start : goal.judge_statement-returns-in-Start
 judge_statement-returns-in-Start t c = λ m f around frame.
@@ -149,7 +150,7 @@ judge_statement-returns-in-Start t c = λ m f around frame.
     let new = c.judge_call-in-Start.new.found.items in
     let v = c.args.variables.now in
     subst (λ x. OnOk result (Turned text old new v (statement_turn m x f))) (sym (ap statement_tree c.in-Start.is ∙ of_start _ c.in-Start.call))
-    (on_stays result text old new v (call_findings (inside_of m f) Started (call_tree c.in-Start.call.value)) f frame (subst (λ x. OnOk result (Adds old new (call_findings (inside_of m f) Started (call_tree x)))) c.deref-in-Start.ensures (c.judge_call-in-Start.ensures m f around frame)))
+    (on_stays result text old new v (call_mistakes (inside_of m f) Started (call_tree c.in-Start.call.value)) f frame (subst (λ x. OnOk result (Adds old new (call_mistakes (inside_of m f) Started (call_tree x)))) c.deref-in-Start.ensures (c.judge_call-in-Start.ensures m f around frame)))
 
 pub judge_statement-returns-in-Delete : goal.judge_statement-returns-in-Delete
 judge_statement-returns-in-Delete t c = λ m f around frame.
@@ -159,7 +160,7 @@ judge_statement-returns-in-Delete t c = λ m f around frame.
     let new = c.judge_delete.new.found.items in
     let v = c.args.variables.now in
     subst (λ x. OnOk result (Turned text old new v (statement_turn m x f))) (sym (ap statement_tree c.in-Delete.is ∙ of_delete c.in-Delete.name))
-    (on_stays result text old new v (delete_findings (scope_in m f) c.in-Delete.name) f frame (c.judge_delete.ensures m.program f around.scope frame))
+    (on_stays result text old new v (delete_mistakes (scope_in m f) c.in-Delete.name) f frame (c.judge_delete.ensures m.program f around.scope frame))
 
 pub judge_statement-returns-in-Exchange : goal.judge_statement-returns-in-Exchange
 judge_statement-returns-in-Exchange t c = λ m f around frame.
@@ -169,7 +170,7 @@ judge_statement-returns-in-Exchange t c = λ m f around frame.
     let new = c.judge_exchange.new.found.items in
     let v = c.args.variables.now in
     subst (λ x. OnOk result (Turned text old new v (statement_turn m x f))) (sym (ap statement_tree c.in-Exchange.is ∙ of_exchange c.in-Exchange.exchange))
-    (on_stays result text old new v (exchange_findings (scope_in m f) c.in-Exchange.exchange.value) f frame (subst (λ (e : made.Exchange.Exchange). OnOk result (Adds old new (exchange_findings (scope_in m f) e))) c.deref-in-Exchange.ensures (c.judge_exchange.ensures m.program f around.scope frame)))
+    (on_stays result text old new v (exchange_mistakes (scope_in m f) c.in-Exchange.exchange.value) f frame (subst (λ (e : made.Exchange.Exchange). OnOk result (Adds old new (exchange_mistakes (scope_in m f) e))) c.deref-in-Exchange.ensures (c.judge_exchange.ensures m.program f around.scope frame)))
 
 pub judge_statement-returns-in-NewChannel : goal.judge_statement-returns-in-NewChannel
 judge_statement-returns-in-NewChannel t c = λ m f around frame.
@@ -179,7 +180,7 @@ judge_statement-returns-in-NewChannel t c = λ m f around frame.
     let new = c.judge_channel.new.found.items in
     let v = c.args.variables.now in
     subst (λ x. OnOk result (Turned text old new v (statement_turn m x f))) (sym (ap statement_tree c.in-NewChannel.is ∙ of_channel c.in-NewChannel.channel))
-    (on_stays result text old new v (channel_findings (scope_in m f) c.in-NewChannel.channel.value.contract c.in-NewChannel.channel.value.first c.in-NewChannel.channel.value.second) f frame (subst (λ (n : made.NewChannel.NewChannel). OnOk result (Adds old new (channel_findings (scope_in m f) n.contract n.first n.second))) c.deref-in-NewChannel.ensures (c.judge_channel.ensures m.program f around.scope frame)))
+    (on_stays result text old new v (channel_mistakes (scope_in m f) c.in-NewChannel.channel.value.contract c.in-NewChannel.channel.value.first c.in-NewChannel.channel.value.second) f frame (subst (λ (n : made.NewChannel.NewChannel). OnOk result (Adds old new (channel_mistakes (scope_in m f) n.contract n.first n.second))) c.deref-in-NewChannel.ensures (c.judge_channel.ensures m.program f around.scope frame)))
 
 pub judge_statement-returns-in-Break : goal.judge_statement-returns-in-Break
 judge_statement-returns-in-Break t c = λ m f around frame.
@@ -189,7 +190,7 @@ judge_statement-returns-in-Break t c = λ m f around frame.
     let new = c.judge_break.new.found.items in
     let v = c.args.variables.now in
     subst (λ x. OnOk result (Turned text old new v (statement_turn m x f))) (sym (ap statement_tree c.in-Break.is ∙ of_break c.in-Break.word))
-    (on_stays result text old new v (outside m.breaks c.in-Break.word.place (codes "break outside")) f frame (subst (λ b. OnOk result (Adds old new (outside b c.in-Break.word.place (codes "break outside")))) around.breaks c.judge_break.ensures))
+    (on_stays result text old new v (outside m.breaks (BreakOutside c.in-Break.word.place)) f frame (subst (λ b. OnOk result (Adds old new (outside b (BreakOutside c.in-Break.word.place)))) around.breaks c.judge_break.ensures))
 
 pub judge_statement-returns-in-Continue : goal.judge_statement-returns-in-Continue
 judge_statement-returns-in-Continue t c = λ m f around frame.
@@ -199,7 +200,7 @@ judge_statement-returns-in-Continue t c = λ m f around frame.
     let new = c.judge_continue.new.found.items in
     let v = c.args.variables.now in
     subst (λ x. OnOk result (Turned text old new v (statement_turn m x f))) (sym (ap statement_tree c.in-Continue.is ∙ of_continue c.in-Continue.word))
-    (on_stays result text old new v (outside m.continues c.in-Continue.word.place (codes "continue outside")) f frame (subst (λ b. OnOk result (Adds old new (outside b c.in-Continue.word.place (codes "continue outside")))) around.continues c.judge_continue.ensures))
+    (on_stays result text old new v (outside m.continues (ContinueOutside c.in-Continue.word.place)) f frame (subst (λ b. OnOk result (Adds old new (outside b (ContinueOutside c.in-Continue.word.place)))) around.continues c.judge_continue.ensures))
 
 pub judge_statement-returns-in-Return : goal.judge_statement-returns-in-Return
 judge_statement-returns-in-Return t c = λ m f around frame.
@@ -209,7 +210,7 @@ judge_statement-returns-in-Return t c = λ m f around frame.
     let new = c.judge_return.new.found.items in
     let v = c.args.variables.now in
     subst (λ x. OnOk result (Turned text old new v (statement_turn m x f))) (sym (ap statement_tree c.in-Return.is ∙ of_return c.in-Return.word c.in-Return.value))
-    (on_stays result text old new v (return_findings (scope_in m f) m.result c.in-Return.word (option_map (λ e. expression_tree e.value) c.in-Return.value)) f frame (subst (λ o. OnOk result (Adds old new (return_findings (scope_in m f) o c.in-Return.word (option_map (λ e. expression_tree e.value) c.in-Return.value)))) around.result (c.judge_return.ensures m.program f (c.context-context.ensures m f around frame))))
+    (on_stays result text old new v (return_mistakes (scope_in m f) m.result c.in-Return.word (option_map (λ e. expression_tree e.value) c.in-Return.value)) f frame (subst (λ o. OnOk result (Adds old new (return_mistakes (scope_in m f) o c.in-Return.word (option_map (λ e. expression_tree e.value) c.in-Return.value)))) around.result (c.judge_return.ensures m.program f (c.context-context.ensures m f around frame))))
 
 pub judge_switch-loop-place-init : goal.judge_switch-loop-place-init
 judge_switch-loop-place-init t c = λ m f around frame.

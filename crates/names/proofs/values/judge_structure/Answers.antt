@@ -2,13 +2,13 @@ use Rattle.std.proofs.Common.{◌≡◌, length, map, sym, ap, subst, arith}
 use Rattle.std.proofs.lemmas.List.{length-map}
 use Rattle.tree.specs.ExpressionTrees.{expression_tree}
 use Rattle.tree.specs.declared.class as made
-use Rattle.declarations.specs.Found.{Adds}
+use Rattle.declarations.specs.Mistakes.{Adds}
 use Rattle.declarations.specs.Kinds.{pointer_kind, type_kind}
 use Rattle.declarations.specs.Owning.{owning_fields}
 use Rattle.declarations.specs.Program.{struct_named}
 use Rattle.names.specs.Operands.{in_frame}
 use Rattle.names.specs.Shapes.{shape}
-use Rattle.names.specs.Values.{argument_findings, fields_asked, struct_made_findings}
+use Rattle.names.specs.Values.{argument_mistakes, fields_asked, struct_made_mistakes}
 use Rattle.declarations.proofs.AddLemmas.{adds_then}
 use Rattle.names.proofs.PassLemmas.{structured}
 use Rattle.names.proofs.PendingLemmas.{numbered}
@@ -26,12 +26,12 @@ returns-in_ok-judge_field_arguments-in-Some-clause-found c = λ p f here.
     let args = c.args.arguments.now in
     let es = map shape (map expression_tree args) in
     let old = c.args.found.now.items in
-    let counted = c.judge_number.new.found.items in
+    let counted = c.judge_count.new.found.items in
     let new = c.judge_field_arguments.new.found.items in
     let owning = c.in-Some.owning.now in
     let looked = structured (struct_named p name) c.in-Some.place owning (c.in-Some.ensures p here.scope) in
     let asked = fields_asked p looked.structure in
     let many : length owning ≡ length asked = omega (arith, ap length looked.owning, length-map (owning_fields looked.structure) (λ (x : made.Field.Field). type_kind p x.kind)) in
-    subst (λ o. Adds old new (struct_made_findings s o name es)) (sym looked.is)
-    (adds_then (numbered expression_tree asked (length owning) args name.place many c.in_ok-judge_number-in-Some.ensures)
-    (subst (λ xs. Adds counted new (argument_findings s (map (λ (x : made.Field.Field). type_kind p x.kind) xs) es)) looked.owning (c.in_ok-judge_field_arguments-in-Some.ensures p f here.scope here.frame)))
+    subst (λ o. Adds old new (struct_made_mistakes s o name es)) (sym looked.is)
+    (adds_then (numbered expression_tree asked (length owning) args name.place many c.in_ok-judge_count-in-Some.ensures)
+    (subst (λ xs. Adds counted new (argument_mistakes s (map (λ (x : made.Field.Field). type_kind p x.kind) xs) es)) looked.owning (c.in_ok-judge_field_arguments-in-Some.ensures p f here.scope here.frame)))

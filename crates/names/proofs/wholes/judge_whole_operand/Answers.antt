@@ -1,9 +1,9 @@
 use Rattle.std.proofs.Common.{◌≡◌, List, refl, sym, subst, ◌∙◌}
 use Rattle.std.specs.Prelude.{None}
 use Rattle.std.proofs.lemmas.Result.{IfOk-weaker}
-use Rattle.source.specs.declared.finding.Finding.{Finding}
-use Rattle.names.specs.Expressions.{InScope, expression_findings, whole_findings}
-use Rattle.declarations.specs.Found.{Adds}
+use Rattle.declarations.specs.declared.mistake.Mistake.{Mistake}
+use Rattle.names.specs.Expressions.{InScope, expression_mistakes, whole_mistakes}
+use Rattle.declarations.specs.Mistakes.{Adds}
 use Rattle.names.specs.Operands.{Judges, JudgesWhole, in_frame, mentioned}
 use Rattle.names.specs.Shapes.{Shape, Number, Truth, Mention, Field, Element, Parens, Signed, Joined}
 use Rattle.names.specs.declared.operands.Operand.{Operand}
@@ -12,7 +12,7 @@ use Rattle.names.specs.declared.variables.Variables.{Variables}
 use Rattle.names.proofs.wholes.judge_whole_operand.Goals as goal
 
 -- where no variable stands alone, nothing more may stand there than anywhere else
-no_more : (s : InScope) (e : Shape) → mentioned e ≡ None → whole_findings s e ≡ expression_findings s e
+no_more : (s : InScope) (e : Shape) → mentioned e ≡ None → whole_mistakes s e ≡ expression_mistakes s e
 no_more s (Number place) none = refl
 no_more s (Truth place) none = refl
 no_more s (Mention name) none = cc
@@ -22,7 +22,7 @@ no_more s (Parens place inner) none = refl
 no_more s (Signed sign place inner) none = refl
 no_more s (Joined joint left right) none = refl
 
-judged_whole : (scope : Scope) (variables : Variables) (e : Shape) (old new : List Finding) (o : Operand)
+judged_whole : (scope : Scope) (variables : Variables) (e : Shape) (old new : List Mistake) (o : Operand)
     → mentioned e ≡ None → Judges scope variables e old new o → JudgesWhole scope variables e old new o
 judged_whole scope variables e old new o none judged = record {
   all = λ p f is_scope is_frame.

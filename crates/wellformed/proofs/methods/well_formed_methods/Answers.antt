@@ -1,7 +1,7 @@
 use Rattle.std.proofs.Common.{◌∙◌, map, sym, subst}
 use Rattle.lemmas.proofs.Lists.{nil_left}
 use Rattle.tree.specs.Trees.{contracts_of}
-use Rattle.declarations.specs.ItemFindings.{items_findings}
+use Rattle.declarations.specs.ItemMistakes.{items_mistakes}
 use Rattle.declarations.specs.Program.{program_of}
 use Rattle.declarations.specs.Resolution.{resolved_contracts}
 use Rattle.program.specs.Methods.{method_seen}
@@ -15,7 +15,7 @@ use Rattle.wellformed.proofs.MethodLemmas.{all_bare, well_formed}
 use Rattle.wellformed.proofs.methods.well_formed_methods.Goals as goal
 
 pub resolve_methods-requires-clause-clean : goal.resolve_methods-requires-clause-clean
-resolve_methods-requires-clause-clean c = nil_left (items_findings (program_of c.args.text.now c.args.tree.now)) _ c.requires.clean
+resolve_methods-requires-clause-clean c = nil_left (items_mistakes (program_of c.args.text.now c.args.tree.now)) _ c.requires.clean
 
 pub new-requires : goal.new-requires
 new-requires c =
