@@ -5,6 +5,8 @@ TEXT = 4194304
 NOTHING = b'ok: 0 contracts\n'
 HEAD = b'contract B { out message A(); in message Z(); state S: '
 TAIL = b'T; state T: Z? -> S; }'
+# The column of the name one past the limit of states: it is T, the 500,001st, behind the chain.
+PAST_STATES = len(HEAD) + 4 * 500000 + len(b'T; state ') + 1
 
 
 def chain(states):
@@ -65,6 +67,12 @@ def explained():
         ('steps_19999_explained', uses(19999).replace(b'F(D*', b'F([Claims] D*'),
          b'5:1 A08 p still owned\n  3:13 p has a block\nfindings: 1\n', 1),
         ('lines_9999_explained', kept_behind(9998), why_kept_behind(9998), 1),
+        ('limit_of_bytes', b' ' * (TEXT + 1), b'1:1 S03 text too long\n  1:1 a text has at most 4194304 bytes\nfindings: 1\n', 1),
+        ('limit_of_states', chain(500001), b'1:%d N06 limit passed\n  1:%d a program has at most 500000 states\nfindings: 1\n'
+         % (PAST_STATES, PAST_STATES), 1),
+        ('limit_of_methods', methods(4097), b'4098:13 N06 limit passed\n  4098:13 a program has at most 4096 methods\nfindings: 1\n', 1),
+        ('limit_of_variables', variables(1001),
+         b'1003:14 N06 limit passed\n  1003:14 a method has at most 1000 variables of the exchange heap\nfindings: 1\n', 1),
     ]
 
 
@@ -87,8 +95,7 @@ def schedules():
 
 def cases(folder):
     """The cases, whose inputs are written to this folder: (name, folder, arguments, stdout, stderr, status)."""
-    # The name one past the limit of states is T, the 500,001st: it stands behind the chain.
-    passed = b'1:%d N06 limit passed\nfindings: 1\n' % (len(HEAD) + 4 * 500000 + len(b'T; state ') + 1)
+    passed = b'1:%d N06 limit passed\nfindings: 1\n' % PAST_STATES
     inputs = [
         ('states_500000', chain(500000), b'B: to Exp 1, to Imp 499999\nok: 1 contracts\n', 0),
         ('states_500001', chain(500001), passed, 1),

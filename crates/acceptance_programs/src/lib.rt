@@ -8,6 +8,8 @@ mod faults;
 #[cfg(test)]
 mod lookups;
 #[cfg(test)]
+mod mistakes;
+#[cfg(test)]
 mod numbers;
 #[cfg(test)]
 mod resolution;

@@ -1,5 +1,5 @@
 -- From the findings of methods, each with its trace, to what `why` answers.
-use Rattle.std.proofs.Common.{◌≡◌, ◌↔◌, ℕ, zero, suc, ◌+◌, ◌<◌, ◌≤◌, inl, inr, List, [], ◌∷◌, ◌++◌, Option, length, get_or, map, take, refl, sym, ap, subst, arith, append_assoc, append-nil, ◌∙◌}
+use Rattle.std.proofs.Common.{◌≡◌, ◌↔◌, ℕ, ◌+◌, ◌<◌, ◌≤◌, inl, inr, List, [], ◌∷◌, ◌++◌, Option, length, get_or, map, take, refl, sym, ap, subst, arith, append_assoc, append-nil, ◌∙◌}
 use Rattle.std.specs.Prelude.{◌≢◌, All, Contains, Err, IfOk, Ok, Result}
 use Rattle.std.specs.List.{flat_map}
 use Rattle.std.specs.List.Sorted.{IsStrictlySortedBy}
@@ -7,7 +7,7 @@ use Rattle.std.proofs.lemmas.Grind.{flat_map-append}
 use Rattle.std.proofs.lemmas.List.{length-map, take_all, take_more}
 use Rattle.std.proofs.lemmas.List.Concat.{flat_map-cons}
 use Rattle.std.proofs.lemmas.List.Folds.{flat_map-map}
-use Rattle.std.proofs.lemmas.List.Elements.{All-contains, All-contains_itself, All-map, All-weaker, Contains-append_left, Contains-push}
+use Rattle.std.proofs.lemmas.List.Elements.{All-cons, All-contains, All-contains_itself, All-map, All-nil, All-weaker, Contains-append_left, Contains-push}
 use Rattle.source.specs.Findings.{FindingParts, finding_parts}
 use Rattle.source.specs.declared.fault.Memory.{Memory}
 use Rattle.source.specs.declared.place.Place.{Place}
@@ -19,16 +19,19 @@ use Rattle.traces.specs.Lines.{line_seen}
 use Rattle.traces.specs.declared.line.Explained.{Explained}
 use Rattle.traces.specs.declared.line.Line.{Line}
 use Rattle.program.specs.Parts.{ContractSeen}
-use Rattle.singcheck.specs.Answers.{AreFindings, IsBroken, OfSyntax}
+use Rattle.singcheck.specs.Answers.{AreFindings, IsBroken, IsProgram, OfNames, OfSyntax, OfText}
+use Rattle.names.specs.Findings.{program_findings}
+use Rattle.tree.specs.Trees.{ItemTree}
+use Rattle.singcheck.specs.Remarked.{HasFault, IsMistake}
 use Rattle.singcheck.specs.Checks.{HasProgram, IsWrong}
-use Rattle.singcheck.specs.Explains.{Bare, ByContract, ByTokens, Explains, IsExplainedIn, IsNoted, IsShownIn, explained_bytes, explained_lines}
+use Rattle.singcheck.specs.Explains.{AreExplained, Bare, ByContract, ByFault, ByMistake, ByTokens, Explains, IsExplainedText, IsExplainedIn, IsNoted, IsShownIn, explained_bytes, explained_lines}
 use Rattle.singcheck.specs.Lines.{clear_line, count_line, finding_line, trace_line}
 use Rattle.singcheck.specs.Named.{AreBrokenOf}
 use Rattle.singcheck.specs.Unexpected.{IsAskedUnexpected}
 use Rattle.singcheck.specs.Reports.{IsReport}
 use Rattle.singcheck.specs.declared.fault.Status.TheVariants.{Empty, Found}
 use Rattle.singcheck.specs.declared.report.Report.{Report}
-use Rattle.analyse.proofs.FoundLemmas.{sorted_one}
+use Rattle.contracts.proofs.PartLemmas.{contains_map}
 use Rattle.singcheck.proofs.JudgeLemmas.{none_of}
 use Rattle.singcheck.proofs.StageLemmas.{unsound}
 
@@ -61,39 +64,61 @@ explains_before named text found are (Ok r) told is = subst (Explains named text
 }))
 explains_before named text found are (Err fault) told is = tt
 
--- a token that is not expected
-pub explains_syntax : (named : Option Place) (text bytes : List ℕ) (e : Explained) (listed : List Explained) → IsAskedUnexpected named text (explained_seen e) → listed ≡ e ∷ [] → bytes ≡ explained_bytes (map explained_seen listed) → Explains named text bytes Found
-explains_syntax named text bytes e listed is one bytes_are =
-    let u = is.unexpected in
-    inl (record {
-      found = finding_parts e.finding ∷ [];
-      are = OfSyntax (record { tokens = u.tokens; lexed = u.lexed; number = u.number; wrong = u.wrong; are = ap (λ f. f ∷ []) u.finding });
-      listed = explained_seen e ∷ [];
-      same = record { right = λ f h. h; all = λ f h. h };
-      each = λ k d lt. only k d lt;
-      ordered = sorted_one report_cmp (finding_parts e.finding ∷ []) (finding_parts e.finding) refl;
-      is = bytes_are ∙ ap (λ l. explained_bytes (map explained_seen l)) one;
-    })
-  where
-    only : (k : ℕ) (d : ExplainedSeen) → k < 1 → IsNoted named text (get_or (explained_seen e ∷ []) k d)
-    only zero d lt = ByTokens is
-    only (suc k) d lt = absurd (omega (arith, lt))
-
--- what is wrong with contracts, in order, with the edges that show it
-pub explains_contracts : (named : Option Place) (text bytes : List ℕ) (contracts : List ContractSeen) (some : List FindingParts) (found listed : List Explained) → AreBrokenOf text contracts some → AreExactly (IsBroken contracts) (map (λ e. finding_parts e.finding) found)
-    → All (λ e. IsShownIn named contracts (explained_seen e)) found
+-- all that the first stage with findings finds, in order
+pub explains_noted : (named : Option Place) (text bytes : List ℕ) (found listed : List Explained) → AreExplained named text (map explained_seen found)
     → ((f : FindingParts) → Contains (map (λ e. finding_parts e.finding) listed) f ↔ Contains (map (λ e. finding_parts e.finding) found) f) → ((e : Explained) → Contains listed e → Contains found e) → IsStrictlySortedBy report_cmp (map (λ e. finding_parts e.finding) listed)
     → bytes ≡ explained_bytes (map explained_seen listed) → Explains named text bytes Found
-explains_contracts named text bytes contracts some found listed is are each same among ordered bytes_are = inl (record {
+explains_noted named text bytes found listed all same among ordered bytes_are = inl (record {
   found = map (λ e. finding_parts e.finding) found;
-  are = unsound text contracts (map (λ e. finding_parts e.finding) found) is.resolved (record { some = some_found some found is.broken.some is.broken.are are; are = are });
+  are = subst (AreFindings text) (explained_view found) all.are;
   listed = map explained_seen listed;
   same = subst (AreExactly (Contains (map (λ (e : Explained). finding_parts e.finding) found))) (sym (explained_view listed)) (record { right = λ f h. (same f).0 h; all = λ f h. (same f).1 h });
   each = All-map (IsNoted named text) explained_seen listed
-      (All-weaker (Contains listed) (λ (e : Explained). IsNoted named text (explained_seen e)) (λ e h. ByContract contracts is.resolved (All-contains (λ (x : Explained). IsShownIn named contracts (explained_seen x)) found e each (among e h))) listed (All-contains_itself listed));
+      (All-weaker (Contains listed) (λ (e : Explained). IsNoted named text (explained_seen e)) (λ e h. All-contains (λ (x : ExplainedSeen). IsNoted named text x) (map explained_seen found) (explained_seen e) all.each (contains_map explained_seen found e (among e h))) listed (All-contains_itself listed));
   ordered = subst (IsStrictlySortedBy report_cmp) (sym (explained_view listed)) ordered;
   is = bytes_are;
 })
+
+-- a token that is not expected
+pub syntax_explained : (named : Option Place) (text : List ℕ) (e : Explained) → IsAskedUnexpected named text (explained_seen e) → AreExplained named text (explained_seen e ∷ [])
+syntax_explained named text e is =
+    let u = is.unexpected in
+    record {
+      are = OfSyntax (record { tokens = u.tokens; lexed = u.lexed; number = u.number; wrong = u.wrong; are = ap (λ f. f ∷ []) u.finding });
+      each = All-cons (IsNoted named text) (explained_seen e) [] (ByTokens is) (All-nil (IsNoted named text));
+    }
+
+-- a fault of the text
+pub fault_explained : (named : Option Place) (text : List ℕ) (e : Explained) → HasFault named text (explained_seen e) → AreExplained named text (explained_seen e ∷ [])
+fault_explained named text e is = record {
+  are = OfText (record { fault = is.fault; first = is.first; are = is.finding });
+  each = All-cons (IsNoted named text) (explained_seen e) [] (ByFault is) (All-nil (IsNoted named text));
+}
+
+-- all mistakes in the names of the text
+pub names_explained : (named : Option Place) (text : List ℕ) (items : List ItemTree) (found : List Explained) → IsProgram text items → map (λ e. finding_parts e.finding) found ≡ program_findings (record { text = text; items = items })
+    → All (λ e. IsMistake named (record { text = text; items = items }) (explained_seen e)) found → IsExplainedText named text (map explained_seen found)
+names_explained named text items found parsed all each = λ some. record {
+  are = OfNames (record {
+    items = items;
+    parsed = parsed;
+    some = λ none. some (no_view found (sym (explained_view found) ∙ none));
+    are = subst (AreExactly (Contains (program_findings (record { text = text; items = items })))) (sym (explained_view found ∙ all)) (record { right = λ f h. h; all = λ f h. h });
+  });
+  each = All-map (IsNoted named text) explained_seen found (All-weaker (λ (e : Explained). IsMistake named (record { text = text; items = items }) (explained_seen e)) (λ (e : Explained). IsNoted named text (explained_seen e)) (λ e h. ByMistake (record { items = items; parsed = parsed; is = h })) found each);
+}
+  where
+    no_view : (xs : List Explained) → map (λ (e : Explained). finding_parts e.finding) xs ≡ [] → map explained_seen xs ≡ []
+    no_view [] none = refl
+    no_view (x ∷ xs) none = cc
+
+-- what is wrong with contracts, with the edges that show it
+pub contracts_explained : (named : Option Place) (text : List ℕ) (contracts : List ContractSeen) (some : List FindingParts) (found : List Explained) → AreBrokenOf text contracts some → AreExactly (IsBroken contracts) (map (λ e. finding_parts e.finding) found)
+    → All (λ e. IsShownIn named contracts (explained_seen e)) found → AreExplained named text (map explained_seen found)
+contracts_explained named text contracts some found is are each = record {
+  are = subst (AreFindings text) (sym (explained_view found)) (unsound text contracts (map (λ e. finding_parts e.finding) found) is.resolved (record { some = some_found some found is.broken.some is.broken.are are; are = are }));
+  each = All-map (IsNoted named text) explained_seen found (All-weaker (λ (e : Explained). IsShownIn named contracts (explained_seen e)) (λ (e : Explained). IsNoted named text (explained_seen e)) (λ e h. ByContract contracts is.resolved h) found each);
+}
   where
     some_found : (fs : List FindingParts) (es : List Explained) → fs ≢ [] → AreExactly (IsBroken contracts) fs → AreExactly (IsBroken contracts) (map (λ (e : Explained). finding_parts e.finding) es) → map (λ (e : Explained). finding_parts e.finding) es ≢ []
     some_found [] es none left right = absurd (none refl)

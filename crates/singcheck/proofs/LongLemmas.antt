@@ -14,7 +14,7 @@ use Rattle.source.specs.declared.token.Token.{Token}
 use Rattle.singcheck.specs.Answers.{AreFindings, OfText, OfSyntax, OfNames, OfContracts, Answers}
 use Rattle.singcheck.specs.Checks.{AreCheckFindings, Before, OfMethods, Checks}
 use Rattle.traces.specs.Explained.{ExplainedSeen}
-use Rattle.singcheck.specs.Explains.{Bare, ByContract, ByTokens, Explains, IsNoted}
+use Rattle.singcheck.specs.Explains.{Bare, ByContract, ByFault, ByMistake, ByTokens, Explains, IsNoted}
 use Rattle.singcheck.specs.declared.fault.Status.{Status}
 use Rattle.singcheck.specs.declared.fault.Status.TheVariants.{Empty, Found}
 use Rattle.singcheck.specs.declared.reading.TheConstants.{MAX_READ}
@@ -62,6 +62,8 @@ checks_long text other bytes Found long told = record { found = told.found; are 
 noted_long : (named : Option Place) (text other : List ℕ) → AreLong text other → (e : ExplainedSeen) → IsNoted named text e → IsNoted named other e
 noted_long named text other long e (Bare none) = Bare none
 noted_long named text other long e (ByTokens is) = no_program text long.one is.unexpected.tokens is.unexpected.lexed
+noted_long named text other long e (ByFault is) = ByFault (record { fault = is.fault; first = fault_long text other is.fault long is.first; finding = is.finding; lines = is.lines })
+noted_long named text other long e (ByMistake is) = no_program text long.one is.parsed.tokens is.parsed.lexed
 noted_long named text other long e (ByContract contracts resolved shown) = no_program text long.one resolved.parsed.tokens resolved.parsed.lexed
 
 explains_long : (named : Option Place) (text other bytes : List ℕ) (status : Status) → AreLong text other → Explains named text bytes status → Explains named other bytes status

@@ -12,6 +12,7 @@ use Rattle.traces.specs.Explained.{ExplainedSeen, IsExplainedIf}
 use Rattle.traces.specs.Shown.{IsShown}
 use Rattle.singcheck.specs.Answers.{AreFindings, IsResolved}
 use Rattle.singcheck.specs.Checks.{HasProgram, IsClear, IsWrong}
+use Rattle.singcheck.specs.Remarked.{HasFault, HasMistake}
 use Rattle.singcheck.specs.Unexpected.{IsAskedUnexpected}
 use Rattle.singcheck.specs.Lines.{count_line, finding_line, trace_line}
 use Rattle.singcheck.specs.declared.fault.Status.{Status}
@@ -45,11 +46,13 @@ pub record AreReasons (named : Option Place) (text bytes : List ℕ) : Type 0 wh
 abbrev pub IsShownIn : Option Place → List ContractSeen → ExplainedSeen → Type 0
 IsShownIn named contracts e = (c : ContractSeen) × Contains contracts c × IsShown named c.parts e
 
--- It is found before the methods. It has no lines; or it is asked for, and is a token that is not expected; or edges of contracts of the
--- text show it.
+-- It is found before the methods. It has no lines; or it is asked for, and is a token that is not expected; or it is a fault of the text
+-- or a mistake in its names, with what more is said of that; or edges of contracts of the text show it.
 pub data IsNoted (named : Option Place) (text : List ℕ) (e : ExplainedSeen) : Type 0 where
   Bare : e.lines ≡ [] → IsNoted named text e
   ByTokens : IsAskedUnexpected named text e → IsNoted named text e
+  ByFault : HasFault named text e → IsNoted named text e
+  ByMistake : HasMistake named text e → IsNoted named text e
   ByContract : (contracts : List ContractSeen) → IsResolved text contracts → IsShownIn named contracts e → IsNoted named text e
 
 -- something is wrong before the methods: all that the first stage with findings finds, in the order of a report, each finding once
@@ -66,3 +69,12 @@ pub record AreNoted (named : Option Place) (text bytes : List ℕ) : Type 0 wher
 abbrev pub Explains : Option Place → List ℕ → List ℕ → Status → Type 0
 Explains named text bytes Empty = IsClear text bytes
 Explains named text bytes Found = AreNoted named text bytes ⊎ AreReasons named text bytes
+
+-- For proofs within the crate: these are all findings of the first stage with some, each with its lines, in no order.
+pub record AreExplained (named : Option Place) (text : List ℕ) (es : List ExplainedSeen) : Type 0 where
+  pub are : AreFindings text (map (λ e. e.finding) es)
+  pub each : All (IsNoted named text) es
+
+-- and so where there are some
+abbrev pub IsExplainedText : Option Place → List ℕ → List ExplainedSeen → Type 0
+IsExplainedText named text es = es ≢ [] → AreExplained named text es

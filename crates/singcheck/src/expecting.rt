@@ -13,36 +13,15 @@ ghost use Rattle.singcheck.specs.Unexpected.{IsAskedUnexpected, begins_item, bra
 
 use crate::stages::{finding_at, token_at};
 use expected::{expectation, expected_kinds, fault_is_within, open_brace};
-use source::{Kind, Memory, Place, Span, TextFault, Token, Tokens, lex};
+use source::{Kind, Memory, Place, Span, Token, Tokens};
 use std::alloc::Global;
-use syntax::{SyntaxFault, parse};
 use traces::{Explained, Line, is_asked};
 
-/// The first wrong token of a text, or its end, with the tokens that could have stood there and a brace that is likely not closed. None
-/// if the text has no tokens, if they are a program, or if another place is named.
+/// The first wrong token, which has this number, or the end, with the tokens that could have stood there and a brace that is likely not
+/// closed. None if another place is named.
 ///
 /// It takes the time of some 65 parses of the text. `Memory` is answered where a growth was refused.
-pub(crate) fn explain_syntax(
-    alloc: Global,
-    text: &[u8],
-    named: Option<Place>,
-) -> Result<Option<Explained>, Memory>
-    ensures { IfOk result (λ found. IfSome found (λ e. IsAskedUnexpected named text.now (explained_seen e))) }
-{
-    let tokens = match lex(alloc, text) {
-        Ok(tokens) => tokens,
-        Err(TextFault::Memory) => return Err(Memory),
-        Err(_) => return Ok(None),
-    };
-    match parse(alloc, &tokens) {
-        Ok(_tree) => Ok(None),
-        Err(SyntaxFault::At(number)) => explain_at(alloc, &tokens, number, named),
-        Err(SyntaxFault::Memory) => Err(Memory),
-    }
-}
-
-/// The same, where the first wrong token has this number.
-fn explain_at(
+pub(crate) fn explain_at(
     alloc: Global,
     tokens: &Tokens,
     number: usize,

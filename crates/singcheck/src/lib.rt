@@ -18,6 +18,7 @@ mod limits;
 mod lines;
 mod programs;
 mod reading;
+mod remarking;
 mod replaying;
 mod report;
 mod request;

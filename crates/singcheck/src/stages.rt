@@ -60,17 +60,20 @@ pub(crate) fn parse_text(alloc: Global, text: &[u8]) -> Result<Parsed, Memory>
 {
     match lex(alloc, text) {
         Ok(tokens) => parse_tokens(alloc, tokens),
-        Err(fault) => Ok(Parsed::Found(fault_at(alloc, fault)?)),
+        Err(fault) => {
+            let finding = fault_finding(alloc, fault)?;
+            Ok(Parsed::Found(one(alloc, finding)?))
+        }
     }
 }
 
 /// The finding of a fault.
-fn fault_at(alloc: Global, fault: TextFault) -> Result<Vec<Finding>, Memory>
+pub(crate) fn fault_finding(alloc: Global, fault: TextFault) -> Result<Finding, Memory>
     ensures fault { OnOk result (fault ≢ TextFault.Memory) }
-    ensures told { IfOk result (λ found. map finding_parts found.items ≡ fault_findings fault) }
+    ensures told { IfOk result (λ finding. finding_parts finding ∷ [] ≡ fault_findings fault) }
 {
     match texts::finding_of(alloc, fault)? {
-        Some(finding) => one(alloc, finding),
+        Some(finding) => Ok(finding),
         None => Err(Memory),
     }
 }

@@ -8,19 +8,18 @@ ghost use Rattle.source.specs.Findings.{FindingParts, finding_parts};
 ghost use Rattle.source.specs.declared.place.Place.{Place as PlaceSeen};
 ghost use Rattle.traces.specs.Explained.{explained_seen};
 ghost use Rattle.singcheck.specs.Answers.{AreFindings};
-ghost use Rattle.singcheck.specs.Unexpected.{IsAskedUnexpected};
 ghost use Rattle.singcheck.specs.Checks.{HasProgram};
-ghost use Rattle.singcheck.specs.Explains.{Explains};
+ghost use Rattle.singcheck.specs.Explains.{AreExplained, Explains};
 ghost use Rattle.singcheck.specs.Named.{AreBrokenOf};
 ghost use Rattle.singcheck.specs.RunFaults.{IsBoundsFault};
 ghost use Rattle.singcheck.specs.Runs.{Writes, BeginsAnswer, LeavesRest, TakesAtMost};
 
 use crate::device::{Sink, Source};
-use crate::expecting::explain_syntax;
 use crate::explaining::{explain_contracts, explain_methods, explained_in_order, explained_report};
 use crate::fault::{Input, RunFault, Status};
 use crate::programs::{Built, program_of};
 use crate::reading::{MAX_READ, read_text};
+use crate::remarking::explain_text;
 use crate::report::{Report, clear, finding_report};
 use crate::writing::write_all;
 use program::Resolved;
@@ -31,7 +30,8 @@ use traces::Explained;
 
 /// Reads a program text, and writes what `check` reports of it, with a trace under each finding in a method: the choices of a shortest
 /// path through the method to where the finding is, and what the path does to the variables that the finding is about. Under a finding
-/// in a contract are edges that show it (`traces::show_faults`). If a place is named, only the findings at that place have lines.
+/// in a contract are edges that show it (`traces::show_faults`), under one of names or types what was asked and what was given, or the
+/// like (`remarks::remark`). If a place is named, only the findings at that place have lines.
 ///
 /// The lines of a trace are `  LINE:COL text`. The status is that of `check`. Methods are looked at one after another, by the calling
 /// thread. At most `MAX_READ` bytes are read, and the rest is left unread. `Read` and `Write` are answered only where that device failed,
@@ -81,19 +81,20 @@ fn why_text(
     requires { AreFindings text.now (map finding_parts findings.items) }
     ensures { IfOk result (λ answer. Explains named text.now answer.bytes.items answer.status) }
 {
-    match explain_syntax(alloc, text, named)? {
-        Some(explained) => why_syntax(alloc, explained),
-        None => finding_report(alloc, findings),
+    let explained = explain_text(alloc, text, named)?;
+    if explained.is_empty() {
+        // a token that is not expected, at another place than the named one
+        return finding_report(alloc, findings);
     }
+    why_noted(alloc, explained)
 }
 
-/// The answer to a text with a token that is not expected.
-fn why_syntax(alloc: Global, explained: Explained) -> Result<Report, Memory>
+/// The answer to a text with these findings, which are all that its first stage with some has, each with its lines.
+fn why_noted(alloc: Global, explained: Vec<Explained>) -> Result<Report, Memory>
     ensures { IfOk result (λ answer. (named : Option PlaceSeen) (text : List ℕ)
-        → IsAskedUnexpected named text (explained_seen explained) → Explains named text answer.bytes.items answer.status) }
+        → AreExplained named text (map explained_seen explained.items) → Explains named text answer.bytes.items answer.status) }
 {
-    let mut listed = Vec::new(alloc);
-    listed.push(explained)?;
+    let listed = explained_in_order(explained)?;
     Ok(Report {
         bytes: explained_report(alloc, &listed)?,
         status: Status::Found,
@@ -107,12 +108,8 @@ fn why_contracts(alloc: Global, resolved: &Resolved, named: Option<Place>) -> Re
     ensures { IfOk result (λ answer. (text : List ℕ) (found : List FindingParts)
         → AreBrokenOf text (map contract_seen resolved.now.contracts.items) found → Explains named text answer.bytes.items answer.status) }
 {
-    let found = explain_contracts(alloc, resolved, named)?;
-    let listed = explained_in_order(found)?;
-    Ok(Report {
-        bytes: explained_report(alloc, &listed)?,
-        status: Status::Found,
-    })
+    let explained = explain_contracts(alloc, resolved, named)?;
+    why_noted(alloc, explained)
 }
 
 /// The answer to a program with which nothing is wrong before its methods.

@@ -1,0 +1,113 @@
+//! What more is said of mistakes in names, and of faults of a text.
+
+use declarations::{Limit, findings_of};
+use names::mistakes_of;
+use remarks::{Remark, fault_remark, remark};
+use source::{Place, TextFault, lex};
+use std::alloc::Global;
+use std::test::Fail;
+use syntax::parse;
+
+/// The line of a remark; a dash where there is none.
+fn line_of(alloc: Global, said: Option<Remark>) -> Result<String, Fail> {
+    match said {
+        Some(said) => {
+            let Place { line, col } = said.place;
+            let text = String::from_utf8_lossy(alloc, &said.text)?;
+            Ok(format!(in alloc; "{line}:{col} {text}\n")?)
+        }
+        None => Ok(format!(in alloc; "-\n")?),
+    }
+}
+
+/// What more is said of each mistake in the names of a text, a line each, in the order in which they are judged.
+fn remarks_in(alloc: Global, text: &str) -> Result<String, Fail> {
+    let tokens = lex(alloc, text.as_bytes())?;
+    let tree = parse(alloc, &tokens)?;
+    let mut lines = String::new(alloc);
+    for mistake in &mistakes_of(alloc, &tree, text.as_bytes())? {
+        let said = remark(alloc, text.as_bytes(), &tree.items, *mistake)?;
+        lines.push_str(&line_of(alloc, said)?)?;
+    }
+    Ok(lines)
+}
+
+#[test]
+fn mistakes_in_a_method(rt: HostRuntime) -> Result<(), Fail> {
+    let text = "contract C { in message M(); state S: M? -> E; state E: ; }
+rep struct D { int n; }
+class K { static void F(D* in ExHeap p, C.Exp e) {
+  int k = p; int k = true;
+  e.SendM(1);
+  F(p);
+  lost = 1;
+  break;
+} }";
+    let wanted = "4:11 asked for int, given a block of D
+4:22 asked for int, given bool
+4:7 declared here first
+5:5 the exporter does not send M
+5:5 asked for 0, given 1
+6:3 asked for 2, given 1
+-
+8:3 no loop or switch is around it
+";
+    assert_eq!(rt; remarks_in(rt.alloc(), text)?.as_str(), wanted);
+    Ok(())
+}
+
+/// There are as many findings as mistakes, each at the place of its mistake.
+#[test]
+fn findings_of_mistakes(rt: HostRuntime) -> Result<(), Fail> {
+    let text = "class K { static void F() { continue; x = y; } }";
+    let alloc = rt.alloc();
+    let tokens = lex(alloc, text.as_bytes())?;
+    let tree = parse(alloc, &tokens)?;
+    let mistakes = mistakes_of(alloc, &tree, text.as_bytes())?;
+    let mut lines = String::new(alloc);
+    for finding in &findings_of(alloc, text.as_bytes(), &mistakes)? {
+        let Place { line, col } = finding.place;
+        let said = finding.text.as_str();
+        lines.push_str(&format!(in alloc; "{line}:{col} {said}\n")?)?;
+    }
+    let wanted = "1:29 continue outside
+1:39 x unknown
+1:43 y unknown
+";
+    assert_eq!(rt; lines.as_str(), wanted);
+    Ok(())
+}
+
+#[test]
+fn faults_of_a_text(rt: HostRuntime) -> Result<(), Fail> {
+    let alloc = rt.alloc();
+    let place = Place { line: 2, col: 3 };
+    let mut lines = String::new(alloc);
+    for fault in [
+        TextFault::Stray(place),
+        TextFault::OpenComment(place),
+        TextFault::TooLong,
+        TextFault::TooDeep(place),
+        TextFault::TooLarge(place),
+        TextFault::Memory,
+    ] {
+        lines.push_str(&line_of(alloc, fault_remark(alloc, fault)?)?)?;
+    }
+    let wanted = "2:3 no blank, comment or token begins so
+2:3 its end, */, is missing
+1:1 a text has at most 4194304 bytes
+2:3 at most 100 brackets are open at once
+2:3 a number is at most 2147483647
+-
+";
+    assert_eq!(rt; lines.as_str(), wanted);
+    Ok(())
+}
+
+#[test]
+fn limits(rt: HostRuntime) -> Result<(), Fail> {
+    assert!(rt; Limit::Contracts.most() == 256 && Limit::States.most() == 500_000);
+    assert!(rt; Limit::Parameters.most() == 8 && Limit::Fields.most() == 8);
+    assert!(rt; Limit::Methods.most() == 4096 && Limit::Variables.most() == 1000);
+    Ok(())
+}

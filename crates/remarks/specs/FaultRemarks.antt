@@ -1,0 +1,15 @@
+-- What more is said of a fault of a text.
+use Rattle.std.specs.Prelude.{codes, Option, None}
+use Rattle.source.specs.Places.{first_place}
+use Rattle.source.specs.declared.fault.TextFault.{TextFault}
+use Rattle.source.specs.declared.fault.TextFault.TheVariants.{Stray, OpenComment, TooLong, TooDeep, TooLarge, Memory}
+use Rattle.remarks.specs.Remarks.{RemarkSeen, at}
+
+-- nothing of want of memory, which is no fault of the text
+abbrev pub fault_remark : TextFault → Option RemarkSeen
+fault_remark (Stray place) = at place (codes "no blank, comment or token begins so")
+fault_remark (OpenComment place) = at place (codes "its end, */, is missing")
+fault_remark TooLong = at first_place (codes "a text has at most 4194304 bytes")
+fault_remark (TooDeep place) = at place (codes "at most 100 brackets are open at once")
+fault_remark (TooLarge place) = at place (codes "a number is at most 2147483647")
+fault_remark Memory = None

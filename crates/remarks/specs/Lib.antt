@@ -1,0 +1,4 @@
+pub mod KindWords
+pub mod Listings
+pub mod Remarks
+pub mod FaultRemarks

@@ -1,0 +1,74 @@
+-- What more is said of a mistake in names or types.
+use Rattle.std.specs.Prelude.{ℕ, List, ◌++◌, codes, drop, Option, None, Some}
+use Rattle.std.specs.Fmt.{decimal}
+use Rattle.program.specs.declared.kind.Side.{Side}
+use Rattle.program.specs.declared.kind.Side.TheVariants.{Imp, Exp}
+use Rattle.source.specs.declared.place.Place.{Place}
+use Rattle.declarations.specs.Mistakes.{most_of}
+use Rattle.declarations.specs.Program.{Program}
+use Rattle.declarations.specs.Resolution.{printed}
+use Rattle.declarations.specs.declared.mistake.Limit.{Limit}
+use Rattle.declarations.specs.declared.mistake.Limit.TheVariants as limit
+use Rattle.declarations.specs.declared.mistake.Mismatch.{Mismatch}
+use Rattle.declarations.specs.declared.mistake.Mismatch.TheVariants as mismatch
+use Rattle.declarations.specs.declared.mistake.Mistake.{Mistake}
+use Rattle.declarations.specs.declared.mistake.Mistake.TheVariants as mistake
+use Rattle.remarks.specs.KindWords.{demand_words, kind_words}
+use Rattle.remarks.specs.declared.line.Remark.{Remark}
+use Rattle.std.specs.Str.Lossy.{utf8_lossy}
+use Rattle.tables.specs.Words.{word_at}
+
+-- what is said, and where
+pub record RemarkSeen : Type 0 where
+  pub place : Place
+  pub text : List ℕ
+
+abbrev pub remark_seen : Remark → RemarkSeen
+remark_seen r = record { place = r.place; text = r.text.items }
+
+abbrev pub at : Place → List ℕ → Option RemarkSeen
+at place text = Some (record { place = place; text = text })
+
+abbrev pub side_words : Side → List ℕ
+side_words Imp = codes "the importer"
+side_words Exp = codes "the exporter"
+
+-- why a type is wrong
+abbrev pub mismatch_words : Program → Mismatch → List ℕ
+mismatch_words p (mismatch.Given asked given) = codes "asked for " ++ (demand_words p asked ++ (codes ", given " ++ kind_words p given))
+mismatch_words p (mismatch.NoValue k) = codes "a value is asked after return: " ++ kind_words p k
+mismatch_words p mismatch.ValueReturned = codes "no value is asked after return"
+mismatch_words p (mismatch.NotSent side word) = side_words side ++ (codes " does not send " ++ utf8_lossy (drop 4 (word_at p.text word)))
+mismatch_words p (mismatch.NotReceived side word) = side_words side ++ (codes " does not receive " ++ printed p.text word)
+mismatch_words p mismatch.SendStarted = codes "a method is started, not a send"
+mismatch_words p mismatch.LengthWritten = codes "the length of an array is read only"
+mismatch_words p mismatch.FieldOwns = codes "a field that owns is exchanged only"
+
+-- what has a limit: a phrase before the number, and one behind it
+abbrev pub limit_front : Limit → List ℕ
+limit_front limit.Parameters = codes "a message has at most "
+limit_front limit.Fields = codes "a struct has at most "
+limit_front limit.Variables = codes "a method has at most "
+limit_front _ = codes "a program has at most "
+
+abbrev pub limit_back : Limit → List ℕ
+limit_back limit.Contracts = codes " contracts"
+limit_back limit.States = codes " states"
+limit_back limit.Parameters = codes " parameters"
+limit_back limit.Fields = codes " fields that own"
+limit_back limit.Methods = codes " methods"
+limit_back limit.Variables = codes " variables of the exchange heap"
+
+-- what more is said of a mistake; nothing of a name that nothing declares
+abbrev pub remark_of : Program → Mistake → Option RemarkSeen
+remark_of p (mistake.DeclaredTwice name first) = at first (codes "declared here first")
+remark_of p (mistake.Unknown name) = None
+remark_of p (mistake.WrongType place why) = at place (mismatch_words p why)
+remark_of p (mistake.WrongNumber place asked given) =
+    at place (codes "asked for " ++ (decimal asked ++ (codes ", given " ++ decimal given)))
+remark_of p (mistake.BreakOutside place) = at place (codes "no loop or switch is around it")
+remark_of p (mistake.ContinueOutside place) = at place (codes "no loop is around it")
+remark_of p (mistake.LimitPassed place limit) = at place (limit_front limit ++ (decimal (most_of limit) ++ limit_back limit))
+remark_of p (mistake.NotStarted name) = at name.place (codes "it has a result, or a block that it does not claim")
+remark_of p (mistake.CaseTwice endpoint awaited) = at endpoint.place (codes "an earlier case awaits the same")
+remark_of p (mistake.LacksClosed name) = at name.place (codes "asked for case " ++ (printed p.text name ++ codes ".ChannelClosed()"))

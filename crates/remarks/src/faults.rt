@@ -1,0 +1,27 @@
+//! What more is said of a fault of the text.
+
+ghost use Rattle.std.specs.Prelude.{◌≡◌, IfOk, option_map};
+ghost use Rattle.remarks.specs.FaultRemarks.{fault_remark};
+ghost use Rattle.remarks.specs.Remarks.{remark_seen};
+
+use crate::line::{Remark, plain};
+use source::{Memory, Place, TextFault};
+use std::alloc::Global;
+
+/// Where a text begins.
+const START: Place = Place { line: 1, col: 1 };
+
+/// What more is said of a fault of the text: what is missing, or how much is allowed. Returns `None` for `TextFault::Memory`, which is no
+/// fault of the text. Returns `Memory` if an allocation is refused.
+pub fn fault_remark(alloc: Global, fault: TextFault) -> Result<Option<Remark>, Memory>
+    ensures { IfOk result (λ said. option_map remark_seen said ≡ fault_remark fault) }
+{
+    match fault {
+        TextFault::Stray(place) => plain(alloc, place, "no blank, comment or token begins so"),
+        TextFault::OpenComment(place) => plain(alloc, place, "its end, */, is missing"),
+        TextFault::TooLong => plain(alloc, START, "a text has at most 4194304 bytes"),
+        TextFault::TooDeep(place) => plain(alloc, place, "at most 100 brackets are open at once"),
+        TextFault::TooLarge(place) => plain(alloc, place, "a number is at most 2147483647"),
+        TextFault::Memory => Ok(None),
+    }
+}

@@ -1,0 +1,15 @@
+//! What more is said of a finding of the text or of its names.
+#![tactic(auto)]
+
+mod faults;
+mod kinds;
+mod line;
+mod listing;
+mod mismatches;
+mod mistakes;
+mod words;
+
+pub use faults::fault_remark;
+pub use line::Remark;
+pub use listing::MAX_NAME;
+pub use mistakes::remark;

@@ -1,0 +1,49 @@
+//! A remark: one more line about a finding, and the pieces of its text.
+
+ghost use Rattle.std.specs.Prelude.{◌≡◌, ◌++◌, IfOk, OnOk, option_map, string_bytes};
+ghost use Rattle.std.specs.Fmt.{decimal};
+ghost use Rattle.remarks.specs.Remarks.{at, remark_seen};
+
+use itoa::Buffer;
+use source::{Memory, Place};
+use std::alloc::Global;
+
+/// What more is said of a finding, in one line, and the place that the line is about.
+#[derive(Drop)]
+pub struct Remark {
+    pub place: Place,
+    pub text: Vec<u8>,
+}
+
+/// A remark with this text. Returns `Memory` if an allocation is refused.
+pub(crate) fn plain(alloc: Global, place: Place, text: &str) -> Result<Option<Remark>, Memory>
+    ensures { IfOk result (λ said. option_map remark_seen said ≡ at place text.now) }
+{
+    Ok(remark_at(place, String::from_str(alloc, text)?))
+}
+
+/// A remark with this text, which it takes.
+pub(crate) fn remark_at(place: Place, text: String) -> Option<Remark>
+    ensures { option_map remark_seen result ≡ at place (string_bytes text) }
+{
+    Some(Remark {
+        place,
+        text: text.into_bytes(),
+    })
+}
+
+/// Adds words to a text. Returns `Memory` if a growth is refused.
+pub(crate) fn add(text: &mut String, words: &str) -> Result<(), Memory>
+    ensures { OnOk result (string_bytes text.new ≡ string_bytes text.old ++ words.now) }
+{
+    text.push_str(words)?;
+    Ok(())
+}
+
+/// Adds a number in decimal. Returns `Memory` if a growth is refused.
+pub(crate) fn add_number(text: &mut String, number: usize) -> Result<(), Memory>
+    ensures { OnOk result (string_bytes text.new ≡ string_bytes text.old ++ decimal number) }
+{
+    let mut digits = Buffer::new();
+    add(text, digits.format(number))
+}

@@ -1,0 +1,74 @@
+//! A text and its items, for the names that are printed.
+
+ghost use Rattle.std.specs.Prelude.{◌≡◌, ◌++◌, OnOk, string_bytes};
+ghost use Rattle.declarations.specs.Program.{defined_name};
+ghost use Rattle.declarations.specs.Resolution.{printed};
+ghost use Rattle.remarks.specs.KindWords.{cut_name, item_name};
+ghost use Rattle.remarks.specs.Listings.{program_seen};
+ghost use Rattle.tree.specs.Trees.{definition_tree};
+
+use source::{Memory, Span, texts};
+use std::alloc::Global;
+use tree::{Definition, Item};
+
+/// The most bytes that are printed of the name of an item.
+pub const MAX_NAME: usize = 60;
+
+/// A text, and the items of its tree in order.
+#[derive(Clone, Copy)]
+pub(crate) struct Listing<'a> {
+    pub(crate) text: &'a [u8],
+    pub(crate) items: &'a [Item],
+}
+
+impl Listing<'_> {
+    /// Adds a name of the text. Bytes that are no UTF-8 are printed as U+FFFD. Returns `Memory` if a growth is refused.
+    pub(crate) fn add_name(
+        &self,
+        alloc: Global,
+        text: &mut String,
+        name: Span,
+    ) -> Result<(), Memory>
+        ensures { OnOk result (string_bytes text.new ≡ string_bytes text.old ++ printed self.now.text.now name) }
+    {
+        texts::push_name(alloc, text, name.slice(self.text))
+    }
+
+    /// Adds the name of the item with this index, cut if it is long, or nothing if there is none. Returns `Memory` if a growth is refused.
+    pub(crate) fn add_item(
+        &self,
+        alloc: Global,
+        text: &mut String,
+        index: usize,
+    ) -> Result<(), Memory>
+        ensures { OnOk result (string_bytes text.new ≡ string_bytes text.old ++ item_name (program_seen self.now) index) }
+    {
+        match self.items.get(index) {
+            Some(item) => add_cut(alloc, text, name_of(&item.definition).slice(self.text)),
+            None => Ok(()),
+        }
+    }
+}
+
+/// Adds a name, or as much of it as is printed and two dots. Returns `Memory` if a growth is refused.
+fn add_cut(alloc: Global, text: &mut String, word: &[u8]) -> Result<(), Memory>
+    ensures { OnOk result (string_bytes text.new ≡ string_bytes text.old ++ cut_name word.now) }
+{
+    if word.len() > MAX_NAME {
+        texts::push_name(alloc, text, &word[..MAX_NAME])?;
+        text.push_str("..")?;
+        return Ok(());
+    }
+    texts::push_name(alloc, text, word)
+}
+
+/// The name that a definition declares.
+fn name_of(definition: &Definition) -> Span
+    ensures { result ≡ defined_name (definition_tree definition.now) }
+{
+    match definition {
+        Definition::Contract(contract) => contract.name,
+        Definition::Struct(structure) => structure.name,
+        Definition::Class(class) => class.name,
+    }
+}

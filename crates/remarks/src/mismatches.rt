@@ -1,0 +1,103 @@
+//! Why a type is wrong, added to a text.
+
+ghost use Rattle.std.specs.Prelude.{◌≡◌, ◌++◌, OnOk, codes, drop, string_bytes};
+ghost use Rattle.std.specs.Str.Lossy.{utf8_lossy};
+ghost use Rattle.declarations.specs.Resolution.{printed};
+ghost use Rattle.remarks.specs.KindWords.{demand_words, kind_words};
+ghost use Rattle.remarks.specs.Listings.{program_seen};
+ghost use Rattle.remarks.specs.Remarks.{mismatch_words, side_words};
+ghost use Rattle.tables.specs.Words.{word_at};
+
+use crate::kinds::{add_demand, add_kind};
+use crate::line::add;
+use crate::listing::Listing;
+use crate::words::side_words;
+use declarations::{Demand, Kind, Mismatch};
+use program::Side;
+use source::{Memory, Span, texts};
+use std::alloc::Global;
+
+/// How many bytes `Send` has, after which the name of the message begins.
+const SEND_LEN: usize = 4;
+
+/// Adds why a type is wrong. Returns `Memory` if a growth is refused.
+pub(crate) fn add_mismatch(
+    alloc: Global,
+    text: &mut String,
+    listing: &Listing<'_>,
+    mismatch: Mismatch,
+) -> Result<(), Memory>
+    ensures { OnOk result (string_bytes text.new
+        ≡ string_bytes text.old ++ mismatch_words (program_seen listing.now) mismatch) }
+{
+    match mismatch {
+        Mismatch::Given(asked, given) => add_given(alloc, text, listing, asked, given),
+        Mismatch::NoValue(kind) => {
+            add(text, "a value is asked after return: ")?;
+            add_kind(alloc, text, listing, kind)
+        }
+        Mismatch::ValueReturned => add(text, "no value is asked after return"),
+        Mismatch::NotSent(side, word) => add_not_sent(alloc, text, listing, side, word),
+        Mismatch::NotReceived(side, word) => add_not_received(alloc, text, listing, side, word),
+        Mismatch::SendStarted => add(text, "a method is started, not a send"),
+        Mismatch::LengthWritten => add(text, "the length of an array is read only"),
+        Mismatch::FieldOwns => add(text, "a field that owns is exchanged only"),
+    }
+}
+
+/// Adds what is asked, and the kind that is given. Returns `Memory` if a growth is refused.
+fn add_given(
+    alloc: Global,
+    text: &mut String,
+    listing: &Listing<'_>,
+    asked: Demand,
+    given: Kind,
+) -> Result<(), Memory>
+    ensures { OnOk result (string_bytes text.new ≡ string_bytes text.old
+        ++ (codes "asked for " ++ (demand_words (program_seen listing.now) asked
+        ++ (codes ", given " ++ kind_words (program_seen listing.now) given)))) }
+{
+    add(text, "asked for ")?;
+    add_demand(alloc, text, listing, asked)?;
+    add(text, ", given ")?;
+    add_kind(alloc, text, listing, given)
+}
+
+/// Adds which end does not send which message: the one whose name is after `Send` in this word. Returns `Memory` if a growth is refused.
+fn add_not_sent(
+    alloc: Global,
+    text: &mut String,
+    listing: &Listing<'_>,
+    side: Side,
+    word: Span,
+) -> Result<(), Memory>
+    ensures { OnOk result (string_bytes text.new ≡ string_bytes text.old
+        ++ (side_words side ++ (codes " does not send " ++ utf8_lossy (drop 4 (word_at listing.now.text.now word))))) }
+{
+    add(text, side_words(side))?;
+    add(text, " does not send ")?;
+    texts::push_name(alloc, text, after_send(word.slice(listing.text)))
+}
+
+/// What a word has after `Send`.
+fn after_send(word: &[u8]) -> &[u8]
+    ensures { result.now ≡ drop 4 word.now }
+{
+    word.get(SEND_LEN..).unwrap_or(&[])
+}
+
+/// Adds which end does not receive which message. Returns `Memory` if a growth is refused.
+fn add_not_received(
+    alloc: Global,
+    text: &mut String,
+    listing: &Listing<'_>,
+    side: Side,
+    word: Span,
+) -> Result<(), Memory>
+    ensures { OnOk result (string_bytes text.new ≡ string_bytes text.old
+        ++ (side_words side ++ (codes " does not receive " ++ printed listing.now.text.now word))) }
+{
+    add(text, side_words(side))?;
+    add(text, " does not receive ")?;
+    listing.add_name(alloc, text, word)
+}

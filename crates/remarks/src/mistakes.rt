@@ -1,0 +1,101 @@
+//! What more is said of a mistake in names or types.
+
+ghost use Rattle.std.specs.Prelude.{◌≡◌, ◌++◌, IfOk, codes, map, option_map, string_bytes};
+ghost use Rattle.std.specs.Fmt.{decimal};
+ghost use Rattle.declarations.specs.Mistakes.{most_of};
+ghost use Rattle.declarations.specs.Resolution.{printed};
+ghost use Rattle.remarks.specs.Listings.{program_seen};
+ghost use Rattle.remarks.specs.Remarks.{limit_back, limit_front, mismatch_words, remark_of, remark_seen};
+ghost use Rattle.tree.specs.Trees.{item_tree};
+
+use crate::line::{Remark, add, add_number, plain, remark_at};
+use crate::listing::Listing;
+use crate::mismatches::add_mismatch;
+use crate::words::{limit_back, limit_front};
+use declarations::{Limit, Mismatch, Mistake};
+use source::{Memory, Span};
+use std::alloc::Global;
+use tree::Item;
+
+/// What more is said of a mistake in names or types, in the text whose tree has these items: for example what is asked and what is given,
+/// or where a name is declared first. Returns `None` for a name that nothing declares. Returns `Memory` if an allocation is refused.
+pub fn remark(
+    alloc: Global,
+    text: &[u8],
+    items: &[Item],
+    mistake: Mistake,
+) -> Result<Option<Remark>, Memory>
+    ensures { IfOk result (λ said. option_map remark_seen said
+        ≡ remark_of (record { text = text.now; items = map item_tree items.now }) mistake) }
+{
+    let listing = Listing { text, items };
+    match mistake {
+        Mistake::DeclaredTwice(_, first) => plain(alloc, first, "declared here first"),
+        Mistake::Unknown(_) => Ok(None),
+        Mistake::WrongType(place, why) => {
+            Ok(remark_at(place, mismatch_text(alloc, &listing, why)?))
+        }
+        Mistake::WrongNumber(place, asked, given) => {
+            Ok(remark_at(place, number_text(alloc, asked, given)?))
+        }
+        Mistake::BreakOutside(place) => plain(alloc, place, "no loop or switch is around it"),
+        Mistake::ContinueOutside(place) => plain(alloc, place, "no loop is around it"),
+        Mistake::LimitPassed(place, limit) => Ok(remark_at(place, limit_text(alloc, limit)?)),
+        Mistake::NotStarted(name) => {
+            plain(
+                alloc,
+                name.place,
+                "it has a result, or a block that it does not claim",
+            )
+        }
+        Mistake::CaseTwice(endpoint, _) => {
+            plain(alloc, endpoint.place, "an earlier case awaits the same")
+        }
+        Mistake::LacksClosed(name) => {
+            Ok(remark_at(name.place, closed_text(alloc, &listing, name)?))
+        }
+    }
+}
+
+/// Why a type is wrong. Returns `Memory` if an allocation is refused.
+fn mismatch_text(alloc: Global, listing: &Listing<'_>, why: Mismatch) -> Result<String, Memory>
+    ensures { IfOk result (λ text. string_bytes text ≡ mismatch_words (program_seen listing.now) why) }
+{
+    let mut text = String::new(alloc);
+    add_mismatch(alloc, &mut text, listing, why)?;
+    Ok(text)
+}
+
+/// How many arguments are asked, and how many are given. Returns `Memory` if an allocation is refused.
+fn number_text(alloc: Global, asked: usize, given: usize) -> Result<String, Memory>
+    ensures { IfOk result (λ text. string_bytes text
+        ≡ codes "asked for " ++ (decimal asked ++ (codes ", given " ++ decimal given))) }
+{
+    let mut text = String::from_str(alloc, "asked for ")?;
+    add_number(&mut text, asked)?;
+    add(&mut text, ", given ")?;
+    add_number(&mut text, given)?;
+    Ok(text)
+}
+
+/// What is limited, and to how many. Returns `Memory` if an allocation is refused.
+fn limit_text(alloc: Global, limit: Limit) -> Result<String, Memory>
+    ensures { IfOk result (λ text. string_bytes text
+        ≡ limit_front limit ++ (decimal (most_of limit) ++ limit_back limit)) }
+{
+    let mut text = String::from_str(alloc, limit_front(limit))?;
+    add_number(&mut text, limit.most())?;
+    add(&mut text, limit_back(limit))?;
+    Ok(text)
+}
+
+/// Which case an endpoint lacks. Returns `Memory` if an allocation is refused.
+fn closed_text(alloc: Global, listing: &Listing<'_>, name: Span) -> Result<String, Memory>
+    ensures { IfOk result (λ text. string_bytes text
+        ≡ codes "asked for case " ++ (printed listing.now.text.now name ++ codes ".ChannelClosed()")) }
+{
+    let mut text = String::from_str(alloc, "asked for case ")?;
+    listing.add_name(alloc, &mut text, name)?;
+    add(&mut text, ".ChannelClosed()")?;
+    Ok(text)
+}

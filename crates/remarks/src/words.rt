@@ -1,0 +1,55 @@
+//! Words that need no name of the text.
+
+ghost use Rattle.std.specs.Prelude.{◌≡◌};
+ghost use Rattle.remarks.specs.KindWords.{scalar_words};
+ghost use Rattle.remarks.specs.Remarks.{limit_back, limit_front, side_words};
+
+use declarations::Limit;
+use program::{Scalar, Side};
+
+/// A scalar type as it is written.
+pub(crate) fn scalar_words(scalar: Scalar) -> &'static str
+    ensures { result.now ≡ scalar_words scalar }
+{
+    match scalar {
+        Scalar::Int => "int",
+        Scalar::Byte => "byte",
+        Scalar::Bool => "bool",
+    }
+}
+
+/// An end of a channel as a person reads it.
+pub(crate) fn side_words(side: Side) -> &'static str
+    ensures { result.now ≡ side_words side }
+{
+    match side {
+        Side::Imp => "the importer",
+        Side::Exp => "the exporter",
+    }
+}
+
+/// What has a limit: the words before its number.
+pub(crate) fn limit_front(limit: Limit) -> &'static str
+    ensures { result.now ≡ limit_front limit }
+{
+    match limit {
+        Limit::Parameters => "a message has at most ",
+        Limit::Fields => "a struct has at most ",
+        Limit::Variables => "a method has at most ",
+        _ => "a program has at most ",
+    }
+}
+
+/// What is limited: the words after the number.
+pub(crate) fn limit_back(limit: Limit) -> &'static str
+    ensures { result.now ≡ limit_back limit }
+{
+    match limit {
+        Limit::Contracts => " contracts",
+        Limit::States => " states",
+        Limit::Parameters => " parameters",
+        Limit::Fields => " fields that own",
+        Limit::Methods => " methods",
+        Limit::Variables => " variables of the exchange heap",
+    }
+}

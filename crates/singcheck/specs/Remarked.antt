@@ -1,0 +1,42 @@
+-- What more is said of what is wrong with a text or its names.
+use Rattle.std.specs.Prelude.{◌≡◌, ℕ, List, [], ◌∷◌, Option, Contains, if◌then◌else◌}
+use Rattle.std.specs.Option.{option_map_or}
+use Rattle.source.specs.Faults.{IsFault}
+use Rattle.source.specs.declared.fault.TextFault.{TextFault}
+use Rattle.source.specs.declared.place.Place.{Place}
+use Rattle.tree.specs.Trees.{ItemTree}
+use Rattle.declarations.specs.Mistakes.{finding_in}
+use Rattle.declarations.specs.Program.{Program}
+use Rattle.declarations.specs.declared.mistake.Mistake.{Mistake}
+use Rattle.names.specs.Findings.{program_mistakes}
+use Rattle.remarks.specs.FaultRemarks.{fault_remark}
+use Rattle.remarks.specs.Remarks.{RemarkSeen, remark_of}
+use Rattle.traces.specs.Explained.{ExplainedSeen, is_asked}
+use Rattle.traces.specs.Lines.{LineSeen, line}
+use Rattle.singcheck.specs.Answers.{IsProgram, fault_findings}
+
+-- the line of a remark, if there is one, and if lines are asked for of what is found there
+abbrev pub said_lines : Option RemarkSeen → List LineSeen
+said_lines r = option_map_or (λ said. line said.place said.text ∷ []) r []
+
+abbrev pub remark_lines : Option Place → Place → Option RemarkSeen → List LineSeen
+remark_lines named place r = if is_asked named place then said_lines r else []
+
+-- one of all the mistakes in the names of the text: its finding, with what more is said of it
+pub record IsMistake (named : Option Place) (p : Program) (e : ExplainedSeen) : Type 0 where
+  pub mistake : Mistake
+  pub among : Contains (program_mistakes p) mistake
+  pub finding : e.finding ≡ finding_in p.text mistake
+  pub lines : e.lines ≡ remark_lines named e.finding.place (remark_of p mistake)
+
+pub record HasMistake (named : Option Place) (text : List ℕ) (e : ExplainedSeen) : Type 0 where
+  pub items : List ItemTree
+  pub parsed : IsProgram text items
+  pub is : IsMistake named (record { text = text; items = items }) e
+
+-- the first fault of the text: its finding, with what more is said of it
+pub record HasFault (named : Option Place) (text : List ℕ) (e : ExplainedSeen) : Type 0 where
+  pub fault : TextFault
+  pub first : IsFault text fault
+  pub finding : e.finding ∷ [] ≡ fault_findings fault
+  pub lines : e.lines ≡ remark_lines named e.finding.place (fault_remark fault)

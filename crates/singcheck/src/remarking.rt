@@ -1,0 +1,170 @@
+//! What is wrong with a text or its names, with what more is said of it.
+
+ghost use Rattle.std.specs.Prelude.{◌≡◌, ◌≢◌, ◌++◌, IfOk, OnOk, List, ℕ, map, option_map};
+ghost use Rattle.source.specs.Faults.{IsFault};
+ghost use Rattle.source.specs.Findings.{finding_parts};
+ghost use Rattle.source.specs.Marks.{body_of};
+ghost use Rattle.source.specs.Places.{place_of};
+ghost use Rattle.source.specs.Tokens.{AreTokens};
+ghost use Rattle.syntax.specs.Parsing.{IsFirstWrong};
+ghost use Rattle.tree.specs.Programs.{program};
+ghost use Rattle.tree.specs.Trees.{program_tree};
+ghost use Rattle.declarations.specs.Mistakes.{finding_in};
+ghost use Rattle.declarations.specs.Program.{program_of};
+ghost use Rattle.remarks.specs.Remarks.{remark_of, remark_seen};
+ghost use Rattle.traces.specs.Explained.{explained_seen};
+ghost use Rattle.traces.specs.Lines.{line_seen};
+ghost use Rattle.singcheck.specs.Answers.{IsProgram};
+ghost use Rattle.singcheck.specs.Explains.{IsExplainedText};
+ghost use Rattle.singcheck.specs.Remarked.{remark_lines, said_lines};
+
+use crate::expecting::explain_at;
+use crate::stages::fault_finding;
+use names::{Mistake, mistakes_of};
+use remarks::{Remark, fault_remark, remark};
+use source::{Finding, Memory, Place, TextFault, Tokens, lex};
+use std::alloc::Global;
+use syntax::{SyntaxFault, parse};
+use traces::{Explained, Line, is_asked};
+use tree::Tree;
+
+/// What is wrong with a text, its tokens or its names, each finding with what more is said of it, in no order. If a place is named, only
+/// what is found there has lines; a token that is not expected is left out then, if it stands elsewhere.
+///
+/// `Memory` is answered where a growth was refused.
+pub(crate) fn explain_text(
+    alloc: Global,
+    text: &[u8],
+    named: Option<Place>,
+) -> Result<Vec<Explained>, Memory>
+    ensures { IfOk result (λ found. IsExplainedText named text.now (map explained_seen found.items)) }
+{
+    match lex(alloc, text) {
+        Ok(tokens) => explain_tokens(alloc, text, tokens, named),
+        Err(fault) => explain_fault(alloc, fault, named),
+    }
+}
+
+/// The same, where these are the tokens of the text.
+fn explain_tokens(
+    alloc: Global,
+    text: &[u8],
+    tokens: Tokens,
+    named: Option<Place>,
+) -> Result<Vec<Explained>, Memory>
+    requires lexed { AreTokens text.now tokens.list.items }
+    requires end { tokens.end ≡ place_of (body_of text.now) }
+    ensures { IfOk result (λ found. IsExplainedText named text.now (map explained_seen found.items)) }
+{
+    match parse(alloc, &tokens) {
+        Ok(tree) => {
+            drop(tokens); // the names are judged without them, which spares their memory
+            explain_names(alloc, text, &tree, named)
+        }
+        Err(SyntaxFault::At(number)) => explain_wrong(alloc, &tokens, number, named),
+        Err(SyntaxFault::Memory) => Err(Memory),
+    }
+}
+
+/// The first wrong token, which has this number, or the end, if it is asked for.
+fn explain_wrong(
+    alloc: Global,
+    tokens: &Tokens,
+    number: usize,
+    named: Option<Place>,
+) -> Result<Vec<Explained>, Memory>
+    requires wrong { IsFirstWrong program tokens.now.list.items number }
+    ensures { (text : List ℕ) → AreTokens text tokens.now.list.items → tokens.now.end ≡ place_of (body_of text)
+        → IfOk result (λ found. IsExplainedText named text (map explained_seen found.items)) }
+{
+    let mut found = Vec::new(alloc);
+    match explain_at(alloc, tokens, number, named)? {
+        Some(explained) => found.push(explained)?,
+        None => {}
+    }
+    Ok(found)
+}
+
+/// All mistakes in the names of a text.
+fn explain_names(
+    alloc: Global,
+    text: &[u8],
+    tree: &Tree,
+    named: Option<Place>,
+) -> Result<Vec<Explained>, Memory>
+    requires parsed { IsProgram text.now (program_tree tree.now) }
+    ensures { IfOk result (λ found. IsExplainedText named text.now (map explained_seen found.items)) }
+{
+    let mistakes = mistakes_of(alloc, tree, text)?;
+    let mut found = Vec::new(alloc);
+    for mistake in &mistakes {
+        found.push(explain_mistake(alloc, text, tree, *mistake, named)?)?;
+    }
+    Ok(found)
+}
+
+/// A mistake in the names of a text.
+fn explain_mistake(
+    alloc: Global,
+    text: &[u8],
+    tree: &Tree,
+    mistake: Mistake,
+    named: Option<Place>,
+) -> Result<Explained, Memory>
+    ensures finding { IfOk result (λ e. finding_parts e.finding ≡ finding_in text.now mistake) }
+    ensures lines { IfOk result (λ e. map line_seen e.lines.items
+        ≡ remark_lines named e.finding.place (remark_of (program_of text.now tree.now) mistake)) }
+{
+    let finding = mistake.finding(alloc, text)?;
+    let said = remark(alloc, text, &tree.items, mistake)?;
+    explained_by(alloc, finding, said, named)
+}
+
+/// The first fault of a text.
+fn explain_fault(
+    alloc: Global,
+    fault: TextFault,
+    named: Option<Place>,
+) -> Result<Vec<Explained>, Memory>
+    ensures { (text : List ℕ) → (fault ≢ TextFault.Memory → IsFault text fault)
+        → IfOk result (λ found. IsExplainedText named text (map explained_seen found.items)) }
+{
+    let finding = fault_finding(alloc, fault)?;
+    let said = fault_remark(alloc, fault)?;
+    let mut found = Vec::new(alloc);
+    found.push(explained_by(alloc, finding, said, named)?)?;
+    Ok(found)
+}
+
+/// A finding with this remark, if there is one and it is asked for.
+fn explained_by(
+    alloc: Global,
+    finding: Finding,
+    said: Option<Remark>,
+    named: Option<Place>,
+) -> Result<Explained, Memory>
+    ensures finding { IfOk result (λ e. e.finding ≡ finding) }
+    ensures lines { IfOk result (λ e. map line_seen e.lines.items
+        ≡ remark_lines named e.finding.place (option_map remark_seen said)) }
+{
+    let mut lines = Vec::new(alloc);
+    if is_asked(named, finding.place) {
+        add_remark(said, &mut lines)?;
+    }
+    Ok(Explained { finding, lines })
+}
+
+/// Adds the line of a remark, if there is one.
+fn add_remark(said: Option<Remark>, lines: &mut Vec<Line>) -> Result<(), Memory>
+    ensures { OnOk result (map line_seen lines.new.items
+        ≡ map line_seen lines.old.items ++ said_lines (option_map remark_seen said)) }
+{
+    match said {
+        Some(remark) => lines.push(Line {
+            place: remark.place,
+            text: remark.text,
+        })?,
+        None => {}
+    }
+    Ok(())
+}
