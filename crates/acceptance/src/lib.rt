@@ -21,3 +21,5 @@ mod schedules;
 mod sharing;
 #[cfg(test)]
 mod shelves;
+#[cfg(test)]
+mod shown;

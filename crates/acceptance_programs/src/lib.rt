@@ -10,6 +10,8 @@ mod lookups;
 #[cfg(test)]
 mod mistakes;
 #[cfg(test)]
+mod nearness;
+#[cfg(test)]
 mod numbers;
 #[cfg(test)]
 mod resolution;

@@ -1,9 +1,9 @@
 //! What more is said of mistakes in names, and of faults of a text.
 
-use declarations::{Limit, findings_of};
+use declarations::{Limit, Mistake, NameSort, add_twice, add_unknown, findings_of};
 use names::mistakes_of;
 use remarks::{Remark, fault_remark, remark};
-use source::{Place, TextFault, lex};
+use source::{Place, Span, TextFault, lex};
 use std::alloc::Global;
 use std::test::Fail;
 use syntax::parse;
@@ -53,6 +53,55 @@ class K { static void F(D* in ExHeap p, C.Exp e) {
 8:3 no loop or switch is around it
 ";
     assert_eq!(rt; remarks_in(rt.alloc(), text)?.as_str(), wanted);
+    Ok(())
+}
+
+/// Each name has a nearest one of its sort, where that is declared.
+#[test]
+fn nearest_names(rt: HostRuntime) -> Result<(), Fail> {
+    let text = "contract Bell { in message Ring(); state Wait: Rang? -> Wit; }
+rep struct Page { int size; }
+class Reader { static void Read(Page* in ExHeap page, Bel.Imp:Wait bell) {
+  page.sise = pages.size;
+  Reed(page); Render.Read(page); Reader.Rea(page);
+  Pge* in ExHeap other = new[ExHeap] Pag();
+  bell.SendRing();
+} }";
+    let wanted = "1:28 the nearest name is Ring
+1:42 the nearest name is Wait
+1:10 the nearest name is Bell
+2:23 the nearest name is size
+3:49 the nearest name is page
+3:28 the nearest name is Read
+3:7 the nearest name is Reader
+3:28 the nearest name is Read
+2:12 the nearest name is Page
+2:12 the nearest name is Page
+";
+    assert_eq!(rt; remarks_in(rt.alloc(), text)?.as_str(), wanted);
+    Ok(())
+}
+
+/// A name that is known is added at no place; one that an earlier name has is told with that.
+#[test]
+fn added_mistakes(rt: HostRuntime) -> Result<(), Fail> {
+    let name = Span {
+        start: 0,
+        end: 1,
+        place: Place { line: 2, col: 3 },
+    };
+    let first = Span {
+        start: 4,
+        end: 5,
+        place: Place { line: 1, col: 5 },
+    };
+    let mut found = Vec::new(rt.alloc());
+    add_unknown(name, NameSort::Struct, &mut found)?;
+    add_twice(name, None, &mut found)?;
+    add_twice(name, Some(first), &mut found)?;
+    assert_eq!(rt; found.len(), 2);
+    assert!(rt; found[0] == Mistake::Unknown(name, NameSort::Struct));
+    assert!(rt; found[1] == Mistake::DeclaredTwice(name, first.place));
     Ok(())
 }
 

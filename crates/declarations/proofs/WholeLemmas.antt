@@ -16,7 +16,9 @@ use Rattle.declarations.specs.Declarations.{counted_in_state, counted_states, fi
 use Rattle.declarations.specs.ContractMistakes.{contract_mistakes, path_mistakes, state_mistakes}
 use Rattle.declarations.specs.declared.mistake.Mistake.TheVariants.{Unknown}
 use Rattle.declarations.specs.ItemMistakes.{contracts_mistakes}
-use Rattle.declarations.specs.Listed.{asked_name}
+use Rattle.declarations.specs.Listed.{asked_message, asked_name, asked_state}
+use Rattle.declarations.specs.declared.mistake.NameSort.{NameSort}
+use Rattle.declarations.specs.declared.mistake.NameSort.TheVariants as sort
 use Rattle.declarations.specs.Meant.{path_left}
 use Rattle.program.specs.Parts.{IsWhole, contract_parts, ContractSeen, contract_seen}
 use Rattle.declarations.specs.Program.{Program}
@@ -45,24 +47,24 @@ declared_at text names name (Some k) is there =
     let size = length-map names (word_at text) in
     record { place = k; found = is; within = omega (arith, below, size) }
 
-declared : (text : List ℕ) (names : List Span) (name : Span) → asked_name text names name ≡ [] → Declared text names name
-declared text names name none =
+declared : (s : NameSort) (text : List ℕ) (names : List Span) (name : Span) → asked_name s text names name ≡ [] → Declared text names name
+declared s text names name none =
     ⊎_elim
     (λ there. declared_at text names name (first_among text names name) refl there)
-    (λ missing. let found : Unknown name ∷ [] ≡ [] = sym (cond-false (is_declared text names name) [] (Unknown name ∷ []) missing) ∙ none in cc)
+    (λ missing. let found : Unknown name s ∷ [] ≡ [] = sym (cond-false (is_declared text names name) [] (Unknown name s ∷ []) missing) ∙ none in cc)
     (cases_Bool (is_declared text names name))
 
-message_is : (text : List ℕ) (first : ℕ) (messages : List MessageTree) (name : Span) → asked_name text (names_of_messages messages) name ≡ [] → Among first (length messages) (message_meant text first messages name)
+message_is : (text : List ℕ) (first : ℕ) (messages : List MessageTree) (name : Span) → asked_message text (names_of_messages messages) name ≡ [] → Among first (length messages) (message_meant text first messages name)
 message_is text first messages name none =
-    let here = declared text (names_of_messages messages) name none in
+    let here = declared (sort.Message None) text (names_of_messages messages) name none in
     let value = ap (λ o. option_map_or (λ k. first + k) o 0) here.found in
     let size = length-map messages (λ m. m.name) in
     let within = here.within in
     record { low = omega (arith, value); high = omega (arith, value, within, size) }
 
-state_is : (text : List ℕ) (first : ℕ) (states : List StateTree) (name : Span) → asked_name text (names_of_states states) name ≡ [] → Among first (length (counted_states states)) (state_meant text first states name)
+state_is : (text : List ℕ) (first : ℕ) (states : List StateTree) (name : Span) → asked_state text (names_of_states states) name ≡ [] → Among first (length (counted_states states)) (state_meant text first states name)
 state_is text first states name none =
-    let here = declared text (names_of_states states) name none in
+    let here = declared (sort.State None) text (names_of_states states) name none in
     let value = ap (λ o. option_map_or (λ k. first + length (counted_states (take k states))) o 0) here.found in
     let size = length-map states (λ s. s.name) in
     let within = here.within in
@@ -85,11 +87,11 @@ all_left means s n m k from to e (o ∷ others) target here low room last messag
     All-cons (IsAmong s n m k) _ (path_left means to (to + 1) o others target) (record { from = here; to = next; message = message })
     (all_left means s n m k to (to + 1) o others target next (omega (arith, low)) (omega (arith, room)) last (All-head known o others rest) (All-tail known o others rest))
 
-others_known : (text : List ℕ) (m : ℕ) (messages : List MessageTree) (others : List tree.Edge.Edge) → flat_map (λ e. asked_name text (names_of_messages messages) e.message) others ≡ []
+others_known : (text : List ℕ) (m : ℕ) (messages : List MessageTree) (others : List tree.Edge.Edge) → flat_map (λ e. asked_message text (names_of_messages messages) e.message) others ≡ []
     → All (λ (o : tree.Edge.Edge). Among m (length messages) (message_meant text m messages o.message)) others
 others_known text m messages [] none = All-nil (λ (o : tree.Edge.Edge). Among m (length messages) (message_meant text m messages o.message))
 others_known text m messages (o ∷ others) none =
-    let asked = asked_name text (names_of_messages messages) o.message in
+    let asked = asked_message text (names_of_messages messages) o.message in
     All-cons (λ (x : tree.Edge.Edge). Among m (length messages) (message_meant text m messages x.message)) o others
     (message_is text m messages o.message (nil_left asked _ none)) (others_known text m messages others (nil_right asked _ none))
 
@@ -100,7 +102,7 @@ path_known : (text : List ℕ) (m s : ℕ) (messages : List MessageTree) (states
     → s ≤ from → from < to → to + length p.others ≤ s + length (counted_states states)
     → All (IsAmong s (length (counted_states states)) m (length messages)) (path_edges (means_in text m s messages states) from to p)
 path_known text m s messages states from to p none low next room =
-    let asked = asked_name text (names_of_messages messages) in
+    let asked = asked_message text (names_of_messages messages) in
     let n = length (counted_states states) in
     let behind = nil_right (asked p.first.message) _ none in
     let others = flat_map (λ e. asked e.message) p.others in

@@ -9,7 +9,7 @@ use Rattle.declarations.specs.Declarations.{messages_of, states_of, paths_of, na
 use Rattle.declarations.specs.declared.mistake.Limit.TheVariants as limit
 use Rattle.declarations.specs.declared.mistake.Mistake.{Mistake}
 use Rattle.declarations.specs.Kinds.{type_unknown}
-use Rattle.declarations.specs.Listed.{twice_among, past_limit, asked_name}
+use Rattle.declarations.specs.Listed.{twice_among, past_limit, asked_message, asked_state}
 use Rattle.declarations.specs.Program.{Program}
 
 abbrev pub param_names : List Param → List Span
@@ -21,8 +21,8 @@ message_mistakes p m = flat_map (λ x. type_unknown p x.kind) m.params
 
 -- the messages and the state of a path have to be among those that its contract declares
 abbrev pub path_mistakes : List ℕ → List Span → List Span → PathTree → List Mistake
-path_mistakes text messages states p = asked_name text messages p.first.message
-    ++ (flat_map (λ e. asked_name text messages e.message) p.others ++ asked_name text states p.target)
+path_mistakes text messages states p = asked_message text messages p.first.message
+    ++ (flat_map (λ e. asked_message text messages e.message) p.others ++ asked_state text states p.target)
 
 abbrev pub state_mistakes : List ℕ → List Span → List Span → StateTree → List Mistake
 state_mistakes text messages states s = flat_map (path_mistakes text messages states) (paths_of s.body)

@@ -14,6 +14,7 @@ use Rattle.declarations.specs.Declarations.{states_of, names_of_states, is_decla
 use Rattle.declarations.specs.declared.mistake.Mistake.{Mistake}
 use Rattle.declarations.specs.declared.mistake.Mismatch.{Mismatch}
 use Rattle.declarations.specs.declared.mistake.Mistake.TheVariants.{Unknown, WrongType}
+use Rattle.declarations.specs.declared.mistake.NameSort.TheVariants as sort
 use Rattle.declarations.specs.Program.{Program, contract_named, struct_named}
 use Rattle.program.specs.Kinds.{same_scalar, same_side}
 use Rattle.declarations.specs.declared.kinds.Kind.{Kind}
@@ -84,13 +85,13 @@ type_kind p (type.Heap (heap.Endpoint contract end state bang in_heap)) = endpoi
 
 -- the names in a type that are not declared
 abbrev pub endpoint_unknown : List ℕ → Option (ℕ × ContractTree) → Span → Option Span → List Mistake
-endpoint_unknown text None contract state = Unknown contract ∷ []
+endpoint_unknown text None contract state = Unknown contract sort.Contract ∷ []
 endpoint_unknown text (Some c) contract None = []
 endpoint_unknown text (Some c) contract (Some state) = if is_declared text (names_of_states (states_of c.1)) state then []
-    else Unknown state ∷ []
+    else Unknown state (sort.State (Some c.0)) ∷ []
 
 abbrev pub pointer_unknown : {X : Type 0} → Option X → Span → List Mistake
-pointer_unknown None name = Unknown name ∷ []
+pointer_unknown None name = Unknown name sort.Struct ∷ []
 pointer_unknown (Some s) name = []
 
 abbrev pub type_unknown : Program → type_nodes.Type.Type → List Mistake

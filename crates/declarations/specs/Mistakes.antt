@@ -39,7 +39,7 @@ case_twice text endpoint awaited = plain N08
 -- the finding of a mistake in this text
 abbrev pub finding_in : List ℕ → Mistake → FindingParts
 finding_in text (DeclaredTwice name first) = naming text N01 name (codes " declared twice")
-finding_in text (Unknown name) = naming text N02 name (codes " unknown")
+finding_in text (Unknown name sort) = naming text N02 name (codes " unknown")
 finding_in text (WrongType place mismatch) = plain N03 (codes "wrong type") place
 finding_in text (WrongNumber place asked given) = plain N04 (codes "wrong number of arguments") place
 finding_in text (BreakOutside place) = plain N05 (codes "break outside") place

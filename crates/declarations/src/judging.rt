@@ -7,33 +7,34 @@ ghost use Rattle.declarations.specs.Mistakes.{Adds};
 ghost use Rattle.tables.specs.Tables.{IsTable};
 ghost use Rattle.tables.specs.Words.{words_at};
 
-use crate::mistake::{Limit, Mistake};
+use crate::mistake::{Limit, Mistake, NameSort};
 use source::{Memory, Span};
 use tables::Table;
 
-/// Adds a name that nothing declares.
+/// Adds a name of this sort that nothing declares.
 ///
 /// `Memory` is returned if a growth was refused.
-pub fn add_unknown(name: Span, found: &mut Vec<Mistake>) -> Result<(), Memory>
-    ensures { OnOk result (Adds found.old.items found.new.items (Mistake.Unknown name ∷ [])) }
+pub fn add_unknown(name: Span, sort: NameSort, found: &mut Vec<Mistake>) -> Result<(), Memory>
+    ensures { OnOk result (Adds found.old.items found.new.items (Mistake.Unknown name sort ∷ [])) }
 {
-    found.push(Mistake::Unknown(name))?;
+    found.push(Mistake::Unknown(name, sort))?;
     Ok(())
 }
 
-/// Adds the name if its table lacks it.
+/// Adds the name, which is of this sort, if its table lacks it.
 pub(crate) fn judge_name(
     text: &[u8],
     table: &Table<'_>,
     name: Span,
+    sort: NameSort,
     found: &mut Vec<Mistake>,
 ) -> Result<(), Memory>
     ensures { (names : List Span) → IsTable (words_at text.now names) table.now
-        → OnOk result (Adds found.old.items found.new.items (asked_name text.now names name)) }
+        → OnOk result (Adds found.old.items found.new.items (asked_name sort text.now names name)) }
 {
     match table.find(name.slice(text)) {
         Some(_) => Ok(()),
-        None => add_unknown(name, found),
+        None => add_unknown(name, sort, found),
     }
 }
 

@@ -32,7 +32,7 @@ pub use items::{judge_items, judge_method_names, judge_struct};
 pub use judging::{add_twice, add_unknown};
 pub use kinds::Kind;
 pub use members::{Declared, Members, Methods};
-pub use mistake::{Demand, Limit, Mismatch, Mistake, findings_of};
+pub use mistake::{Demand, Limit, Mismatch, Mistake, NameSort, findings_of};
 pub use resolving::resolve_contracts;
 pub use scope::Scope;
 pub use starts::Callee;

@@ -1,7 +1,7 @@
 //! What the names in the edges of a contract mean.
 
 ghost use Rattle.std.specs.Prelude.{◌≡◌, []};
-ghost use Rattle.declarations.specs.Listed.{asked_name};
+ghost use Rattle.declarations.specs.Listed.{asked_message, asked_state};
 ghost use Rattle.declarations.specs.Resolution.{edge_between};
 
 use crate::members::Declared;
@@ -26,7 +26,7 @@ impl Meaning<'_, '_> {
     /// The number of the message of this name.
     fn message(&self, name: Span) -> u32
         requires meaning { IsMeaning self.now }
-        requires declared { asked_name (text_of self.now) (message_names self.now) name ≡ [] }
+        requires declared { asked_message (text_of self.now) (message_names self.now) name ≡ [] }
         ensures { result ≡ (meanings self.now).message name }
     {
         let place = self.declared.messages.find(name.slice(self.text)).unwrap();
@@ -36,7 +36,7 @@ impl Meaning<'_, '_> {
     /// The number of the state of this name.
     pub(crate) fn state(&self, name: Span) -> u32
         requires meaning { IsMeaning self.now }
-        requires declared { asked_name (text_of self.now) (state_names self.now) name ≡ [] }
+        requires declared { asked_state (text_of self.now) (state_names self.now) name ≡ [] }
         ensures { result ≡ (meanings self.now).state name }
     {
         let place = self.declared.states.find(name.slice(self.text)).unwrap();
@@ -46,7 +46,7 @@ impl Meaning<'_, '_> {
     /// An edge between the states with these numbers.
     pub(crate) fn edge(&self, from: u32, edge: tree::Edge, to: u32) -> Edge
         requires meaning { IsMeaning self.now }
-        requires declared { asked_name (text_of self.now) (message_names self.now) edge.message ≡ [] }
+        requires declared { asked_message (text_of self.now) (message_names self.now) edge.message ≡ [] }
         ensures { result ≡ edge_between (meanings self.now) from edge to }
     {
         Edge {

@@ -92,13 +92,36 @@ impl Limit {
     }
 }
 
+/// What sort of name nothing declares. An item is told by how many stand before it; without one, it is the item around the name.
+#[derive(Clone, Copy, Debug, PartialEq, Eq)]
+pub enum NameSort {
+    /// A variable, where so many are in scope.
+    Variable(usize),
+    /// A variable or a class before a dot, where so many variables are in scope.
+    Front(usize),
+    Contract,
+    Struct,
+    /// A method of the class of this name.
+    Method(Option<Span>),
+    /// A state of a contract.
+    State(Option<usize>),
+    /// A message of a contract.
+    Message(Option<usize>),
+    /// A message of a contract, behind `Send`.
+    Sent(usize),
+    /// A field of a struct.
+    Field(usize),
+    /// The length of an array.
+    Length,
+}
+
 /// Something that is wrong with names or types: what a finding tells, and more.
 #[derive(Clone, Copy, Debug, PartialEq, Eq)]
 pub enum Mistake {
     /// A name that another one has, which is declared first, at this place.
     DeclaredTwice(Span, Place),
-    /// A name that nothing declares.
-    Unknown(Span),
+    /// A name of this sort that nothing declares.
+    Unknown(Span, NameSort),
     /// A type is wrong at this place.
     WrongType(Place, Mismatch),
     /// At this place so many arguments are asked, and so many given.
@@ -128,7 +151,7 @@ impl Mistake {
             Mistake::DeclaredTwice(name, _) => {
                 texts::declared_twice(alloc, name.place, name.slice(text))
             }
-            Mistake::Unknown(name) => texts::unknown(alloc, name.place, name.slice(text)),
+            Mistake::Unknown(name, _) => texts::unknown(alloc, name.place, name.slice(text)),
             Mistake::WrongType(place, _) => texts::wrong_type(alloc, place),
             Mistake::WrongNumber(place, _, _) => texts::wrong_number_of_arguments(alloc, place),
             Mistake::BreakOutside(place) => texts::break_outside(alloc, place),

@@ -6,16 +6,16 @@ ghost use Rattle.source.specs.declared.token.Span.{Span};
 ghost use Rattle.tree.specs.Trees.{path_tree, state_tree};
 ghost use Rattle.declarations.specs.ContractMistakes.{path_mistakes, state_mistakes};
 ghost use Rattle.declarations.specs.Mistakes.{Adds};
-ghost use Rattle.declarations.specs.Listed.{asked_name};
+ghost use Rattle.declarations.specs.Listed.{asked_message};
 ghost use Rattle.declarations.specs.Outlines.{outlined_states};
 ghost use Rattle.tables.specs.Tables.{IsTable};
 ghost use Rattle.tables.specs.Words.{words_at};
 
 use crate::judging::judge_name;
 use crate::members::Declared;
-use crate::mistake::Mistake;
+use crate::mistake::{Mistake, NameSort};
 use crate::outline::paths;
-use source::Memory;
+use source::{Memory, Span};
 use tables::Table;
 use tree::{Edge, Path, State};
 
@@ -46,9 +46,23 @@ fn judge_path(
         → IsTable (words_at text.now states) declared.now.states → OnOk result
         (Adds found.old.items found.new.items (path_mistakes text.now messages states (path_tree path.now))) }
 {
-    judge_name(text, &declared.messages, path.first.message, found)?;
+    judge_message(text, &declared.messages, path.first.message, found)?;
     judge_edges(text, &declared.messages, &path.others, found)?;
-    judge_name(text, &declared.states, path.target, found)
+    let sort = NameSort::State(None);
+    judge_name(text, &declared.states, path.target, sort, found)
+}
+
+/// Adds a message that its contract does not declare.
+fn judge_message(
+    text: &[u8],
+    table: &Table<'_>,
+    name: Span,
+    found: &mut Vec<Mistake>,
+) -> Result<(), Memory>
+    ensures { (names : List Span) → IsTable (words_at text.now names) table.now
+        → OnOk result (Adds found.old.items found.new.items (asked_message text.now names name)) }
+{
+    judge_name(text, table, name, NameSort::Message(None), found)
 }
 
 fn judge_edges(
@@ -58,10 +72,10 @@ fn judge_edges(
     found: &mut Vec<Mistake>,
 ) -> Result<(), Memory>
     ensures { (names : List Span) → IsTable (words_at text.now names) table.now → OnOk result
-        (Adds found.old.items found.new.items (flat_map (λ e. asked_name text.now names e.message) edges.now)) }
+        (Adds found.old.items found.new.items (flat_map (λ e. asked_message text.now names e.message) edges.now)) }
 {
     for edge in edges {
-        judge_name(text, table, edge.message, found)?;
+        judge_message(text, table, edge.message, found)?;
     }
     Ok(())
 }

@@ -11,7 +11,7 @@ ghost use Rattle.declarations.specs.Scopes.{IsScope, IsDeclared};
 use crate::judging::{add_unknown, judge_name};
 use crate::kinds::Kind;
 use crate::members::Declared;
-use crate::mistake::Mistake;
+use crate::mistake::{Mistake, NameSort};
 use crate::scope::Scope;
 use program::Side;
 use source::{Memory, Span};
@@ -143,7 +143,7 @@ fn judge_pointer(scope: &Scope<'_>, name: Span, found: &mut Vec<Mistake>) -> Res
 {
     match scope.structure(name) {
         Some(_) => Ok(()),
-        None => add_unknown(name, found),
+        None => add_unknown(name, NameSort::Struct, found),
     }
 }
 
@@ -158,10 +158,11 @@ fn judge_endpoint(
         → OnOk result (Adds found.old.items found.new.items (endpoint_unknown p.text (contract_named p contract) contract state)) }
 {
     match (scope.contract(contract), state) {
-        (Some((_, declared)), Some(state)) => {
-            judge_name(scope.text, &declared.states, state, found)
+        (Some((place, declared)), Some(state)) => {
+            let sort = NameSort::State(Some(place));
+            judge_name(scope.text, &declared.states, state, sort, found)
         }
         (Some(_), None) => Ok(()),
-        (None, _) => add_unknown(contract, found),
+        (None, _) => add_unknown(contract, NameSort::Contract, found),
     }
 }

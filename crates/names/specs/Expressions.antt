@@ -1,5 +1,5 @@
 -- The kind of an expression, and what is wrong with the names and kinds in it.
-use Rattle.std.specs.Prelude.{Bool, false, ◌||◌, not, List, [], ◌∷◌, ◌++◌, codes, if◌then◌else◌}
+use Rattle.std.specs.Prelude.{Bool, false, ◌||◌, not, List, [], ◌∷◌, ◌++◌, codes, length, if◌then◌else◌}
 use Rattle.std.specs.Prelude.{Option, None, Some, is_some}
 use Rattle.std.specs.Option.{option_map_or}
 use Rattle.source.specs.declared.place.Place.{Place}
@@ -7,13 +7,14 @@ use Rattle.source.specs.declared.token.Span.{Span}
 use Rattle.program.specs.declared.kind.Scalar.TheVariants as scalar
 use Rattle.declarations.specs.declared.mistake.Mistake.{Mistake}
 use Rattle.declarations.specs.declared.mistake.Mistake.TheVariants.{Unknown}
+use Rattle.declarations.specs.declared.mistake.NameSort.TheVariants as sort
 use Rattle.declarations.specs.declared.mistake.Demand.TheVariants as demand
 use Rattle.declarations.specs.declared.mistake.Mismatch.TheVariants.{Given, FieldOwns}
 use Rattle.declarations.specs.Named.{field_named}
 use Rattle.declarations.specs.Kinds.{is_silent, is_unknown, is_number, is_truth, is_block, is_heap, type_kind, unless}
 use Rattle.declarations.specs.Program.{Program, as_struct, item_at}
 use Rattle.names.specs.Shapes.{Shape, Number, Truth, Mention, Field, Element, Parens, Signed}
-use Rattle.names.specs.Shapes.{Joined, Joint, Logic, Likeness, Order, Sum, Sign, Denial, Minus}
+use Rattle.names.specs.Shapes.{Joined, Joint, Logic, Likeness, Sum, Sign, Denial, Minus}
 use Rattle.tree.specs.declared.class as made
 use Rattle.names.specs.Variables.{Variable, variable_named}
 use Rattle.tables.specs.Words.{word_at, same_word}
@@ -77,10 +78,8 @@ held None = kind.Unknown
 held (Some v) = v.kind
 
 abbrev pub joined_kind : Joint → Kind
-joined_kind Logic = kind.Scalar scalar.Bool
-joined_kind Likeness = kind.Scalar scalar.Bool
-joined_kind Order = kind.Scalar scalar.Bool
 joined_kind Sum = kind.Scalar scalar.Int
+joined_kind _ = kind.Scalar scalar.Bool
 
 abbrev pub signed_kind : Sign → Kind
 signed_kind Denial = kind.Scalar scalar.Bool
@@ -116,14 +115,12 @@ asked_like left k place = if is_number left then asked_number k place
 abbrev pub left_asked : Joint → Kind → Place → List Mistake
 left_asked Logic k place = asked_truth k place
 left_asked Likeness k place = asked_either k place
-left_asked Order k place = asked_number k place
-left_asked Sum k place = asked_number k place
+left_asked _ k place = asked_number k place
 
 abbrev pub right_asked : Joint → Kind → Kind → Place → List Mistake
 right_asked Logic left k place = asked_truth k place
 right_asked Likeness left k place = asked_like left k place
-right_asked Order left k place = asked_number k place
-right_asked Sum left k place = asked_number k place
+right_asked _ left k place = asked_number k place
 
 abbrev pub sign_asked : Sign → Kind → Place → List Mistake
 sign_asked Denial k place = asked_truth k place
@@ -131,7 +128,7 @@ sign_asked Minus k place = asked_number k place
 
 -- a variable has to be declared
 abbrev pub variable_mistakes : InScope → Span → List Mistake
-variable_mistakes s name = if is_some (meant s name) then [] else Unknown name ∷ []
+variable_mistakes s name = if is_some (meant s name) then [] else Unknown name (sort.Variable (length s.variables)) ∷ []
 
 -- a variable of the exchange heap does not stand within an expression
 abbrev pub mention_mistakes : InScope → Span → List Mistake
@@ -145,9 +142,9 @@ element_mistakes k name = unless (is_silent k) name.place (Given demand.Array k)
 
 -- a struct has its fields, an array its length, anything else none
 abbrev pub field_mistakes : InScope → Kind → Span → Span → List Mistake
-field_mistakes s (kind.Array element) name field = if is_length s field then [] else Unknown field ∷ []
+field_mistakes s (kind.Array element) name field = if is_length s field then [] else Unknown field sort.Length ∷ []
 field_mistakes s (kind.Pointer n) name field =
-    option_map_or (λ x. if is_some (field_named s.program.text x.1 field) then [] else Unknown field ∷ [])
+    option_map_or (λ x. if is_some (field_named s.program.text x.1 field) then [] else Unknown field (sort.Field n) ∷ [])
     (item_at as_struct s.program n) []
 field_mistakes s k name field = unless (is_silent k) name.place (Given demand.Fields k)
 

@@ -107,8 +107,8 @@ pub(crate) fn judge_message_case(
     binds: &[Bind],
     found: &mut Vec<Mistake>,
 ) -> Result<(), Memory>
-    ensures { (p : Program) (vs : List Variable) → OnOk result (Adds found.old.items found.new.items
-        (message_case_mistakes (record { program = p; variables = vs }) (Some (message_tree message.now)) end word binds.now)) }
+    ensures { (p : Program) (vs : List Variable) (k : Kind) → OnOk result (Adds found.old.items found.new.items
+        (message_case_mistakes (record { program = p; variables = vs }) k (Some (message_tree message.now)) end word binds.now)) }
 {
     let well = receives(end, message.direction);
     ask(well, word.place, Mismatch::NotReceived(end, word), found)?;

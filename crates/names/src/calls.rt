@@ -19,6 +19,7 @@ ghost use Rattle.names.specs.Values.{sends, is_alone, message_mistakes, contract
 ghost use Rattle.names.specs.Values.{class_mistakes, class_meant, member_mistakes, call_mistakes};
 ghost use Rattle.names.specs.Variables.{Frame};
 ghost use Rattle.names.specs.Variables as model;
+ghost use Rattle.source.specs.declared.token.Span.{Span as SpanSeen};
 ghost use Rattle.tables.specs.Words.{word_at, same_word};
 
 use crate::arguments::{judge_arguments, judge_message_arguments, judge_parameter_arguments};
@@ -26,7 +27,7 @@ use crate::operands::ask;
 use crate::surroundings::{NameContext, Surroundings};
 use crate::told::judge_count;
 use crate::variables::Variables;
-use declarations::{Callee, Demand, Kind, Mismatch, Mistake, Scope, add_unknown};
+use declarations::{Callee, Demand, Kind, Mismatch, Mistake, NameSort, Scope, add_unknown};
 use program::{Direction, Side};
 use source::{Memory, Span};
 use tree::{Call, Expression, Message, Type};
@@ -107,10 +108,10 @@ fn judge_known_method(
     site: &CallSite<'_>,
     found: &mut Vec<Mistake>,
 ) -> Result<(), Memory>
-    ensures { (p : Program) (f : Frame) → IsContext p f context.now
+    ensures { (p : Program) (f : Frame) (class : Option SpanSeen) → IsContext p f context.now
         → callee.entry.startable ≡ can_start (method_tree callee.entry.method.now)
         → OnOk result (Adds found.old.items found.new.items (method_mistakes (in_frame p f)
-        (Some (method_tree callee.entry.method.now)) site.now.role site.now.name
+        (Some (method_tree callee.entry.method.now)) class site.now.role site.now.name
         (map shape (map expression_tree site.now.arguments.now)))) }
 {
     let NameContext {
@@ -133,15 +134,16 @@ fn judge_known_method(
     )
 }
 
-/// Adds that this name is not declared, and what is wrong with the arguments behind it.
+/// Adds that this name, of this sort, is not declared, and what is wrong with the arguments behind it.
 pub(crate) fn judge_unknown(
     context: &NameContext<'_, '_>,
     name: Span,
+    sort: NameSort,
     arguments: &[Expression],
     found: &mut Vec<Mistake>,
 ) -> Result<(), Memory>
     ensures { (p : Program) (f : Frame) → IsContext p f context.now
-        → OnOk result (Adds found.old.items found.new.items (Mistake.Unknown name
+        → OnOk result (Adds found.old.items found.new.items (Mistake.Unknown name sort
         ∷ argument_mistakes (in_frame p f) [] (map shape (map expression_tree arguments.now)))) }
 {
     let NameContext {
@@ -149,24 +151,31 @@ pub(crate) fn judge_unknown(
         variables,
         ..
     } = *context;
-    add_unknown(name, found)?;
+    add_unknown(name, sort, found)?;
     judge_arguments(scope, variables, &[], arguments, found)
 }
 
-/// Adds what is wrong with a call of a method, if there is one.
+/// Adds what is wrong with a call of a method, if there is one; before it this class may be written.
 fn judge_method(
     context: &NameContext<'_, '_>,
     callee: Option<Callee<'_>>,
+    class: Option<Span>,
     site: &CallSite<'_>,
     found: &mut Vec<Mistake>,
 ) -> Result<(), Memory>
     ensures { (p : Program) (f : Frame) (m : Option MethodTree) → IsContext p f context.now → IsCallee m callee.entry
-        → OnOk result (Adds found.old.items found.new.items (method_mistakes (in_frame p f) m site.now.role site.now.name
+        → OnOk result (Adds found.old.items found.new.items (method_mistakes (in_frame p f) m class site.now.role site.now.name
         (map shape (map expression_tree site.now.arguments.now)))) }
 {
     match callee {
         Some(callee) => judge_known_method(context, callee, site, found),
-        None => judge_unknown(context, site.name, site.arguments, found),
+        None => judge_unknown(
+            context,
+            site.name,
+            NameSort::Method(class),
+            site.arguments,
+            found,
+        ),
     }
 }
 
@@ -201,8 +210,8 @@ fn judge_known_message(
     site: &CallSite<'_>,
     found: &mut Vec<Mistake>,
 ) -> Result<(), Memory>
-    ensures { (p : Program) (f : Frame) → IsContext p f context.now
-        → OnOk result (Adds found.old.items found.new.items (message_mistakes (in_frame p f)
+    ensures { (p : Program) (f : Frame) (n : ℕ) → IsContext p f context.now
+        → OnOk result (Adds found.old.items found.new.items (message_mistakes (in_frame p f) n
         (Some (message_tree message.now)) end site.now.role site.now.name
         (map shape (map expression_tree site.now.arguments.now)))) }
 {
@@ -238,13 +247,19 @@ fn judge_end(
     found: &mut Vec<Mistake>,
 ) -> Result<(), Memory>
     ensures { (p : Program) (f : Frame) → IsContext p f context.now
-        → OnOk result (Adds found.old.items found.new.items (message_mistakes (in_frame p f)
+        → OnOk result (Adds found.old.items found.new.items (message_mistakes (in_frame p f) place
         (contract_message (in_frame p f) place site.now.name) end site.now.role site.now.name
         (map shape (map expression_tree site.now.arguments.now)))) }
 {
     match context.scope.sent_message(place, site.name) {
         Some(message) => judge_known_message(context, message, end, site, found),
-        None => judge_unknown(context, site.name, site.arguments, found),
+        None => judge_unknown(
+            context,
+            site.name,
+            NameSort::Sent(place),
+            site.arguments,
+            found,
+        ),
     }
 }
 
@@ -290,9 +305,12 @@ fn judge_class(
     match context.scope.class(class) {
         Some(methods) => {
             let callee = methods.find(context.scope.text, site.name);
-            judge_method(context, callee, site, found)
+            judge_method(context, callee, Some(class), site, found)
         }
-        None => judge_unknown(context, class, site.arguments, found),
+        None => {
+            let sort = NameSort::Front(context.variables.len());
+            judge_unknown(context, class, sort, site.arguments, found)
+        }
     }
 }
 
@@ -334,7 +352,7 @@ pub(crate) fn judge_call<'a>(
                 arguments: &call.arguments,
             };
             let callee = around.methods.find(around.scope.text, call.name);
-            judge_method(&context, callee, &site, found)
+            judge_method(&context, callee, None, &site, found)
         }
         Some(name) => {
             let site = CallSite {

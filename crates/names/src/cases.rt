@@ -25,7 +25,7 @@ use crate::heads::{Heads, awaiting_at};
 use crate::simple_statements::{judge_use, kind_held};
 use crate::surroundings::NameContext;
 use crate::variables::Variables;
-use declarations::{Kind, Mistake, Scope, add_unknown};
+use declarations::{Kind, Mistake, NameSort, Scope, add_unknown};
 use program::Side;
 use source::{Memory, Span};
 use std::alloc::Global;
@@ -126,7 +126,7 @@ fn judge_message(
             judge_message_case(message, end.side, word, &case.binds, found)?;
             judge_case_twice(twice, case.endpoint, case.message, found)
         }
-        None => add_unknown(word, found),
+        None => add_unknown(word, NameSort::Message(Some(end.item)), found),
     }
 }
 

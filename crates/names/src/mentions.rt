@@ -17,7 +17,9 @@ ghost use Rattle.tables.specs.Words.{word_at, same_word};
 
 use crate::operands::{Operand, ask, ask_number};
 use crate::variables::Variables;
-use declarations::{Demand, Fields, Kind, Mismatch, Mistake, Scope, add_unknown, is_heap};
+use declarations::{
+    Demand, Fields, Kind, Mismatch, Mistake, NameSort, Scope, add_unknown, is_heap,
+};
 use program::Scalar;
 use source::{Memory, Span};
 use tree::Field;
@@ -35,7 +37,7 @@ pub(crate) fn judge_variable(
     match variables.find(scope.text, name) {
         Some(variable) => Ok(variable.kind),
         None => {
-            add_unknown(name, found)?;
+            add_unknown(name, NameSort::Variable(variables.len()), found)?;
             Ok(Kind::Unknown)
         }
     }
@@ -182,12 +184,12 @@ fn is_owning(field: Option<Field>) -> bool
 fn judge_length(text: &[u8], field: Span, found: &mut Vec<Mistake>) -> Result<Kind, Memory>
     ensures { IfOk result (let is_length = same_word (word_at text.now field) (codes "Length") in
         IsGiven (if is_length then Kind.Scalar Scalar.Int else Kind.Unknown)
-        (if is_length then [] else Mistake.Unknown field ∷ []) found.old.items found.new.items) }
+        (if is_length then [] else Mistake.Unknown field NameSort.Length ∷ []) found.old.items found.new.items) }
 {
     if is_length(text, field) {
         return Ok(Kind::Scalar(Scalar::Int));
     }
-    add_unknown(field, found)?;
+    add_unknown(field, NameSort::Length, found)?;
     Ok(Kind::Unknown)
 }
 
@@ -210,27 +212,28 @@ fn judge_struct_field(
         (λ s. field_mistakes s (Kind.Pointer place) field field) found.old.items found.new.items) }
 {
     match scope.structure_at(place) {
-        Some(fields) => judge_field_in(scope, fields, field, found),
+        Some(fields) => judge_field_in(scope, place, fields, field, found),
         None => Ok(Kind::Unknown),
     }
 }
 
-/// The kind of a field of a struct; adds one that it lacks.
+/// The kind of a field of a struct, which is the item at this place; adds one that it lacks.
 fn judge_field_in(
     scope: &Scope<'_>,
+    place: usize,
     fields: &Fields<'_>,
     field: Span,
     found: &mut Vec<Mistake>,
 ) -> Result<Kind, Memory>
     ensures { IfOk result (λ k. (s : InScope) (x : StructTree) → IsScope s.program scope.now → AreFields scope.now.text.now x fields.now
         → IsGiven (struct_field_kind s (field_named scope.now.text.now x field))
-        (if is_some (field_named scope.now.text.now x field) then [] else Mistake.Unknown field ∷ [])
+        (if is_some (field_named scope.now.text.now x field) then [] else Mistake.Unknown field (NameSort.Field place) ∷ [])
         found.old.items found.new.items k) }
 {
     match fields.find(scope.text, field) {
         Some(declared) => Ok(scope.kind(declared.kind)),
         None => {
-            add_unknown(field, found)?;
+            add_unknown(field, NameSort::Field(place), found)?;
             Ok(Kind::Unknown)
         }
     }

@@ -27,7 +27,9 @@ use crate::targets::judge_target;
 use crate::values::judge_value;
 use crate::variables::{Variable, Variables};
 use crate::wholes::judge_asked;
-use declarations::{Demand, Kind, Mismatch, Mistake, Scope, add_unknown, is_heap, judge_type};
+use declarations::{
+    Demand, Kind, Mismatch, Mistake, NameSort, Scope, add_unknown, is_heap, judge_type,
+};
 use program::Side;
 use source::{Memory, Span};
 use tree::{Assign, Declare, Expression, NewChannel, Type, Value};
@@ -209,7 +211,7 @@ fn judge_new_ends(
     let right = kind_held(scope, variables, channel.second);
     match scope.contract_place(channel.contract) {
         Some(place) => judge_ends(place, (left, right), channel.first, channel.second, found),
-        None => add_unknown(channel.contract, found),
+        None => add_unknown(channel.contract, NameSort::Contract, found),
     }
 }
 

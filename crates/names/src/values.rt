@@ -21,7 +21,7 @@ use crate::surroundings::{NameContext, Surroundings};
 use crate::told::judge_count;
 use crate::variables::Variables;
 use crate::wholes::{judge_asked, judge_number};
-use declarations::{Demand, Kind, Mismatch, Mistake, Scope};
+use declarations::{Demand, Kind, Mismatch, Mistake, NameSort, Scope};
 use source::{Memory, Span};
 use tree::{Expression, Made, New, Value};
 
@@ -50,7 +50,7 @@ fn judge_structure(
             Ok(Kind::Pointer(place))
         }
         None => {
-            judge_unknown(context, name, arguments, found)?;
+            judge_unknown(context, name, NameSort::Struct, arguments, found)?;
             Ok(Kind::Unknown)
         }
     }

@@ -1,1 +1,3 @@
 pub mod PieceLemmas
+pub mod AroundLemmas
+pub mod NameLemmas

@@ -1,4 +1,5 @@
 pub mod KindWords
+pub mod Candidates
 pub mod Listings
 pub mod Remarks
 pub mod FaultRemarks

@@ -1,5 +1,5 @@
 -- What more is said of a mistake in names or types.
-use Rattle.std.specs.Prelude.{ℕ, List, ◌++◌, codes, drop, Option, None, Some}
+use Rattle.std.specs.Prelude.{ℕ, List, [], ◌++◌, codes, drop, Option, Some, option_and_then}
 use Rattle.std.specs.Fmt.{decimal}
 use Rattle.program.specs.declared.kind.Side.{Side}
 use Rattle.program.specs.declared.kind.Side.TheVariants.{Imp, Exp}
@@ -12,8 +12,13 @@ use Rattle.declarations.specs.declared.mistake.Limit.TheVariants as limit
 use Rattle.declarations.specs.declared.mistake.Mismatch.{Mismatch}
 use Rattle.declarations.specs.declared.mistake.Mismatch.TheVariants as mismatch
 use Rattle.declarations.specs.declared.mistake.Mistake.{Mistake}
+use Rattle.declarations.specs.declared.mistake.NameSort.{NameSort}
+use Rattle.declarations.specs.declared.mistake.NameSort.TheVariants as sort
+use Rattle.nearest.specs.Nearest.{nearest_name}
+use Rattle.remarks.specs.Candidates.{candidates}
+use Rattle.source.specs.declared.token.Span.{Span}
 use Rattle.declarations.specs.declared.mistake.Mistake.TheVariants as mistake
-use Rattle.remarks.specs.KindWords.{demand_words, kind_words}
+use Rattle.remarks.specs.KindWords.{cut_name, demand_words, kind_words}
 use Rattle.remarks.specs.declared.line.Remark.{Remark}
 use Rattle.std.specs.Str.Lossy.{utf8_lossy}
 use Rattle.tables.specs.Words.{word_at}
@@ -59,10 +64,30 @@ limit_back limit.Fields = codes " fields that own"
 limit_back limit.Methods = codes " methods"
 limit_back limit.Variables = codes " variables of the exchange heap"
 
--- what more is said of a mistake; nothing of a name that nothing declares
+-- the word that is compared with the names of a sort, and what stands before such a name
+abbrev pub word_sought : Program → Span → NameSort → List ℕ
+word_sought p name (sort.Sent n) = drop 4 (word_at p.text name)
+word_sought p name _ = word_at p.text name
+
+abbrev pub front_words : NameSort → List ℕ
+front_words (sort.Sent n) = codes "Send"
+front_words _ = []
+
+-- the nearest of the names that could be meant, if one is near
+abbrev pub near_remark : Program → Span → NameSort → Option RemarkSeen
+near_remark p name s = option_and_then
+    (λ near. at near.place (codes "the nearest name is " ++ (front_words s ++ cut_name (word_at p.text near))))
+    (nearest_name p.text (word_sought p name s) (candidates p name.place s))
+
+-- what more is said of a name of a sort that nothing declares
+abbrev pub unknown_remark : Program → Span → NameSort → Option RemarkSeen
+unknown_remark p name sort.Length = at name.place (codes "an array has only its Length")
+unknown_remark p name s = near_remark p name s
+
+-- what more is said of a mistake
 abbrev pub remark_of : Program → Mistake → Option RemarkSeen
 remark_of p (mistake.DeclaredTwice name first) = at first (codes "declared here first")
-remark_of p (mistake.Unknown name) = None
+remark_of p (mistake.Unknown name sort) = unknown_remark p name sort
 remark_of p (mistake.WrongType place why) = at place (mismatch_words p why)
 remark_of p (mistake.WrongNumber place asked given) =
     at place (codes "asked for " ++ (decimal asked ++ (codes ", given " ++ decimal given)))

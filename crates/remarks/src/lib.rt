@@ -1,12 +1,15 @@
 //! What more is said of a finding of the text or of its names.
 #![tactic(auto)]
 
+mod around;
+mod candidates;
 mod faults;
 mod kinds;
 mod line;
 mod listing;
 mod mismatches;
 mod mistakes;
+mod unknown;
 mod words;
 
 pub use faults::fault_remark;

@@ -51,7 +51,7 @@ impl Listing<'_> {
 }
 
 /// Adds a name, or as much of it as is printed and two dots. Returns `Memory` if a growth is refused.
-fn add_cut(alloc: Global, text: &mut String, word: &[u8]) -> Result<(), Memory>
+pub(crate) fn add_cut(alloc: Global, text: &mut String, word: &[u8]) -> Result<(), Memory>
     ensures { OnOk result (string_bytes text.new ≡ string_bytes text.old ++ cut_name word.now) }
 {
     if word.len() > MAX_NAME {
@@ -63,7 +63,7 @@ fn add_cut(alloc: Global, text: &mut String, word: &[u8]) -> Result<(), Memory>
 }
 
 /// The name that a definition declares.
-fn name_of(definition: &Definition) -> Span
+pub(crate) fn name_of(definition: &Definition) -> Span
     ensures { result ≡ defined_name (definition_tree definition.now) }
 {
     match definition {

@@ -80,7 +80,7 @@ fn add_not_sent(
 }
 
 /// What a word has after `Send`.
-fn after_send(word: &[u8]) -> &[u8]
+pub(crate) fn after_send(word: &[u8]) -> &[u8]
     ensures { result.now ≡ drop 4 word.now }
 {
     word.get(SEND_LEN..).unwrap_or(&[])

@@ -11,6 +11,7 @@ ghost use Rattle.tree.specs.Trees.{item_tree};
 use crate::line::{Remark, add, add_number, plain, remark_at};
 use crate::listing::Listing;
 use crate::mismatches::add_mismatch;
+use crate::unknown::unknown_remark;
 use crate::words::{limit_back, limit_front};
 use declarations::{Limit, Mismatch, Mistake};
 use source::{Memory, Span};
@@ -18,7 +19,8 @@ use std::alloc::Global;
 use tree::Item;
 
 /// What more is said of a mistake in names or types, in the text whose tree has these items: for example what is asked and what is given,
-/// or where a name is declared first. Returns `None` for a name that nothing declares. Returns `Memory` if an allocation is refused.
+/// or where a name is declared first. Returns `None` for a name that nothing declares where no name that could be meant is near.
+/// Returns `Memory` if an allocation is refused.
 pub fn remark(
     alloc: Global,
     text: &[u8],
@@ -31,7 +33,7 @@ pub fn remark(
     let listing = Listing { text, items };
     match mistake {
         Mistake::DeclaredTwice(_, first) => plain(alloc, first, "declared here first"),
-        Mistake::Unknown(_) => Ok(None),
+        Mistake::Unknown(name, sort) => unknown_remark(alloc, &listing, name, sort),
         Mistake::WrongType(place, why) => {
             Ok(remark_at(place, mismatch_text(alloc, &listing, why)?))
         }

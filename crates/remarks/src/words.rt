@@ -2,9 +2,9 @@
 
 ghost use Rattle.std.specs.Prelude.{◌≡◌};
 ghost use Rattle.remarks.specs.KindWords.{scalar_words};
-ghost use Rattle.remarks.specs.Remarks.{limit_back, limit_front, side_words};
+ghost use Rattle.remarks.specs.Remarks.{front_words, limit_back, limit_front, side_words};
 
-use declarations::Limit;
+use declarations::{Limit, NameSort};
 use program::{Scalar, Side};
 
 /// A scalar type as it is written.
@@ -51,5 +51,15 @@ pub(crate) fn limit_back(limit: Limit) -> &'static str
         Limit::Fields => " fields that own",
         Limit::Methods => " methods",
         Limit::Variables => " variables of the exchange heap",
+    }
+}
+
+/// What stands before a name of this sort where it is used.
+pub(crate) fn front_words(sort: NameSort) -> &'static str
+    ensures { result.now ≡ front_words sort }
+{
+    match sort {
+        NameSort::Sent(_) => "Send",
+        _ => "",
     }
 }

@@ -1,5 +1,5 @@
 -- Mistakes in names that are explained one after another.
-use Rattle.std.proofs.Common.{◌≡◌, ℕ, ◌+◌, ◌<◌, ◌≤◌, List, [], ◌∷◌, ◌++◌, Option, length, get_or, map, take, refl, sym, ap, subst, ◌∙◌}
+use Rattle.std.proofs.Common.{◌≡◌, Bool, ℕ, ◌+◌, ◌<◌, ◌≤◌, List, [], ◌∷◌, ◌++◌, Option, length, get_or, map, take, refl, sym, ap, subst, ◌∙◌}
 use Rattle.std.specs.Prelude.{All, Contains}
 use Rattle.std.proofs.lemmas.List.{map-append, take_all, take_more}
 use Rattle.std.proofs.lemmas.List.Elements.{All-nil, All-push}
@@ -10,11 +10,10 @@ use Rattle.declarations.specs.Mistakes.{finding_in}
 use Rattle.declarations.specs.Program.{Program}
 use Rattle.declarations.specs.declared.mistake.Mistake.{Mistake}
 use Rattle.names.specs.Findings.{program_findings, program_mistakes}
-use Rattle.remarks.specs.Remarks.{remark_of}
 use Rattle.traces.specs.Explained.{explained_seen}
 use Rattle.traces.specs.Lines.{line_seen}
 use Rattle.traces.specs.declared.line.Explained.{Explained}
-use Rattle.singcheck.specs.Remarked.{IsMistake, remark_lines}
+use Rattle.singcheck.specs.Remarked.{IsMistake, remark_lines, remark_within}
 
 -- the first so many mistakes are explained
 pub record Remarked (named : Option Place) (p : Program) (mistakes : List Mistake) (n : ℕ) (found : List Explained) : Type 0 where
@@ -25,10 +24,10 @@ pub remarked_none : (named : Option Place) (p : Program) (mistakes : List Mistak
 remarked_none named p mistakes [] none = record { view = refl; each = All-nil (λ (e : Explained). IsMistake named p (explained_seen e)) }
 remarked_none named p mistakes (x ∷ found) none = cc
 
-pub remarked_more : (named : Option Place) (p : Program) (mistakes : List Mistake) (n : ℕ) (d : Mistake) (found : List Explained) (e : Explained) → n < length mistakes → mistakes ≡ program_mistakes p
-    → finding_parts e.finding ≡ finding_in p.text (get_or mistakes n d) → map line_seen e.lines.items ≡ remark_lines named e.finding.place (remark_of p (get_or mistakes n d)) → Remarked named p mistakes n found
+pub remarked_more : (named : Option Place) (p : Program) (mistakes : List Mistake) (n : ℕ) (d : Mistake) (within : Bool) (found : List Explained) (e : Explained) → n < length mistakes → mistakes ≡ program_mistakes p
+    → finding_parts e.finding ≡ finding_in p.text (get_or mistakes n d) → map line_seen e.lines.items ≡ remark_lines named e.finding.place (remark_within within p (get_or mistakes n d)) → Remarked named p mistakes n found
     → Remarked named p mistakes (n + 1) (found ++ e ∷ [])
-remarked_more named p mistakes n d found e lt all finding lines so =
+remarked_more named p mistakes n d within found e lt all finding lines so =
     let says = finding_in p.text in
     let m = get_or mistakes n d in
     record {
@@ -36,7 +35,7 @@ remarked_more named p mistakes n d found e lt all finding lines so =
           ∙ ap (λ f. map says (take n mistakes) ++ f ∷ []) finding ∙ sym (map-append says (take n mistakes) (m ∷ []))
           ∙ ap (map says) (sym (take_more mistakes n d lt));
       each = All-push (λ (x : Explained). IsMistake named p (explained_seen x)) found e so.each
-          (record { mistake = m; among = subst (λ l. Contains l m) all (n, lt, get_or_from_slice_get mistakes n m m (slice_get-get_or mistakes n d lt)); finding = finding; lines = lines });
+          (record { mistake = m; within = within; among = subst (λ l. Contains l m) all (n, lt, get_or_from_slice_get mistakes n m m (slice_get-get_or mistakes n d lt)); finding = finding; lines = lines });
     }
 
 pub remarked_all : (named : Option Place) (p : Program) (mistakes : List Mistake) (n : ℕ) (found : List Explained) → length mistakes ≤ n → mistakes ≡ program_mistakes p → Remarked named p mistakes n found

@@ -1,5 +1,5 @@
 -- What more is said of what is wrong with a text or its names.
-use Rattle.std.specs.Prelude.{◌≡◌, ℕ, List, [], ◌∷◌, Option, Contains, if◌then◌else◌}
+use Rattle.std.specs.Prelude.{◌≡◌, ℕ, Bool, false, List, [], ◌∷◌, Option, None, Contains, if◌then◌else◌}
 use Rattle.std.specs.Option.{option_map_or}
 use Rattle.source.specs.Faults.{IsFault}
 use Rattle.source.specs.declared.fault.TextFault.{TextFault}
@@ -8,6 +8,7 @@ use Rattle.tree.specs.Trees.{ItemTree}
 use Rattle.declarations.specs.Mistakes.{finding_in}
 use Rattle.declarations.specs.Program.{Program}
 use Rattle.declarations.specs.declared.mistake.Mistake.{Mistake}
+use Rattle.declarations.specs.declared.mistake.Mistake.TheVariants as mistake
 use Rattle.names.specs.Findings.{program_mistakes}
 use Rattle.remarks.specs.FaultRemarks.{fault_remark}
 use Rattle.remarks.specs.Remarks.{RemarkSeen, remark_of}
@@ -22,12 +23,18 @@ said_lines r = option_map_or (λ said. line said.place said.text ∷ []) r []
 abbrev pub remark_lines : Option Place → Place → Option RemarkSeen → List LineSeen
 remark_lines named place r = if is_asked named place then said_lines r else []
 
+-- what more is said of a mistake; of a name that nothing declares only where its nearest name is looked for
+abbrev pub remark_within : Bool → Program → Mistake → Option RemarkSeen
+remark_within false p (mistake.Unknown name sort) = None
+remark_within within p m = remark_of p m
+
 -- one of all the mistakes in the names of the text: its finding, with what more is said of it
 pub record IsMistake (named : Option Place) (p : Program) (e : ExplainedSeen) : Type 0 where
   pub mistake : Mistake
+  pub within : Bool
   pub among : Contains (program_mistakes p) mistake
   pub finding : e.finding ≡ finding_in p.text mistake
-  pub lines : e.lines ≡ remark_lines named e.finding.place (remark_of p mistake)
+  pub lines : e.lines ≡ remark_lines named e.finding.place (remark_within within p mistake)
 
 pub record HasMistake (named : Option Place) (text : List ℕ) (e : ExplainedSeen) : Type 0 where
   pub items : List ItemTree

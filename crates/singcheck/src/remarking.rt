@@ -11,12 +11,12 @@ ghost use Rattle.tree.specs.Programs.{program};
 ghost use Rattle.tree.specs.Trees.{program_tree};
 ghost use Rattle.declarations.specs.Mistakes.{finding_in};
 ghost use Rattle.declarations.specs.Program.{program_of};
-ghost use Rattle.remarks.specs.Remarks.{remark_of, remark_seen};
+ghost use Rattle.remarks.specs.Remarks.{remark_seen};
 ghost use Rattle.traces.specs.Explained.{explained_seen};
 ghost use Rattle.traces.specs.Lines.{line_seen};
 ghost use Rattle.singcheck.specs.Answers.{IsProgram};
 ghost use Rattle.singcheck.specs.Explains.{IsExplainedText};
-ghost use Rattle.singcheck.specs.Remarked.{remark_lines, said_lines};
+ghost use Rattle.singcheck.specs.Remarked.{remark_lines, remark_within, said_lines};
 
 use crate::expecting::explain_at;
 use crate::stages::fault_finding;
@@ -27,6 +27,9 @@ use std::alloc::Global;
 use syntax::{SyntaxFault, parse};
 use traces::{Explained, Line, is_asked};
 use tree::Tree;
+
+/// How many bytes of a text are looked through at most for all its nearest names.
+const MOST_LOOKED_THROUGH: usize = 1 << 26;
 
 /// What is wrong with a text, its tokens or its names, each finding with what more is said of it, in no order. If a place is named, only
 /// what is found there has lines; a token that is not expected is left out then, if it stands elsewhere.
@@ -96,28 +99,62 @@ fn explain_names(
     ensures { IfOk result (λ found. IsExplainedText named text.now (map explained_seen found.items)) }
 {
     let mistakes = mistakes_of(alloc, tree, text)?;
+    let most = most_looked_for(text);
     let mut found = Vec::new(alloc);
-    for mistake in &mistakes {
-        found.push(explain_mistake(alloc, text, tree, *mistake, named)?)?;
+    for (number, mistake) in mistakes.iter().enumerate() {
+        let within = number < most || named.is_some();
+        found.push(explain_mistake(alloc, text, tree, *mistake, named, within)?)?;
     }
     Ok(found)
 }
 
-/// A mistake in the names of a text.
+/// For how many mistakes in the names of a text a nearest name is looked for. Each may take a way through the whole text, so these are
+/// fewer in a longer one.
+fn most_looked_for(text: &[u8]) -> usize {
+    MOST_LOOKED_THROUGH / text.len().max(1)
+}
+
+/// A mistake in the names of a text, with what more is said of it if that is asked for: of a name that nothing declares only within the
+/// number for which a nearest name is looked for.
 fn explain_mistake(
     alloc: Global,
     text: &[u8],
     tree: &Tree,
     mistake: Mistake,
     named: Option<Place>,
+    within: bool,
 ) -> Result<Explained, Memory>
     ensures finding { IfOk result (λ e. finding_parts e.finding ≡ finding_in text.now mistake) }
     ensures lines { IfOk result (λ e. map line_seen e.lines.items
-        ≡ remark_lines named e.finding.place (remark_of (program_of text.now tree.now) mistake)) }
+        ≡ remark_lines named e.finding.place (remark_within within (program_of text.now tree.now) mistake)) }
 {
     let finding = mistake.finding(alloc, text)?;
-    let said = remark(alloc, text, &tree.items, mistake)?;
-    explained_by(alloc, finding, said, named)
+    let asked = is_asked(named, finding.place);
+    let mut lines = Vec::new(alloc);
+    if asked {
+        add_remark(
+            remark_within(alloc, text, tree, mistake, within)?,
+            &mut lines,
+        )?;
+    }
+    Ok(Explained { finding, lines })
+}
+
+/// What more is said of a mistake; of a name that nothing declares only if it is within the number for which a nearest name is looked for.
+fn remark_within(
+    alloc: Global,
+    text: &[u8],
+    tree: &Tree,
+    mistake: Mistake,
+    within: bool,
+) -> Result<Option<Remark>, Memory>
+    ensures { IfOk result (λ said. option_map remark_seen said
+        ≡ remark_within within (program_of text.now tree.now) mistake) }
+{
+    match mistake {
+        Mistake::Unknown(..) if !within => Ok(None),
+        _ => remark(alloc, text, &tree.items, mistake),
+    }
 }
 
 /// The first fault of a text.

@@ -10,6 +10,7 @@ use Rattle.tree.specs.Values.{CallTree}
 use Rattle.tree.specs.declared.types as tree
 use Rattle.names.specs.Expressions.{held, variable_mistakes}
 use Rattle.declarations.specs.declared.mistake.Mistake.TheVariants.{Unknown}
+use Rattle.declarations.specs.declared.mistake.NameSort.TheVariants as sort
 use Rattle.declarations.specs.declared.mistake.Mismatch.TheVariants.{Given}
 use Rattle.declarations.specs.Kinds.{unless}
 use Rattle.declarations.specs.Program.{Program, Numbered, as_class, class_named, item_at}
@@ -53,10 +54,10 @@ record Fitting (p : Program) (g : names.Frame) (m : MethodTree) (Is : MethodTree
   pub given : argument_mistakes (scope_of p g) (parameter_kinds p m.params) (map shape es) ≡ []
   pub fits : Is m
 
-fitting : (p : Program) (g : names.Frame) (role : _) (name : Span) (m : MethodTree) (es : List ExpressionTree) (Is : MethodTree → Type 0)
+fitting : (p : Program) (g : names.Frame) (front : Option Span) (role : _) (name : Span) (m : MethodTree) (es : List ExpressionTree) (Is : MethodTree → Type 0)
     → ((n : MethodTree) → start_mistakes n role name ≡ [] → (F : Option tree.Type.Type → Bool) → ((r : Option tree.Type.Type) → F r ≡ result_fits p r role) → F n.result ≡ true → Is n)
-    → method_mistakes (scope_of p g) (Some m) role name (map shape es) ≡ [] → Fitting p g m Is es
-fitting p g role name m es Is fits none =
+    → method_mistakes (scope_of p g) (Some m) front role name (map shape es) ≡ [] → Fitting p g m Is es
+fitting p g front role name m es Is fits none =
     let shapes = map shape es in
     let many = number_of_arguments m.params shapes name.place in
     let given = argument_mistakes (scope_of p g) (parameter_kinds p m.params) shapes in
@@ -74,11 +75,11 @@ fitting p g role name m es Is fits none =
 -- a call by one name
 own_call : (p : Program) (class : ℕ) (t : ClassTree) (f : Frame) (g : names.Frame) (role : _) (c : CallTree) (Is : MethodTree → Type 0)
     → ((n : MethodTree) → start_mistakes n role c.name ≡ [] → (F : Option tree.Type.Type → Bool) → ((r : Option tree.Type.Type) → F r ≡ result_fits p r role) → F n.result ≡ true → Is n) → item_at as_class p class ≡ Some (class, t) → c.member ≡ None
-    → (o : Option MethodTree) → method_named p.text t c.name ≡ o → method_mistakes (scope_of p g) o role c.name (map shape c.arguments) ≡ [] → CallsMethod p class f g Is c
+    → (o : Option MethodTree) → method_named p.text t c.name ≡ o → method_mistakes (scope_of p g) o None role c.name (map shape c.arguments) ≡ [] → CallsMethod p class f g Is c
 own_call p class t f g role c Is fits there member None found none = cc
 own_call p class t f g role c Is fits there member (Some m) found none =
     let a = method_answers p class t c.name m there found in
-    let x = fitting p g role c.name m c.arguments Is fits none in
+    let x = fitting p g None role c.name m c.arguments Is fits none in
     record {
       method = m;
       number = a.number;
@@ -97,11 +98,11 @@ no_end p locals name free = ap (option_and_then (λ v. contract_of v.kind)) free
 class_call : (p : Program) (class : ℕ) (f : Frame) (g : names.Frame) (role : _) (c : CallTree) (word : Span) (Is : MethodTree → Type 0)
     → ((n : MethodTree) → start_mistakes n role word ≡ [] → (F : Option tree.Type.Type → Bool) → ((r : Option tree.Type.Type) → F r ≡ result_fits p r role) → F n.result ≡ true → Is n) → c.member ≡ Some word → local_named p.text f.locals c.name ≡ None
     → (n : ℕ) (t : ClassTree) → class_named p c.name ≡ Some (n, t)
-    → (o : Option MethodTree) → method_named p.text t word ≡ o → method_mistakes (scope_of p g) o role word (map shape c.arguments) ≡ [] → CallsMethod p class f g Is c
+    → (o : Option MethodTree) → method_named p.text t word ≡ o → method_mistakes (scope_of p g) o (Some c.name) role word (map shape c.arguments) ≡ [] → CallsMethod p class f g Is c
 class_call p class f g role c word Is fits member free n t there None found none = cc
 class_call p class f g role c word Is fits member free n t there (Some m) found none =
     let a = member_answers p c.name word n t m there found in
-    let x = fitting p g role word m c.arguments Is fits none in
+    let x = fitting p g (Some c.name) role word m c.arguments Is fits none in
     record {
       method = m;
       number = a.number;
@@ -131,7 +132,7 @@ member_means p t class result s f g role c word Is fits around standing member N
     inl (named_call p class f g role c word Is (λ n. fits n word) member local (class_named p c.name) refl none)
 member_means p t class result s f g role c word Is fits around standing member (Some l) local none =
     let meant_is = ap (λ vs. variable_named p.text vs c.name) (sym standing.same) ∙ same_named p.text f.locals c.name ∙ ap (option_map named) local in
-    let found : variable_mistakes (scope_of p g) c.name ≡ [] = ap (λ o. if is_some o then [] else Unknown c.name ∷ []) meant_is in
+    let found : variable_mistakes (scope_of p g) c.name ≡ [] = ap (λ o. if is_some o then [] else Unknown c.name (sort.Variable (length g.variables)) ∷ []) meant_is in
     let known = subst (IsKnown p) (ap held meant_is) (held_known p s.variables f g c.name standing found) in
     inr (local_call p t class result s f g role c word around standing member l local meant_is known l.kind refl none)
 

@@ -11,6 +11,7 @@ use Rattle.names.specs.Bodies.{exchange_mistakes, exchanged_kind, holder_mistake
 use Rattle.declarations.specs.Declarations.{first_among}
 use Rattle.names.specs.Expressions.{field_mistakes, field_kind, held, meant, struct_field_kind, variable_mistakes}
 use Rattle.declarations.specs.declared.mistake.Mistake.TheVariants.{Unknown}
+use Rattle.declarations.specs.declared.mistake.NameSort.TheVariants as sort
 use Rattle.declarations.specs.declared.mistake.Demand.TheVariants as demand
 use Rattle.declarations.specs.declared.mistake.Mismatch.TheVariants.{Given}
 use Rattle.declarations.specs.Kinds.{agree, is_block, is_silent, type_kind, type_unknown, unless}
@@ -78,10 +79,10 @@ pointer_holder p g n name field clean known none fits =
     let s = has.tree in
     let place = first_among p.text (map (λ (x : Field). x.name) s.fields) field in
     let named = option_and_then (slice_get s.fields) place in
-    let none_there = sym (ap (λ o. option_map_or (λ (x : ℕ × StructTree). if is_some (option_and_then (slice_get x.1.fields) (first_among p.text (map (λ (y : Field). y.name) x.1.fields) field)) then [] else Unknown field ∷ []) o []) has.is) ∙ none in
+    let none_there = sym (ap (λ o. option_map_or (λ (x : ℕ × StructTree). if is_some (option_and_then (slice_get x.1.fields) (first_among p.text (map (λ (y : Field). y.name) x.1.fields) field)) then [] else Unknown field (sort.Field n) ∷ []) o []) has.is) ∙ none in
     let kind_is = ap (λ o. option_map_or (λ (x : ℕ × StructTree). struct_field_kind (scope_of p g) (option_and_then (slice_get x.1.fields) (first_among p.text (map (λ (y : Field). y.name) x.1.fields) field))) o kind.Unknown) has.is in
     let block = subst (λ k. (is_silent k || is_block k) ≡ true) kind_is fits in
-    let f = named_field p g s field place named (clean s has.is) refl refl (none_said (is_some named) (Unknown field) none_there) block in
+    let f = named_field p g s field place named (clean s has.is) refl refl (none_said (is_some named) (Unknown field (sort.Field n)) none_there) block in
     record {
       number = n;
       tree = s;

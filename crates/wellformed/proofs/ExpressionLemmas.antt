@@ -1,5 +1,5 @@
 -- Expressions with which nothing is wrong: their kinds, and what they read.
-use Rattle.std.proofs.Common.{◌≡◌, ◌<◌, Bool, true, false, not, ◌||◌, List, [], ◌∷◌, ◌++◌, length, if◌then◌else◌, refl, sym, ap, subst, arith}
+use Rattle.std.proofs.Common.{◌≡◌, ℕ, ◌<◌, Bool, true, false, not, ◌||◌, List, [], ◌∷◌, ◌++◌, length, if◌then◌else◌, refl, sym, ap, subst, arith}
 use Rattle.std.proofs.lemmas.Bool.{not-true}
 use Rattle.std.specs.Option.{option_map_or}
 use Rattle.std.specs.Prelude.{Option, None, Some, is_some, IsSomeAnd}
@@ -15,6 +15,7 @@ use Rattle.program.specs.declared.kind.Scalar.TheVariants as scalar
 use Rattle.names.specs.Expressions.{kind_of, place_of, held, meant, expression_mistakes, whole_mistakes, field_kind, field_mistakes, struct_field_kind, is_length, is_owning, owns, element_kind, element_mistakes, variable_mistakes, mention_mistakes, asked_number, sign_asked, left_asked, right_asked, signed_kind, joined_kind}
 use Rattle.declarations.specs.Named.{field_named}
 use Rattle.declarations.specs.declared.mistake.Mistake.TheVariants.{Unknown}
+use Rattle.declarations.specs.declared.mistake.NameSort.TheVariants as sort
 use Rattle.declarations.specs.Kinds.{is_block, is_heap, is_number, is_truth, is_unknown, type_kind, unless}
 use Rattle.declarations.specs.Program.{Program, Numbered, as_struct, item_at}
 use Rattle.names.specs.Shapes as shapes
@@ -82,19 +83,19 @@ part_scalar : (p : Program) (g : names.Frame) (o : Option made.Field.Field) → 
 part_scalar p g None is own = absurd (cc)
 part_scalar p g (Some x) is own = type_scalar p x.kind own
 
-struct_scalar : (p : Program) (g : names.Frame) (o : Option (Numbered StructTree)) (field : Span) → IsSomeAnd o (λ s. Unit {0})
-    → option_map_or (λ x. if is_some (field_named p.text x.1 field) then [] else Unknown field ∷ []) o [] ≡ []
+struct_scalar : (p : Program) (g : names.Frame) (n : ℕ) (o : Option (Numbered StructTree)) (field : Span) → IsSomeAnd o (λ s. Unit {0})
+    → option_map_or (λ x. if is_some (field_named p.text x.1 field) then [] else Unknown field (sort.Field n) ∷ []) o [] ≡ []
     → option_map_or (λ x. is_owning (field_named p.text x.1 field)) o false ≡ false
     → IsKnown p (option_map_or (λ x. struct_field_kind (scope_of p g) (field_named p.text x.1 field)) o kind.Unknown) × (is_block (option_map_or (λ x. struct_field_kind (scope_of p g) (field_named p.text x.1 field)) o kind.Unknown) ≡ false)
-struct_scalar p g None field known none own = absurd known
-struct_scalar p g (Some x) field known none own = part_scalar p g (field_named p.text x.1 field) (none_said (is_some (field_named p.text x.1 field)) (Unknown field) none) own
+struct_scalar p g n None field known none own = absurd known
+struct_scalar p g n (Some x) field known none own = part_scalar p g (field_named p.text x.1 field) (none_said (is_some (field_named p.text x.1 field)) (Unknown field (sort.Field n)) none) own
 
 -- a field that does not own, or an element, is a scalar
 pub field_scalar : (p : Program) (g : names.Frame) (k : declared.Kind.Kind) (name field : Span) → IsKnown p k → field_mistakes (scope_of p g) k name field ≡ [] → owns (scope_of p g) k field ≡ false
     → IsKnown p (field_kind (scope_of p g) k field) × (is_block (field_kind (scope_of p g) k field) ≡ false)
 field_scalar p g (kind.Scalar s) name field known none own = absurd (cc)
-field_scalar p g (kind.Array element) name field known none own = length_scalar p (is_length (scope_of p g) field) (none_said (is_length (scope_of p g) field) (Unknown field) none)
-field_scalar p g (kind.Pointer n) name field known none own = struct_scalar p g (item_at as_struct p n) field known none own
+field_scalar p g (kind.Array element) name field known none own = length_scalar p (is_length (scope_of p g) field) (none_said (is_length (scope_of p g) field) (Unknown field sort.Length) none)
+field_scalar p g (kind.Pointer n) name field known none own = struct_scalar p g n (item_at as_struct p n) field known none own
 field_scalar p g (kind.Endpoint side n) name field known none own = absurd (cc)
 field_scalar p g kind.Missing name field known none own = absurd known
 field_scalar p g kind.Unknown name field known none own = absurd known

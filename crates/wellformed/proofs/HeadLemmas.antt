@@ -85,7 +85,7 @@ close_brings s (v ∷ bound) holds = absurd holds
 message_fits : (p : Program) (t : ClassTree) (class : ℕ) (result : Option type_nodes.Type.Type) (s : Setting) (f : Frame) (g : names.Frame) (name : Span) (word : Span) (binds : List made.Bind.Bind) (n : ℕ) (side : Side)
     (c : ContractTree) (o : Option MessageTree)
     → Around p t class result s → AreStanding p s.variables f g → variable_mistakes (scope_of p g) name ≡ [] → held (meant (scope_of p g) name) ≡ kind.Endpoint side n
-    → item_at as_contract p n ≡ Some (n, c) → message_written p.text c (word_at p.text word) ≡ o → message_case_mistakes (scope_of p g) o side word binds ≡ []
+    → item_at as_contract p n ≡ Some (n, c) → message_written p.text c (word_at p.text word) ≡ o → message_case_mistakes (scope_of p g) (kind.Endpoint side n) o side word binds ≡ []
     → HeadFits p s f g (record { endpoint = name; awaited = waits.Message word; binds = binds })
 message_fits p t class result s f g name word binds n side c None around standing none is there written found = absurd (cc)
 message_fits p t class result s f g name word binds n side c (Some m) around standing none is there written found =
@@ -127,11 +127,11 @@ head_by p t class result s f g all before name (waits.Message word) binds (kind.
     let h : Head = record { endpoint = name; awaited = waits.Message word; binds = binds } in
     let o = cases.awaited_message (scope_of p g) (kind.Endpoint side n) (waits.Message word) in
     let first = both_none (endpoint_head_mistakes (scope_of p g) before (kind.Endpoint side n) side h) (lack_mistakes (scope_of p g) all before h) found in
-    let second = both_none (message_case_mistakes (scope_of p g) o side word binds) (if is_some o then twice_mistakes (scope_of p g) before h else []) first.0 in
+    let second = both_none (message_case_mistakes (scope_of p g) (kind.Endpoint side n) o side word binds) (if is_some o then twice_mistakes (scope_of p g) before h else []) first.0 in
     let c = contract_known p n side known in
     let same : o ≡ message_written p.text c.tree (word_at p.text word) = ap (option_and_then (λ x. message_written p.text x.1 (word_at p.text word))) c.is in
     message_fits p t class result s f g name word binds n side c.tree (message_written p.text c.tree (word_at p.text word)) around standing none is c.is refl
-    (subst (λ x. message_case_mistakes (scope_of p g) x side word binds ≡ []) same second.0)
+    (subst (λ x. message_case_mistakes (scope_of p g) (kind.Endpoint side n) x side word binds ≡ []) same second.0)
 head_by p t class result s f g all before name (waits.Closed word) binds (kind.Scalar x) around standing none is known found = absurd (cc)
 head_by p t class result s f g all before name (waits.Message word) binds (kind.Scalar x) around standing none is known found = absurd (cc)
 head_by p t class result s f g all before name (waits.Closed word) binds (kind.Pointer n) around standing none is known found = absurd (cc)

@@ -6,6 +6,7 @@ use Rattle.source.specs.declared.token.Span.{Span}
 use Rattle.declarations.specs.Declarations.{first_among}
 use Rattle.names.specs.Expressions.{held, meant, variable_mistakes}
 use Rattle.declarations.specs.declared.mistake.Mistake.TheVariants.{Unknown}
+use Rattle.declarations.specs.declared.mistake.NameSort.TheVariants as sort
 use Rattle.declarations.specs.Kinds.{is_block}
 use Rattle.declarations.specs.Program.{Program}
 use Rattle.names.specs.Variables as names
@@ -42,7 +43,7 @@ meant_as p vs f g name standing = ap (λ variables. variable_named p.text variab
 meant_by : (p : Program) (vs : List VariableSeen) (f : Frame) (g : names.Frame) (name : Span) (o : Option Local) → AreStanding p vs f g
     → local_named p.text f.locals name ≡ o → meant (scope_of p g) name ≡ option_map named o → variable_mistakes (scope_of p g) name ≡ [] → IsMeant p vs f g name
 meant_by p vs f g name None standing is means none =
-    let wrong : Unknown name ∷ [] ≡ [] = subst (λ (o : Option names.Variable). (if is_some o then [] else Unknown name ∷ []) ≡ []) means none in
+    let wrong : Unknown name (sort.Variable (length g.variables)) ∷ [] ≡ [] = subst (λ (o : Option names.Variable). (if is_some o then [] else Unknown name (sort.Variable (length g.variables)) ∷ []) ≡ []) means none in
     absurd (cc)
 meant_by p vs f g name (Some l) standing is means none = record { local = l; is = is; meant_is = means; stands = local_stands p vs f g name l standing is }
 

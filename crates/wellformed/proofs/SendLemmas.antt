@@ -12,6 +12,7 @@ use Rattle.program.specs.declared.kind.Side.{Side}
 use Rattle.names.specs.Expressions.{held, meant, variable_mistakes}
 use Rattle.names.specs.Findings.{program_mistakes}
 use Rattle.declarations.specs.declared.mistake.Mistake.TheVariants.{Unknown}
+use Rattle.declarations.specs.declared.mistake.NameSort.TheVariants as sort
 use Rattle.declarations.specs.Kinds.{is_block, type_unknown, unless}
 use Rattle.declarations.specs.Program.{Program, as_contract, item_at}
 use Rattle.program.specs.Parts.{ContractSeen}
@@ -69,7 +70,7 @@ sent_written text word t m true sent = sent
 sent_written text word t m false sent = cc
 
 sending : (p : Program) (g : names.Frame) (n : ℕ) (side : Side) (t : ContractTree) (role : _) (word : Span) (es : List ExpressionTree) → program_mistakes p ≡ [] → item_at as_contract p n ≡ Some (n, t)
-    → (o : Option MessageTree) → sent_message p.text t (word_at p.text word) ≡ o → message_mistakes (scope_of p g) o side role word (map shape es) ≡ [] → (is_alone role ≡ true) × Sending p g n word es
+    → (o : Option MessageTree) → sent_message p.text t (word_at p.text word) ≡ o → message_mistakes (scope_of p g) n o side role word (map shape es) ≡ [] → (is_alone role ≡ true) × Sending p g n word es
 sending p g n side t role word es clean there None found none = cc
 sending p g n side t role word es clean there (Some m) found none =
     let shapes = map shape es in
@@ -99,10 +100,10 @@ end_sends : (p : Program) (t : ClassTree) (class : ℕ) (result : Option type_no
 end_sends p t class result s f g role c word around standing member l local n side kind_is known meant_is none =
     let has : HasContract p n = contract_known p n side known in
     let of_contract = ap (option_and_then (λ x. sent_message p.text x.1 (word_at p.text word))) has.is in
-    let clean = subst (λ o. message_mistakes (scope_of p g) o side role word (map shape c.arguments) ≡ []) of_contract none in
+    let clean = subst (λ o. message_mistakes (scope_of p g) n o side role word (map shape c.arguments) ≡ []) of_contract none in
     let x = sending p g n side has.tree role word c.arguments around.clean has.is (sent_message p.text has.tree (word_at p.text word)) refl clean in
     let held_is : held (meant (scope_of p g) c.name) ≡ kind.Endpoint side n = ap held meant_is ∙ kind_is in
-    let found : variable_mistakes (scope_of p g) c.name ≡ [] = ap (λ o. if is_some o then [] else Unknown c.name ∷ []) meant_is in
+    let found : variable_mistakes (scope_of p g) c.name ≡ [] = ap (λ o. if is_some o then [] else Unknown c.name (sort.Variable (length g.variables)) ∷ []) meant_is in
     let m = block_mentioned p s.variables f g c.name standing found (ap is_block held_is) in
     let a = x.1.answer in
     let meant_by_is : meant_by p f c word ≡ Some a.meant = ap (option_and_then (λ k. message_sent p k word)) (end_of p f.locals c.name l n side local kind_is) ∙ a.is in

@@ -7,6 +7,7 @@ use Rattle.tree.specs.Trees.{ContractTree, DefinitionTree, ItemTree, StructTree}
 use Rattle.program.specs.declared.kind.Side.{Side}
 use Rattle.declarations.specs.Declarations.{first_among, is_declared, names_of_states, states_of}
 use Rattle.declarations.specs.declared.mistake.Mistake.TheVariants.{Unknown}
+use Rattle.declarations.specs.declared.mistake.NameSort.TheVariants as sort
 use Rattle.declarations.specs.Kinds.{endpoint_kind, endpoint_unknown, is_block, pointer_kind, pointer_unknown}
 use Rattle.declarations.specs.Program.{Numbered, Program, as_contract, as_struct, contract_named, item_at, item_names, struct_named}
 use Rattle.declarations.specs.declared.kinds.Kind.TheVariants as kind
@@ -41,7 +42,7 @@ pub pointer_known : (p : Program) (name : Span) (o : Option _) → struct_named 
 pointer_known p name None is none = cc
 pointer_known p name (Some s) is none = there_is (item_at as_struct p s.0) s (found_itself as_struct p (first_among p.text (item_names p) name) s is)
 
-declared_known : (p : Program) (c : ℕ × ContractTree) (end : Side) (state : Span) (b : Bool) → item_at as_contract p c.0 ≡ Some c → (if b then [] else Unknown state ∷ []) ≡ [] → IsKnown p (if b then kind.Endpoint end c.0 else kind.Unknown)
+declared_known : (p : Program) (c : ℕ × ContractTree) (end : Side) (state : Span) (b : Bool) → item_at as_contract p c.0 ≡ Some c → (if b then [] else Unknown state (sort.State (Some c.0)) ∷ []) ≡ [] → IsKnown p (if b then kind.Endpoint end c.0 else kind.Unknown)
 declared_known p c end state true is none = there_is (item_at as_contract p c.0) c is
 declared_known p c end state false is none = cc
 

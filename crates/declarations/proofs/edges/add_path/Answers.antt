@@ -1,7 +1,7 @@
 use Rattle.std.proofs.Common.{◌++◌, ap, sym, ◌∙◌, arith}
 use Rattle.std.specs.List.{flat_map}
 use Rattle.lemmas.proofs.Lists.{nil_left, nil_right}
-use Rattle.declarations.specs.Listed.{asked_name}
+use Rattle.declarations.specs.Listed.{asked_message}
 use Rattle.declarations.specs.Meant.{meanings, message_names, path_left, text_of}
 use Rattle.declarations.proofs.BehindLemmas.{nothing_in}
 use Rattle.declarations.proofs.MeantLemmas.{path_is, path_step}
@@ -13,7 +13,7 @@ loop-next-init c =
     let path = c.args.path.now in
     record {
       to = omega arith;
-      declared = nil_left (asked_name (text_of meaning) (message_names meaning) path.first.message) _ c.requires.clean;
+      declared = nil_left (asked_message (text_of meaning) (message_names meaning) path.first.message) _ c.requires.clean;
       edges = ap (λ l. l ++ path_left (meanings meaning) c.args.state c.args.unnamed path.first path.others.items path.target) c.reserve.ensures.items
           ∙ ap (λ l. c.args.edges.now.items ++ l) (sym (path_is (meanings meaning) c.args.state c.args.unnamed path.first path.others.items path.target));
     }
@@ -23,7 +23,7 @@ loop-next-preserved c =
     let meaning = c.args.meaning.now in
     let path = c.args.path.now in
     let others = path.others.items in
-    let asked = asked_name (text_of meaning) (message_names meaning) in
+    let asked = asked_message (text_of meaning) (message_names meaning) in
     let behind = nil_right (asked path.first.message) _ c.requires.clean in
     let none = nil_left (flat_map (λ e. asked e.message) others) _ behind in
     let value = c.deref-next-items.ensures.value in
@@ -39,5 +39,5 @@ pub state-target-requires-clause-declared : goal.state-target-requires-clause-de
 state-target-requires-clause-declared c =
     let meaning = c.args.meaning.now in
     let path = c.args.path.now in
-    let asked = asked_name (text_of meaning) (message_names meaning) in
+    let asked = asked_message (text_of meaning) (message_names meaning) in
     nil_right (flat_map (λ e. asked e.message) path.others.items) _ (nil_right (asked path.first.message) _ c.requires.clean)

@@ -1,4 +1,4 @@
-use Rattle.std.proofs.Common.{map, sym, subst}
+use Rattle.std.proofs.Common.{◌∷◌, [], map, sym, subst}
 use Rattle.std.specs.Prelude.{OnOk}
 use Rattle.tree.specs.ExpressionTrees.{expression_tree}
 use Rattle.names.specs.Operands.{in_frame}
@@ -6,7 +6,9 @@ use Rattle.declarations.specs.Mistakes.{Adds}
 use Rattle.declarations.specs.Program.{class_named}
 use Rattle.declarations.specs.Scopes.{AreMethods, IsCallee}
 use Rattle.names.specs.Shapes.{shape}
-use Rattle.names.specs.Values.{class_mistakes}
+use Rattle.names.specs.Values.{argument_mistakes, class_mistakes}
+use Rattle.declarations.specs.declared.mistake.Mistake.TheVariants.{Unknown}
+use Rattle.declarations.specs.declared.mistake.NameSort.TheVariants as sort
 use Rattle.declarations.specs.Named.{method_named}
 use Rattle.names.proofs.PassLemmas.{class_lacks, classed}
 use Rattle.names.proofs.calls.judge_class.Goals as goal
@@ -31,4 +33,5 @@ returns-in-None c = λ p f here.
     let args = map shape (map expression_tree c.args.site.now.arguments.now) in
     subst (λ o. OnOk c.judge_unknown.result (Adds c.args.found.now.items c.judge_unknown.new.found.items (class_mistakes s o c.args.site.now.role c.args.class c.args.site.now.name args)))
     (sym (class_lacks p.text (class_named p c.args.class) (c.in-None.ensures p here.scope)))
-    (c.judge_unknown.ensures p f here)
+    (subst (λ k. OnOk c.judge_unknown.result (Adds c.args.found.now.items c.judge_unknown.new.found.items (Unknown c.args.class (sort.Front k) ∷ argument_mistakes s [] args)))
+    (c.len.ensures p.text f here.frame) (c.judge_unknown.ensures p f here))

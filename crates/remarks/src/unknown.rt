@@ -1,0 +1,80 @@
+//! What more is said of a name that nothing declares.
+
+ghost use Rattle.std.specs.Prelude.{◌≡◌, ◌++◌, IfOk, codes, option_map, string_bytes};
+ghost use Rattle.remarks.specs.KindWords.{cut_name};
+ghost use Rattle.remarks.specs.Listings.{program_seen};
+ghost use Rattle.remarks.specs.Remarks.{front_words, near_remark, remark_seen, unknown_remark};
+ghost use Rattle.remarks.specs.Remarks.{word_sought};
+ghost use Rattle.tables.specs.Words.{word_at};
+
+use crate::line::{Remark, add, plain, remark_at};
+use crate::listing::{Listing, add_cut};
+use crate::mismatches::after_send;
+use crate::words::front_words;
+use declarations::NameSort;
+use nearest::nearest;
+use source::{Memory, Span};
+use std::alloc::Global;
+
+/// What more is said of a name of a sort that nothing declares: the nearest that could be meant,
+/// where that is declared. Returns `Memory` if an allocation is refused.
+pub(crate) fn unknown_remark(
+    alloc: Global,
+    listing: &Listing<'_>,
+    name: Span,
+    sort: NameSort,
+) -> Result<Option<Remark>, Memory>
+    ensures { IfOk result (λ said. option_map remark_seen said
+        ≡ unknown_remark (program_seen listing.now) name sort) }
+{
+    match sort {
+        NameSort::Length => plain(alloc, name.place, "an array has only its Length"),
+        _ => near_remark(alloc, listing, name, sort),
+    }
+}
+
+/// The nearest of the names that could be meant, if one is near. Returns `Memory` if an allocation
+/// is refused.
+fn near_remark(
+    alloc: Global,
+    listing: &Listing<'_>,
+    name: Span,
+    sort: NameSort,
+) -> Result<Option<Remark>, Memory>
+    ensures { IfOk result (λ said. option_map remark_seen said
+        ≡ near_remark (program_seen listing.now) name sort) }
+{
+    let names = listing.candidates(alloc, name.place, sort)?;
+    match nearest(listing.text, word_sought(listing, name, sort), &names) {
+        Some(near) => Ok(remark_at(near.place, near_text(alloc, listing, near, sort)?)),
+        None => Ok(None),
+    }
+}
+
+/// The word that is compared with the names of a sort.
+fn word_sought<'a>(listing: &Listing<'a>, name: Span, sort: NameSort) -> &'a [u8]
+    ensures { result.now ≡ word_sought (program_seen listing.now) name sort }
+{
+    let word = name.slice(listing.text);
+    match sort {
+        NameSort::Sent(_) => after_send(word),
+        _ => word,
+    }
+}
+
+/// Which name of a sort is the nearest. Returns `Memory` if an allocation is refused.
+fn near_text(
+    alloc: Global,
+    listing: &Listing<'_>,
+    near: Span,
+    sort: NameSort,
+) -> Result<String, Memory>
+    ensures { IfOk result (λ text. string_bytes text
+        ≡ codes "the nearest name is "
+        ++ (front_words sort ++ cut_name (word_at listing.now.text.now near))) }
+{
+    let mut text = String::from_str(alloc, "the nearest name is ")?;
+    add(&mut text, front_words(sort))?;
+    add_cut(alloc, &mut text, near.slice(listing.text))?;
+    Ok(text)
+}
