@@ -18,8 +18,6 @@ fn first_places_of_names(rt: HostRuntime) -> Result<(), Fail> {
     assert_eq!(rt; table.find(b"a"), Some(0));
     assert_eq!(rt; table.find(b"bb"), Some(1));
     assert_eq!(rt; table.find(b"b"), None);
-    assert!(rt; table.is_first(b"a", 0));
-    assert!(rt; !table.is_first(b"a", 2));
     assert!(rt; !table.is_apart());
     assert!(rt; Table::of(alloc, b"a bb a", &names[..2])?.is_apart());
     Ok(())

@@ -1,8 +1,8 @@
 //! Names that are declared twice, that nothing declares, or that are one too many.
 
-ghost use Rattle.std.specs.Prelude.{◌≡◌, List, ◌∷◌, [], OnOk, slice_get};
+ghost use Rattle.std.specs.Prelude.{◌≡◌, ◌↔◌, List, ◌∷◌, [], IsTrue, OnOk, Some, option_and_then, slice_get};
 ghost use Rattle.source.specs.declared.token.Span.{Span};
-ghost use Rattle.declarations.specs.Listed.{asked_name, name_among, past_limit, twice, twice_among};
+ghost use Rattle.declarations.specs.Listed.{asked_name, past_limit, twice, twice_among};
 ghost use Rattle.declarations.specs.Mistakes.{Adds};
 ghost use Rattle.tables.specs.Tables.{IsTable};
 ghost use Rattle.tables.specs.Words.{words_at};
@@ -65,19 +65,29 @@ pub(crate) fn judge_twice(
         return Ok(());
     }
     for (place, name) in names.iter().enumerate() {
-        if !table.is_first(name.slice(text), place) {
-            add_twice(*name, first_named(text, table, names, *name), found)?;
+        let first = table.find(name.slice(text));
+        if !is_at(first, place) {
+            add_twice(*name, first_named(names, first), found)?;
         }
     }
     Ok(())
 }
 
-/// The first of these names that is written so.
-fn first_named(text: &[u8], table: &Table<'_>, names: &[Span], name: Span) -> Option<Span>
-    ensures { IsTable (words_at text.now names.now) table.now → result ≡ name_among text.now names.now name }
+/// Whether a name was found at this place.
+fn is_at(found: Option<usize>, place: usize) -> bool
+    ensures { IsTrue result ↔ (found ≡ Some place) }
 {
-    let first = table.find(name.slice(text))?;
-    name_at(names, first)
+    match found {
+        Some(first) => first == place,
+        None => false,
+    }
+}
+
+/// The one of these names that was found.
+fn first_named(names: &[Span], first: Option<usize>) -> Option<Span>
+    ensures { result ≡ option_and_then (slice_get names.now) first }
+{
+    name_at(names, first?)
 }
 
 /// Adds the name one past the limit.

@@ -144,6 +144,7 @@ impl Mistake {
     /// What a report tells of it, in this text.
     ///
     /// `Memory` is returned if a growth was refused.
+    #[inline(always)]
     pub fn finding(self, alloc: Global, text: &[u8]) -> Result<Finding, Memory>
         ensures { IfOk result (λ finding. finding_parts finding ≡ finding_in text.now self) }
     {

@@ -18,6 +18,7 @@ impl<'a> Scope<'a> {
     ghost use Rattle.declarations.specs.Scopes.{IsScope};
 
     /// The kind of a type.
+    #[inline(always)]
     pub fn kind(&self, kind: Type) -> Kind
         ensures { (p : Program) → IsScope p self.now → result ≡ type_kind p kind }
     {

@@ -25,6 +25,7 @@ pub fn is_heap(kind: Type) -> bool
 }
 
 /// The kind of a type.
+#[inline(always)]
 pub(crate) fn kind_of_type(scope: &Scope<'_>, kind: Type) -> Kind
     ensures { (p : Program) → IsScope p scope.now → result ≡ type_kind p kind }
 {

@@ -151,6 +151,7 @@ pub(crate) fn judge_field(
 }
 
 /// Whether a field of this kind, of what a variable holds, owns.
+#[inline(always)]
 pub(crate) fn owns(scope: &Scope<'_>, held: Kind, field: Span, kind: Kind) -> bool
     ensures { (s : InScope) → IsScope s.program scope.now → kind ≡ field_kind s held field → result ≡ owns s held field }
 {

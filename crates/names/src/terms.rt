@@ -32,6 +32,7 @@ impl Terms {
 }
 
 /// All terms as one operand; adds what is wrong with the operator before the last one.
+#[inline(always)]
 pub(crate) fn joined_terms(terms: Terms, found: &mut Vec<Mistake>) -> Result<Operand, Memory>
     ensures { IfOk result (λ o. (s : InScope) (t : TermShapes) (start : List MistakeSeen) → IsJudgedTerms s t start found.old.items terms
         → IsJudged s (whole t) start found.new.items o) }

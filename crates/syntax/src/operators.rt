@@ -80,6 +80,7 @@ pub fn relation_operator(cursor: &mut Cursor<'_>) -> Result<RelationOperator, St
 }
 
 /// Whether this token is "*", "+" or "-".
+#[inline(always)]
 pub fn is_factor(kind: Option<Kind>) -> bool
     ensures { result ≡ joins_factors kind }
 {
@@ -87,6 +88,7 @@ pub fn is_factor(kind: Option<Kind>) -> bool
 }
 
 /// "*" | "+" | "-"
+#[inline(always)]
 pub fn factor_operator(cursor: &mut Cursor<'_>) -> Result<FactorOperator, Stuck>
     ensures { ReadsEnded (λ x. x) factor_operator cursor.old cursor.new result }
 {
@@ -110,6 +112,7 @@ fn sum_operator(cursor: &mut Cursor<'_>) -> Result<SumOperator, Stuck>
 }
 
 /// The prefix that this token is.
+#[inline(always)]
 fn prefix_of(kind: Option<Kind>) -> Option<PrefixOperator>
     ensures { result ≡ prefix_of kind }
 {

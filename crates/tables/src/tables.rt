@@ -232,16 +232,6 @@ impl<'a> Table<'a> {
         if name == *there { Some(place) } else { None }
     }
 
-    /// Whether this is the place where the name is declared first.
-    pub fn is_first(&self, name: &[u8], place: usize) -> bool
-        ensures { (words : List (List ℕ)) → IsTable words self.now → IsTrue result ↔ (first_of words name.now ≡ Some place) }
-    {
-        match self.find(name) {
-            Some(first) => first == place,
-            None => false,
-        }
-    }
-
     /// Whether no name stands twice. Then each stands first where it stands, and need not be looked for.
     pub fn is_apart(&self) -> bool
         ensures { (words : List (List ℕ)) → IsTable words self.now → IsTrue result ↔ IsApart words }

@@ -1,4 +1,5 @@
 use Rattle.std.proofs.Common.{ap, ◌∙◌, sym, subst, get_or, true≢false}
+use Rattle.std.specs.Prelude.{option_and_then, slice_get}
 use Rattle.declarations.specs.Listed.{twice}
 use Rattle.source.specs.declared.token.Span.{Span}
 use Rattle.tables.specs.Firsts.{first_of}
@@ -6,7 +7,7 @@ use Rattle.declarations.specs.Mistakes.{Adds}
 use Rattle.tables.specs.Words.{words_at}
 use Rattle.declarations.proofs.TwiceLemmas.{apart_adds, twice_start, twice_end, twice_step, twice_here, first_adds, later_adds}
 use Rattle.declarations.proofs.judging.judge_twice.Goals as goal
-use Rattle.declarations.proofs.judging.judge_twice.Goals.{then-not-is_first+in_ok-add_twice, else-not-is_first}
+use Rattle.declarations.proofs.judging.judge_twice.Goals.{then-not-is_at+in_ok-add_twice, else-not-is_at}
 
 nowhere : Span
 nowhere = record { start = 0; end = 0; place = record { line = 0; col = 0 } }
@@ -26,17 +27,19 @@ loop-place-preserved c = λ h.
     let i = c.loop-place.place in
     let name = get_or names i nowhere in
     let old = c.loop-place.found.items in
-    let first = c.is_first.ensures _ h in
+    let words = words_at text names in
+    let first = c.is_at.ensures in
+    let at = c.find-first.ensures _ h ∙ ap (first_of words) c.slice.ensures in
     twice_step text names i nowhere _ old _ (c.loop-place.invariant h) c.loop-place-test.true
-    (elim c.if-not-is_first.branch [
-      | then-not-is_first+in_ok-add_twice w ↦
+    (elim c.if-not-is_at.branch [
+      | then-not-is_at+in_ok-add_twice w ↦
           subst (λ v. Adds old v.items (twice_here text names i name)) (sym w.found-is)
           (later_adds text names i nowhere old _ c.loop-place-test.true
-          (λ e. true≢false (sym (first.1 (ap (first_of (words_at text names)) c.slice.ensures ∙ e)) ∙ w.if-not-is_first.true))
-          (subst (λ o. Adds old w.add_twice.new.found.items (twice name o)) (w.first_named.ensures h) w.in_ok-add_twice.ensures))
-      | else-not-is_first w ↦
+          (λ e. true≢false (sym (first.1 (at ∙ e)) ∙ w.if-not-is_at.true))
+          (subst (λ o. Adds old w.add_twice.new.found.items (twice name o)) (w.first_named.ensures ∙ ap (option_and_then (slice_get names)) at) w.in_ok-add_twice.ensures))
+      | else-not-is_at w ↦
           subst (λ v. Adds old v.items (twice_here text names i name)) (sym w.found-is)
-          (first_adds text names i nowhere old c.loop-place-test.true (sym (ap (first_of (words_at text names)) c.slice.ensures) ∙ first.0 w.if-not-is_first.false))
+          (first_adds text names i nowhere old c.loop-place-test.true (sym at ∙ first.0 w.if-not-is_at.false))
     ])
 
 pub returns : goal.returns
