@@ -22,8 +22,28 @@ OTHER = '/// Where another is.\n#[derive(Clone)]\npub enum Place {}\n'
 LEMMAS = 'first : (a b : ℕ) → a ≡ b\n    → b ≡ a\nfirst a b e = sym e\n\nT : ℕ → Type 0\nT n = Unit\n'
 AGAIN = 'second : (a b : ℕ)   → a ≡ b → b ≡ a\nsecond a b e = sym e\n\nU : ℕ → Type 0\nU n = Unit\n'
 DEFINITION = 'IsWide : Type 0\nIsWide = %s\n\nIsNot : Type 0\nIsNot = %s\n' % ('x' * 132, 'ℕ' * 132)
+GLOSSARY = """## Glossary
+
+| word | what it means | its types |
+|---|---|---|
+| place | a line | `Place` |
+| row, list | many of one | `u8` |
+| gate | a door | |
+"""
+NAMED = """struct Thing<'a> {
+    place: Option<&'a low::Place>,
+    pub(crate) row: Vec<[u8; 4]>,
+    list: Vec<usize>,
+    gate: u8,
+}
+
+fn show(mut place: &mut u32, row: &[u8]) {
+    let place: u64 = 0;
+}
+"""
 PAGE = 'See `low/src/lib.rt`, `low/src/gone.rt`, `old/src/lib.rt`, `low::sum`, `low::missing`, `out/program` and `NAME/src/lib.rt`.\n'
-FILES = {'crates.txt': 'low:\nhigh: low\n', 'README.md': PAGE, 'crates/low/src/lib.rt': CODE, 'crates/high/src/lib.rt': OTHER,
+FILES = {'crates.txt': 'low:\nhigh: low\n', 'README.md': PAGE, 'docs/ARCHITECTURE.md': GLOSSARY,
+         'crates/low/src/lib.rt': CODE, 'crates/low/src/named.rt': NAMED, 'crates/high/src/lib.rt': OTHER,
          'crates/low/specs/Wide.antt': DEFINITION, 'crates/high/specs/Long.antt': '-- A line.\n' * 401,
          'bench/times.py': '# %s\n' % ('ä' * 139), 'crates/low/proofs/Lemmas.antt': LEMMAS, 'crates/high/proofs/Lemmas.antt': AGAIN}
 FOUND = ['crates/low/src/lib.rt:3 no doc comment on Bare, it is public',
@@ -32,6 +52,8 @@ FOUND = ['crates/low/src/lib.rt:3 no doc comment on Bare, it is public',
          'crates/low/specs/Wide.antt:2 wide line in IsWide, 141 columns', 'crates/high/specs/Long.antt:1 long file, 401 lines',
          'crates/high/src/lib.rt:3 type Place twice, also crates/low/src/lib.rt:2',
          'crates/high/proofs/Lemmas.antt:1 lemma second twice, also crates/low/proofs/Lemmas.antt:1',
+         'crates/low/src/named.rt:4 list of type usize, the glossary has u8',
+         'crates/low/src/named.rt:8 place of type u32, the glossary has Place',
          'bench/times.py:1 wide line in a script, 141 columns', 'README.md:1 unknown name low/src/gone.rt, nothing here is called so',
          'README.md:1 unknown name old/src/lib.rt, nothing here is called so',
          'README.md:1 unknown name low::missing, nothing here is called so']
