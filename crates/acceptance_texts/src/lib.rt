@@ -7,3 +7,5 @@ mod faults;
 mod lexing;
 #[cfg(test)]
 mod parsing;
+#[cfg(test)]
+mod trees;

@@ -1,7 +1,8 @@
 -- The items of a text by their names.
 use Rattle.std.specs.Prelude.{ℕ, List, map, Option, None, Some, option_map, option_and_then, slice_get}
 use Rattle.source.specs.declared.token.Span.{Span}
-use Rattle.tree.specs.Trees.{ItemTree, DefinitionTree, Contract, Struct, Class, ContractTree, StructTree, ClassTree, program_tree}
+use Rattle.tree.specs.Trees.{ItemTree, DefinitionTree, Contract, Struct, Class, ContractTree, StructTree, ClassTree}
+use Rattle.tree.specs.Trees.{defined_name, program_tree}
 use Rattle.tree.specs.declared.item.Tree.{Tree}
 use Rattle.declarations.specs.Declarations.{first_among}
 
@@ -29,12 +30,6 @@ abbrev pub as_class : DefinitionTree → Option ClassTree
 as_class (Contract c) = None
 as_class (Struct s) = None
 as_class (Class c) = Some c
-
--- the name that a definition declares
-abbrev pub defined_name : DefinitionTree → Span
-defined_name (Contract c) = c.name
-defined_name (Struct s) = s.name
-defined_name (Class c) = c.name
 
 -- the names of the items
 abbrev pub item_names : Program → List Span

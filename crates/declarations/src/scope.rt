@@ -2,10 +2,10 @@
 
 ghost use Rattle.std.specs.Prelude.{◌≡◌, IfOk, map, Option, option_map, option_and_then, slice_get};
 ghost use Rattle.std.specs.Option.{option_copied};
-ghost use Rattle.tree.specs.Trees.{item_tree, definition_tree};
+ghost use Rattle.tree.specs.Trees.{item_tree, definition_tree, defined_name};
 ghost use Rattle.declarations.specs.Declarations.{first_among};
 ghost use Rattle.declarations.specs.Program.{Program, contract_named, struct_named, class_named, item_at};
-ghost use Rattle.declarations.specs.Program.{item_names, as_contract, as_struct, as_class, defined_name};
+ghost use Rattle.declarations.specs.Program.{item_names, as_contract, as_struct, as_class};
 ghost use Rattle.declarations.specs.Named.{field_named};
 ghost use Rattle.declarations.specs.Owning.{owning_named};
 ghost use Rattle.declarations.specs.Scopes.{AllMembers};
@@ -16,7 +16,7 @@ use crate::noted::NotedKinds;
 use source::Span;
 use std::alloc::{AllocError, Global};
 use tables::Table;
-use tree::{Definition, Field, Item};
+use tree::{Field, Item};
 
 /// The items of a text by their names: what they declare, in order, and where each of their names is declared first. A name
 /// means the first item that declares it.
@@ -158,7 +158,7 @@ impl<'a> Scope<'a> {
     fn declared_at(&self, place: usize) -> Option<&Declared<'a>>
         ensures { option_copied result ≡ option_and_then as_declared (slice_get self.now.members.items place) }
     {
-        self.members.get(place)?.declared()
+        self.members.get(place)?.contract()
     }
 
     fn fields_at(&self, place: usize) -> Option<&Fields<'a>>
@@ -180,19 +180,9 @@ pub(crate) fn names_of_items(alloc: Global, items: &[Item]) -> Result<Vec<Span>,
 {
     let mut names = Vec::new(alloc);
     for item in items {
-        names.push(name_of(&item.definition))?;
+        names.push(item.definition.name())?;
     }
     Ok(names)
-}
-
-fn name_of(definition: &Definition) -> Span
-    ensures { result ≡ defined_name (definition_tree definition.now) }
-{
-    match definition {
-        Definition::Contract(contract) => contract.name,
-        Definition::Struct(structure) => structure.name,
-        Definition::Class(class) => class.name,
-    }
 }
 
 /// What these items declare within them, in order.

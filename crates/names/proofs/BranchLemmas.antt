@@ -1,4 +1,4 @@
--- The last branch of an `if`, and the cases of a switch one after another.
+-- Statements, the branches of an `if` and the cases of a switch, one after another.
 use Rattle.std.proofs.Common.{◌≡◌, ℕ, zero, suc, ◌+◌, ◌<◌, ◌≤◌, List, [], ◌∷◌, ◌++◌, length, map, take, drop, get_or, Option, None, Some, sym, ap, ◌∙◌, subst, arith, add-one}
 use Rattle.std.specs.Prelude.{slice_get}
 use Rattle.std.specs.Option.{option_map}
@@ -7,13 +7,26 @@ use Rattle.std.proofs.Math.Seq.{drop-cons}
 use Rattle.std.proofs.lemmas.List.{drop_all}
 use Rattle.declarations.specs.declared.mistake.Mistake.{Mistake}
 use Rattle.tree.specs.StatementTrees as trees
-use Rattle.tree.specs.StatementTrees.{BlockTree, CaseTree, block_tree, test_tree, case_tree, case_row, other_row, switch_tree}
+use Rattle.tree.specs.StatementTrees.{BlockTree, CaseTree, statement_tree, statement_row, block_tree, test_tree, case_tree, case_row, other_row, switch_tree}
 use Rattle.tree.specs.declared.statement as made
-use Rattle.names.specs.Bodies.{Surroundings, block_turn, others_turn, test_turn, case_turn, cases_turn, head_of, heads_of}
+use Rattle.names.specs.Bodies.{Surroundings, statement_turn, statements_turn, block_turn, others_turn, test_turn, case_turn, cases_turn, head_of, heads_of}
 use Rattle.names.specs.Cases.{Head}
 use Rattle.names.specs.Variables.{Frame, Turn, turn, follow}
 use Rattle.names.specs.declared.variables.Variables.{Variables}
 use Rattle.names.proofs.TurnLemmas.{Ongoing}
+
+-- the next statement, and what is left behind it
+pub next_statement : (m : Surroundings) (xs : List made.Statement.Statement) (i : ℕ) (x : made.Statement.Statement) → i < length xs → x ≡ get_or xs i x
+    → statements_turn m (statement_row (map statement_tree (drop i xs))) ≡ (λ f. follow (statement_turn m (statement_tree x) f) (statements_turn m (statement_row (map statement_tree (drop (i + 1) xs)))))
+next_statement m xs i x lt is =
+    let behind : ℕ → Frame → Turn = λ n f. follow (statement_turn m (statement_tree x) f) (statements_turn m (statement_row (map statement_tree (drop n xs)))) in
+    ap (λ l. statements_turn m (statement_row (map statement_tree l))) (drop-cons xs i x lt ∙ ap (λ k. k ∷ drop (suc i) xs) (sym is)) ∙ ap behind (sym (add-one i))
+
+-- behind the last statement nothing is left
+pub no_statement : {text : List ℕ} {old mid : List Mistake} {v : Variables} {whole : Turn} (m : Surroundings) (xs : List made.Statement.Statement) (i : ℕ) → length xs ≤ i
+    → Ongoing text old mid v whole (statements_turn m (statement_row (map statement_tree (drop i xs)))) → Ongoing text old mid v whole (turn [])
+no_statement {text = text} {old = old} {mid = mid} {v = v} {whole = whole} m xs i past o =
+    subst (λ rest. Ongoing text old mid v whole (statements_turn m (statement_row (map statement_tree rest)))) (drop_all i xs past) o
 
 -- behind the last test of an `if` its last block is left
 pub last_branch : {text : List ℕ} {old mid : List Mistake} {v : Variables} {whole : Turn} (m : Surroundings) (ts : List made.Test.Test) (i : ℕ) (otherwise : Option made.Block.Block) (block : made.Block.Block) → length ts ≤ i → otherwise ≡ Some block

@@ -30,7 +30,7 @@ use Rattle.lemmas.specs.Places.{first_position}
 use Rattle.tables.specs.Words.{word_at, words_at, same_word}
 use Rattle.names.proofs.HeadLemmas.{some_of, first_before, first_of_some}
 use Rattle.lemmas.proofs.FirstPlaces.{same_position}
-use Rattle.names.proofs.StatementTwins.{switch_is}
+use Rattle.tree.proofs.StatementTwins.{switch_is}
 
 abbrev pub Key : Type 0
 Key = Bor (List ℕ) × Option (Bor (List ℕ))

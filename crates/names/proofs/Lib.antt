@@ -2,13 +2,11 @@ pub mod ParameterLemmas
 pub mod ItemLemmas
 pub mod FoundLemmas
 pub mod CleanLemmas
-pub mod ExpressionTwins
 pub mod ExpressionNames
 pub mod TermLemmas
 pub mod MentionLemmas
 pub mod VariableLemmas
 pub mod WholeNames
-pub mod StatementTwins
 pub mod PendingLemmas
 pub mod TurnLemmas
 pub mod KeepLemmas

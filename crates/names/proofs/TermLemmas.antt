@@ -13,7 +13,7 @@ use Rattle.tree.specs.declared.expression.FactorOperator.TheVariants as operator
 use Rattle.tree.specs.declared.expression.SumOperator.{SumOperator}
 use Rattle.names.specs.Expressions.{InScope, expression_mistakes}
 use Rattle.declarations.specs.Mistakes.{Adds}
-use Rattle.names.specs.Operands.{IsJudged, Judges, IsJoined, mentioned}
+use Rattle.names.specs.Operands.{IsJudged, Judges, IsJoined}
 use Rattle.names.specs.Shapes.{Shape, Joined, Sum, shape, joined}
 use Rattle.names.specs.Terms.{TermShapes, IsJudgedTerms, JudgesTerms, before_mistakes, behind, first_term, whole, with_factor, with_factors}
 use Rattle.names.specs.declared.operands.Operand.{Operand}
@@ -113,16 +113,3 @@ judges_factors f u second xs ys i tree (Ok o) new {scope = scope} {variables = v
     let is : whole (factors_to f (with_factor (first_term (shape u)) second) xs i) ≡ shape tree =
     ap (λ zs. whole (with_factors (first_term (shape u)) (second ∷ map f zs))) (take_all i xs le ∙ same) ∙ gathered_whole u (second ∷ map f ys) ∙ ap (λ (t : LevelTree (levels.Joined Add)). shape t) (sym seen) in
     subst (λ e. Judges scope variables e old new o) is (record { all = λ p g is_scope is_frame. all _ _ old (h.all p g is_scope is_frame) })
-
--- with factors behind the first one it is no variable alone
-one_more : (before : Option Shape) (last : Shape) (f : FactorTree) → mentioned (whole (with_factor (record { before = before; last = last }) f)) ≡ None
-one_more None last (operators.Times, e) = refl
-one_more (Some b) last (operators.Times, e) = refl
-one_more before last (operators.Sum o, e) = refl
-
-more_factors : (t : TermShapes) (f : FactorTree) (fs : List FactorTree) → mentioned (whole (with_factors t (f ∷ fs))) ≡ None
-more_factors t f [] = one_more t.before t.last f
-more_factors t f (g ∷ fs) = more_factors (with_factor t f) g fs
-
-pub gathered_is_more : (u : LevelTree Single) (f : FactorTree) (fs : List FactorTree) (tree : LevelTree (levels.Joined Add)) → tree ≡ gathered u (f ∷ fs) → None ≡ mentioned (shape tree)
-gathered_is_more u f fs tree seen = sym (ap (λ (t : LevelTree (levels.Joined Add)). mentioned (shape t)) seen ∙ ap mentioned (sym (gathered_whole u (f ∷ fs))) ∙ more_factors (first_term (shape u)) f fs)

@@ -1,8 +1,7 @@
 -- What the parts of an expression are judged to be.
-use Rattle.std.specs.Prelude.{◌≡◌, ◌++◌, ◌||◌, List, Option, Some, None, if◌then◌else◌}
+use Rattle.std.specs.Prelude.{◌≡◌, ◌++◌, ◌||◌, List, if◌then◌else◌}
 use Rattle.declarations.specs.declared.mistake.Mistake.{Mistake}
 use Rattle.source.specs.declared.place.Place.{Place}
-use Rattle.source.specs.declared.token.Span.{Span}
 use Rattle.names.specs.Expressions.{InScope, kind_of, place_of, expression_mistakes, whole_mistakes}
 use Rattle.names.specs.Expressions.{joined_kind, left_asked, right_asked, signed_kind, sign_asked}
 use Rattle.declarations.specs.Mistakes.{Adds}
@@ -10,7 +9,7 @@ use Rattle.names.specs.Frames.{IsFrame}
 use Rattle.declarations.specs.Kinds.{is_unknown}
 use Rattle.declarations.specs.Program.{Program}
 use Rattle.declarations.specs.Scopes.{IsScope}
-use Rattle.names.specs.Shapes.{Shape, Number, Truth, Mention, Field, Element, Parens, Signed, Joined, Joint, Sign}
+use Rattle.names.specs.Shapes.{Shape, Joint, Sign}
 use Rattle.names.specs.Variables.{Frame}
 use Rattle.declarations.specs.declared.kinds.Kind.TheVariants as kind
 use Rattle.names.specs.declared.operands.Operand.{Operand}
@@ -51,14 +50,3 @@ pub record IsSigned (sign : Sign) (place : Place) (inner : Operand) (old new : L
   pub kind : o.kind ≡ (if is_unknown inner.kind then kind.Unknown else signed_kind sign)
   pub at : o.place ≡ place
   pub found : Adds old new (sign_asked sign inner.kind inner.place)
-
--- the variable, if an expression is one and nothing more
-abbrev pub mentioned : Shape → Option Span
-mentioned (Mention name) = Some name
-mentioned (Number place) = None
-mentioned (Truth place) = None
-mentioned (Field name field) = None
-mentioned (Element name index) = None
-mentioned (Parens place inner) = None
-mentioned (Signed sign place inner) = None
-mentioned (Joined joint left right) = None

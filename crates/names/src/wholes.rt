@@ -1,15 +1,14 @@
 //! Expressions that are the whole of something: of a value, of an argument, of what is returned.
 
-ghost use Rattle.std.specs.Prelude.{◌≡◌, IfOk, OnOk, Option};
-ghost use Rattle.tree.specs.ExpressionTrees.{expression_tree, disjunction_tree, conjunction_tree, equality_tree, relation_tree};
-ghost use Rattle.tree.specs.ExpressionTrees.{sum_tree, unary_tree, prefixed_tree, atom_tree, target_tree};
+ghost use Rattle.std.specs.Prelude.{IfOk, OnOk};
+ghost use Rattle.tree.specs.ExpressionTrees.{expression_tree};
 ghost use Rattle.names.specs.Expressions.{truth_mistakes, number_mistakes};
 ghost use Rattle.declarations.specs.Mistakes.{Adds};
 ghost use Rattle.names.specs.Frames.{IsFrame};
-ghost use Rattle.names.specs.Operands.{JudgesWhole, in_frame, mentioned};
+ghost use Rattle.names.specs.Operands.{JudgesWhole, in_frame};
 ghost use Rattle.declarations.specs.Program.{Program};
 ghost use Rattle.declarations.specs.Scopes.{IsScope};
-ghost use Rattle.names.specs.Shapes.{shape, atom_shape, target_shape};
+ghost use Rattle.names.specs.Shapes.{shape};
 ghost use Rattle.names.specs.Values.{asked_mistakes};
 ghost use Rattle.names.specs.Variables.{Frame};
 
@@ -18,10 +17,8 @@ use crate::mentions::judge_variable;
 use crate::operands::{Operand, ask, ask_number, ask_truth};
 use crate::variables::Variables;
 use declarations::{Demand, Kind, Mismatch, Mistake, Scope};
-use source::{Memory, Span};
-use tree::{
-    Atom, Conjunction, Disjunction, Equality, Expression, Prefixed, Relation, Sum, Target, Unary,
-};
+use source::Memory;
+use tree::{Expression, name_alone};
 
 /// The kind of an expression that is the whole of something, and where it begins; adds what is wrong in it.
 pub(crate) fn judge_whole_operand(
@@ -32,7 +29,7 @@ pub(crate) fn judge_whole_operand(
 ) -> Result<Operand, Memory>
     ensures { IfOk result (JudgesWhole scope.now variables.now (shape (expression_tree expression.now)) found.old.items found.new.items) }
 {
-    match mention_alone(expression) {
+    match name_alone(expression) {
         Some(name) => {
             let kind = judge_variable(scope, variables, name, found)?;
             Ok(Operand {
@@ -86,108 +83,4 @@ pub(crate) fn judge_number(
 {
     let operand = judge_operand(scope, variables, expression, found)?;
     ask_number(operand.kind, operand.place, found)
-}
-
-/// The variable, if an expression is one and nothing more.
-fn mention_alone(expression: &Expression) -> Option<Span>
-    ensures { result ≡ mentioned (shape (expression_tree expression.now)) }
-{
-    match expression {
-        Expression::Sum(sum) => in_sum(sum),
-        Expression::Joined(joined) => in_disjunction(joined),
-    }
-}
-
-/// The same of a disjunction.
-fn in_disjunction(disjunction: &Disjunction) -> Option<Span>
-    ensures { result ≡ mentioned (shape (disjunction_tree disjunction.now)) }
-{
-    if !disjunction.others.is_empty() {
-        return None;
-    }
-    in_conjunction(&disjunction.first)
-}
-
-/// The same of a conjunction.
-fn in_conjunction(conjunction: &Conjunction) -> Option<Span>
-    ensures { result ≡ mentioned (shape (conjunction_tree conjunction.now)) }
-{
-    if !conjunction.others.is_empty() {
-        return None;
-    }
-    in_equality(&conjunction.first)
-}
-
-/// The same of an equality.
-fn in_equality(equality: &Equality) -> Option<Span>
-    ensures { result ≡ mentioned (shape (equality_tree equality.now)) }
-{
-    if !equality.others.is_empty() {
-        return None;
-    }
-    in_relation(&equality.first)
-}
-
-/// The same of a relation.
-fn in_relation(relation: &Relation) -> Option<Span>
-    ensures { result ≡ mentioned (shape (relation_tree relation.now)) }
-{
-    if !relation.others.is_empty() {
-        return None;
-    }
-    in_sum(&relation.first)
-}
-
-/// The same of a sum.
-fn in_sum(sum: &Sum) -> Option<Span>
-    ensures { result ≡ mentioned (shape (sum_tree sum.now)) }
-{
-    match sum {
-        Sum::Unary(unary) => in_unary(unary),
-        Sum::Factors(_) => None,
-    }
-}
-
-/// The same of an atom with what stands before it.
-fn in_unary(unary: &Unary) -> Option<Span>
-    ensures { result ≡ mentioned (shape (unary_tree unary.now)) }
-{
-    match unary {
-        Unary::Atom(atom) => in_atom(atom),
-        Unary::Prefixed(prefixed) => in_prefixed(prefixed),
-    }
-}
-
-/// The same where something stands before the atom.
-fn in_prefixed(prefixed: &Prefixed) -> Option<Span>
-    ensures { result ≡ mentioned (shape (prefixed_tree prefixed.now)) }
-{
-    if !prefixed.prefixes.is_empty() {
-        return None;
-    }
-    in_atom(&prefixed.atom)
-}
-
-/// The same of an atom.
-fn in_atom(atom: &Atom) -> Option<Span>
-    ensures { result ≡ mentioned (atom_shape (atom_tree atom.now)) }
-{
-    match atom {
-        Atom::Number(_) => None,
-        Atom::True(_) => None,
-        Atom::False(_) => None,
-        Atom::Target(target) => in_target(target),
-        Atom::Parens { .. } => None,
-    }
-}
-
-/// The same of a target.
-fn in_target(target: &Target) -> Option<Span>
-    ensures { result ≡ mentioned (target_shape (target_tree target.now)) }
-{
-    match target {
-        Target::Variable(name) => Some(*name),
-        Target::Field(_) => None,
-        Target::Element(_) => None,
-    }
 }

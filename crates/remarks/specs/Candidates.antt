@@ -4,9 +4,9 @@ use Rattle.std.specs.List.{flat_map}
 use Rattle.std.specs.Option.{option_map_or}
 use Rattle.source.specs.declared.place.Place.{Place}
 use Rattle.source.specs.declared.token.Span.{Span}
-use Rattle.tree.specs.Trees.{ItemTree, DefinitionTree, ContractTree, StructTree, ClassTree, MethodTree}
+use Rattle.tree.specs.Trees.{ItemTree, DefinitionTree, ContractTree, StructTree, ClassTree, MethodTree, defined_name}
 use Rattle.declarations.specs.Declarations.{messages_of, states_of, names_of_messages, names_of_states}
-use Rattle.declarations.specs.Program.{Program, as_contract, as_struct, as_class, class_named, defined_name}
+use Rattle.declarations.specs.Program.{Program, as_contract, as_struct, as_class, class_named}
 use Rattle.declarations.specs.declared.mistake.NameSort.{NameSort}
 use Rattle.declarations.specs.declared.mistake.NameSort.TheVariants as sort
 use Rattle.nearest.specs.Locals.{is_before, method_names}

@@ -5,7 +5,8 @@ use Rattle.std.specs.Str.Lossy.{utf8_lossy}
 use Rattle.program.specs.declared.kind.Scalar.{Scalar}
 use Rattle.program.specs.declared.kind.Scalar.TheVariants.{Int, Byte, Bool}
 use Rattle.program.specs.declared.kind.Side.TheVariants.{Imp, Exp}
-use Rattle.declarations.specs.Program.{Program, defined_name}
+use Rattle.declarations.specs.Program.{Program}
+use Rattle.tree.specs.Trees.{defined_name}
 use Rattle.declarations.specs.declared.kinds.Kind.{Kind}
 use Rattle.declarations.specs.declared.kinds.Kind.TheVariants as kind
 use Rattle.declarations.specs.declared.mistake.Demand.{Demand}

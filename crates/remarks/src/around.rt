@@ -11,7 +11,7 @@ ghost use Rattle.remarks.specs.Listings.{program_seen};
 ghost use Rattle.tree.specs.Trees.{class_tree, contract_tree, definition_tree, item_tree};
 ghost use Rattle.tree.specs.Trees.{method_tree, struct_tree};
 
-use crate::listing::{Listing, name_of};
+use crate::listing::Listing;
 use nearest::is_before;
 use source::{Place, Span};
 use tree::{Class, Contract, Definition, Item, Method, Struct};
@@ -71,7 +71,7 @@ impl<'a> Listing<'a> {
         self.items
             .iter()
             .rev()
-            .find(|item| is_before(name_of(&item.definition).place, place))
+            .find(|item| is_before(item.definition.name().place, place))
     }
 
     /// The first item of a name.
@@ -83,7 +83,7 @@ impl<'a> Listing<'a> {
         let word = name.slice(self.text);
         self.items
             .iter()
-            .find(|item| word == name_of(&item.definition).slice(self.text))
+            .find(|item| word == item.definition.name().slice(self.text))
     }
 }
 

@@ -1,15 +1,13 @@
 //! A text and its items, for the names that are printed.
 
 ghost use Rattle.std.specs.Prelude.{◌≡◌, ◌++◌, OnOk, string_bytes};
-ghost use Rattle.declarations.specs.Program.{defined_name};
 ghost use Rattle.declarations.specs.Resolution.{printed};
 ghost use Rattle.remarks.specs.KindWords.{cut_name, item_name};
 ghost use Rattle.remarks.specs.Listings.{program_seen};
-ghost use Rattle.tree.specs.Trees.{definition_tree};
 
 use source::{Memory, Span, texts};
 use std::alloc::Global;
-use tree::{Definition, Item};
+use tree::Item;
 
 /// The most bytes that are printed of the name of an item.
 pub const MAX_NAME: usize = 60;
@@ -44,7 +42,7 @@ impl Listing<'_> {
         ensures { OnOk result (string_bytes text.new ≡ string_bytes text.old ++ item_name (program_seen self.now) index) }
     {
         match self.items.get(index) {
-            Some(item) => add_cut(alloc, text, name_of(&item.definition).slice(self.text)),
+            Some(item) => add_cut(alloc, text, item.definition.name().slice(self.text)),
             None => Ok(()),
         }
     }
@@ -60,15 +58,4 @@ pub(crate) fn add_cut(alloc: Global, text: &mut String, word: &[u8]) -> Result<(
         return Ok(());
     }
     texts::push_name(alloc, text, word)
-}
-
-/// The name that a definition declares.
-pub(crate) fn name_of(definition: &Definition) -> Span
-    ensures { result ≡ defined_name (definition_tree definition.now) }
-{
-    match definition {
-        Definition::Contract(contract) => contract.name,
-        Definition::Struct(structure) => structure.name,
-        Definition::Class(class) => class.name,
-    }
 }

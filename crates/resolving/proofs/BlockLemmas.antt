@@ -25,7 +25,7 @@ use Rattle.resolving.specs.Told.{Told, Staying, follow, made, ended, block_told,
 use Rattle.resolving.specs.declared.locals.Locals.{Locals}
 use Rattle.resolving.proofs.ScopeLemmas.{scoped}
 use Rattle.resolving.proofs.SeenTwins.{test_made}
-use Rattle.resolving.proofs.StatementTwins.{test_is}
+use Rattle.tree.proofs.StatementTwins.{test_is}
 
 same_number : (n : Option ℕ) → number_seen (option_map number_of n) ≡ n
 same_number None = refl

@@ -24,7 +24,7 @@ use Rattle.resolving.specs.Steps.{IsTold}
 use Rattle.resolving.specs.Told.{Told, Staying, made, ended, behind_case, awaited_as, awaited_message, awaited_params, case_endpoint, case_told, cases_told, statements_told}
 use Rattle.resolving.specs.declared.locals.Locals.{Locals}
 use Rattle.resolving.proofs.SeenTwins.{case_made}
-use Rattle.resolving.proofs.StatementTwins.{case_is, switch_is}
+use Rattle.tree.proofs.StatementTwins.{case_is, switch_is}
 
 -- what a case binds, and the frame behind it
 abbrev pub bound_in : Program → stated.Case.Case → Frame → Told (List VarId)

@@ -1,11 +1,10 @@
--- What a row of factors reads, and that it is no atom alone.
-use Rattle.std.proofs.Common.{◌≡◌, ℕ, ◌+◌, ◌<◌, ◌≤◌, List, [], ◌∷◌, ◌++◌, length, map, take, get_or, sym, refl, ap, ◌∙◌, append_assoc, append-nil}
+-- What a row of factors reads.
+use Rattle.std.proofs.Common.{◌≡◌, ℕ, ◌+◌, ◌<◌, ◌≤◌, List, [], ◌∷◌, ◌++◌, length, map, take, get_or, sym, ap, ◌∙◌, append_assoc, append-nil}
 use Rattle.std.specs.List.{flat_map}
-use Rattle.std.specs.Prelude.{None}
 use Rattle.std.proofs.lemmas.Grind.{flat_map-append}
 use Rattle.std.proofs.lemmas.List.{take_more, take_all, map-append}
 use Rattle.tree.specs.Operators.{Add, Single, Joined}
-use Rattle.tree.specs.Expressions.{LevelTree, Chain, Done, More}
+use Rattle.tree.specs.Expressions.{LevelTree, Chain}
 use Rattle.tree.specs.Factors.{FactorTree, gathered, before_sum}
 use Rattle.tree.specs.ExpressionTrees.{factor_tree}
 use Rattle.tree.specs.declared.expression.Factor.{Factor}
@@ -13,7 +12,7 @@ use Rattle.tree.specs.declared.expression.FactorOperator.{FactorOperator}
 use Rattle.tree.specs.declared.expression.FactorOperator.TheVariants as operators
 use Rattle.program.specs.declared.statement.Mention.{Mention}
 use Rattle.resolving.specs.Locals.{Local, Frame}
-use Rattle.resolving.specs.Reads.{reads, step_reads, lone_atom}
+use Rattle.resolving.specs.Reads.{reads, step_reads}
 use Rattle.resolving.specs.Steps.{AddsReads}
 use Rattle.resolving.specs.declared.locals.Locals.{Locals}
 
@@ -81,12 +80,3 @@ row_all text first f xs ys i tree {old = old} le same seen h = record {
       ∙ ap (λ m. old ++ m) (sym (gathered_reads text g.locals first (f ∷ map factor_tree ys)))
       ∙ ap (λ (t : LevelTree (Joined Add)). old ++ reads text g.locals t) (sym seen);
 }
-
-before_is_more : (u : LevelTree Single) (o : FactorOperator) (s : LevelTree (Joined Add)) → None ≡ lone_atom (before_sum u o s)
-before_is_more u operators.Times (Chain _ (Chain _ first others) (Done _)) = refl
-before_is_more u operators.Times (Chain _ (Chain _ first others) (More _ o x xs)) = refl
-before_is_more u (operators.Sum o) (Chain _ first others) = refl
-
--- a row of factors is more than an atom
-pub row_is_more : (u : LevelTree Single) (f : FactorTree) (fs : List FactorTree) → None ≡ lone_atom (gathered u (f ∷ fs))
-row_is_more u f fs = before_is_more u f.0 (gathered f.1 fs)

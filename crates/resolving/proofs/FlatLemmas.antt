@@ -11,7 +11,7 @@ use Rattle.declarations.specs.Program.{Program}
 use Rattle.resolving.specs.Locals.{Frame}
 use Rattle.resolving.specs.Told.{Staying}
 use Rattle.resolving.proofs.BlockLemmas.{IsAlone, alone_as}
-use Rattle.resolving.proofs.StatementTwins.{of_declare, of_assign, of_call, of_start, of_delete, of_channel, of_exchange, of_return}
+use Rattle.tree.proofs.StatementTwins.{of_declare, of_assign, of_call, of_start, of_delete, of_channel, of_exchange, of_return}
 
 -- none of those that hold others or leave a loop
 pub record IsFlat (s : stated.Statement.Statement) : Type 0 where

@@ -1,11 +1,8 @@
-pub mod ExpressionTwins
-pub mod AloneLemmas
 pub mod ReadLemmas
 pub mod FactorLemmas
 pub mod FieldLemmas
 pub mod ScopeLemmas
 pub mod LocalLemmas
-pub mod StatementTwins
 pub mod SeenTwins
 pub mod BodyLemmas
 pub mod KeepLemmas

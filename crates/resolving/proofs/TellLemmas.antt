@@ -19,7 +19,7 @@ use Rattle.resolving.specs.Methods.{no_variables, parameters_frame, method_told,
 use Rattle.resolving.specs.Steps.{IsTold}
 use Rattle.resolving.specs.Told.{stays_here, statements_told}
 use Rattle.resolving.specs.declared.locals.Locals.{Locals}
-use Rattle.resolving.proofs.StatementTwins.{block_is}
+use Rattle.tree.proofs.StatementTwins.{block_is}
 
 method_of : Place → Bool → Bool → Option Kind → List VariableSeen → StatementsSeen → Option VarId → Place → MethodSeen
 method_of name takes gives result variables statements scope close = record { name = name; takes = takes; gives = gives; result = result; variables = variables; statements = statements; scope = scope; close = close }

@@ -28,7 +28,8 @@ use Rattle.resolving.specs.Locals.{Frame, local_named, mention, mention_of, decl
 use Rattle.resolving.specs.Callees.{Callee, callee, called_name}
 use Rattle.resolving.specs.Kinds.{contract_named, type_held}
 use Rattle.resolving.specs.Messages.{Meant, message_sent, end_contract}
-use Rattle.resolving.specs.Reads.{reads, lone_name, listed}
+use Rattle.resolving.specs.Reads.{reads, listed}
+use Rattle.tree.specs.Alone.{lone_name}
 use Rattle.resolving.specs.declared.locals.Declaration.{Declaration}
 
 -- a simple statement: what it reads, and what it does then

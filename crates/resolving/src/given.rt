@@ -9,11 +9,10 @@ ghost use Rattle.resolving.specs.Locals.{Frame};
 ghost use Rattle.resolving.specs.Plain.{lone, payloads};
 ghost use Rattle.resolving.specs.Reads.{listed};
 
-use crate::alone::name_alone;
 use crate::locals::Locals;
 use program::Mention;
 use std::alloc::{AllocError, Global};
-use tree::Expression;
+use tree::{Expression, name_alone};
 
 /// The name that an expression is alone, where it means a variable of the exchange heap.
 pub(crate) fn alone(text: &[u8], locals: &Locals<'_>, expression: &Expression) -> Option<Mention>

@@ -1,7 +1,6 @@
 //! From the methods of a tree to methods in which every name is a number.
 #![tactic(auto)]
 
-mod alone;
 mod around;
 mod brought;
 mod calls;
@@ -20,5 +19,6 @@ mod sends;
 mod statements;
 mod staying;
 mod values;
+mod ways;
 
 pub use methods::{Program, resolve_methods};

@@ -13,13 +13,13 @@ ghost use Rattle.tree.specs.Trees.{ItemTree};
 ghost use Rattle.tree.specs.StatementTrees.{MoreCases, statement_tree, statement_row, block_tree, test_tree};
 ghost use Rattle.tree.specs.StatementTrees.{if_tree, last_other, case_tree, case_row, switch_tree};
 
-use crate::alone::ways_of;
 use crate::around::Around;
 use crate::cases::{awaited_as, awaited_message, awaited_params, case_endpoint, declare_binds};
 use crate::locals::Locals;
 use crate::plain::{declare_in, tell_plain};
 use crate::reads::add_reads;
 use crate::staying::{Staying, forget_past, tell_break, tell_continue};
+use crate::ways::ways_of;
 use program::{Block, Case, If, Statement, Test};
 use source::Place;
 use std::alloc::{AllocError, Global};

@@ -64,11 +64,6 @@ termed_made u = ap sum_tree (sym (sum.rolls-Unary u)) ∙ sums.fold-roll-Sum _ _
     atom_of expression_of sum_of target_of unary_of conjunction_of disjunction_of element_target_of equality_of equality_step_of
     factor_of factors_of prefixed_of relation_of relation_step_of (layer.Unary u)
 
-pub row_made : (f : Box factor_rows.Factors Global) → sum_tree (sum.Factors f) ≡ factors_tree f.value
-row_made f = ap sum_tree (sym (sum.rolls-Factors f)) ∙ sums.fold-roll-Sum _ _ _ _ _ _ _ _ _ _ _ _ _ _ _
-    atom_of expression_of sum_of target_of unary_of conjunction_of disjunction_of element_target_of equality_of equality_step_of
-    factor_of factors_of prefixed_of relation_of relation_step_of (layer.Factors f)
-
 pub factors_made : (first : unaries.Unary) (second : factors.Factor) (others : Vec factors.Factor Global) → factors_tree (factor_rows.roll-Factors (record { first = first; second = second; others = others })) ≡ gathered (unary_tree first) (factor_tree second ∷ map factor_tree others.items)
 factors_made first second others = factor_rows.fold-roll-Factors _ _ _ _ _ _ _ _ _ _ _ _ _ _ _
     atom_of expression_of sum_of target_of unary_of conjunction_of disjunction_of element_target_of equality_of equality_step_of

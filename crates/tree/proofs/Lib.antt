@@ -1,0 +1,3 @@
+pub mod ExpressionTwins
+pub mod StatementTwins
+pub mod AloneLemmas

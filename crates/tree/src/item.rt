@@ -1,7 +1,11 @@
 //! Syntax trees: one node a rule of the grammar, every optional piece a field.
 
+ghost use Rattle.std.specs.Prelude.{◌≡◌};
+ghost use Rattle.tree.specs.Trees.{defined_name, definition_tree};
+
 use crate::class::{Class, Struct};
 use crate::contract::Contract;
+use source::Span;
 
 /// program = { item } .
 #[derive(Drop)]
@@ -22,6 +26,19 @@ pub enum Definition {
     Contract(Contract),
     Struct(Struct),
     Class(Class),
+}
+
+impl Definition {
+    /// The name that it declares.
+    pub fn name(&self) -> Span
+        ensures { result ≡ defined_name (definition_tree self.now) }
+    {
+        match self {
+            Definition::Contract(contract) => contract.name,
+            Definition::Struct(structure) => structure.name,
+            Definition::Class(class) => class.name,
+        }
+    }
 }
 
 /// access = "public" | "private" | "internal" .

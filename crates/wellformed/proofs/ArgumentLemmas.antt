@@ -25,12 +25,14 @@ use Rattle.resolving.specs.Kinds.{type_held, state_in}
 use Rattle.resolving.specs.Locals.{Frame, mention, mention_of}
 use Rattle.resolving.specs.Methods.{role_of}
 use Rattle.resolving.specs.Plain.{arguments, argument_reads, given, lone, payloads}
-use Rattle.resolving.specs.Reads.{reads, lone_name, listed}
+use Rattle.resolving.specs.Reads.{reads, listed}
+use Rattle.tree.specs.Alone.{lone_name}
 use Rattle.program.specs.Lists.{Each}
 use Rattle.program.specs.WellFormed.{Setting, IsMention, Holds, HoldAll, AreGiven, is_claimed, same_type}
 use Rattle.wellformed.proofs.ListLemmas.{each_append, both_none}
 use Rattle.wellformed.proofs.Standing.{IsKnown, IsHeld, AreStanding, heading, scope_of}
-use Rattle.wellformed.proofs.ExpressionLemmas.{block_lone, lone_shape, reads_within, whole_known}
+use Rattle.names.proofs.WholeNames.{lone_shape}
+use Rattle.wellformed.proofs.ExpressionLemmas.{block_lone, reads_within, whole_known}
 use Rattle.wellformed.proofs.FindingLemmas.{unless_none}
 use Rattle.wellformed.proofs.MentionLemmas.{scalar_not_mentioned}
 use Rattle.wellformed.proofs.KindLemmas.{type_known, agree_alike, alike_block, alike_held, scalar_holds, block_holds, Holding}

@@ -19,15 +19,17 @@ use Rattle.declarations.specs.declared.mistake.NameSort.TheVariants as sort
 use Rattle.declarations.specs.Kinds.{is_block, is_heap, is_number, is_truth, is_unknown, type_kind, unless}
 use Rattle.declarations.specs.Program.{Program, Numbered, as_struct, item_at}
 use Rattle.names.specs.Shapes as shapes
-use Rattle.names.specs.Shapes.{Shape, Sign, shape, joined, joint_of, atom_shape}
+use Rattle.names.specs.Shapes.{Shape, Sign, shape}
 use Rattle.names.specs.Variables as names
 use Rattle.declarations.specs.declared.kinds as declared
 use Rattle.declarations.specs.declared.kinds.Kind.TheVariants as kind
 use Rattle.program.specs.Methods.{VariableSeen}
 use Rattle.program.specs.declared.statement.Mention.{Mention}
 use Rattle.resolving.specs.Locals.{Frame, mention}
-use Rattle.resolving.specs.Reads.{reads, step_reads, atom_reads, target_reads, listed, lone_name, atom_name}
+use Rattle.resolving.specs.Reads.{reads, step_reads, atom_reads, target_reads, listed}
+use Rattle.tree.specs.Alone.{lone_name}
 use Rattle.program.specs.Lists.{Each}
+use Rattle.names.proofs.WholeNames.{not_lone}
 use Rattle.wellformed.proofs.KindLemmas.{known_certain}
 use Rattle.wellformed.proofs.ListLemmas.{both_none, each_append}
 use Rattle.wellformed.proofs.FindingLemmas.{none_said, unless_none}
@@ -177,46 +179,6 @@ pub whole_known : (p : Program) (vs : List VariableSeen) (f : Frame) (g : names.
     → (e : Shape) → whole_mistakes (scope_of p g) e ≡ [] → IsKnown p (kind_of (scope_of p g) e)
 whole_known p vs f g standing (shapes.Mention name) none = held_known p vs f g name standing none
 whole_known p vs f g standing e none = (expression_scalar p vs f g standing e none).0
-
-atom_lone : (a : AtomTree) (name : Span) → atom_name a ≡ Some name → atom_shape a ≡ shapes.Mention name
-atom_lone (trees.Target (trees.Variable word)) name is = cc
-atom_lone (trees.Target (trees.Field word field)) name is = absurd (cc)
-atom_lone (trees.Target (trees.Element word index)) name is = absurd (cc)
-atom_lone (trees.Number span) name is = absurd (cc)
-atom_lone (trees.True span) name is = absurd (cc)
-atom_lone (trees.False span) name is = absurd (cc)
-atom_lone (trees.Parens left inner) name is = absurd (cc)
-
-atom_not_lone : (a : AtomTree) (name : Span) → atom_shape a ≡ shapes.Mention name → atom_name a ≡ Some name
-atom_not_lone (trees.Target (trees.Variable word)) name is = cc
-atom_not_lone (trees.Target (trees.Field word field)) name is = absurd (cc)
-atom_not_lone (trees.Target (trees.Element word index)) name is = absurd (cc)
-atom_not_lone (trees.Number span) name is = absurd (cc)
-atom_not_lone (trees.True span) name is = absurd (cc)
-atom_not_lone (trees.False span) name is = absurd (cc)
-atom_not_lone (trees.Parens left inner) name is = absurd (cc)
-
--- what operators join is no name alone
-steps_mention : {l : Operators} → (so_far : Shape) (xs : StepTrees l) (name : Span) → joined so_far xs ≡ shapes.Mention name → so_far ≡ shapes.Mention name
-steps_mention so_far (trees.Done l) name is = is
-steps_mention so_far (trees.More l o x xs) name is =
-    let wrong : shapes.Joined (joint_of l) so_far (shape x) ≡ shapes.Mention name = steps_mention (shapes.Joined (joint_of l) so_far (shape x)) xs name is in
-    absurd (cc)
-
--- an expression is a name alone where its shape is
-pub lone_shape : {l : Level} → (e : LevelTree l) (name : Span) → lone_name e ≡ Some name → shape e ≡ shapes.Mention name
-lone_shape (trees.Unary [] a) name is = atom_lone a name is
-lone_shape (trees.Unary (x ∷ prefixes) a) name is = absurd (cc)
-lone_shape (trees.Chain l first (trees.Done _)) name is = lone_shape first name is
-lone_shape (trees.Chain l first (trees.More _ o x xs)) name is = absurd (cc)
-
-pub not_lone : {l : Level} → (e : LevelTree l) (name : Span) → shape e ≡ shapes.Mention name → lone_name e ≡ Some name
-not_lone (trees.Unary [] a) name is = atom_not_lone a name is
-not_lone (trees.Unary (x ∷ prefixes) a) name is = absurd (cc)
-not_lone (trees.Chain l first (trees.Done _)) name is = not_lone first name is
-not_lone (trees.Chain l first (trees.More _ o x xs)) name is =
-    let wrong : shapes.Joined (joint_of l) (shape first) (shape x) ≡ shapes.Mention name = steps_mention (shapes.Joined (joint_of l) (shape first) (shape x)) xs name is in
-    absurd (cc)
 
 -- A whole expression that is of the exchange heap is a name alone.
 pub record IsLone (p : Program) (vs : List VariableSeen) (f : Frame) (g : names.Frame) (e : ExpressionTree) : Type 0 where

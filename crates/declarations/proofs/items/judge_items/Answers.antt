@@ -4,11 +4,11 @@ use Rattle.std.specs.Prelude.{OnOk}
 use Rattle.std.specs.List.{flat_map}
 use Rattle.std.proofs.lemmas.Result.{on_ok_weaker}
 use Rattle.std.proofs.lemmas.Simd.{map-map}
-use Rattle.tree.specs.Trees.{ItemTree, MethodTree, item_tree}
+use Rattle.tree.specs.Trees.{ItemTree, MethodTree, item_tree, defined_name}
 use Rattle.declarations.specs.Mistakes.{Adds}
 use Rattle.declarations.specs.Listed.{twice_among, past_limit}
 use Rattle.declarations.specs.ItemMistakes.{methods_in}
-use Rattle.declarations.specs.Program.{defined_name, item_names}
+use Rattle.declarations.specs.Program.{item_names}
 use Rattle.tables.specs.Tables.{IsTable}
 use Rattle.tables.specs.Words.{words_at}
 use Rattle.declarations.proofs.AddLemmas.{adds_then}

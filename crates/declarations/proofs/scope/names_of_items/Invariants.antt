@@ -1,6 +1,5 @@
 use Rattle.std.proofs.Common.{◌≡◌, map, take}
-use Rattle.tree.specs.Trees.{definition_tree}
-use Rattle.declarations.specs.Program.{defined_name}
+use Rattle.tree.specs.Trees.{definition_tree, defined_name}
 use Rattle.declarations.proofs.scope.names_of_items.Given as goal
 
 abbrev pub invariant-loop-item : goal.invariant-loop-item

@@ -7,7 +7,7 @@ use Rattle.declarations.specs.declared.mistake.Mistake.TheVariants.{LacksClosed}
 use Rattle.names.specs.Heads.{IsHeads, case_head, awaiting_of}
 use Rattle.declarations.specs.declared.kinds.Kind.TheVariants as kind
 use Rattle.names.proofs.HeadWords.{told_unless}
-use Rattle.names.proofs.StatementTwins.{case_is}
+use Rattle.tree.proofs.StatementTwins.{case_is}
 use Rattle.names.specs.Bodies.{head_of}
 use Rattle.names.proofs.PassLemmas.{on_adds}
 use Rattle.names.proofs.cases.judge_endpoint_head.Goals as goal

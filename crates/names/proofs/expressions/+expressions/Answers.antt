@@ -10,7 +10,7 @@ use Rattle.tree.specs.declared.expression.Relation as relations
 use Rattle.names.specs.Shapes.{shape}
 use Rattle.names.specs.Terms.{first_term, with_factor}
 use Rattle.names.proofs.ExpressionNames.{judges_more, judges_all, judges_step, judges_signed}
-use Rattle.names.proofs.ExpressionTwins.{disjunction_seen, conjunction_seen, equality_seen, equality_step_seen, relation_seen, relation_step_seen, prefixed_seen, factor_seen, factors_seen}
+use Rattle.tree.proofs.ExpressionTwins.{disjunction_seen, conjunction_seen, equality_seen, equality_step_seen, relation_seen, relation_step_seen, prefixed_seen, factor_seen, factors_seen}
 use Rattle.names.proofs.TermLemmas.{factors_to, judges_first, judges_times, judges_next, judges_factor, judges_factors}
 use Rattle.names.proofs.expressions.+expressions.Goals as goal
 

@@ -17,9 +17,9 @@ use Rattle.names.specs.Heads.{IsHeads, switch_heads}
 use Rattle.names.specs.Shapes.{shape}
 use Rattle.names.specs.Values.{Alone, Started, call_mistakes, target_mistakes, target_kind, value_mistakes}
 use Rattle.names.specs.Variables.{Frame, Turn, closed, follow}
-use Rattle.names.proofs.BranchLemmas.{last_branch, no_branch, next_test, next_case, case_there, last_case}
+use Rattle.names.proofs.BranchLemmas.{last_branch, no_branch, no_statement, next_statement, next_test, next_case, case_there, last_case}
 use Rattle.names.proofs.KeepLemmas.{kept, statements_extend, case_extends}
-use Rattle.names.proofs.StatementTwins.{block_is, case_is, if_is, test_is, switch_is, of_declare, of_assign, of_call, of_start, of_delete, of_exchange, of_channel, of_break, of_continue, of_return}
+use Rattle.tree.proofs.StatementTwins.{block_is, case_is, if_is, test_is, switch_is, of_declare, of_assign, of_call, of_start, of_delete, of_exchange, of_channel, of_break, of_continue, of_return}
 use Rattle.names.proofs.TurnLemmas.{Ongoing, goes_first, turned_then, adds_before, leaves, on_stays, on_before, on_ends, goes_on, ends}
 use Rattle.names.proofs.statements.+bodies.Goals as goal
 
@@ -35,6 +35,21 @@ judge_block-returns t c = λ m f around frame.
     let inner = subst (λ xs. Turned text old new v (statements_turn m (statement_row (map statement_tree xs)) f)) c.deref.ensures.value (c.in_ok-judge_statements.ensures m f around frame) in
     subst (λ b. Turned text old new c.leave.new.self (block_turn m b f)) (sym (block_is block))
     (leaves f whole around.scope.text_is (c.len-outer.ensures text f frame) c.leave.ensures (kept f whole.frame (statements_extend m row f)) inner)
+
+pub judge_statements-loop-statement-preserved : goal.judge_statements-loop-statement-preserved
+judge_statements-loop-statement-preserved t c = λ m f around frame.
+    let items = c.args.statements.now in
+    let i = c.loop-statement.statement-index in
+    let statement = c.statement-item.result in
+    let whole = statements_turn m (statement_row (map statement_tree items)) f in
+    let o = subst (Ongoing m.program.text c.args.found.now.items c.loop-statement.found.items c.loop-statement.variables whole)
+    (next_statement m items i statement c.loop-statement-test.true c.statement-item.is) (c.loop-statement.invariant m f around frame) in
+    goes_on (statement_turn m (statement_tree statement)) (statements_turn m (statement_row (map statement_tree (drop (i + 1) items)))) o
+    (c.in_ok-judge_statement.ensures m o.frame around o.stands)
+
+pub judge_statements-returns : goal.judge_statements-returns
+judge_statements-returns t c = λ m f around frame.
+    ends (no_statement m c.args.statements.now c.loop-statement.statement-index c.loop-statement-test.false (c.loop-statement.invariant m f around frame))
 
 pub judge_case-returns : goal.judge_case-returns
 judge_case-returns t c = λ m f all around frame heads at.

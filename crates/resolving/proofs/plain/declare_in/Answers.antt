@@ -7,7 +7,7 @@ use Rattle.resolving.specs.Frames.{IsFrame}
 use Rattle.resolving.specs.Locals.{declared}
 use Rattle.resolving.specs.Plain.{frame_behind}
 use Rattle.resolving.specs.declared.locals.Declaration.{Declaration}
-use Rattle.resolving.proofs.StatementTwins.{of_declare}
+use Rattle.tree.proofs.StatementTwins.{of_declare}
 use Rattle.resolving.proofs.plain.declare_in.Goals as goal
 
 pub returns-in-Declare : goal.returns-in-Declare

@@ -7,7 +7,7 @@ use Rattle.resolving.specs.Around.{program_in}
 use Rattle.resolving.specs.Kinds.{type_held}
 use Rattle.resolving.specs.Locals.{next_number}
 use Rattle.resolving.specs.Plain.{told, stated_call, started, first_value, written, channel, exchanged, returned, plain_told}
-use Rattle.resolving.proofs.StatementTwins.{of_declare, of_assign, of_call, of_start, of_channel, of_exchange, of_return}
+use Rattle.tree.proofs.StatementTwins.{of_declare, of_assign, of_call, of_start, of_channel, of_exchange, of_return}
 use Rattle.resolving.proofs.PlainLemmas.{told_as}
 use Rattle.resolving.proofs.plain.tell_plain.Goals as goal
 

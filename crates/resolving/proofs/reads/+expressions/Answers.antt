@@ -11,7 +11,7 @@ use Rattle.tree.specs.declared.expression.Factor as factors
 use Rattle.tree.specs.declared.expression.Factors as factor_rows
 use Rattle.tree.specs.declared.expression.Relation as relations
 use Rattle.tree.specs.declared.expression.RelationStep as relation_steps
-use Rattle.resolving.proofs.ExpressionTwins.{disjunction_seen, conjunction_seen, equality_seen, equality_step_seen, relation_seen, relation_step_seen, factors_seen, factor_seen}
+use Rattle.tree.proofs.ExpressionTwins.{disjunction_seen, conjunction_seen, equality_seen, equality_step_seen, relation_seen, relation_step_seen, factors_seen, factor_seen}
 use Rattle.resolving.proofs.FactorLemmas.{row_first, row_more, row_all}
 use Rattle.resolving.proofs.ReadLemmas.{reads_first, reads_more, reads_all}
 use Rattle.resolving.proofs.reads.+expressions.Goals as goal

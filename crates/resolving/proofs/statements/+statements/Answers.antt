@@ -24,7 +24,7 @@ use Rattle.resolving.proofs.FlatLemmas.{flat_alone}
 use Rattle.resolving.proofs.KeepLemmas.{kept, case_extends, statements_extend}
 use Rattle.resolving.proofs.SeenTwins as seen_as
 use Rattle.resolving.proofs.SeenTwins.{block_made, if_made}
-use Rattle.resolving.proofs.StatementTwins.{block_is, if_is, switch_is, of_block, of_if, of_while, of_switch}
+use Rattle.tree.proofs.StatementTwins.{block_is, if_is, switch_is, of_block, of_if, of_while, of_switch}
 use Rattle.resolving.proofs.statements.+statements.Goals as goal
 
 pub tell_statements-loop-statement-preserved : goal.tell_statements-loop-statement-preserved

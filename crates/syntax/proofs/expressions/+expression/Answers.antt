@@ -19,7 +19,8 @@ use Rattle.syntax.proofs.AloneRules.{summed_is_read}
 use Rattle.syntax.proofs.Repeats.{last_read}
 use Rattle.syntax.proofs.FactorRules.{factor_mark_fails, factor_unary_fails, factor_fails, second_fails, other_factors_fail, factors_are_read, unary_is_sum}
 use Rattle.syntax.proofs.ExpressionFails.{first_fails, others_fail, unary_fails, mark_fails, behind_fails, step_fails, chain_is_read, expression_piece, prefixes_fail, atom_fails, variable_fails, dotted_fails, indexed_fails, unary_is_read, step_tail, atom_is_read}
-use Rattle.syntax.proofs.TreeLemmas.{summed_made, disjunction_made, conjunction_made, equality_made, relation_made, termed_made, row_made, factors_made, plain_made, prefixed_made, prefixed_parts, number_made, true_made, false_made}
+use Rattle.tree.proofs.ExpressionTwins.{of_factors}
+use Rattle.syntax.proofs.TreeLemmas.{summed_made, disjunction_made, conjunction_made, equality_made, relation_made, termed_made, factors_made, plain_made, prefixed_made, prefixed_parts, number_made, true_made, false_made}
 use Rattle.syntax.proofs.Pieces.{wide_fails, stops_never}
 use Rattle.syntax.proofs.Choices.{form_fails}
 use Rattle.syntax.proofs.expressions.+expression.Goals as goal
@@ -178,7 +179,7 @@ sum_from-returns-in_err-others-clause-read t c = exits sum_tree level (level_on 
 
 pub sum_from-returns-clause-read : goal.sum_from-returns-clause-read
 sum_from-returns-clause-read t c = factors_are_read _ _ _ _ (unary_tree c.args.unary) (factor_tree c.in_ok-second.second) (map factor_tree c.in_ok-others.others.items) _
-    (row_made c.in_ok-new.field-0 ∙ ap factors_tree c.in_ok-new.ensures.ok ∙ factors_made c.args.unary c.in_ok-second.second c.in_ok-others.others) (refl, c.requires) c.in_ok-second.ensures c.in_ok-others.ensures
+    (of_factors c.in_ok-new.field-0 ∙ ap factors_tree c.in_ok-new.ensures.ok ∙ factors_made c.args.unary c.in_ok-second.second c.in_ok-others.others) (refl, c.requires) c.in_ok-second.ensures c.in_ok-others.ensures
 
 pub factors-returns-in_err-read_factor : goal.factors-returns-in_err-read_factor
 factors-returns-in_err-read_factor t c = exits (λ v. map factor_tree v.items) (flat_map factor) (level_on (Joined Add)) factors_end _ _ _ _ _ c.from_residual.ensures.1 c.in_err-read_factor.ensures

@@ -1,7 +1,7 @@
 use Rattle.std.proofs.Common.{◌∙◌, sym, subst, refl, map}
 use Rattle.std.proofs.lemmas.Simd.{map-map}
-use Rattle.tree.specs.Trees.{item_tree}
-use Rattle.declarations.specs.Program.{Program, defined_name}
+use Rattle.tree.specs.Trees.{item_tree, defined_name}
+use Rattle.declarations.specs.Program.{Program}
 use Rattle.tables.specs.Tables.{IsTable}
 use Rattle.tables.specs.Words.{words_at}
 use Rattle.declarations.proofs.scope.Scope.of.Goals as goal

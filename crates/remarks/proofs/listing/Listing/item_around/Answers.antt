@@ -1,9 +1,8 @@
 use Rattle.std.proofs.Common.{rules, tests}
 use Rattle.std.proofs.lemmas.Iterator.Adapters.{YieldsList-from_rev_slice}
 use Rattle.std.proofs.lemmas.Iterator.Search.{find_from_yields_List}
-use Rattle.declarations.specs.Program.{defined_name}
 use Rattle.nearest.specs.Locals.{is_before}
-use Rattle.tree.specs.Trees.{definition_tree, item_tree}
+use Rattle.tree.specs.Trees.{definition_tree, item_tree, defined_name}
 use Rattle.remarks.proofs.AroundLemmas.{last_seen}
 use Rattle.remarks.proofs.listing.Listing.item_around.Goals as goal
 

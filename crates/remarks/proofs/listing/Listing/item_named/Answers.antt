@@ -1,9 +1,8 @@
 use Rattle.std.proofs.Common.{rules, tests}
 use Rattle.std.proofs.lemmas.Iterator.{YieldsList-from_slice}
 use Rattle.std.proofs.lemmas.Iterator.Search.{find_from_yields_List}
-use Rattle.declarations.specs.Program.{defined_name}
 use Rattle.tables.specs.Words.{same_word, word_at}
-use Rattle.tree.specs.Trees.{definition_tree, item_tree}
+use Rattle.tree.specs.Trees.{definition_tree, item_tree, defined_name}
 use Rattle.remarks.proofs.AroundLemmas.{first_seen}
 use Rattle.remarks.proofs.listing.Listing.item_named.Goals as goal
 

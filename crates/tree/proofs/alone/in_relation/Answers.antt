@@ -2,9 +2,9 @@ use Rattle.std.proofs.Common.{sym, ◌∙◌}
 use Rattle.tree.specs.Operators.{Compare}
 use Rattle.tree.specs.ExpressionTrees.{relation_step_tree, relation_tree, sum_tree}
 use Rattle.tree.specs.declared.expression.Relation as relations
-use Rattle.resolving.proofs.ExpressionTwins.{relation_seen}
-use Rattle.resolving.proofs.AloneLemmas.{chain_is_more, chain_is_first}
-use Rattle.resolving.proofs.alone.in_relation.Goals as goal
+use Rattle.tree.proofs.ExpressionTwins.{relation_seen}
+use Rattle.tree.proofs.AloneLemmas.{chain_is_more, chain_is_first}
+use Rattle.tree.proofs.alone.in_relation.Goals as goal
 
 pub returns-then-not-is_empty : goal.returns-then-not-is_empty
 returns-then-not-is_empty c =

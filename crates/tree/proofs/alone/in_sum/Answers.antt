@@ -3,10 +3,10 @@ use Rattle.tree.specs.Operators.{Add, Joined}
 use Rattle.tree.specs.Expressions.{LevelTree}
 use Rattle.tree.specs.ExpressionTrees.{factor_tree, sum_tree, unary_tree}
 use Rattle.tree.specs.declared.expression.Factors as factor_rows
-use Rattle.resolving.specs.Reads.{lone_atom}
-use Rattle.resolving.proofs.ExpressionTwins.{of_factors, factors_seen}
-use Rattle.resolving.proofs.FactorLemmas.{row_is_more}
-use Rattle.resolving.proofs.alone.in_sum.Goals as goal
+use Rattle.tree.specs.Alone.{lone_atom}
+use Rattle.tree.proofs.ExpressionTwins.{of_factors, factors_seen}
+use Rattle.tree.proofs.AloneLemmas.{row_is_more}
+use Rattle.tree.proofs.alone.in_sum.Goals as goal
 
 pub returns-in-Factors : goal.returns-in-Factors
 returns-in-Factors c =

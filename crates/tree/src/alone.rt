@@ -1,46 +1,22 @@
-//! Expressions that are an atom and nothing more.
+//! Expressions that are an atom or a name and nothing more.
 
-ghost use Rattle.std.specs.Prelude.{◌≡◌, Some, option_map};
+ghost use Rattle.std.specs.Prelude.{◌≡◌, option_map};
+ghost use Rattle.tree.specs.Alone.{lone_atom, atom_name, lone_name};
 ghost use Rattle.tree.specs.Expressions as trees;
 ghost use Rattle.tree.specs.ExpressionTrees.{expression_tree, disjunction_tree, conjunction_tree, equality_tree, relation_tree};
 ghost use Rattle.tree.specs.ExpressionTrees.{sum_tree, unary_tree, prefixed_tree, atom_tree, target_tree};
-ghost use Rattle.resolving.specs.Reads.{lone_atom, atom_name, lone_name, atom_ways, ways};
 
-use program::Ways;
-use source::Span;
-use tree::{
+use crate::expression::{
     Atom, Conjunction, Disjunction, Equality, Expression, Prefixed, Relation, Sum, Target, Unary,
 };
+use source::Span;
 
 /// The name, if an expression is one and nothing more.
-pub(crate) fn name_alone(expression: &Expression) -> Option<Span>
+pub fn name_alone(expression: &Expression) -> Option<Span>
     ensures { result ≡ lone_name (expression_tree expression.now) }
 {
     let atom = atom_alone(expression)?;
     name_of(atom)
-}
-
-/// Which ways a condition can go: one, if it is just `true` or just `false`.
-pub(crate) fn ways_of(condition: &Expression) -> Ways
-    ensures { result ≡ ways (expression_tree condition.now) }
-{
-    match atom_alone(condition) {
-        Some(atom) => ways_of_atom(atom),
-        None => Ways::Either,
-    }
-}
-
-/// Which ways a condition that is this atom and nothing more can go.
-fn ways_of_atom(atom: &Atom) -> Ways
-    ensures { result ≡ atom_ways (Some (atom_tree atom.now)) }
-{
-    match atom {
-        Atom::True(_) => Ways::Body,
-        Atom::False(_) => Ways::Past,
-        Atom::Number(_) => Ways::Either,
-        Atom::Target(_) => Ways::Either,
-        Atom::Parens { .. } => Ways::Either,
-    }
 }
 
 /// The name that an atom is, if it is one.
@@ -67,7 +43,7 @@ fn name_of_target(target: &Target) -> Option<Span>
 }
 
 /// The atom, if an expression is one and nothing more.
-fn atom_alone(expression: &Expression) -> Option<&Atom>
+pub fn atom_alone(expression: &Expression) -> Option<&Atom>
     ensures { option_map (λ a. atom_tree a.now) result ≡ lone_atom (expression_tree expression.now) }
 {
     match expression {

@@ -2,9 +2,9 @@ use Rattle.std.proofs.Common.{sym, ◌∙◌}
 use Rattle.tree.specs.Operators.{And}
 use Rattle.tree.specs.ExpressionTrees.{unmarked, conjunction_tree, equality_tree}
 use Rattle.tree.specs.declared.expression.Conjunction as conjunctions
-use Rattle.resolving.proofs.ExpressionTwins.{conjunction_seen}
-use Rattle.resolving.proofs.AloneLemmas.{chain_is_more, chain_is_first}
-use Rattle.resolving.proofs.alone.in_conjunction.Goals as goal
+use Rattle.tree.proofs.ExpressionTwins.{conjunction_seen}
+use Rattle.tree.proofs.AloneLemmas.{chain_is_more, chain_is_first}
+use Rattle.tree.proofs.alone.in_conjunction.Goals as goal
 
 pub returns-then-not-is_empty : goal.returns-then-not-is_empty
 returns-then-not-is_empty c =

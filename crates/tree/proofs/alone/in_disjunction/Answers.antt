@@ -2,9 +2,9 @@ use Rattle.std.proofs.Common.{sym, ◌∙◌}
 use Rattle.tree.specs.Operators.{Or}
 use Rattle.tree.specs.ExpressionTrees.{unmarked, disjunction_tree, conjunction_tree}
 use Rattle.tree.specs.declared.expression.Disjunction as disjunctions
-use Rattle.names.proofs.ExpressionTwins.{disjunction_seen}
-use Rattle.names.proofs.WholeNames.{chain_is_more, chain_is_first}
-use Rattle.names.proofs.wholes.in_disjunction.Goals as goal
+use Rattle.tree.proofs.ExpressionTwins.{disjunction_seen}
+use Rattle.tree.proofs.AloneLemmas.{chain_is_more, chain_is_first}
+use Rattle.tree.proofs.alone.in_disjunction.Goals as goal
 
 pub returns-then-not-is_empty : goal.returns-then-not-is_empty
 returns-then-not-is_empty c =

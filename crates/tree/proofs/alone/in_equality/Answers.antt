@@ -2,9 +2,9 @@ use Rattle.std.proofs.Common.{sym, ◌∙◌}
 use Rattle.tree.specs.Operators.{Equal}
 use Rattle.tree.specs.ExpressionTrees.{equality_step_tree, equality_tree, relation_tree}
 use Rattle.tree.specs.declared.expression.Equality as equalitys
-use Rattle.resolving.proofs.ExpressionTwins.{equality_seen}
-use Rattle.resolving.proofs.AloneLemmas.{chain_is_more, chain_is_first}
-use Rattle.resolving.proofs.alone.in_equality.Goals as goal
+use Rattle.tree.proofs.ExpressionTwins.{equality_seen}
+use Rattle.tree.proofs.AloneLemmas.{chain_is_more, chain_is_first}
+use Rattle.tree.proofs.alone.in_equality.Goals as goal
 
 pub returns-then-not-is_empty : goal.returns-then-not-is_empty
 returns-then-not-is_empty c =
