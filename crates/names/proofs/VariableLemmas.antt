@@ -1,5 +1,5 @@
 -- Variables that come into scope and go out of it.
-use Rattle.std.proofs.Common.{◌≡◌, ℕ, if◌then◌else◌, ◌+◌, ◌-◌, ◌<◌, List, [], ◌∷◌, ◌++◌, length, map, take, Bool, true, sym, refl, ap, ◌∙◌, subst, arith, append_assoc, append-nil}
+use Rattle.std.proofs.Common.{◌≡◌, ℕ, if◌then◌else◌, ◌+◌, ◌-◌, ◌<◌, List, [], ◌∷◌, ◌++◌, length, map, take, Bool, true, sym, refl, ap, ◌∙◌, subst, arith}
 use Rattle.std.specs.Prelude.{Result, Ok, Err, OnOk, Option, None, Some, is_some, option_map, option_and_then, slice_get}
 use Rattle.std.proofs.lemmas.List.{map-append, length-map, take-take}
 use Rattle.std.proofs.lemmas.List.Quantifiers.{position-Some}
@@ -9,10 +9,10 @@ use Rattle.lemmas.proofs.Lists.{front_of}
 use Rattle.source.specs.declared.fault.Memory.{Memory}
 use Rattle.declarations.specs.declared.mistake.Mistake.{Mistake}
 use Rattle.source.specs.declared.token.Span.{Span}
-use Rattle.tables.specs.Firsts.{first_of}
+use Rattle.tables.specs.Firsts.{IsApart, first_of}
 use Rattle.declarations.specs.Mistakes.{Adds}
 use Rattle.declarations.specs.Listed.{twice}
-use Rattle.names.specs.Frames.{AreApart, IsFrame, Turned, variable_seen, words_in}
+use Rattle.names.specs.Frames.{IsFrame, Turned, variable_seen, words_in}
 use Rattle.tables.specs.Tables.{IsTable}
 use Rattle.names.specs.Variables as model
 use Rattle.names.specs.Variables.{Frame, Turn, turn, variable_named, entered_variable, past_heap, declared_variable}
@@ -21,22 +21,8 @@ use Rattle.declarations.specs.declared.kinds.Kind.{Kind}
 use Rattle.declarations.specs.declared.kinds.Kind.TheVariants as kind
 use Rattle.names.specs.declared.variables.Variable.{Variable}
 use Rattle.names.specs.declared.variables.Variables.{Variables}
+use Rattle.tables.proofs.FirstLemmas.{apart_more, last_lacked}
 use Rattle.declarations.proofs.AddLemmas.{adds_none, adds_then}
-
-pub apart_push : (before words : List (List ℕ)) (w : List ℕ) → AreApart before words → first_of (before ++ words) w ≡ None → AreApart before (words ++ w ∷ [])
-apart_push before [] w h new = (subst (λ l. first_of l w ≡ None) (append-nil before) new, tt)
-apart_push before (v ∷ words) w h new = (h.0, apart_push (before ++ v ∷ []) words w h.1 (subst (λ l. first_of l w ≡ None) (sym (append_assoc before (v ∷ []) words)) new))
-
--- what holds without the last word
-pub record Popped (before words : List (List ℕ)) (w : List ℕ) : Type 0 where
-  pub rest : AreApart before words
-  pub last : first_of (before ++ words) w ≡ None
-
-pub apart_pop : (before words : List (List ℕ)) (w : List ℕ) → AreApart before (words ++ w ∷ []) → Popped before words w
-apart_pop before [] w h = record { rest = tt; last = subst (λ l. first_of l w ≡ None) (sym (append-nil before)) h.0 }
-apart_pop before (v ∷ words) w h =
-    let r = apart_pop (before ++ v ∷ []) words w h.1 in
-    record { rest = (h.0, r.rest); last = subst (λ l. first_of l w ≡ None) (append_assoc before (v ∷ []) words) r.last }
 
 -- the words of the variables and one more
 pub words_push : (text : List ℕ) (variables : List model.Variable) (v : model.Variable) → words_in text (variables ++ v ∷ []) ≡ words_in text variables ++ word_at text v.name ∷ []
@@ -87,7 +73,7 @@ entered_new text f v w name k word old h at unnamed table list heap =
       frame = record {
         list = ap (map variable_seen) list ∙ map-append variable_seen v.list.items (record { name = name; kind = k } ∷ []) ∙ ap (λ l. l ++ record { name = name; kind = k } ∷ []) h.list;
         names = subst (λ l. IsTable l w.names) (sym more) (subst (λ x. IsTable (words ++ x ∷ []) w.names) at (table words h.names found_none));
-        apart = subst (AreApart []) (sym more) (apart_push [] words (word_at text name) h.apart none);
+        apart = subst IsApart (sym more) ((apart_more words (word_at text name) none).0 h.apart);
         heap = heap ∙ h.heap;
       };
     })
@@ -105,11 +91,12 @@ popped_to : (text : List ℕ) (f : Frame) (v w : Variables) (front : List model.
     → IsFrame text (record { variables = front; heap = f.heap }) w
 popped_to text f v w front x h is list heap table =
     let words = ap (words_in text) is ∙ words_push text front x in
-    let apart = apart_pop [] (words_in text front) (word_at text x.name) (subst (AreApart []) words h.apart) in
+    let apart = subst IsApart words h.apart in
+    let lacked = last_lacked (words_in text front) (word_at text x.name) apart in
     record {
       list = list;
-      names = table (words_in text front) (subst (λ l. IsTable l v.names) words h.names) apart.last;
-      apart = apart.rest;
+      names = table (words_in text front) (subst (λ l. IsTable l v.names) words h.names) lacked;
+      apart = (apart_more (words_in text front) (word_at text x.name) lacked).1 apart;
       heap = heap ∙ h.heap;
     }
 

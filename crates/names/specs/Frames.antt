@@ -1,8 +1,8 @@
 -- The variables in scope, and what stands round a statement, as the code has them.
-use Rattle.std.specs.Prelude.{◌≡◌, ℕ, ◌+◌, min, List, [], ◌∷◌, ◌++◌, map, None}
+use Rattle.std.specs.Prelude.{◌≡◌, ℕ, ◌+◌, min, List, map}
 use Rattle.declarations.specs.declared.mistake.Mistake.{Mistake}
 use Rattle.names.specs.Bodies as bodies
-use Rattle.tables.specs.Firsts.{first_of}
+use Rattle.tables.specs.Firsts.{IsApart}
 use Rattle.declarations.specs.Mistakes.{Adds}
 use Rattle.declarations.specs.Scopes.{IsScope, AreMethods}
 use Rattle.tables.specs.Tables.{IsTable}
@@ -20,11 +20,6 @@ use Rattle.names.specs.declared.variables.Variables.{Variables}
 abbrev pub variable_seen : Variable → model.Variable
 variable_seen v = record { name = v.name; kind = v.kind }
 
--- each of these words is another than those before it
-abbrev pub AreApart : List (List ℕ) → List (List ℕ) → Type 0
-AreApart before [] = Unit {0}
-AreApart before (w ∷ words) = (first_of before w ≡ None) × AreApart (before ++ w ∷ []) words
-
 -- the names of the variables in scope, as they are written
 abbrev pub words_in : List ℕ → List model.Variable → List (List ℕ)
 words_in text variables = words_at text (map (λ v. v.name) variables)
@@ -34,7 +29,7 @@ words_in text variables = words_at text (map (λ v. v.name) variables)
 pub record IsFrame (text : List ℕ) (f : Frame) (v : Variables) : Type 0 where
   pub list : map variable_seen v.list.items ≡ f.variables
   pub names : IsTable (words_in text f.variables) v.names
-  pub apart : AreApart [] (words_in text f.variables)
+  pub apart : IsApart (words_in text f.variables)
   pub heap : v.heap ≡ min f.heap (MOST_VARIABLES + 1)
 
 -- all is added to the findings that a turn adds, and its frame is the one that stands now

@@ -5,20 +5,21 @@ use Rattle.std.proofs.lemmas.List.{map-append, length-map}
 use Rattle.std.proofs.lemmas.List.Quantifiers.{position-Some}
 use Rattle.std.proofs.lemmas.Option.{slice_get-map, slice_get-get_or}
 use Rattle.lemmas.proofs.Options.{none_is}
+use Rattle.tables.proofs.FirstLemmas.{apart_more}
 use Rattle.source.specs.declared.token.Span.{Span}
-use Rattle.tables.specs.Firsts.{first_of}
+use Rattle.tables.specs.Firsts.{IsApart, first_of}
 use Rattle.tables.specs.Tables.{IsTable}
 use Rattle.tables.specs.Words.{word_at, same_word}
 use Rattle.declarations.specs.declared.kinds.Kind.TheVariants.{Missing}
 use Rattle.program.specs.Methods.{variable_seen}
 use Rattle.program.specs.declared.kind.Kind.{Kind}
 use Rattle.program.specs.declared.number.VarId.{VarId}
-use Rattle.resolving.specs.Frames.{AreApart, IsFrame, local_seen, number_seen, words_in}
+use Rattle.resolving.specs.Frames.{IsFrame, local_seen, number_seen, words_in}
 use Rattle.resolving.specs.Locals as model
 use Rattle.resolving.specs.Locals.{Frame, local_named, number_of, entered, counted, declared_heap}
 use Rattle.resolving.specs.declared.locals.Declaration.{Declaration}
 use Rattle.resolving.specs.declared.locals.Locals.{Locals}
-use Rattle.resolving.proofs.ScopeLemmas.{apart_push, scoped, words_push}
+use Rattle.resolving.proofs.ScopeLemmas.{scoped, words_push}
 
 local_at : (text : List ℕ) (f : Frame) (l : Locals) → IsFrame text f l → (place : Option ℕ) → option_map local_seen (option_and_then (slice_get l.list.items) place) ≡ option_and_then (slice_get f.locals) place
 local_at text f l h None = refl
@@ -69,7 +70,7 @@ entered_new text f l m d number word found h at is taken table list last variabl
     subst (λ b. IsFrame text (entered_if b d (number_seen number) f) m) (sym there) (record {
       list = ap (map local_seen) list ∙ map-append local_seen l.list.items (record { name = d.name; kind = d.kind; number = number } ∷ []) ∙ ap (λ x. x ++ here d (number_seen number) ∷ []) h.list;
       names = subst (λ x. IsTable x m.names) (sym more) (subst (λ x. IsTable (words ++ x ∷ []) m.names) at (table words h.names found_none));
-      apart = subst (AreApart []) (sym more) (apart_push [] words (word_at text d.name) h.apart none);
+      apart = subst IsApart (sym more) ((apart_more words (word_at text d.name) none).0 h.apart);
       last = ap number_seen last ∙ h.last;
       variables = ap (map _) variables ∙ h.variables;
     })

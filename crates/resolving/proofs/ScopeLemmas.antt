@@ -1,32 +1,17 @@
 -- Variables that go out of scope.
-use Rattle.std.proofs.Common.{◌≡◌, ℕ, ◌-◌, ◌<◌, List, [], ◌∷◌, ◌++◌, length, map, take, Option, None, sym, ap, ◌∙◌, subst, arith, append_assoc, append-nil}
+use Rattle.std.proofs.Common.{◌≡◌, ℕ, ◌-◌, ◌<◌, List, [], ◌∷◌, ◌++◌, length, map, take, Option, None, sym, ap, ◌∙◌, subst, arith}
 use Rattle.std.proofs.lemmas.List.{map-append, length-map, take-take}
 use Rattle.lemmas.proofs.Lists.{front_of}
-use Rattle.tables.specs.Firsts.{first_of}
+use Rattle.tables.proofs.FirstLemmas.{apart_more, last_lacked}
+use Rattle.tables.specs.Firsts.{IsApart, first_of}
 use Rattle.tables.specs.Tables.{IsTable}
 use Rattle.tables.specs.Words.{word_at, words_at}
 use Rattle.program.specs.Methods.{variable_seen}
-use Rattle.resolving.specs.Frames.{AreApart, IsFrame, local_seen, number_seen, words_in}
+use Rattle.resolving.specs.Frames.{IsFrame, local_seen, number_seen, words_in}
 use Rattle.resolving.specs.Locals as model
 use Rattle.resolving.specs.Locals.{Frame}
 use Rattle.resolving.specs.declared.locals.Local.{Local}
 use Rattle.resolving.specs.declared.locals.Locals.{Locals}
-
--- one more word, which is none of those before it
-pub apart_push : (before words : List (List ℕ)) (w : List ℕ) → AreApart before words → first_of (before ++ words) w ≡ None → AreApart before (words ++ w ∷ [])
-apart_push before [] w h new = (subst (λ l. first_of l w ≡ None) (append-nil before) new, tt)
-apart_push before (v ∷ words) w h new = (h.0, apart_push (before ++ v ∷ []) words w h.1 (subst (λ l. first_of l w ≡ None) (sym (append_assoc before (v ∷ []) words)) new))
-
--- what holds without the last word
-record Popped (before words : List (List ℕ)) (w : List ℕ) : Type 0 where
-  rest : AreApart before words
-  last : first_of (before ++ words) w ≡ None
-
-apart_pop : (before words : List (List ℕ)) (w : List ℕ) → AreApart before (words ++ w ∷ []) → Popped before words w
-apart_pop before [] w h = record { rest = tt; last = subst (λ l. first_of l w ≡ None) (sym (append-nil before)) h.0 }
-apart_pop before (v ∷ words) w h =
-    let r = apart_pop (before ++ v ∷ []) words w h.1 in
-    record { rest = (h.0, r.rest); last = subst (λ l. first_of l w ≡ None) (append_assoc before (v ∷ []) words) r.last }
 
 -- the words of the variables and one more
 pub words_push : (text : List ℕ) (locals : List model.Local) (l : model.Local) → words_in text (locals ++ l ∷ []) ≡ words_in text locals ++ word_at text l.name ∷ []
@@ -44,11 +29,12 @@ popped_to : (text : List ℕ) (f : Frame) (l m : Locals) (front : List model.Loc
     → IsFrame text (scoped front f.last f) m
 popped_to text f l m front x h is list last variables table =
     let words = ap (words_in text) is ∙ words_push text front x in
-    let apart = apart_pop [] (words_in text front) (word_at text x.name) (subst (AreApart []) words h.apart) in
+    let apart = subst IsApart words h.apart in
+    let lacked = last_lacked (words_in text front) (word_at text x.name) apart in
     record {
       list = list;
-      names = table (words_in text front) (subst (λ w. IsTable w l.names) words h.names) apart.last;
-      apart = apart.rest;
+      names = table (words_in text front) (subst (λ w. IsTable w l.names) words h.names) lacked;
+      apart = (apart_more (words_in text front) (word_at text x.name) lacked).1 apart;
       last = ap number_seen last ∙ h.last;
       variables = ap (map variable_seen) variables ∙ h.variables;
     }

@@ -1,6 +1,6 @@
 -- The variables in scope, as the code has them.
-use Rattle.std.specs.Prelude.{◌≡◌, ℕ, List, [], ◌∷◌, ◌++◌, map, Option, None, option_map}
-use Rattle.tables.specs.Firsts.{first_of}
+use Rattle.std.specs.Prelude.{◌≡◌, ℕ, List, map, Option, option_map}
+use Rattle.tables.specs.Firsts.{IsApart}
 use Rattle.tables.specs.Tables.{IsTable}
 use Rattle.tables.specs.Words.{words_at}
 use Rattle.program.specs.Methods.{variable_seen}
@@ -24,16 +24,11 @@ local_seen l = record { name = l.name; kind = l.kind; number = number_seen l.num
 abbrev pub words_in : List ℕ → List model.Local → List (List ℕ)
 words_in text locals = words_at text (map (λ l. l.name) locals)
 
--- no two words are the same, nor one of those before them
-abbrev pub AreApart : (before words : List (List ℕ)) → Type 0
-AreApart before [] = Unit {0}
-AreApart before (w ∷ words) = (first_of before w ≡ None) × AreApart (before ++ w ∷ []) words
-
 -- These are the variables in scope, each findable by its name, no two of one name, the last one of the exchange heap, and all of those.
 pub record IsFrame (text : List ℕ) (f : Frame) (l : Locals) : Type 0 where
   pub list : map local_seen l.list.items ≡ f.locals
   pub names : IsTable (words_in text f.locals) l.names
-  pub apart : AreApart [] (words_in text f.locals)
+  pub apart : IsApart (words_in text f.locals)
   pub last : number_seen l.last ≡ f.last
   pub variables : map variable_seen l.variables.items ≡ f.variables
 

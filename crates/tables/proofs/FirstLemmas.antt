@@ -1,74 +1,16 @@
 -- Where words stand first in a list that grows by one.
-use Rattle.std.proofs.Common.{◌≡◌, ◌⊎◌, inl, inr, ℕ, zero, suc, ◌+◌, ◌<◌, ◌≤◌, List, [], ◌∷◌, ◌++◌, length, Option, Some, None, Bool}
-use Rattle.std.proofs.Common.{true, false, not, cond, ltb, eqb, sym, refl, ap, subst, ◌∙◌, arith, ⊎_elim}
-use Rattle.std.specs.Prelude.{◌↔◌, is_some, position, slice_get}
-use Rattle.std.specs.List.{position_or_len}
-use Rattle.std.proofs.Math.ListN.{length-append}
-use Rattle.std.proofs.lemmas.Bool.{cases_eq, cases_Bool, cond-true, cond-false, lt-ltb, le-ltb, eq-eqb, ne_eqb}
+use Rattle.std.proofs.Common.{◌≡◌, ◌⊎◌, inl, inr, ℕ, zero, suc, List, [], ◌∷◌, ◌++◌, length, Option, Some, None}
+use Rattle.std.proofs.Common.{true, false, cond, sym, refl, ap, subst, ◌∙◌, arith, ⊎_elim}
+use Rattle.std.specs.Prelude.{◌↔◌, is_some, slice_get}
+use Rattle.std.proofs.lemmas.Bool.{cases_Bool, cond-true, cond-false}
 use Rattle.std.proofs.lemmas.Cmp.{nat_list_eq_equiv}
-use Rattle.std.proofs.lemmas.List.Folds.{position_or_len_push}
 use Rattle.std.proofs.lemmas.List.Quantifiers.{position-Some}
-use Rattle.std.proofs.lemmas.List.Sums.{prefix_len-le-length}
 use Rattle.std.proofs.lemmas.Option.{slice_get_within}
 use Rattle.std.proofs.lemmas.Slice.Eq.{bytes_eq-Decides}
+use Rattle.lemmas.proofs.FirstPlaces.{position_push}
+use Rattle.lemmas.proofs.Options.{none_is}
 use Rattle.tables.specs.Firsts.{IsApart, first_of}
 use Rattle.tables.specs.Words.{same_word}
-
--- a position, if it is one of a list of this length
-abbrev within : ℕ → ℕ → Option ℕ
-within i n = cond (ltb i n) (Some i) None
-
-within_lt : (i n : ℕ) → i < n → within i n ≡ Some i
-within_lt i n lt = cond-true (ltb i n) (Some i) None (lt-ltb i n lt)
-
-within_le : (i n : ℕ) → n ≤ i → within i n ≡ None
-within_le i n le = cond-false (ltb i n) (Some i) None (le-ltb i n le)
-
-position_push : {X : Type 0} (p : X → Bool) (xs : List X) (y : X)
-    → position p (xs ++ y ∷ []) ≡ cond (is_some (position p xs)) (position p xs) (cond (p y) (Some (length xs)) None)
-position_push {X} p xs y = ⊎_elim
-    (λ at. let here : at_end ≡ length xs + cond (p y) 0 1 =
-    first ∙ cond-true (eqb at_most (length xs)) (length xs + cond (p y) 0 1) at_most (eq-eqb at_most (length xs) at) in
-    let none : position p xs ≡ None = within_le at_most (length xs) (omega (arith, at)) in
-    both ∙ ap (λ i. within i (length xs + 1)) here ∙ end ∙ sym (ap rest none))
-    (λ before. let here : at_end ≡ at_most =
-    first ∙ cond-false (eqb at_most (length xs)) (length xs + cond (p y) 0 1) at_most (ne_eqb at_most (length xs) before) in
-    let less : at_most < length xs = let le = prefix_len-le-length (λ x. not (p x)) xs in grind (arith, le, before) in
-    both ∙ ap (λ i. within i (length xs + 1)) here ∙ within_lt at_most (length xs + 1) (omega (arith, less))
-    ∙ sym (ap rest (within_lt at_most (length xs) less)))
-    (cases_eq at_most (length xs))
-  where
-    at_most : ℕ
-    at_most = position_or_len p xs
-
-    at_end : ℕ
-    at_end = position_or_len p (xs ++ y ∷ [])
-
-    last : Option ℕ
-    last = cond (p y) (Some (length xs)) None
-
-    rest : Option ℕ → Option ℕ
-    rest o = cond (is_some o) o last
-
-    first : at_end ≡ cond (eqb at_most (length xs)) (length xs + cond (p y) 0 1) at_most
-    first = position_or_len_push p xs y
-
-    both : position p (xs ++ y ∷ []) ≡ within at_end (length xs + 1)
-    both = ap (within at_end) (length-append xs (y ∷ []))
-
-    end : within (length xs + cond (p y) 0 1) (length xs + 1) ≡ last
-    end = ⊎_elim
-        (λ yes. let z : length xs + cond (p y) 0 1 ≡ length xs = let e = cond-true {A = ℕ} (p y) 0 1 yes in omega (arith, e) in
-        ap (λ i. within i (length xs + 1)) z ∙ within_lt (length xs) (length xs + 1) (omega arith)
-        ∙ sym (cond-true (p y) (Some (length xs)) None yes))
-        (λ no'. let z : length xs + cond (p y) 0 1 ≡ length xs + 1 = let e = cond-false {A = ℕ} (p y) 0 1 no' in omega (arith, e) in
-        ap (λ i. within i (length xs + 1)) z ∙ within_le (length xs + 1) (length xs + 1) (omega arith)
-        ∙ sym (cond-false (p y) (Some (length xs)) None no'))
-        (cases_Bool (p y))
-
-none_is : (o : Option ℕ) → is_some o ≡ false → o ≡ None
-none_is None h = refl
-none_is (Some n) h = cc
 
 -- a word that a list has already changes no first place
 pub first_kept : (words : List (List ℕ)) (w q : List ℕ) → is_some (first_of words w) ≡ true
@@ -160,3 +102,8 @@ twice words w there h =
     sym (first_kept words w w there) ∙ h.first (length words) w (last_there words w) in
     let before = (position-Some (same_word w) words (length words) [] at_end).0 in
     omega (arith, before)
+
+-- where no word stands twice, the last one does not stand before
+pub last_lacked : (words : List (List ℕ)) (w : List ℕ) → IsApart (words ++ w ∷ []) → first_of words w ≡ None
+last_lacked words w h =
+    ⊎_elim (λ there. absurd (twice words w there h)) (λ none. none_is (first_of words w) none) (cases_Bool (is_some (first_of words w)))

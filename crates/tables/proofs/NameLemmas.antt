@@ -95,7 +95,7 @@ at_one_more (n ∷ names) w zero none = inl (λ k. none zero k)
 at_one_more (n ∷ names) w (suc place) none = ⊎_elim (λ before. inl before) (λ last. inr (ap suc last))
     (at_one_more names w place (λ place k. none (suc place) k))
 
-cond_none : (m : Bool) → cond {A = Option ℕ} m None None ≡ None
+pub cond_none : (m : Bool) → cond {A = Option ℕ} m None None ≡ None
 cond_none true = refl
 cond_none false = refl
 

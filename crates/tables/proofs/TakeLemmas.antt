@@ -1,5 +1,5 @@
 -- What a bucket says once a name took a seat there.
-use Rattle.std.proofs.Common.{◌≡◌, ◌⊎◌, inl, inr, ℕ, suc, ◌+◌, ◌<◌, ◌≤◌, max, Bool, true, false, cond, ltb, List, length}
+use Rattle.std.proofs.Common.{◌≡◌, ◌⊎◌, inl, inr, ℕ, suc, ◌+◌, ◌<◌, ◌≤◌, max, Bool, false, cond, ltb, List, length}
 use Rattle.std.proofs.Common.{Option, Some, None, sym, refl, ap, subst, ◌∙◌, ⊎_elim, arith}
 use Rattle.std.specs.Prelude.{◌&&◌, nat_eq, option_and_then}
 use Rattle.std.specs.Borrow.{Bor}
@@ -10,6 +10,7 @@ use Rattle.tables.specs.Seats.{mark_of}
 use Rattle.tables.specs.Tables.{NoneOr, first_in, place_in, place_of, second_in, seated_by, third_in}
 use Rattle.tables.specs.Words.{same_word}
 use Rattle.tables.specs.declared.seats.Bucket.{Bucket}
+use Rattle.tables.proofs.NameLemmas.{cond_none}
 
 abbrev Names : Type 0
 Names = List (Bor (List ℕ))
@@ -22,10 +23,6 @@ gone names q p place few none le = ⊎_elim
     (λ more. ap (option_and_then (λ (w : Bor (List ℕ)). cond (same_word q w.now) (Some p) None))
     (slice_get_past names p (omega (arith, few, le, more))))
     (cases_eq p place)
-
-cond_none : (m : Bool) → cond {A = Option ℕ} m None None ≡ None
-cond_none true = refl
-cond_none false = refl
 
 -- a seat that nobody took, or whose name is gone, says nothing
 free_says : (names : Names) (q : List ℕ) (m : Bool) (p place : ℕ) → length names ≤ place + 1 → place_of names q place ≡ None
