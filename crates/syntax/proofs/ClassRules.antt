@@ -20,7 +20,7 @@ use Rattle.tree.specs.declared.class as made
 use Rattle.tree.specs.declared.item as item_nodes
 use Rattle.tree.specs.declared.types as type_nodes
 use Rattle.tree.specs.declared.item.Access.TheVariants as access
-use Rattle.syntax.proofs.Pieces.{Piece, Follows, Meets, ReadsOneWay, both, both_piece, next, via_piece, wide_way}
+use Rattle.syntax.proofs.Pieces.{Piece, Follows, Meets, ReadsOneWay, both, both_piece, next, via_piece, wide_way, stops_never}
 use Rattle.syntax.proofs.Beginnings.{Begins, Starts, splits_self}
 use Rattle.syntax.proofs.Repeats.{many_piece}
 use Rattle.syntax.proofs.Options.{when_piece}
@@ -67,12 +67,8 @@ type_stops p r =
 pub claims_follows : Follows (is_kind kind.OpenBracket) typed_name never
 claims_follows = record { each = λ p r h. type_stops p r }
 
-never_stops : (r : List Symbol) → Stops never r
-never_stops [] = tt
-never_stops (y ∷ r) = refl
-
 claims_meets : Meets {X = Bool} (when_at (is_kind kind.OpenBracket)) typed_name (λ _. never)
-claims_meets = record { here = elim [ true ↦ λ p r h. never_stops (typed_name p ++ r) | false ↦ λ p r h. type_stops p r ] }
+claims_meets = record { here = elim [ true ↦ λ p r h. stops_never (typed_name p ++ r) | false ↦ λ p r h. type_stops p r ] }
 
 abbrev pub parameter_to : made.Parameter.Parameter → Bool × (type_nodes.Type.Type × Span)
 parameter_to p = (p.claims, (p.kind, p.name))
@@ -158,7 +154,7 @@ pub result_follows : Follows type_on signature never
 result_follows = record { each = λ p r h. refl }
 
 result_meets : Meets result_at signature (λ _. never)
-result_meets = record { here = elim [ None ↦ λ p r h. never_stops (signature p ++ r) | Some t ↦ λ p r h. type_meets.here t p.0 [] tt ] }
+result_meets = record { here = elim [ None ↦ λ p r h. stops_never (signature p ++ r) | Some t ↦ λ p r h. type_meets.here t p.0 [] tt ] }
 
 pub result_end : Piece (both result_type signature) never (λ _. never)
 result_end = both_piece result_piece signature_piece result_follows result_meets

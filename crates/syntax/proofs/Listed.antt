@@ -19,19 +19,19 @@ pub record Item {X : Type 0} (a : X → List Symbol) (p : Option Kind → Bool) 
   pub begin : Starts a (by_kind p)
   pub apart : p (Some Comma) ≡ false
 
-abbrev to : {X : Type 0} → List X → Option (X × List X)
+abbrev pub to : {X : Type 0} → List X → Option (X × List X)
 to [] = None
 to (x ∷ xs) = Some (x, xs)
 
-abbrev from : {X : Type 0} → Option (X × List X) → List X
+abbrev pub from : {X : Type 0} → Option (X × List X) → List X
 from None = []
 from (Some p) = p.0 ∷ p.1
 
-back : {X : Type 0} (xs : List X) → from (to xs) ≡ xs
+pub back : {X : Type 0} (xs : List X) → from (to xs) ≡ xs
 back [] = refl
 back (x ∷ xs) = refl
 
-there : {X : Type 0} (p : Option (X × List X)) → to (from p) ≡ p
+pub there : {X : Type 0} (p : Option (X × List X)) → to (from p) ≡ p
 there None = refl
 there (Some p) = refl
 

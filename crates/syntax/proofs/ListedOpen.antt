@@ -1,5 +1,5 @@
 -- Pieces with commas between them, or none, where a piece could go on by more than a comma.
-use Rattle.std.proofs.Common.{◌≡◌, Bool, true, false, List, [], ◌∷◌, ◌++◌, Option, Some, None, refl, sym, ap, ◌∙◌, subst, append_assoc}
+use Rattle.std.proofs.Common.{◌≡◌, Bool, true, false, List, [], ◌∷◌, ◌++◌, Option, refl, sym, ap, ◌∙◌, subst, append_assoc}
 use Rattle.std.specs.Prelude.{◌||◌}
 use Rattle.std.specs.List.{flat_map}
 use Rattle.source.specs.declared.kind.Kind.{Kind}
@@ -10,6 +10,7 @@ use Rattle.syntax.specs.Reading.{never, Stops, leads, Fails, Takes, optional_at,
 use Rattle.syntax.proofs.Pieces.{Piece, Follows, both, next, via_piece, via_fails, same_piece, same_fails, fails_here, fails_after, fails_first, fails_second, or_left, or_right, stops_left}
 use Rattle.syntax.proofs.Beginnings.{Starts, Splits, Leaves, row_starts}
 use Rattle.syntax.proofs.Repeats.{many_open_piece, many_fails, at_stops, tail_stops, rest_stops, last_more}
+use Rattle.syntax.proofs.Listed.{to, from, back, there}
 use Rattle.syntax.proofs.Options.{Opens, MeetsOpen, open_piece, open_opt_piece, open_opt_fails}
 use Rattle.syntax.proofs.CursorLemmas.{fixed, fixed_piece}
 
@@ -19,22 +20,6 @@ pub record OpenItem {X : Type 0} (a : X → List Symbol) (f : Symbol → Bool) (
   pub begin : Starts a (by_kind p)
   pub free : (y : Symbol) → is_kind Comma y ≡ true → f y ≡ false
   pub leaves : Leaves at (is_kind Comma)
-
-abbrev to : {X : Type 0} → List X → Option (X × List X)
-to [] = None
-to (x ∷ xs) = Some (x, xs)
-
-abbrev from : {X : Type 0} → Option (X × List X) → List X
-from None = []
-from (Some p) = p.0 ∷ p.1
-
-back : {X : Type 0} (xs : List X) → from (to xs) ≡ xs
-back [] = refl
-back (x ∷ xs) = refl
-
-there : {X : Type 0} (p : Option (X × List X)) → to (from p) ≡ p
-there None = refl
-there (Some p) = refl
 
 abbrev comma_to : {X : Type 0} → X → Unit {0} × X
 comma_to x = (tt, x)

@@ -4,7 +4,7 @@ use Rattle.source.specs.declared.kind.Kind.{Kind}
 use Rattle.source.specs.declared.kind.Kind.TheVariants as kind
 use Rattle.source.specs.declared.token.Span.{Span}
 use Rattle.tree.specs.Symbols.{Fixed, by_kind, is_kind}
-use Rattle.tree.specs.Spelling.{name, optional}
+use Rattle.tree.specs.Spelling.{optional}
 use Rattle.syntax.specs.Reading.{never, optional_at}
 use Rattle.tree.specs.Expressions.{ExpressionTree, expression, dot_name}
 use Rattle.syntax.specs.ExpressionReads.{opens_expression, expression_on, expression_at}
@@ -15,12 +15,12 @@ use Rattle.syntax.specs.StatementParts.{init_on, result_on, declared, assigned, 
 use Rattle.tree.specs.declared.statement as made
 use Rattle.syntax.specs.declared.statement_ends.ChannelEnds.{ChannelEnds}
 use Rattle.syntax.proofs.Pieces.{Piece, Follows, Meets, both, both_piece, next, via_piece, or_left, or_right}
-use Rattle.syntax.proofs.Beginnings.{Starts, splits_self}
-use Rattle.syntax.proofs.Options.{Opens, opt_piece, open_opt_piece}
+use Rattle.syntax.proofs.Beginnings.{Starts}
+use Rattle.syntax.proofs.Options.{Opens, open_opt_piece}
 use Rattle.syntax.proofs.CursorLemmas.{fixed, fixed_piece, placed_piece, named_piece}
 use Rattle.syntax.proofs.ExpressionFails.{expression_piece, expression_starts, expression_apart}
 use Rattle.syntax.proofs.ValueFails.{value_piece, value_apart}
-use Rattle.syntax.proofs.ValueForms.{call_piece}
+use Rattle.syntax.proofs.ValueForms.{call_piece, maybe_dot_piece, dot_follows, dot_meets}
 use Rattle.syntax.proofs.ValueRules.{arguments_piece}
 
 -- a value, and what ends it
@@ -118,39 +118,10 @@ delete_from p = p.1.0
 pub delete_piece : Piece delete never (λ _. never)
 delete_piece = via_piece delete_to delete_from (λ _. refl) (next (fixed_piece kind.Delete) (next named_piece (fixed_piece kind.Semicolon)))
 
--- dot_name = "." ID .
-
-abbrev pub dot_name_to : Span → Unit {0} × Span
-dot_name_to span = (tt, span)
-
-abbrev pub dot_name_from : Unit {0} × Span → Span
-dot_name_from p = p.1
-
-pub dot_name_piece : Piece dot_name never (λ _. never)
-dot_name_piece = via_piece dot_name_to dot_name_from (λ _. refl) (next (fixed_piece kind.Dot) named_piece)
-
-pub dot_name_starts : Starts dot_name (is_kind kind.Dot)
-dot_name_starts = record { each = λ span. record { head = Fixed kind.Dot; tail = name span; is = refl; first = refl } }
-
-pub maybe_dot_name_piece : Piece (optional dot_name) (is_kind kind.Dot) (optional_at (is_kind kind.Dot) (λ _. never))
-maybe_dot_name_piece = opt_piece dot_name_piece dot_name_starts splits_self
-
 -- call = ID [ dot_name ] arguments .
 
-abbrev pub member_follows : Follows (is_kind kind.Dot) arguments never
-member_follows = record { each = λ p r h. refl }
-
-member_meets : Meets {X = Option Span} (optional_at (is_kind kind.Dot) (λ _. never)) arguments (λ _. never)
-member_meets = record { here = elim [ None ↦ λ p r h. refl | Some span ↦ λ p r h. refl ] }
-
 pub member_end : Piece (both (optional dot_name) arguments) never (λ _. never)
-member_end = both_piece maybe_dot_name_piece arguments_piece member_follows member_meets
-
-abbrev pub call_to : CallTree → Span × (Option Span × (Span × List ExpressionTree))
-call_to c = (c.name, (c.member, (c.open_paren, c.arguments)))
-
-abbrev pub call_from : Span × (Option Span × (Span × List ExpressionTree)) → CallTree
-call_from p = record { name = p.0; member = p.1.0; open_paren = p.1.1.0; arguments = p.1.1.1 }
+member_end = both_piece maybe_dot_piece arguments_piece dot_follows dot_meets
 
 -- start = "start" call ";" .
 

@@ -12,14 +12,11 @@ use Rattle.syntax.specs.Reading.{never, Stops, Fails}
 use Rattle.syntax.specs.Parsing.{IsFirstWrong, Viable}
 use Rattle.tree.specs.Spelled.{Spells, whole}
 use Rattle.syntax.proofs.Pieces.{Piece, Follows, fails_first, fails_second, via_fails}
+use Rattle.syntax.proofs.SharedFronts.{append_nil, heads, tails}
 
 len_both : (xs ys : List Symbol) → length (xs ++ ys) ≡ length xs + length ys
 len_both [] ys = omega arith
 len_both (x ∷ xs) ys = let h = len_both xs ys in omega arith
-
-append_nil : (xs : List Symbol) → xs ++ [] ≡ xs
-append_nil [] = refl
-append_nil (x ∷ xs) = ap (λ t. x ∷ t) (append_nil xs)
 
 -- what is read up to a symbol, and with it
 front_is : (old front : List Symbol) (next : Symbol) (rest : List Symbol) (k : ℕ) → old ≡ front ++ next ∷ rest → length front ≡ k → take k old ≡ front
@@ -53,27 +50,21 @@ nothing_more : (w : List Symbol) (y : Symbol) (ys : List Symbol) → [] ≡ w ++
 nothing_more [] y ys e = cc
 nothing_more (x ∷ w) y ys e = cc
 
-behind : {x y : Symbol} {xs ys : List Symbol} → x ∷ xs ≡ y ∷ ys → xs ≡ ys
-behind e = cc
-
-heads : {x y : Symbol} {xs ys : List Symbol} → x ∷ xs ≡ y ∷ ys → x ≡ y
-heads e = cc
-
 end_last : (ts : List Token) (w ys : List Symbol) → symbols ts ≡ w ++ End ∷ ys → ys ≡ []
-end_last [] [] ys e = sym (behind e)
-end_last [] (x ∷ w) ys e = absurd (nothing_more w End ys (behind e))
+end_last [] [] ys e = sym (tails e)
+end_last [] (x ∷ w) ys e = absurd (nothing_more w End ys (tails e))
 end_last (t ∷ ts) [] ys e = absurd (seen_no_end t.kind t.span (heads e))
-end_last (t ∷ ts) (x ∷ w) ys e = end_last ts w ys (behind e)
+end_last (t ∷ ts) (x ∷ w) ys e = end_last ts w ys (tails e)
 
 last_end : (ts : List Token) (w : List Symbol) (y : Symbol) → symbols ts ≡ w ++ y ∷ [] → y ≡ End
 last_end [] [] y e = sym (heads e)
-last_end [] (x ∷ w) y e = absurd (nothing_more w y [] (behind e))
-last_end (t ∷ ts) [] y e = absurd (symbols_some ts (behind e))
+last_end [] (x ∷ w) y e = absurd (nothing_more w y [] (tails e))
+last_end (t ∷ ts) [] y e = absurd (symbols_some ts (tails e))
   where
     symbols_some : (ts : List Token) → symbols ts ≡ [] → ⊥
     symbols_some [] e = cc
     symbols_some (t ∷ ts) e = cc
-last_end (t ∷ ts) (x ∷ w) y e = last_end ts w y (behind e)
+last_end (t ∷ ts) (x ∷ w) y e = last_end ts w y (tails e)
 
 pub top_ok : (ts : List Token) (w new : List Symbol) → symbols ts ≡ w ++ new → length new ≡ 1 → w ++ End ∷ [] ≡ symbols ts
 top_ok ts w [] e one = absurd (none one)
@@ -203,7 +194,7 @@ ends_there : (ts : List Token) (w more : List Symbol) → list_all is_token w �
 ends_there [] [] more h e = refl
 ends_there [] (x ∷ w) more h e = absurd (true≢false (sym (and_parts _ _ h).0 ∙ ap is_token (heads e)))
 ends_there (t ∷ ts) [] more h e = absurd (seen_no_end t.kind t.span (sym (heads e)))
-ends_there (t ∷ ts) (x ∷ w) more h e = λ i. heads e i ∷ ends_there ts w more (and_parts _ _ h).1 (behind e) i
+ends_there (t ∷ ts) (x ∷ w) more h e = λ i. heads e i ∷ ends_there ts w more (and_parts _ _ h).1 (tails e) i
 
 module _ {X : Type 0} {a : X → List Symbol} (some : X) (ts : List Token) (right : (k : ℕ) → IsFirstWrong a ts k → ⊥) where
   -- where none is the first wrong one, any number of them begins a spelling

@@ -42,7 +42,7 @@ maybe_dot_piece = opt_piece dot_piece dot_starts splits_self
 pub dot_follows : Follows (is_kind kind.Dot) arguments never
 dot_follows = record { each = λ p r h. refl }
 
-dot_meets : Meets {X = Option Span} (optional_at (is_kind kind.Dot) (λ _. never)) arguments (λ _. never)
+pub dot_meets : Meets {X = Option Span} (optional_at (is_kind kind.Dot) (λ _. never)) arguments (λ _. never)
 dot_meets = record { here = elim [ None ↦ λ p r h. refl | Some span ↦ λ p r h. refl ] }
 
 pub call_piece : Piece call never (λ _. never)

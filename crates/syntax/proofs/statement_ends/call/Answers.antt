@@ -4,7 +4,8 @@ use Rattle.syntax.proofs.Exits.{exits}
 use Rattle.syntax.proofs.Pieces.{fails_here, fails_after, fails_first, fails_second, via_fails}
 use Rattle.syntax.proofs.CursorLemmas.{named_piece}
 use Rattle.tree.specs.Values.{call_tree, call}
-use Rattle.syntax.proofs.SimpleRules.{maybe_dot_name_piece, member_follows, member_end, call_to, call_from}
+use Rattle.syntax.proofs.SimpleRules.{member_end}
+use Rattle.syntax.proofs.ValueForms.{call_to, call_from, maybe_dot_piece, dot_follows}
 use Rattle.syntax.proofs.ValueRules.{arguments_piece}
 use Rattle.syntax.proofs.statement_ends.call.Goals as goal
 
@@ -14,8 +15,8 @@ returns-in_err-name c = exits call_tree call never (λ _. never) _ _ _ _ _ c.fro
 
 pub returns-in_err-member : goal.returns-in_err-member
 returns-in_err-member c = exits call_tree call never (λ _. never) _ _ _ _ _ c.from_residual-in_err-member.ensures.1 c.in_err-member.ensures
-    (λ h. via_fails call_to call_from (λ _. refl) (fails_after c.in_ok-name.name named_piece c.in_ok-name.ensures (fails_first h arguments_piece member_follows)))
+    (λ h. via_fails call_to call_from (λ _. refl) (fails_after c.in_ok-name.name named_piece c.in_ok-name.ensures (fails_first h arguments_piece dot_follows)))
 
 pub returns-in_err-open : goal.returns-in_err-open
 returns-in_err-open c = exits call_tree call never (λ _. never) _ _ _ _ _ c.from_residual-in_err-open.ensures.1 c.in_err-open.ensures
-    (λ h. via_fails call_to call_from (λ _. refl) (fails_after c.in_ok-name.name named_piece c.in_ok-name.ensures (fails_second c.in_ok-member.member maybe_dot_name_piece c.in_ok-member.ensures member_follows h)))
+    (λ h. via_fails call_to call_from (λ _. refl) (fails_after c.in_ok-name.name named_piece c.in_ok-name.ensures (fails_second c.in_ok-member.member maybe_dot_piece c.in_ok-member.ensures dot_follows h)))
