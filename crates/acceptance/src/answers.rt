@@ -90,11 +90,11 @@ fn answers_or_wants_memory(rt: HostRuntime) {
         match run_bounds(rt.alloc(), &mut reader, &mut writer) {
             Ok(answered) => {
                 assert!(rt; answered == *status, "{text}");
-                assert!(rt; writer.taken() == answer.as_bytes(), "{text}");
+                assert!(rt; writer.bytes() == answer.as_bytes(), "{text}");
             }
             Err(fault) => {
                 assert!(rt; fault == RunFault::Memory, "{text}");
-                assert!(rt; writer.taken().is_empty(), "{text}");
+                assert!(rt; writer.bytes().is_empty(), "{text}");
             }
         }
     }

@@ -151,11 +151,11 @@ fn checks_or_wants_memory(rt: HostRuntime) {
         match run_check(&rt, &mut reader, &mut writer, 1, 1, &Open) {
             Ok(answered) => {
                 assert!(rt; answered == *status, "{text}");
-                assert!(rt; writer.taken() == answer.as_bytes(), "{text}");
+                assert!(rt; writer.bytes() == answer.as_bytes(), "{text}");
             }
             Err(fault) => {
                 assert!(rt; fault == RunFault::Memory, "{text}");
-                assert!(rt; writer.taken().is_empty(), "{text}");
+                assert!(rt; writer.bytes().is_empty(), "{text}");
             }
         }
     }

@@ -17,6 +17,7 @@ pub struct Text {
 }
 
 impl Text {
+    /// A text with these bytes, of which nothing is read yet. `AllocError` if a growth was refused.
     pub fn new(alloc: Global, text: &str, most: usize, failing: u64) -> Result<Text, AllocError> {
         Ok(Text {
             bytes: Vec::from_slice(alloc, text.as_bytes())?,
@@ -75,6 +76,7 @@ pub struct Page {
 }
 
 impl Page {
+    /// A page with nothing on it.
     pub fn new(alloc: Global, most: usize, failing: u64) -> Page {
         Page {
             bytes: Vec::new(alloc),
@@ -116,6 +118,7 @@ pub struct Card {
 }
 
 impl Card {
+    /// A card with nothing on it.
     pub fn new() -> Card {
         Card {
             bytes: [0; 512],
@@ -124,7 +127,8 @@ impl Card {
         }
     }
 
-    pub fn taken(&self) -> &[u8] {
+    /// What was written to it.
+    pub fn bytes(&self) -> &[u8] {
         &self.bytes[..self.len]
     }
 }

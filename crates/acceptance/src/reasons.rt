@@ -68,11 +68,11 @@ fn reasons_as_worked_out(rt: HostRuntime) {
         match run_why(rt.alloc(), &mut reader, &mut writer, *named) {
             Ok(answered) => {
                 assert!(rt; answered == *status, "{text}");
-                assert!(rt; writer.taken() == answer.as_bytes(), "{text}");
+                assert!(rt; writer.bytes() == answer.as_bytes(), "{text}");
             }
             Err(fault) => {
                 assert!(rt; fault == RunFault::Memory, "{text}");
-                assert!(rt; writer.taken().is_empty(), "{text}");
+                assert!(rt; writer.bytes().is_empty(), "{text}");
             }
         }
     }

@@ -127,11 +127,11 @@ fn replays_or_wants_memory(rt: HostRuntime) {
         match run_replay(rt.alloc(), &mut reader, entry, &mut events, &mut writer) {
             Ok(answered) => {
                 assert!(rt; answered == *status, "{text}");
-                assert!(rt; writer.taken() == answer.as_bytes(), "{text}");
+                assert!(rt; writer.bytes() == answer.as_bytes(), "{text}");
             }
             Err(fault) => {
                 assert!(rt; fault == RunFault::Memory, "{text}");
-                assert!(rt; writer.taken().is_empty(), "{text}");
+                assert!(rt; writer.bytes().is_empty(), "{text}");
             }
         }
     }

@@ -151,7 +151,7 @@ fn method(alloc: Global) -> Result<Method, Memory>
 }
 
 /// The methods of the program.
-fn exchanging(alloc: Global) -> Result<Methods, Memory>
+fn methods_of_exchange(alloc: Global) -> Result<Methods, Memory>
     ensures contracts { IfOk result (λ made. contracts_seen made ≡ []) }
     ensures structs { IfOk result (λ made. structs_seen made ≡ told.structs) }
     ensures methods { IfOk result (λ made. methods_seen made ≡ told.method ∷ []) }
@@ -168,7 +168,7 @@ fn exchanging(alloc: Global) -> Result<Methods, Memory>
 fn program(alloc: Global) -> Result<Program, Fail>
     ensures { IfOk result (λ p. length (seen_of p).methods ≡ 1) }
 {
-    let methods = exchanging(alloc)?;
+    let methods = methods_of_exchange(alloc)?;
     let program = Program::new(alloc, methods, Vec::new(alloc))?;
     Ok(program)
 }

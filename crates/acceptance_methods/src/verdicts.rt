@@ -25,7 +25,7 @@ D* in ExHeap r = new[ExHeap] D(); if (b) { delete r; }
 }";
 
 /// The verdict of a task. Where a growth is refused, the task comes back, and the same worker analyses it once more.
-fn analysed(
+fn verdict_of_task(
     alloc: Global,
     task: Task,
     program: &Program,
@@ -67,7 +67,7 @@ pub(crate) fn verdict_of(
                 task.give_up();
                 return Err(Fail::from("another method"));
             }
-            analysed(alloc, task, program, rows, worker)
+            verdict_of_task(alloc, task, program, rows, worker)
         }
         None => {
             give_up_all(left);

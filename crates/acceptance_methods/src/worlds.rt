@@ -104,7 +104,7 @@ fn with_one_contract(alloc: Global, text: &str) -> Result<Program, Fail>
 }
 
 /// What events of these processes come to, each with the choice 0, from the beginning of the first method.
-fn replayed(alloc: Global, program: &Program, processes: &[u64]) -> Result<Replayed, Fail>
+fn run_of(alloc: Global, program: &Program, processes: &[u64]) -> Result<Replayed, Fail>
     requires { 0 < length (seen_of program.now).methods }
 {
     let mut events = Vec::new(alloc);
@@ -153,7 +153,7 @@ fn at(line: u32, col: u32) -> Place {
 fn the_sender_has_the_block_no_more(rt: HostRuntime) -> Result<(), Fail> {
     let alloc = rt.alloc();
     let program = with_one_contract(alloc, READS_WHAT_IT_SENT)?;
-    let run = replayed(alloc, &program, &[0, 0, 0, 0, 0])?;
+    let run = run_of(alloc, &program, &[0, 0, 0, 0, 0])?;
     assert!(rt; run.steps == 3);
     assert_eq!(rt; run.halt, Some(Halt::Fault(Fault::F1, at(9, 9))));
     let owned = [Owner::Process(0), Owner::Process(0), Owner::Queue(0)];
@@ -167,7 +167,7 @@ fn the_sender_has_the_block_no_more(rt: HostRuntime) -> Result<(), Fail> {
 fn an_end_goes_to_its_own_queue(rt: HostRuntime) -> Result<(), Fail> {
     let alloc = rt.alloc();
     let program = with_one_contract(alloc, SENDS_AN_END)?;
-    let run = replayed(alloc, &program, &[0, 0, 0, 0])?;
+    let run = run_of(alloc, &program, &[0, 0, 0, 0])?;
     assert!(rt; run.steps == 4);
     assert_eq!(rt; run.halt, None);
     let owned = [Owner::Queue(0), Owner::Freed];
@@ -180,7 +180,7 @@ fn an_end_goes_to_its_own_queue(rt: HostRuntime) -> Result<(), Fail> {
 fn a_server_waits(rt: HostRuntime) -> Result<(), Fail> {
     let alloc = rt.alloc();
     let program = with_one_contract(alloc, SERVES)?;
-    let run = replayed(alloc, &program, &[0, 0, 1, 1])?;
+    let run = run_of(alloc, &program, &[0, 0, 1, 1])?;
     assert!(rt; run.steps == 3);
     assert_eq!(rt; run.halt, Some(Halt::Waits));
     let owned = [Owner::Process(0), Owner::Process(1)];
@@ -194,7 +194,7 @@ fn a_server_waits(rt: HostRuntime) -> Result<(), Fail> {
 fn an_error_has_no_case(rt: HostRuntime) -> Result<(), Fail> {
     let alloc = rt.alloc();
     let program = with_one_contract(alloc, ANSWERS_AN_ERROR)?;
-    let run = replayed(alloc, &program, &[0, 0, 0, 0, 0])?;
+    let run = run_of(alloc, &program, &[0, 0, 0, 0, 0])?;
     assert!(rt; run.steps == 4);
     assert_eq!(rt; run.halt, Some(Halt::Fault(Fault::F5, at(8, 1))));
     assert!(rt; states(alloc, &run.world)?.as_slice() == [(1, 1), (0, 0)].as_slice());

@@ -37,7 +37,7 @@ fn methods_of(alloc: Global, text: &str) -> Result<Methods, Fail> {
 }
 
 /// Variables by their numbers.
-fn listed(alloc: Global, variables: &[VarId]) -> Result<String, Memory> {
+fn variable_list(alloc: Global, variables: &[VarId]) -> Result<String, Memory> {
     let mut line = String::new(alloc);
     for variable in variables {
         line.push_str(&format!(in alloc; " {}", variable.0)?)?;
@@ -46,7 +46,7 @@ fn listed(alloc: Global, variables: &[VarId]) -> Result<String, Memory> {
 }
 
 /// The same of mentions.
-fn mentioned(alloc: Global, mentions: &[Mention]) -> Result<String, Memory> {
+fn mention_list(alloc: Global, mentions: &[Mention]) -> Result<String, Memory> {
     let mut line = String::new(alloc);
     for mention in mentions {
         line.push_str(&format!(in alloc; " {}", mention.variable.0)?)?;
@@ -57,7 +57,7 @@ fn mentioned(alloc: Global, mentions: &[Mention]) -> Result<String, Memory> {
 /// A case of a switch.
 fn case_line(alloc: Global, case: &Entrance) -> Result<String, Memory> {
     let endpoint = case.endpoint.variable.0;
-    let bound = listed(alloc, &case.bound)?;
+    let bound = variable_list(alloc, &case.bound)?;
     match case.awaited {
         Awaited::Message(message) => Ok(format!(in alloc;
             ", {endpoint} message {} binds{bound} to {}",
@@ -72,7 +72,7 @@ fn line_of(alloc: Global, instruction: &Instr) -> Result<String, Memory> {
     match instruction {
         Instr::Send(sending) => {
             let Place { line, col } = sending.place;
-            let given = mentioned(alloc, &sending.payloads)?;
+            let given = mention_list(alloc, &sending.payloads)?;
             Ok(format!(in alloc;
                 "{line}:{col} send {} on {} gives{given} to {}",
                 sending.message.0, sending.endpoint.variable.0, sending.next
@@ -122,7 +122,7 @@ fn variable_line(alloc: Global, variable: &Variable) -> Result<String, Memory> {
 }
 
 /// The variables of a method and its instructions, in lines.
-fn shown(alloc: Global, method: &Method) -> Result<String, Memory> {
+fn method_lines(alloc: Global, method: &Method) -> Result<String, Memory> {
     let mut lines = String::new(alloc);
     for variable in &method.variables {
         lines.push_str(&format!(in alloc; "{}\n", variable_line(alloc, variable)?)?)?;
@@ -156,7 +156,7 @@ b Local Struct(StructId(1))
 begins at 8
 ";
     match methods_of(rt.alloc(), CHANNELS)?.list().get(0) {
-        Some(method) => assert_eq!(rt; shown(rt.alloc(), method)?.as_str(), wanted),
+        Some(method) => assert_eq!(rt; method_lines(rt.alloc(), method)?.as_str(), wanted),
         None => assert!(rt; false),
     }
     Ok(())

@@ -8,7 +8,7 @@ use std::test::Fail;
 use syntax::parse;
 
 /// What a text declares.
-fn resolved(alloc: Global, text: &str) -> Result<Resolved, Fail> {
+fn resolve_text(alloc: Global, text: &str) -> Result<Resolved, Fail> {
     let tokens = lex(alloc, text.as_bytes())?;
     let tree = parse(alloc, &tokens)?;
     Ok(resolve(alloc, &tree, text.as_bytes())?)
@@ -42,7 +42,7 @@ fn wrong(alloc: Global, text: &str) -> Result<String, Fail> {
 }
 
 /// A contract in lines: its name and first state, then its states, messages and edges, each with its number.
-fn shown(alloc: Global, contract: &Contract) -> Result<String, Fail> {
+fn contract_lines(alloc: Global, contract: &Contract) -> Result<String, Fail> {
     let mut lines = format!(in alloc; "{} begins in {}\n", contract.name, contract.first.0)?;
     for state in &contract.states {
         let Place { line, col } = state.place;
@@ -68,10 +68,10 @@ fn shown(alloc: Global, contract: &Contract) -> Result<String, Fail> {
 }
 
 /// The contracts of a text, in lines.
-fn all_shown(alloc: Global, text: &str) -> Result<String, Fail> {
+fn all_contract_lines(alloc: Global, text: &str) -> Result<String, Fail> {
     let mut lines = String::new(alloc);
-    for contract in &resolved(alloc, text)?.contracts {
-        lines.push_str(&shown(alloc, contract)?)?;
+    for contract in &resolve_text(alloc, text)?.contracts {
+        lines.push_str(&contract_lines(alloc, contract)?)?;
     }
     Ok(lines)
 }
@@ -88,7 +88,7 @@ message 1 Rep Out
 1:67 edge 0 -> 1, message 0 Receive
 1:93 edge 1 -> 0, message 1 Send
 ";
-    assert_eq!(rt; all_shown(rt.alloc(), text)?.as_str(), wanted);
+    assert_eq!(rt; all_contract_lines(rt.alloc(), text)?.as_str(), wanted);
     Ok(())
 }
 
@@ -107,7 +107,7 @@ message 2 K In
 1:79 edge 1 -> 2, message 1 Send
 1:97 edge 2 -> 0, message 2 Receive
 ";
-    assert_eq!(rt; all_shown(rt.alloc(), text)?.as_str(), wanted);
+    assert_eq!(rt; all_contract_lines(rt.alloc(), text)?.as_str(), wanted);
     Ok(())
 }
 
@@ -144,7 +144,7 @@ E begins in 5
 message 3 K In
 9:10 edge 5 -> 5, message 3 Receive
 ";
-    assert_eq!(rt; all_shown(rt.alloc(), text)?.as_str(), wanted);
+    assert_eq!(rt; all_contract_lines(rt.alloc(), text)?.as_str(), wanted);
     Ok(())
 }
 
@@ -170,7 +170,7 @@ E begins in 1
 message 1 A Out
 9:10 edge 1 -> 1, message 1 Send
 ";
-    assert_eq!(rt; all_shown(rt.alloc(), text)?.as_str(), wanted);
+    assert_eq!(rt; all_contract_lines(rt.alloc(), text)?.as_str(), wanted);
     Ok(())
 }
 

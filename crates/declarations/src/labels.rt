@@ -61,7 +61,7 @@ impl<'a, 't> Labels<'a, 't> {
     {
         match name {
             StateName::Named(span) => add_name(alloc, names, self.text, span),
-            StateName::Unnamed(message) => match self.shared(message) {
+            StateName::Unnamed(message) => match self.shared_part(message) {
                 Some(part) => Ok(part),
                 None => add_enclosed(alloc, names, self.text, message),
             },
@@ -69,7 +69,7 @@ impl<'a, 't> Labels<'a, 't> {
     }
 
     /// Where the name stands that unnamed states of this message share.
-    fn shared(&self, message: Span) -> Option<Part>
+    fn shared_part(&self, message: Span) -> Option<Part>
         ensures { (names : List ℕ) → AreLabels self.now names
             → IfSome result (λ part. Stands names part (in_parentheses self.now.text.now message)) }
     {

@@ -66,7 +66,7 @@ impl<'a> Members<'a> {
     }
 
     /// What a contract declares, if it is one.
-    pub(crate) fn declared(&self) -> Option<&Declared<'a>>
+    pub(crate) fn contract(&self) -> Option<&Declared<'a>>
         ensures { option_copied result ≡ as_declared self.now }
     {
         match self {

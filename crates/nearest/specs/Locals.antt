@@ -15,7 +15,7 @@ is_before p q = ltb p.line q.line || ((p.line == q.line) && ltb p.col q.col)
 abbrev pub those_before : Place → List Span → List Span
 those_before q names = filter (λ name. is_before name.place q) names
 
--- what a case binds to a name of its own; one without a type is bound so too
+-- the names that a case binds, with a type before them or without
 abbrev pub bound_names : List Bind → List Span
 bound_names binds = map (λ b. b.name) binds
 

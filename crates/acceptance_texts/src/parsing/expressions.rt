@@ -158,7 +158,7 @@ fn first_wrong_tokens_of_values(rt: HostRuntime) -> Result<(), Fail> {
 }
 
 /// The expression that the first statement of the first method assigns.
-fn assigned(tree: &Tree) -> Result<&Expression, Fail> {
+fn first_assigned(tree: &Tree) -> Result<&Expression, Fail> {
     let Some(item) = tree.items.first() else {
         return Err(Fail::from("no item"));
     };
@@ -186,7 +186,7 @@ fn operators_by_level(rt: HostRuntime) -> Result<(), Fail> {
     let text = format!(in rt.alloc(); "{FRONT}a + b * c - d < e && f ; }} }}")?;
     let tokens = tokens_of(rt.alloc(), text.as_str())?;
     let tree = parse(rt.alloc(), &tokens)?;
-    let Expression::Joined(read) = assigned(&tree)? else {
+    let Expression::Joined(read) = first_assigned(&tree)? else {
         return Err(Fail::from("no operators"));
     };
     assert_eq!(rt; read.others.len(), 0);
@@ -220,7 +220,7 @@ fn atom_with_no_operator(rt: HostRuntime) -> Result<(), Fail> {
         let tokens = tokens_of(rt.alloc(), text.as_str())?;
         let tree = parse(rt.alloc(), &tokens)?;
         let kept_alone = matches!(
-            assigned(&tree)?,
+            first_assigned(&tree)?,
             Expression::Sum(Sum::Unary(Unary::Atom(_)))
         );
         assert_eq!(rt; kept_alone, alone);
@@ -243,7 +243,7 @@ fn sum_with_no_operator_about_it(rt: HostRuntime) -> Result<(), Fail> {
         let text = format!(in rt.alloc(); "{FRONT}{value} ; }} }}")?;
         let tokens = tokens_of(rt.alloc(), text.as_str())?;
         let tree = parse(rt.alloc(), &tokens)?;
-        let kept_alone = matches!(assigned(&tree)?, Expression::Sum(_));
+        let kept_alone = matches!(first_assigned(&tree)?, Expression::Sum(_));
         assert_eq!(rt; kept_alone, alone);
     }
     Ok(())

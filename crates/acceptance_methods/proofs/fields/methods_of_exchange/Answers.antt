@@ -1,5 +1,5 @@
 use Rattle.acceptance_methods.proofs.FormedLemmas.{made_well_formed, one_method}
-use Rattle.acceptance_methods.proofs.fields.exchanging.Goals as goal
+use Rattle.acceptance_methods.proofs.fields.methods_of_exchange.Goals as goal
 
 pub new-requires-3 : goal.new-requires-3
 new-requires-3 c = record {

@@ -3,7 +3,7 @@ use Rattle.std.specs.Prelude.{IfSome}
 use Rattle.std.specs.Slice.{IsItemAt}
 use Rattle.declarations.specs.Labels.{Stands, in_parentheses}
 use Rattle.declarations.proofs.LabelLemmas.{shared_part}
-use Rattle.declarations.proofs.labels.Labels.shared.Goals as goal
+use Rattle.declarations.proofs.labels.Labels.shared_part.Goals as goal
 use Rattle.tables.specs.Firsts.{first_of}
 use Rattle.tables.specs.Words.{words_at}
 
