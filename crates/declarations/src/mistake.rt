@@ -182,7 +182,7 @@ impl Mistake {
 pub fn findings_of(alloc: Global, text: &[u8], mistakes: &[Mistake]) -> Result<Vec<Finding>, Memory>
     ensures { IfOk result (λ found. map finding_parts found.items ≡ map (finding_in text.now) mistakes.now) }
 {
-    let mut found = Vec::new(alloc);
+    let mut found = Vec::with_capacity(alloc, mistakes.len())?;
     for mistake in mistakes {
         found.push(mistake.finding(alloc, text)?)?;
     }
