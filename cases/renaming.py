@@ -1,0 +1,99 @@
+"""`tools/rename` and `./edits --carry` in a small repository that is made for a test."""
+import importlib.machinery
+import importlib.util
+import pathlib
+import shutil
+import subprocess
+import tempfile
+
+TOP = pathlib.Path(__file__).resolve().parent.parent
+CODE = """/// What stands at a place.
+pub fn at(list: &[Span], place: usize) -> usize
+    ensures { result ≡ got list.now place }
+{
+    // The place is an index.
+    work();
+    list[place].place
+}
+
+/// Where it lies.
+pub fn lies(place: usize) -> usize {
+    place
+}
+"""
+PROOF = """use Rattle.low.specs.place.Places.{got}
+
+pub returns : goal.returns
+returns c = c.index-place.ensures ∙ got_at c.args.place c.span.place
+"""
+EDIT = 'file: src/lib.rt\nold:     list[place].place\nnew:     list[0].place\nold:     work();\nnew:     work(place);\n'
+RENAMED = {
+    'crates/low/src/lib.rt': CODE.replace('], place:', '], number:').replace('now place', 'now number').replace('[place]', '[number]'),
+    'crates/low/proofs/lib/at/Answers.antt': PROOF.replace('index-place', 'index-number').replace('args.place', 'args.number'),
+    'crates/low/edits/first_one.edit': EDIT.replace('[place]', '[number]').replace('(place)', '(number)')}
+FILES = {'crates.txt': 'low:\n', 'crates/low/src/lib.rt': CODE, 'crates/low/proofs/lib/at/Answers.antt': PROOF,
+         'crates/low/edits/first_one.edit': EDIT}
+
+
+def called(top, *words):
+    return subprocess.run([top / words[0], *words[1:]], cwd=top, capture_output=True, text=True, timeout=60)
+
+
+def made(top):
+    """The repository, in which the mutant was tried, and everything is committed."""
+    for name, text in FILES.items():
+        (top / name).parent.mkdir(parents=True, exist_ok=True)
+        (top / name).write_text(text)
+    for name in ('edits', 'tools/rename'):
+        (top / name).parent.mkdir(exist_ok=True)
+        shutil.copy(TOP / name, top / name)
+    loader = importlib.machinery.SourceFileLoader('edits_there', str(top / 'edits'))
+    edits = importlib.util.module_from_spec(importlib.util.spec_from_loader('edits_there', loader))
+    loader.exec_module(edits)
+    edits.note('low', {'first_one'})
+    for words in (['init', '-q'], ['add', '.'], ['-c', 'user.name=a', '-c', 'user.email=a', 'commit', '-q', '-m', 'a']):
+        subprocess.run(['git', *words], cwd=top, check=True)
+
+
+def unlike(expected, given):
+    return [] if expected == given else ['expected %r, given %r' % (expected, given)]
+
+
+def a_value_of_a_function(_):
+    with tempfile.TemporaryDirectory() as folder:
+        top = pathlib.Path(folder)
+        made(top)
+        found = unlike(0, called(top, 'tools/rename', 'low::at', 'place', 'number').returncode)
+        found += [line for name, text in RENAMED.items() for line in unlike(text, (top / name).read_text())]
+        return found + unlike(1, called(top, 'tools/rename', 'low::lib::at', 'list', 'number').returncode)
+
+
+def a_word_of_a_crate(_):
+    with tempfile.TemporaryDirectory() as folder:
+        top = pathlib.Path(folder)
+        made(top)
+        found = unlike(1, called(top, 'tools/rename', '--in', 'low', 'lies', 'at').returncode)
+        found += unlike(0, called(top, 'tools/rename', '--in', 'low', 'at', 'span_of').returncode)
+        found += unlike(True, (top / 'crates/low/proofs/lib/span_of/Answers.antt').exists())
+        text = (top / 'crates/low/src/lib.rt').read_text()
+        return found + unlike(CODE.replace('fn at(', 'fn span_of('), text)
+
+
+def trials_are_carried_over(_):
+    with tempfile.TemporaryDirectory() as folder:
+        top = pathlib.Path(folder)
+        made(top)
+        called(top, 'tools/rename', 'low::at', 'place', 'number')
+        source = top / 'crates/low/src/lib.rt'
+        source.write_text(source.read_text().replace('// The place', '// It'))
+        found = unlike('low\n', called(top, './edits', '--due').stdout)
+        called(top, './edits', '--carry', 'HEAD', 'list=number')
+        found += unlike('low\n', called(top, './edits', '--due').stdout)
+        called(top, './edits', '--carry', 'HEAD', 'place=number')
+        found += unlike('', called(top, './edits', '--due').stdout)
+        source.write_text(source.read_text().replace('    place\n', '    0\n'))
+        called(top, './edits', '--carry', 'HEAD', 'place=number')
+        return found + unlike('low\n', called(top, './edits', '--due').stdout)
+
+
+TESTS = [('renaming/' + test.__name__, test) for test in (a_value_of_a_function, a_word_of_a_crate, trials_are_carried_over)]
