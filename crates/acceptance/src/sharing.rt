@@ -67,12 +67,12 @@ impl Job for Numbers {
 
     ghost gives = { λ job number out. out ≡ number };
 
-    fn run(&self, task: Task, seat: &mut u64) -> Result<u32, (Task, Memory)> {
+    fn run(&self, task: Task, thread: &mut u64) -> Result<u32, (Task, Memory)> {
         let number = task.method().0;
         if number == self.refused {
             return Err((task, Memory));
         }
-        *seat = seat.wrapping_add(1);
+        *thread = thread.wrapping_add(1);
         task.give_up();
         Ok(number)
     }

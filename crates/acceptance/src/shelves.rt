@@ -1,7 +1,7 @@
 //! Verdicts on a shelf, and threads that share one.
 
 ghost use Rattle.std.specs.Prelude.{◌≡◌, IfOk, length};
-ghost use Rattle.rules.specs.Programs.{seen_of};
+ghost use Rattle.rules.specs.Programs.{model_of};
 ghost use Rattle.analyse.specs.Tasks.{task_program};
 ghost use Rattle.analyse.specs.Workers.{IsWorkerOf};
 
@@ -39,7 +39,7 @@ fn methods(alloc: Global) -> Result<Methods, Fail> {
 
 /// The program of that text.
 fn three(alloc: Global) -> Result<Program, Fail>
-    ensures { IfOk result (λ p. length (seen_of p).methods ≡ 3) }
+    ensures { IfOk result (λ p. length (model_of p).methods ≡ 3) }
 {
     let methods = methods(alloc)?;
     if !methods.contracts().contracts.is_empty() {
@@ -80,7 +80,7 @@ fn add(
 
 /// The verdicts of its methods, in order.
 fn verdicts_of(alloc: Global, program: &Program) -> Result<Vec<Verdict>, Fail>
-    requires { length (seen_of program.now).methods ≡ 3 }
+    requires { length (model_of program.now).methods ≡ 3 }
 {
     let mut verdicts = Vec::new(alloc);
     let Ok((rows, seat)) = Rows::new(alloc, 8) else {

@@ -2,14 +2,14 @@
 use Rattle.std.proofs.Common.{◌≡◌, ◌<◌, ◌∙◌, ℕ, zero, suc, false, true≢false, List, [], ◌∷◌, ◌++◌, Option, Some, None, map, slice_get, refl, sym, ap, subst, arith}
 use Rattle.std.specs.Prelude.{IfSome}
 use Rattle.std.specs.Global.{Vec}
-use Rattle.program.specs.Methods.{MethodSeen, VariableSeen, method_seen}
-use Rattle.program.specs.Parts.{contract_seen}
+use Rattle.program.specs.Methods.{MethodModel, VariableModel, method_model}
+use Rattle.program.specs.Parts.{contract_model}
 use Rattle.program.specs.Programs.{rows}
 use Rattle.program.specs.Scopes.{Grows}
 use Rattle.program.specs.Statements.{statement_row}
 use Rattle.program.specs.WellFormed.{AreStatements, AreWellFormed, Setting, in_loop, is_parameter, reached, setting}
 use Rattle.program.specs.declared.contract.Contract.{Contract}
-use Rattle.program.specs.declared.kind.Kind.{Kind}
+use Rattle.program.specs.declared.kind.HeapKind.{HeapKind}
 use Rattle.program.specs.declared.method.Method.{Method}
 use Rattle.acceptance_methods.specs.Exchanges.{deletes, exchange, method, new, structs}
 
@@ -19,14 +19,14 @@ one_some x y e = cc
 none_some : {X : Type 0} (x : X) → Path (Option X) None (Some x) → ⊥
 none_some x e = cc
 
-nested_at : (n : ℕ) (v : VariableSeen) → slice_get method.variables n ≡ Some v → IfSome v.outer (λ o. o.0 < n)
-nested_at zero v there = subst (λ (x : VariableSeen). IfSome x.outer (λ o. o.0 < 0)) (one_some _ v there) tt
-nested_at (suc zero) v there = subst (λ (x : VariableSeen). IfSome x.outer (λ o. o.0 < 1)) (one_some _ v there) (omega arith)
+nested_at : (n : ℕ) (v : VariableModel) → slice_get method.variables n ≡ Some v → IfSome v.outer (λ o. o.0 < n)
+nested_at zero v there = subst (λ (x : VariableModel). IfSome x.outer (λ o. o.0 < 0)) (one_some _ v there) tt
+nested_at (suc zero) v there = subst (λ (x : VariableModel). IfSome x.outer (λ o. o.0 < 1)) (one_some _ v there) (omega arith)
 nested_at (suc (suc n)) v there = absurd (none_some v there)
 
-local_at : (n : ℕ) (v : VariableSeen) → slice_get method.variables n ≡ Some v → is_parameter v.role ≡ false
-local_at zero v there = subst (λ (x : VariableSeen). is_parameter x.role ≡ false) (one_some _ v there) refl
-local_at (suc zero) v there = subst (λ (x : VariableSeen). is_parameter x.role ≡ false) (one_some _ v there) refl
+local_at : (n : ℕ) (v : VariableModel) → slice_get method.variables n ≡ Some v → is_parameter v.role ≡ false
+local_at zero v there = subst (λ (x : VariableModel). is_parameter x.role ≡ false) (one_some _ v there) refl
+local_at (suc zero) v there = subst (λ (x : VariableModel). is_parameter x.role ≡ false) (one_some _ v there) refl
 local_at (suc (suc n)) v there = absurd (none_some v there)
 
 -- both variables stay in scope
@@ -106,14 +106,14 @@ is_well_formed = record {
 }
 
 -- the same of what lies in memory
-pub made_well_formed : (contracts : List Contract) (messages fields : List (Vec Kind)) (methods : List Method) → contracts ≡ [] → messages ≡ [] → rows fields ≡ structs
-    → map method_seen methods ≡ method ∷ [] → AreWellFormed (map contract_seen contracts) (rows messages) (rows fields) (map method_seen methods)
+pub made_well_formed : (contracts : List Contract) (messages fields : List (Vec HeapKind)) (methods : List Method) → contracts ≡ [] → messages ≡ [] → rows fields ≡ structs
+    → map method_model methods ≡ method ∷ [] → AreWellFormed (map contract_model contracts) (rows messages) (rows fields) (map method_model methods)
 made_well_formed contracts messages fields methods no_contract no_message told is =
-    subst (λ (cs : List Contract). AreWellFormed (map contract_seen cs) (rows messages) (rows fields) (map method_seen methods)) (sym no_contract)
-    (subst (λ (ms : List (Vec Kind)). AreWellFormed [] (rows ms) (rows fields) (map method_seen methods)) (sym no_message)
-    (subst (λ (ks : List (List Kind)). AreWellFormed [] [] ks (map method_seen methods)) (sym told)
-    (subst (λ (ms : List MethodSeen). AreWellFormed [] [] structs ms) (sym is) is_well_formed)))
+    subst (λ (cs : List Contract). AreWellFormed (map contract_model cs) (rows messages) (rows fields) (map method_model methods)) (sym no_contract)
+    (subst (λ (ms : List (Vec HeapKind)). AreWellFormed [] (rows ms) (rows fields) (map method_model methods)) (sym no_message)
+    (subst (λ (ks : List (List HeapKind)). AreWellFormed [] [] ks (map method_model methods)) (sym told)
+    (subst (λ (ms : List MethodModel). AreWellFormed [] [] structs ms) (sym is) is_well_formed)))
 
 -- it is the one method
-pub one_method : (old all : List Method) (m : Method) → old ≡ [] → all ≡ old ++ m ∷ [] → method_seen m ≡ method → map method_seen all ≡ method ∷ []
-one_method old all m none is seen = ap (map method_seen) (is ∙ ap (λ l. l ++ m ∷ []) none) ∙ ap (λ s. s ∷ []) seen
+pub one_method : (old all : List Method) (m : Method) → old ≡ [] → all ≡ old ++ m ∷ [] → method_model m ≡ method → map method_model all ≡ method ∷ []
+one_method old all m none is seen = ap (map method_model) (is ∙ ap (λ l. l ++ m ∷ []) none) ∙ ap (λ s. s ∷ []) seen

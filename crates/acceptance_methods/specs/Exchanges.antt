@@ -1,10 +1,10 @@
 -- A program in numbers whose method exchanges the field of a struct in a loop.
 use Rattle.std.specs.Prelude.{ℕ, List, [], ◌∷◌, Option, Some, None, false}
 use Rattle.source.specs.declared.place.Place.{Place}
-use Rattle.program.specs.Methods.{MethodSeen, VariableSeen}
-use Rattle.program.specs.Statements.{StatementSeen, Simple, New, While, Test, Braces, statement_row}
-use Rattle.program.specs.declared.kind.Kind.{Kind}
-use Rattle.program.specs.declared.kind.Kind.TheVariants.{Struct}
+use Rattle.program.specs.Methods.{MethodModel, VariableModel}
+use Rattle.program.specs.Statements.{StatementModel, Simple, New, While, Test, Braces, statement_row}
+use Rattle.program.specs.declared.kind.HeapKind.{HeapKind}
+use Rattle.program.specs.declared.kind.HeapKind.TheVariants.{Struct}
 use Rattle.program.specs.declared.method.Role.TheVariants.{Local}
 use Rattle.program.specs.declared.number.VarId.{VarId}
 use Rattle.program.specs.declared.statement.Action.{Action}
@@ -20,30 +20,30 @@ abbrev pub mention : ℕ → Mention
 mention v = record { variable = record { 0 = v }; place = at }
 
 -- struct 0 has no fields that own, struct 1 one that holds a struct 0
-abbrev pub structs : List (List Kind)
+abbrev pub structs : List (List HeapKind)
 structs = [] ∷ (Struct record { 0 = 0 } ∷ []) ∷ []
 
 -- variable 0 is of struct 0, variable 1 of struct 1
-abbrev pub variable : ℕ → Option VarId → VariableSeen
+abbrev pub variable : ℕ → Option VarId → VariableModel
 variable n outer = record { name = []; kind = Struct record { 0 = n }; role = Local; outer = outer }
 
-abbrev pub new : ℕ → List Mention → StatementSeen
+abbrev pub new : ℕ → List Mention → StatementModel
 new target arguments = New record { reads = []; target = mention target; arguments = arguments }
 
-abbrev pub acts : Action → StatementSeen
+abbrev pub acts : Action → StatementModel
 acts action = Simple [] action
 
-abbrev pub deletes : ℕ → StatementSeen
+abbrev pub deletes : ℕ → StatementModel
 deletes v = acts (does.Delete (mention v))
 
-abbrev pub exchange : StatementSeen
+abbrev pub exchange : StatementModel
 exchange = acts (does.Exchange record { place = at; holder = mention 1; field = 0; given = mention 0 })
 
 -- A new block goes into the field, and the one that comes out of it is deleted.
-abbrev pub turns : StatementSeen
+abbrev pub turns : StatementModel
 turns = While (Test at [] Either (Braces (statement_row (new 0 [] ∷ exchange ∷ deletes 0 ∷ [])) None))
 
-abbrev pub method : MethodSeen
+abbrev pub method : MethodModel
 method = record {
   name = at;
   takes = false;

@@ -1,7 +1,7 @@
 //! Programs with a contract: a step of a method that sends, and steps of one that waits.
 
 ghost use Rattle.std.specs.Prelude.{◌≡◌, IfOk, length};
-ghost use Rattle.rules.specs.Programs.{seen_of};
+ghost use Rattle.rules.specs.Programs.{model_of};
 
 use contracts::{Judged, Sound, edges};
 use names::resolve;
@@ -26,8 +26,8 @@ switch receive { case i.Rep(): break; case i.ChannelClosed(): break; } delete i;
 
 /// The program of a text with one contract and one method.
 fn with_contract(alloc: Global, text: &str) -> Result<Program, Fail>
-    ensures contracts { IfOk result (λ p. length (seen_of p).contracts ≡ 1) }
-    ensures methods { IfOk result (λ p. length (seen_of p).methods ≡ 1) }
+    ensures contracts { IfOk result (λ p. length (model_of p).contracts ≡ 1) }
+    ensures methods { IfOk result (λ p. length (model_of p).methods ≡ 1) }
 {
     let tokens = lex(alloc, text.as_bytes())?;
     let tree = parse(alloc, &tokens)?;
@@ -54,7 +54,7 @@ fn sends_by_the_contract(rt: HostRuntime) -> Result<(), Fail> {
     let program = with_contract(rt.alloc(), ASKS)?;
     let sound = program.sound(ContractId(0));
     assert_eq!(rt;
-        sound.sent(Side::Imp, sound.first(), MessageId(0)),
+        sound.state_after_send(Side::Imp, sound.first(), MessageId(0)),
         Some(StateId(1))
     );
     let (point, row) = entry(rt.alloc(), &program, MethodId(0))?;

@@ -2,10 +2,10 @@
 //! field, and the one that comes out of it is deleted.
 
 ghost use Rattle.std.specs.Prelude.{◌≡◌, [], ◌∷◌, IfOk, length, map};
-ghost use Rattle.program.specs.Methods.{method_seen, variable_seen};
-ghost use Rattle.program.specs.Programs.{contracts_seen, methods_seen, rows, structs_seen};
-ghost use Rattle.program.specs.Statements.{statement_seen};
-ghost use Rattle.rules.specs.Programs.{seen_of};
+ghost use Rattle.program.specs.Methods.{method_model, variable_model};
+ghost use Rattle.program.specs.Programs.{contracts_model, methods_model, rows, structs_model};
+ghost use Rattle.program.specs.Statements.{statement_model};
+ghost use Rattle.rules.specs.Programs.{model_of};
 ghost use Rattle.acceptance_methods.specs.Exchanges as told;
 
 use crate::verdicts::verdict_of;
@@ -13,8 +13,8 @@ use analyse::Worker;
 use intern::Rows;
 use machine::{Event, Owner, Replayed, replay};
 use program::{
-    Action, Block, Exchange, Kind, Mention, Method, MethodId, Methods, New, Resolved, Role, Simple,
-    Statement, StructId, Test, VarId, Variable, Ways,
+    Action, Block, Exchange, HeapKind, Mention, Method, MethodId, Methods, New, Resolved, Role,
+    Simple, Statement, StructId, Test, VarId, Variable, Ways,
 };
 use rules::{Breach, Program, Reason};
 use source::{Code, Memory, Place};
@@ -35,11 +35,11 @@ fn mention(variable: usize) -> Mention
 }
 
 /// What each struct has in its fields that own.
-fn structs(alloc: Global) -> Result<Vec<Vec<Kind>>, Memory>
+fn structs(alloc: Global) -> Result<Vec<Vec<HeapKind>>, Memory>
     ensures { IfOk result (λ structs. rows structs.items ≡ told.structs) }
 {
     let mut fields = Vec::new(alloc);
-    fields.push(Kind::Struct(StructId(0)))?;
+    fields.push(HeapKind::Struct(StructId(0)))?;
     let mut structs = Vec::new(alloc);
     structs.push(Vec::new(alloc))?;
     structs.push(fields)?;
@@ -48,7 +48,7 @@ fn structs(alloc: Global) -> Result<Vec<Vec<Kind>>, Memory>
 
 /// The two variables.
 fn variables(alloc: Global) -> Result<Vec<Variable>, Memory>
-    ensures { IfOk result (λ variables. map variable_seen variables.items ≡ told.method.variables) }
+    ensures { IfOk result (λ variables. map variable_model variables.items ≡ told.method.variables) }
 {
     let mut variables = Vec::new(alloc);
     variables.push(variable(alloc, 0, None))?;
@@ -58,11 +58,11 @@ fn variables(alloc: Global) -> Result<Vec<Variable>, Memory>
 
 /// A variable for a struct.
 fn variable(alloc: Global, number: usize, outer: Option<VarId>) -> Variable
-    ensures { variable_seen result ≡ told.variable number outer }
+    ensures { variable_model result ≡ told.variable number outer }
 {
     Variable {
         name: Vec::new(alloc),
-        kind: Kind::Struct(StructId(number)),
+        kind: HeapKind::Struct(StructId(number)),
         role: Role::Local,
         outer,
     }
@@ -70,7 +70,7 @@ fn variable(alloc: Global, number: usize, outer: Option<VarId>) -> Variable
 
 /// A new block, without arguments.
 fn new(alloc: Global, target: usize) -> Statement
-    ensures { statement_seen result ≡ told.new target [] }
+    ensures { statement_model result ≡ told.new target [] }
 {
     Statement::New(New {
         reads: Vec::new(alloc),
@@ -81,7 +81,7 @@ fn new(alloc: Global, target: usize) -> Statement
 
 /// A new block that holds what the first variable has.
 fn new_with_first(alloc: Global, target: usize) -> Result<Statement, Memory>
-    ensures { IfOk result (λ made. statement_seen made ≡ told.new target (told.mention 0 ∷ [])) }
+    ensures { IfOk result (λ made. statement_model made ≡ told.new target (told.mention 0 ∷ [])) }
 {
     let mut arguments = Vec::new(alloc);
     arguments.push(mention(0))?;
@@ -94,7 +94,7 @@ fn new_with_first(alloc: Global, target: usize) -> Result<Statement, Memory>
 
 /// An action without reads.
 fn acts(alloc: Global, action: Action) -> Statement
-    ensures { statement_seen result ≡ told.acts action }
+    ensures { statement_model result ≡ told.acts action }
 {
     Statement::Simple(Simple {
         reads: Vec::new(alloc),
@@ -104,7 +104,7 @@ fn acts(alloc: Global, action: Action) -> Statement
 
 /// The loop.
 fn turns(alloc: Global) -> Result<Statement, Memory>
-    ensures { IfOk result (λ made. statement_seen made ≡ told.turns) }
+    ensures { IfOk result (λ made. statement_model made ≡ told.turns) }
 {
     let exchange = Exchange {
         place: AT,
@@ -131,7 +131,7 @@ fn turns(alloc: Global) -> Result<Statement, Memory>
 
 /// The method.
 fn method(alloc: Global) -> Result<Method, Memory>
-    ensures { IfOk result (λ made. method_seen made ≡ told.method) }
+    ensures { IfOk result (λ made. method_model made ≡ told.method) }
 {
     let mut statements = Vec::new(alloc);
     statements.push(new(alloc, 0))?;
@@ -152,9 +152,9 @@ fn method(alloc: Global) -> Result<Method, Memory>
 
 /// The methods of the program.
 fn methods_of_exchange(alloc: Global) -> Result<Methods, Memory>
-    ensures contracts { IfOk result (λ made. contracts_seen made ≡ []) }
-    ensures structs { IfOk result (λ made. structs_seen made ≡ told.structs) }
-    ensures methods { IfOk result (λ made. methods_seen made ≡ told.method ∷ []) }
+    ensures contracts { IfOk result (λ made. contracts_model made ≡ []) }
+    ensures structs { IfOk result (λ made. structs_model made ≡ told.structs) }
+    ensures methods { IfOk result (λ made. methods_model made ≡ told.method ∷ []) }
 {
     let mut methods = Vec::new(alloc);
     methods.push(method(alloc)?)?;
@@ -166,7 +166,7 @@ fn methods_of_exchange(alloc: Global) -> Result<Methods, Memory>
 
 /// The program of these methods.
 fn program(alloc: Global) -> Result<Program, Fail>
-    ensures { IfOk result (λ p. length (seen_of p).methods ≡ 1) }
+    ensures { IfOk result (λ p. length (model_of p).methods ≡ 1) }
 {
     let methods = methods_of_exchange(alloc)?;
     let program = Program::new(alloc, methods, Vec::new(alloc))?;
@@ -186,7 +186,7 @@ fn add(events: &mut Vec<Event>, choices: &[u64]) -> Result<(), Memory> {
 
 /// What so many turns of the loop come to, behind the two blocks that are made first, and these events behind them.
 fn after(alloc: Global, program: &Program, turns: usize, choices: &[u64]) -> Result<Replayed, Fail>
-    requires { length (seen_of program.now).methods ≡ 1 }
+    requires { length (model_of program.now).methods ≡ 1 }
 {
     let mut events = Vec::new(alloc);
     add(&mut events, &[0, 0])?;

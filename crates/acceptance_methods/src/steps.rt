@@ -1,14 +1,14 @@
 //! The graph and the steps of a method.
 
 ghost use Rattle.std.specs.Prelude.{◌≡◌, IfOk, length};
-ghost use Rattle.rules.specs.Programs.{seen_of};
+ghost use Rattle.rules.specs.Programs.{model_of};
 
 use analyse::{give_up_all, tasks};
 use flow::{Instr, lower};
 use names::{MOST_CONTRACTS, resolve};
 use program::{
-    Action, Kind, MOST_STATES, MOST_VARIABLES, Mention, Method, MethodId, Methods, Role, Simple,
-    Statement, StructId, VarId, Variable,
+    Action, HeapKind, MOST_STATES, MOST_VARIABLES, Mention, Method, MethodId, Methods, Role,
+    Simple, Statement, StructId, VarId, Variable,
 };
 use rules::{Leaf, Outcome, Program, Row, entry, step};
 use source::{Memory, Place, lex};
@@ -38,7 +38,7 @@ fn variable(
 ) -> Result<Variable, Memory> {
     Ok(Variable {
         name: Vec::from_slice(alloc, name.as_bytes())?,
-        kind: Kind::Struct(StructId(0)),
+        kind: HeapKind::Struct(StructId(0)),
         role,
         outer,
     })
@@ -79,7 +79,7 @@ fn plain(alloc: Global, action: Action) -> Statement {
 
 /// The program of a text without contracts that has one method.
 pub(crate) fn only(alloc: Global, text: &str) -> Result<Program, Fail>
-    ensures { IfOk result (λ p. length (seen_of p).methods ≡ 1) }
+    ensures { IfOk result (λ p. length (model_of p).methods ≡ 1) }
 {
     let tokens = lex(alloc, text.as_bytes())?;
     let tree = parse(alloc, &tokens)?;

@@ -1,7 +1,7 @@
 //! Tasks that come back where a growth was refused, and are analysed again.
 
 ghost use Rattle.std.specs.Prelude.{◌≡◌, length};
-ghost use Rattle.rules.specs.Programs.{seen_of};
+ghost use Rattle.rules.specs.Programs.{model_of};
 ghost use Rattle.analyse.specs.Tasks.{task_program};
 ghost use Rattle.analyse.specs.Workers.{IsWorkerOf};
 
@@ -55,7 +55,7 @@ pub(crate) fn verdict_of(
     rows: &Rows,
     worker: &mut Worker,
 ) -> Result<Verdict, Fail>
-    requires one { length (seen_of program.now).methods ≡ 1 }
+    requires one { length (model_of program.now).methods ≡ 1 }
     requires worker { IsWorkerOf rows.now worker.old }
     ensures { IsWorkerOf rows.now worker.new }
 {

@@ -1,7 +1,7 @@
 //! Processes of a program, event by event.
 
 ghost use Rattle.std.specs.Prelude.{◌≡◌, ◌<◌, IfOk, length};
-ghost use Rattle.rules.specs.Programs.{seen_of};
+ghost use Rattle.rules.specs.Programs.{model_of};
 
 use contracts::{Judged, Sound, edges};
 use machine::{Event, Fault, Halt, Owner, Replayed, World, replay};
@@ -81,7 +81,7 @@ delete i; delete e;
 
 /// The program of a text with one contract and a method.
 fn with_one_contract(alloc: Global, text: &str) -> Result<Program, Fail>
-    ensures { IfOk result (λ p. 0 < length (seen_of p).methods) }
+    ensures { IfOk result (λ p. 0 < length (model_of p).methods) }
 {
     let tokens = lex(alloc, text.as_bytes())?;
     let tree = parse(alloc, &tokens)?;
@@ -105,7 +105,7 @@ fn with_one_contract(alloc: Global, text: &str) -> Result<Program, Fail>
 
 /// What events of these processes come to, each with the choice 0, from the beginning of the first method.
 fn run_of(alloc: Global, program: &Program, processes: &[u64]) -> Result<Replayed, Fail>
-    requires { 0 < length (seen_of program.now).methods }
+    requires { 0 < length (model_of program.now).methods }
 {
     let mut events = Vec::new(alloc);
     for process in processes {

@@ -57,7 +57,7 @@ fn mention_list(alloc: Global, mentions: &[Mention]) -> Result<String, Memory> {
 /// A case of a switch.
 fn case_line(alloc: Global, case: &Entrance) -> Result<String, Memory> {
     let endpoint = case.endpoint.variable.0;
-    let bound = variable_list(alloc, &case.bound)?;
+    let bound = variable_list(alloc, &case.targets)?;
     match case.awaited {
         Awaited::Message(message) => Ok(format!(in alloc;
             ", {endpoint} message {} binds{bound} to {}",

@@ -39,9 +39,12 @@ fn ends_of_ping(rt: HostRuntime) -> Result<(), Fail> {
     assert!(rt; is_only(sound.edges_in(Side::Imp, PEND), REPLY, START));
     assert!(rt; sound.edges_out(Side::Exp, START).is_empty());
     assert!(rt; sound.edges_in(Side::Imp, START).is_empty());
-    assert_eq!(rt; sound.sent(Side::Imp, START, REQUEST), Some(PEND));
-    assert_eq!(rt; sound.sent(Side::Exp, START, REQUEST), None);
-    assert_eq!(rt; sound.sent(Side::Imp, PEND, REQUEST), None);
+    assert_eq!(rt;
+        sound.state_after_send(Side::Imp, START, REQUEST),
+        Some(PEND)
+    );
+    assert_eq!(rt; sound.state_after_send(Side::Exp, START, REQUEST), None);
+    assert_eq!(rt; sound.state_after_send(Side::Imp, PEND, REQUEST), None);
     assert!(rt; sound.message_name(REQUEST) == b"Req".as_slice());
     assert!(rt; sound.message_name(MessageId(9)).is_empty());
     Ok(())
@@ -58,7 +61,7 @@ fn case(alloc: Global, variable: usize, col: u32, message: Option<u32>, next: us
             Some(number) => Awaited::Message(MessageId(number)),
             None => Awaited::Closed,
         },
-        bound: Vec::new(alloc),
+        targets: Vec::new(alloc),
         next,
     }
 }

@@ -1,7 +1,7 @@
 //! The tasks of a program.
 
 ghost use Rattle.std.specs.Prelude.{◌≡◌, ◌<◌, ◌^◌, All, IfOk, length, map};
-ghost use Rattle.rules.specs.Programs.{seen_of};
+ghost use Rattle.rules.specs.Programs.{model_of};
 ghost use Rattle.analyse.specs.Tasks.{numbers_below, number_of, task_program};
 
 use crate::task::Task;
@@ -24,8 +24,8 @@ pub fn give_up_all(mut tasks: IntoIter<Task, Global>) {
 ///
 /// `Memory` is answered where a growth was refused.
 pub fn tasks(alloc: Global, program: &Program) -> Result<Vec<Task>, Memory>
-    requires few { length (seen_of program.now).methods < 2 ^ 32 }
-    ensures each { IfOk result (λ tasks. map number_of tasks.items ≡ numbers_below (length (seen_of program.now).methods)) }
+    requires few { length (model_of program.now).methods < 2 ^ 32 }
+    ensures each { IfOk result (λ tasks. map number_of tasks.items ≡ numbers_below (length (model_of program.now).methods)) }
     ensures program { IfOk result (λ tasks. All (λ task. task_program task ≡ program.now) tasks.items) }
 {
     let count = program.methods().len();

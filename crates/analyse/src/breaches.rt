@@ -1,7 +1,7 @@
 //! The breaches that a search finds in a method.
 
 ghost use Rattle.std.specs.Prelude.{◌≡◌, ◌↔◌, [], Contains, IfOk, OnOk};
-ghost use Rattle.rules.specs.declared.breach.Breach.{Breach as BreachSeen};
+ghost use Rattle.rules.specs.declared.breach.Breach.{Breach as BreachModel};
 
 use rules::Breach;
 use rules::laws::equal_breaches_are_one;
@@ -66,7 +66,7 @@ impl Breaches {
     ///
     /// Returns `Memory` if a growth was refused.
     fn merge(&mut self) -> Result<(), Memory>
-        ensures same { OnOk result ((b : BreachSeen) → Contains (breaches_of self.new) b ↔ Contains (breaches_of self.old) b) }
+        ensures same { OnOk result ((b : BreachModel) → Contains (breaches_of self.new) b ↔ Contains (breaches_of self.old) b) }
         ensures none_late { OnOk result (self.new.late.items ≡ []) }
     {
         equal_breaches_are_one();
@@ -83,7 +83,7 @@ impl Breaches {
     ///
     /// Returns `Memory` if a growth was refused.
     pub(crate) fn into_different(mut self) -> Result<Vec<Breach>, Memory>
-        ensures same { IfOk result (λ breaches. (b : BreachSeen) → Contains breaches.items b ↔ Contains (breaches_of self) b) }
+        ensures same { IfOk result (λ breaches. (b : BreachModel) → Contains breaches.items b ↔ Contains (breaches_of self) b) }
     {
         self.merge()?;
         Ok(self.ascending)

@@ -5,7 +5,7 @@ ghost use Rattle.std.specs.List.Sorted.{IsStrictlySortedBy};
 ghost use Rattle.source.specs.Findings.{FindingParts, finding_parts};
 ghost use Rattle.reports.specs.Orders.{report_cmp};
 ghost use Rattle.rules.specs.Breaches.{breach_in};
-ghost use Rattle.rules.specs.Programs.{seen_of};
+ghost use Rattle.rules.specs.Programs.{model_of};
 ghost use Rattle.analyse.specs.Found.{breaches_of};
 ghost use Rattle.analyse.specs.Verdicts.{place_of_method, too_many_pairs};
 
@@ -19,15 +19,15 @@ use std::alloc::Global;
 /// The findings of these breaches in a method, in the order of a report, each once.
 ///
 /// `Memory` is returned if a growth was refused.
-pub(crate) fn told(
+pub(crate) fn findings_of(
     alloc: Global,
     program: &Program,
     method: MethodId,
     found: Breaches,
 ) -> Result<Vec<Finding>, Memory>
-    requires there { method.0 < length (seen_of program.now).methods }
+    requires there { method.0 < length (model_of program.now).methods }
     ensures same { IfOk result (λ findings. (f : FindingParts) → Contains (map finding_parts findings.items) f
-        ↔ Contains (map (breach_in (seen_of program.now) method.0) (breaches_of found)) f) }
+        ↔ Contains (map (breach_in (model_of program.now) method.0) (breaches_of found)) f) }
     ensures ordered { IfOk result (λ findings. IsStrictlySortedBy report_cmp (map finding_parts findings.items)) }
 {
     let mut findings = Vec::new(alloc);
@@ -43,9 +43,9 @@ pub(crate) fn too_many(
     program: &Program,
     method: MethodId,
 ) -> Result<Vec<Finding>, Memory>
-    requires there { method.0 < length (seen_of program.now).methods }
+    requires there { method.0 < length (model_of program.now).methods }
     ensures { IfOk result (λ findings. map finding_parts findings.items
-        ≡ too_many_pairs (place_of_method (seen_of program.now) method.0) ∷ []) }
+        ≡ too_many_pairs (place_of_method (model_of program.now) method.0) ∷ []) }
 {
     let mut alone = Vec::new(alloc);
     alone.push(texts::too_many_pairs(alloc, place_of(program, method))?)?;
@@ -54,8 +54,8 @@ pub(crate) fn too_many(
 
 /// Where the name of a method stands.
 fn place_of(program: &Program, method: MethodId) -> Place
-    requires there { method.0 < length (seen_of program.now).methods }
-    ensures { result ≡ place_of_method (seen_of program.now) method.0 }
+    requires there { method.0 < length (model_of program.now).methods }
+    ensures { result ≡ place_of_method (model_of program.now) method.0 }
 {
     program.methods()[method.0 as usize].name
 }

@@ -2,8 +2,8 @@
 
 ghost use Rattle.std.specs.Prelude.{◌≡◌, ℕ, List, Some, slice_get};
 ghost use Rattle.source.specs.Findings.{FindingParts};
-ghost use Rattle.program.specs.Methods.{MethodSeen};
-ghost use Rattle.program.specs.Programs.{ProgramSeen};
+ghost use Rattle.program.specs.Methods.{MethodModel};
+ghost use Rattle.program.specs.Programs.{ProgramModel};
 ghost use Rattle.rules.specs.Outcomes.{Pair};
 ghost use Rattle.rules.specs.Rows.{IsRowOf};
 ghost use Rattle.rules.specs.Steps.{entry_of, outcome};
@@ -20,7 +20,7 @@ pub fn limits()
 
 /// The row of each pair that is reached has a leaf for each variable of the method.
 pub fn reached_rows_are_whole()
-    ensures { (p : ProgramSeen) (n : ℕ) (m : MethodSeen) (pair : Pair) → slice_get p.methods n ≡ Some m
+    ensures { (p : ProgramModel) (n : ℕ) (m : MethodModel) (pair : Pair) → slice_get p.methods n ≡ Some m
         → Reached (outcome p n) (entry_of p n) pair → IsRowOf m pair.1 }
 {
     a_leaf_for_each_variable();
@@ -28,5 +28,5 @@ pub fn reached_rows_are_whole()
 
 /// Each method has a verdict: its findings are a list, so there is always an answer beside `Memory`.
 pub fn each_method_has_a_verdict()
-    ensures { (p : ProgramSeen) (n : ℕ) → ((found : List FindingParts) → IsMethodVerdict p n found → ⊥) → ⊥ }
+    ensures { (p : ProgramModel) (n : ℕ) → ((found : List FindingParts) → IsMethodVerdict p n found → ⊥) → ⊥ }
 {}

@@ -1,7 +1,7 @@
 //! A method that is still to be analysed.
 
 ghost use Rattle.std.specs.Prelude.{◌≡◌, ◌<◌, length};
-ghost use Rattle.rules.specs.Programs.{seen_of};
+ghost use Rattle.rules.specs.Programs.{model_of};
 
 use program::MethodId;
 use rules::Program;
@@ -12,7 +12,7 @@ use std::snapshot::Snapshot;
 pub struct Task {
     pub(crate) method: MethodId,
     pub(crate) program: Snapshot<Program>,
-    ghost there: { method.0 < length (seen_of program.value).methods },
+    ghost there: { method.0 < length (model_of program.value).methods },
 }
 
 impl Task {
@@ -21,7 +21,7 @@ impl Task {
     /// The method.
     pub fn method(&self) -> MethodId
         ensures value { result.0 ≡ number_of self.now }
-        ensures there { result.0 < length (seen_of (task_program self.now)).methods }
+        ensures there { result.0 < length (model_of (task_program self.now)).methods }
     {
         self.method
     }

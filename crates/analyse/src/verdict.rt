@@ -4,7 +4,7 @@ ghost use Rattle.std.specs.Prelude.{◌≡◌, map};
 ghost use Rattle.std.specs.List.Sorted.{IsStrictlySortedBy};
 ghost use Rattle.source.specs.Findings.{finding_parts};
 ghost use Rattle.reports.specs.Orders.{report_cmp};
-ghost use Rattle.rules.specs.Programs.{seen_of};
+ghost use Rattle.rules.specs.Programs.{model_of};
 ghost use Rattle.analyse.specs.Verdicts.{IsMethodVerdict, listed_once};
 
 use program::MethodId;
@@ -19,7 +19,7 @@ pub struct Verdict {
     pub(crate) method: MethodId,
     pub(crate) program: Snapshot<Program>,
     pub(crate) findings: Vec<Finding>,
-    ghost judged: { ∥ IsMethodVerdict (seen_of program.value) method.0 (map finding_parts findings.items) ∥₁ },
+    ghost judged: { ∥ IsMethodVerdict (model_of program.value) method.0 (map finding_parts findings.items) ∥₁ },
     ghost ordered: { IsStrictlySortedBy report_cmp (map finding_parts findings.items) } by { listed_once findings.items },
 }
 
@@ -36,7 +36,7 @@ impl Verdict {
     /// What is found in it, each finding once, in the order of a report.
     pub fn findings(&self) -> &[Finding]
         ensures findings { result.now ≡ findings_of self.now }
-        ensures judged { ∥ IsMethodVerdict (seen_of (program_of self.now)) (verdict_number self.now) (map finding_parts result.now) ∥₁ }
+        ensures judged { ∥ IsMethodVerdict (model_of (program_of self.now)) (verdict_number self.now) (map finding_parts result.now) ∥₁ }
         ensures ordered { IsStrictlySortedBy report_cmp (map finding_parts result.now) }
     {
         &self.findings
@@ -45,7 +45,7 @@ impl Verdict {
     /// What is found in it, each finding once, in the order of a report.
     pub fn into_findings(self) -> Vec<Finding>
         ensures findings { result.items ≡ findings_of self }
-        ensures judged { ∥ IsMethodVerdict (seen_of (program_of self)) (verdict_number self) (map finding_parts result.items) ∥₁ }
+        ensures judged { ∥ IsMethodVerdict (model_of (program_of self)) (verdict_number self) (map finding_parts result.items) ∥₁ }
         ensures ordered { IsStrictlySortedBy report_cmp (map finding_parts result.items) }
     {
         self.findings

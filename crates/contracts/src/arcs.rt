@@ -11,7 +11,7 @@ ghost use Rattle.program.specs.declared.limits.TheConstants.{MOST_STATES};
 use crate::grouping::rows_of;
 use crate::heights::first_heights;
 use crate::positions::Listing;
-use crate::ringing::{filled, rings};
+use crate::ringing::{nonempty_rows, rings};
 use crate::rows::Rows;
 use program::{Edge, Sign};
 use std::alloc::{AllocError, Global};
@@ -72,7 +72,7 @@ impl SignGraph {
         ensures leaves { IfOk result (λ marks. marks.leaves.items ≡ map (λ row. not (length row == 0)) (rows self.rows)) }
         ensures rings { IfOk result (λ marks. marks.rings ≡ self.rings) }
     {
-        let leaves = filled(alloc, &self.rows)?;
+        let leaves = nonempty_rows(alloc, &self.rows)?;
         Ok(Marks {
             leaves,
             rings: self.rings,

@@ -68,13 +68,13 @@ fn tallest_of(heights: &[Option<u32>], reached: &[bool]) -> u32
 {
     let mut most = 0;
     for v in 0..heights.len() {
-        most = most.max(counted(heights[v], reached[v]));
+        most = most.max(marked_height(heights[v], reached[v]));
     }
     most
 }
 
 /// The height, if the vertex is marked.
-fn counted(height: Option<u32>, mark: bool) -> u32
+fn marked_height(height: Option<u32>, mark: bool) -> u32
     ensures { result ≡ counted_height height mark }
 {
     if mark { height.unwrap_or(0) } else { 0 }

@@ -195,13 +195,13 @@ fn add_arcs(arcs: &mut Vec<Arc>, from: usize, ends: &[usize]) -> Result<(), Allo
     Ok(())
 }
 
-/// Removes the bounds after a place.
-fn join(bounds: &mut Vec<usize>, place: usize)
+/// Removes the bounds after an index.
+fn join(bounds: &mut Vec<usize>, index: usize)
     requires { AreRising bounds.old.items }
-    ensures { AreBoundsTo place bounds.old.items bounds.new.items }
+    ensures { AreBoundsTo index bounds.old.items bounds.new.items }
 {
     'bounds: while let Some(bound) = bounds.last().copied() {
-        if bound <= place {
+        if bound <= index {
             return;
         }
         bounds.pop();

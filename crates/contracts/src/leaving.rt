@@ -15,7 +15,7 @@ use program::{Edge, Side, Sign};
 use std::alloc::{AllocError, Global};
 
 /// For each state the edges from there, in order of the text: a row for the position of each state.
-pub(crate) fn leaving(
+pub(crate) fn edges_by_state(
     alloc: Global,
     edges: &[Edge],
     states: Listing,

@@ -63,11 +63,11 @@ pub fn first_on(
     }
 }
 
-/// Whether the edge at a place has a lower key.
-fn is_below(edges: &[Edge], place: usize, key: (u32, u32)) -> bool
-    ensures { result ≡ is_below edges.now place key }
+/// Whether the edge at an index has a lower key.
+fn is_below(edges: &[Edge], index: usize, key: (u32, u32)) -> bool
+    ensures { result ≡ is_below edges.now index key }
 {
-    match edges.get(place) {
+    match edges.get(index) {
         Some(edge) => lower(key_of(edge), key),
         None => false,
     }

@@ -32,7 +32,7 @@ pub fn rings(
 }
 
 /// Which rows are not empty.
-pub fn filled(alloc: Global, graph: &Rows<usize>) -> Result<Vec<bool>, AllocError>
+pub fn nonempty_rows(alloc: Global, graph: &Rows<usize>) -> Result<Vec<bool>, AllocError>
     ensures { IfOk result (λ marks. marks.items ≡ map (λ row. not (length row == 0)) (rows graph.now)) }
 {
     let mut marks = Vec::with_capacity(alloc, graph.len())?;

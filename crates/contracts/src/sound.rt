@@ -18,7 +18,7 @@ use crate::bounds::Bounds;
 use crate::conditions::faults_of;
 use crate::drawing::{Drawing, drawing_of};
 use crate::keys::{messages_of, states_of};
-use crate::leaving::{leaving, sign_from, sign_to};
+use crate::leaving::{edges_by_state, sign_from, sign_to};
 use crate::order::{first_on, order_of};
 use crate::positions::Listing;
 use crate::rows::Rows;
@@ -215,7 +215,12 @@ impl Sound {
     }
 
     /// The state in which the edge ends along which the end of this side sends the message in a state, if there is one.
-    pub fn sent(&self, side: Side, state: StateId, message: MessageId) -> Option<StateId>
+    pub fn state_after_send(
+        &self,
+        side: Side,
+        state: StateId,
+        message: MessageId,
+    ) -> Option<StateId>
         ensures end { option_map (λ q. q.0) result
             ≡ end_on (edges_from (sound_parts self.now).edges (sign_from side) state.0) message.0 }
         ensures numbered { IfSome result (λ q. q.0 < MOST_STATES) }
@@ -257,8 +262,8 @@ fn sound_of(
 {
     let states = states_of(contract);
     let edges = contract.edges.to_vec(alloc)?;
-    let messages = copied(alloc, &contract.messages)?;
-    let leaving = leaving(alloc, &edges, states)?;
+    let messages = copy_messages(alloc, &contract.messages)?;
+    let leaving = edges_by_state(alloc, &edges, states)?;
     Ok(Sound {
         contract: Snapshot::of(contract),
         first: contract.first,
@@ -273,7 +278,7 @@ fn sound_of(
 }
 
 /// The same messages.
-fn copied(alloc: Global, messages: &[Message]) -> Result<Vec<Message>, AllocError>
+fn copy_messages(alloc: Global, messages: &[Message]) -> Result<Vec<Message>, AllocError>
     ensures parts { IfOk result (λ copies. map message_parts copies.items ≡ map message_parts messages.now) }
 {
     let mut copies = Vec::with_capacity(alloc, messages.len())?;

@@ -8,7 +8,7 @@ use Rattle.std.proofs.lemmas.List.Folds.{flat_map-map}
 use Rattle.std.proofs.lemmas.List.FromFn.{get_or-map-range_with_len, length-map-range_with_len}
 use Rattle.tree.specs.Trees.{ContractTree}
 use Rattle.declarations.specs.Declarations.{counted_states, messages_of, states_of}
-use Rattle.program.specs.Parts.{AreApart, MessageParts, StateParts, contract_parts, message_ids, state_ids, contract_seen}
+use Rattle.program.specs.Parts.{AreApart, MessageParts, StateParts, contract_parts, message_ids, state_ids, contract_model}
 use Rattle.declarations.specs.Resolution.{counted_in, each_behind, message_count, numbered_message, numbered_state, resolved_contract, resolved_contracts, state_count}
 use Rattle.program.specs.declared.contract.Contract.{Contract}
 use Rattle.program.specs.declared.number.MessageId.{MessageId}
@@ -72,12 +72,12 @@ message_row text contracts =
     [] contracts
 
 -- in contracts that are seen as resolved, each number stands once
-pub seen_apart : (text : List ℕ) (contracts : List ContractTree) (resolved : List Contract) → map contract_seen resolved ≡ resolved_contracts text contracts → AreApart (map contract_parts resolved)
+pub seen_apart : (text : List ℕ) (contracts : List ContractTree) (resolved : List Contract) → map contract_model resolved ≡ resolved_contracts text contracts → AreApart (map contract_parts resolved)
 unfolding state_id message_id
 seen_apart text contracts resolved are =
-    let states : flat_map state_ids (map contract_parts resolved) ≡ map state_id (range_with_len 0 (state_count contracts)) = flat_map-map state_ids contract_parts resolved ∙ sym (flat_map-map (λ s. state_ids s.parts) contract_seen resolved)
+    let states : flat_map state_ids (map contract_parts resolved) ≡ map state_id (range_with_len 0 (state_count contracts)) = flat_map-map state_ids contract_parts resolved ∙ sym (flat_map-map (λ s. state_ids s.parts) contract_model resolved)
     ∙ ap (flat_map (λ s. state_ids s.parts)) are ∙ state_row text contracts in
-    let messages : flat_map message_ids (map contract_parts resolved) ≡ map message_id (range_with_len 0 (message_count contracts)) = flat_map-map message_ids contract_parts resolved ∙ sym (flat_map-map (λ s. message_ids s.parts) contract_seen resolved)
+    let messages : flat_map message_ids (map contract_parts resolved) ≡ map message_id (range_with_len 0 (message_count contracts)) = flat_map-map message_ids contract_parts resolved ∙ sym (flat_map-map (λ s. message_ids s.parts) contract_model resolved)
     ∙ ap (flat_map (λ s. message_ids s.parts)) are ∙ message_row text contracts in
     record {
       states = subst (AllPairs (λ (x y : StateId). x ≢ y)) (sym states) (once_in_a_row state_id (λ i. i.0) (λ n. refl) (state_count contracts));

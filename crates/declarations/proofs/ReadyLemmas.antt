@@ -20,7 +20,7 @@ use Rattle.declarations.specs.Numbered.{names_in, places_named}
 use Rattle.declarations.specs.Outlines.{outlined_messages, outlined_states}
 use Rattle.declarations.specs.Program.{Program}
 use Rattle.declarations.specs.Ready.{IsReady, all_resolved, declared_in, declared_messages, declared_states, resolved_declared}
-use Rattle.program.specs.Parts.{ContractSeen}
+use Rattle.program.specs.Parts.{ContractModel}
 use Rattle.declarations.specs.Resolution.{each_behind, message_count, resolved_contract, resolved_contracts, state_count}
 use Rattle.declarations.specs.Scopes.{AreDeclared, IsDeclared, IsScope}
 use Rattle.tables.specs.Tables.{IsTable}
@@ -69,7 +69,7 @@ resolved_behind text bs bd [] [] before all = refl
 resolved_behind text bs bd [] (d ∷ ds) before all = absurd all
 resolved_behind text bs bd (c ∷ cs) [] before all = absurd all
 resolved_behind text bs bd (c ∷ cs) (d ∷ ds) before all =
-    let rest = λ (l : List ContractSeen). resolved_contract text (message_count bs) (state_count bs) c.name (messages_of c) (states_of c) ∷ l in
+    let rest = λ (l : List ContractModel). resolved_contract text (message_count bs) (state_count bs) c.name (messages_of c) (states_of c) ∷ l in
     ap (λ r. r ∷ each_behind (λ b k. resolved_declared text (declared_messages b) (declared_states b) k ∷ []) (bd ++ d ∷ []) ds) (one_resolved text bs bd c d before all.0)
     ∙ ap rest (resolved_behind text (bs ++ c ∷ []) (bd ++ d ∷ []) cs ds (are_push text bs bd c d before all.0) all.1)
 

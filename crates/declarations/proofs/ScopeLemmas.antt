@@ -115,17 +115,17 @@ no_struct text None h = refl
 no_struct text (Some s) h = absurd h
 
 -- the same of what the code answers
-pub contract_seen : (text : List ℕ) (o : Option (ℕ × ContractTree)) (k : ℕ) (found : Option (Bor Declared)) → IsContract text o (option_map (λ c. (k, c)) (option_copied found)) → IsContract text o (option_map (λ d. (k, d.now)) found)
-contract_seen text o k None h = h
-contract_seen text o k (Some d) h = h
+pub contract_model : (text : List ℕ) (o : Option (ℕ × ContractTree)) (k : ℕ) (found : Option (Bor Declared)) → IsContract text o (option_map (λ c. (k, c)) (option_copied found)) → IsContract text o (option_map (λ d. (k, d.now)) found)
+contract_model text o k None h = h
+contract_model text o k (Some d) h = h
 
-pub struct_seen : (text : List ℕ) (o : Option (ℕ × StructTree)) (k : ℕ) (found : Option (Bor Fields)) → IsStruct text o (option_map (λ f. (k, f)) (option_copied found)) → IsStruct text o (option_map (λ f. (k, f.now)) found)
-struct_seen text o k None h = h
-struct_seen text o k (Some f) h = h
+pub struct_model : (text : List ℕ) (o : Option (ℕ × StructTree)) (k : ℕ) (found : Option (Bor Fields)) → IsStruct text o (option_map (λ f. (k, f)) (option_copied found)) → IsStruct text o (option_map (λ f. (k, f.now)) found)
+struct_model text o k None h = h
+struct_model text o k (Some f) h = h
 
-pub class_seen : (text : List ℕ) (o : Option (ℕ × ClassTree)) (found : Option (Bor Methods)) → IsClass text o (option_copied found) → IsClass text o (option_map (λ m. m.now) found)
-class_seen text o None h = h
-class_seen text o (Some m) h = h
+pub class_model : (text : List ℕ) (o : Option (ℕ × ClassTree)) (found : Option (Bor Methods)) → IsClass text o (option_copied found) → IsClass text o (option_map (λ m. m.now) found)
+class_model text o None h = h
+class_model text o (Some m) h = h
 
 pub struct_missing : (p : Program) (ms : List Members) (n : ℕ) → AllMembers p.text p.items ms → None ≡ option_and_then as_fields (slice_get ms n) → item_at as_struct p n ≡ None
 struct_missing p ms n all is =

@@ -20,7 +20,7 @@ use Rattle.declarations.specs.Listed.{asked_message, asked_name, asked_state}
 use Rattle.declarations.specs.declared.mistake.NameSort.{NameSort}
 use Rattle.declarations.specs.declared.mistake.NameSort.TheVariants as sort
 use Rattle.declarations.specs.Meant.{path_left}
-use Rattle.program.specs.Parts.{IsWhole, contract_parts, ContractSeen, contract_seen}
+use Rattle.program.specs.Parts.{IsWhole, contract_parts, ContractModel, contract_model}
 use Rattle.declarations.specs.Program.{Program}
 use Rattle.declarations.specs.Resolution.{Meanings, counted_in, edges_from, message_count, message_meant, numbered_message, numbered_state, path_edges, paths_edges, resolved_contract, resolved_contracts, state_count, state_meant}
 use Rattle.tables.specs.Words.{same_word, word_at, words_at}
@@ -167,7 +167,7 @@ all_whole : (p : Program) (contracts : List ContractTree) → flat_map (contract
     → state_count contracts ≤ MOST_STATES → All (λ s. IsWhole s.parts) (resolved_contracts p.text contracts)
 all_whole p contracts none few =
     let text = p.text in
-    let whole = λ (s : ContractSeen). IsWhole s.parts in
+    let whole = λ (s : ContractModel). IsWhole s.parts in
     let seen = λ (before : List ContractTree) (c : ContractTree). resolved_contract text (message_count before) (state_count before) c.name (messages_of c) (states_of c) in
     all_behind whole (λ before c. seen before c ∷ []) [] contracts
     (λ i c lt is.
@@ -184,9 +184,9 @@ pub clean_whole : (p : Program) → contracts_mistakes p ≡ [] → All (λ s. I
 clean_whole p nothing = all_whole p (contracts_of p.items) (contracts_clean p nothing) (states_few p nothing)
 
 -- the same of contracts that are seen so
-pub seen_whole : (p : Program) (resolved : List Contract) → map contract_seen resolved ≡ resolved_contracts p.text (contracts_of p.items)
+pub seen_whole : (p : Program) (resolved : List Contract) → map contract_model resolved ≡ resolved_contracts p.text (contracts_of p.items)
     → contracts_mistakes p ≡ [] → All (λ c. IsWhole (contract_parts c)) resolved
 seen_whole p resolved are nothing = λ k d lt.
-    let size = length-map resolved contract_seen in
+    let size = length-map resolved contract_model in
     let all = subst (All (λ s. IsWhole s.parts)) (sym are) (clean_whole p nothing) in
-    subst (λ s. IsWhole s.parts) (get_or-map contract_seen resolved k d (contract_seen d) lt) (all k (contract_seen d) (omega (arith, lt, size)))
+    subst (λ s. IsWhole s.parts) (get_or-map contract_model resolved k d (contract_model d) lt) (all k (contract_model d) (omega (arith, lt, size)))

@@ -16,7 +16,7 @@ abbrev pub param_names : List Param → List Span
 param_names params = map (λ p. p.name) params
 
 abbrev pub message_mistakes : Program → MessageTree → List Mistake
-message_mistakes p m = flat_map (λ x. type_unknown p x.kind) m.params
+message_mistakes p m = flat_map (λ x. type_unknown p x.ty) m.params
     ++ (twice_among p.text (param_names m.params) ++ past_limit limit.Parameters (param_names m.params))
 
 -- the messages and the state of a path have to be among those that its contract declares

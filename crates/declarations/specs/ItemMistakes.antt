@@ -16,7 +16,7 @@ use Rattle.declarations.specs.Program.{Program, item_names}
 abbrev pub struct_mistakes : Program → StructTree → List Mistake
 struct_mistakes p s =
     twice_among p.text (map (λ f. f.name) s.fields)
-    ++ (flat_map (λ f. type_unknown p f.kind) s.fields ++ past_limit limit.Fields (map (λ f. f.name) (owning_fields s)))
+    ++ (flat_map (λ f. type_unknown p f.ty) s.fields ++ past_limit limit.Fields (map (λ f. f.name) (owning_fields s)))
 
 -- the methods of an item
 abbrev pub methods_in : DefinitionTree → List MethodTree

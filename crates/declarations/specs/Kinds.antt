@@ -17,8 +17,8 @@ use Rattle.declarations.specs.declared.mistake.Mistake.TheVariants.{Unknown, Wro
 use Rattle.declarations.specs.declared.mistake.NameSort.TheVariants as sort
 use Rattle.declarations.specs.Program.{Program, contract_named, struct_named}
 use Rattle.program.specs.Kinds.{same_scalar, same_side}
-use Rattle.declarations.specs.declared.kinds.Kind.{Kind}
-use Rattle.declarations.specs.declared.kinds.Kind.TheVariants as kind
+use Rattle.declarations.specs.declared.kinds.ValueKind.{ValueKind}
+use Rattle.declarations.specs.declared.kinds.ValueKind.TheVariants as kind
 
 -- int and byte are numbers
 abbrev pub counts : Scalar → Bool
@@ -27,39 +27,39 @@ counts scalar.Byte = true
 counts scalar.Bool = false
 
 -- one of which nothing is asked
-abbrev pub is_silent : Kind → Bool
+abbrev pub is_silent : ValueKind → Bool
 is_silent kind.Missing = true
 is_silent kind.Unknown = true
 is_silent _ = false
 
-abbrev pub is_unknown : Kind → Bool
+abbrev pub is_unknown : ValueKind → Bool
 is_unknown kind.Unknown = true
 is_unknown _ = false
 
-abbrev pub is_number : Kind → Bool
+abbrev pub is_number : ValueKind → Bool
 is_number (kind.Scalar s) = counts s
 is_number _ = false
 
-abbrev pub is_truth : Kind → Bool
+abbrev pub is_truth : ValueKind → Bool
 is_truth (kind.Scalar s) = not (counts s)
 is_truth _ = false
 
 -- a block of the exchange heap
-abbrev pub is_block : Kind → Bool
+abbrev pub is_block : ValueKind → Bool
 is_block (kind.Pointer n) = true
 is_block (kind.Array s) = true
 is_block (kind.Endpoint s n) = true
 is_block _ = false
 
 -- whether two kinds are the same but for which scalar a number is
-abbrev pub alike : Kind → Kind → Bool
+abbrev pub alike : ValueKind → ValueKind → Bool
 alike (kind.Scalar s) (kind.Scalar t) = if counts s then counts t else not (counts t)
 alike (kind.Pointer m) (kind.Pointer n) = m == n
 alike (kind.Array s) (kind.Array t) = same_scalar s t
 alike (kind.Endpoint s m) (kind.Endpoint t n) = (m == n) && same_side s t
 alike _ _ = false
 
-abbrev pub agree : Kind → Kind → Bool
+abbrev pub agree : ValueKind → ValueKind → Bool
 agree given asked = is_silent given || (is_silent asked || alike given asked)
 
 -- a wrong type at this place, unless all is well
@@ -67,17 +67,17 @@ abbrev pub unless : Bool → Place → Mismatch → List Mistake
 unless well place mismatch = if well then [] else WrongType place mismatch ∷ []
 
 -- the kind of a type that is written
-abbrev pub endpoint_kind : List ℕ → Option (ℕ × ContractTree) → Side → Option Span → Kind
+abbrev pub endpoint_kind : List ℕ → Option (ℕ × ContractTree) → Side → Option Span → ValueKind
 endpoint_kind text None end state = kind.Unknown
 endpoint_kind text (Some c) end None = kind.Endpoint end c.0
 endpoint_kind text (Some c) end (Some state) = if is_declared text (names_of_states (states_of c.1)) state then kind.Endpoint end c.0
     else kind.Unknown
 
-abbrev pub pointer_kind : {X : Type 0} → Option (ℕ × X) → Kind
+abbrev pub pointer_kind : {X : Type 0} → Option (ℕ × X) → ValueKind
 pointer_kind None = kind.Unknown
 pointer_kind (Some s) = kind.Pointer s.0
 
-abbrev pub type_kind : Program → type_nodes.Type.Type → Kind
+abbrev pub type_kind : Program → type_nodes.Type.Type → ValueKind
 type_kind p (type.Scalar s) = kind.Scalar s
 type_kind p (type.Heap (heap.Pointer name bang)) = pointer_kind (struct_named p name)
 type_kind p (type.Heap (heap.Array element bang)) = kind.Array element
@@ -107,6 +107,6 @@ is_heap (type.Scalar s) = false
 is_heap (type.Heap h) = true
 
 -- the kind of what a message brings for this parameter, if there is one
-abbrev pub brought_kind : Program → Option Param → Kind
+abbrev pub brought_kind : Program → Option Param → ValueKind
 brought_kind p None = kind.Unknown
-brought_kind p (Some x) = type_kind p x.kind
+brought_kind p (Some x) = type_kind p x.ty

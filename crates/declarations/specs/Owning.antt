@@ -9,7 +9,7 @@ use Rattle.tree.specs.declared.class as made
 
 -- the fields of a struct that own
 abbrev pub owning_fields : StructTree → List made.Field.Field
-owning_fields s = filter (λ f. is_heap f.kind) s.fields
+owning_fields s = filter (λ f. is_heap f.ty) s.fields
 
 -- the struct of this name: how many items stand before it, and its fields that own
 abbrev pub owning_named : Program → Span → Option (Numbered (List made.Field.Field))
@@ -17,7 +17,7 @@ owning_named p name = option_map (λ s. (s.0, owning_fields s.1)) (struct_named 
 
 -- a parameter that is lent a block
 abbrev pub is_lent : made.Parameter.Parameter → Bool
-is_lent x = is_heap x.kind && not x.claims
+is_lent x = is_heap x.ty && not x.claims
 
 abbrev pub any_lent : List made.Parameter.Parameter → Bool
 any_lent [] = false

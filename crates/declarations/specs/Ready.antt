@@ -5,7 +5,7 @@ use Rattle.declarations.specs.Declarations.{names_of_messages, names_of_states, 
 use Rattle.declarations.specs.ContractMistakes.{state_mistakes}
 use Rattle.declarations.specs.Numbered.{names_in, places_named}
 use Rattle.declarations.specs.Outlines.{outlined_messages, outlined_states}
-use Rattle.program.specs.Parts.{ContractSeen}
+use Rattle.program.specs.Parts.{ContractModel}
 use Rattle.declarations.specs.Resolution.{each_behind, resolved_contract}
 use Rattle.tables.specs.Tables.{IsTable}
 use Rattle.tables.specs.Words.{words_at}
@@ -34,11 +34,11 @@ abbrev pub declared_states : List Declared → ℕ
 declared_states declared = length (flat_map (λ d. counted_states (outlined_states d.outline)) declared)
 
 -- a contract as it is resolved, behind so many messages and states
-abbrev pub resolved_declared : List ℕ → ℕ → ℕ → Declared → ContractSeen
+abbrev pub resolved_declared : List ℕ → ℕ → ℕ → Declared → ContractModel
 resolved_declared text message state d =
     resolved_contract text message state d.outline.name (outlined_messages d.outline) (outlined_states d.outline)
 
 -- contracts in order as they are resolved
-abbrev pub all_resolved : List ℕ → List Declared → List ContractSeen
+abbrev pub all_resolved : List ℕ → List Declared → List ContractModel
 all_resolved text declared =
     each_behind (λ before d. resolved_declared text (declared_messages before) (declared_states before) d ∷ []) [] declared

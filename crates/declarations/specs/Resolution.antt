@@ -10,7 +10,7 @@ use Rattle.tree.specs.Trees.{ContractTree, MessageTree, StateTree, PathTree}
 use Rattle.tree.specs.declared.contract as tree
 use Rattle.declarations.specs.Declarations.{messages_of, states_of, paths_of, unnamed_of, counted_states}
 use Rattle.declarations.specs.Declarations.{names_of_messages, names_of_states, first_among}
-use Rattle.program.specs.Parts.{StateParts, MessageParts, ContractSeen}
+use Rattle.program.specs.Parts.{StateParts, MessageParts, ContractModel}
 use Rattle.tables.specs.Words.{word_at}
 use Rattle.program.specs.declared.contract.Edge.{Edge}
 
@@ -106,7 +106,7 @@ edges_from means first states =
 
 -- A contract with these messages and states, where so many messages and so many states stand before its own. Its first
 -- state is the one that stands first.
-abbrev pub resolved_contract : List ℕ → ℕ → ℕ → Span → List MessageTree → List StateTree → ContractSeen
+abbrev pub resolved_contract : List ℕ → ℕ → ℕ → Span → List MessageTree → List StateTree → ContractModel
 resolved_contract text first_message first_state name messages states = record {
   name = printed text name;
   parts = record {
@@ -128,6 +128,6 @@ abbrev pub state_count : List ContractTree → ℕ
 state_count contracts = length (flat_map (λ c. counted_states (states_of c)) contracts)
 
 -- the contracts of a program, in order
-abbrev pub resolved_contracts : List ℕ → List ContractTree → List ContractSeen
+abbrev pub resolved_contracts : List ℕ → List ContractTree → List ContractModel
 resolved_contracts text contracts = each_behind (λ before c.
     resolved_contract text (message_count before) (state_count before) c.name (messages_of c) (states_of c) ∷ []) [] contracts

@@ -73,11 +73,11 @@ pub(crate) fn names_of_fields(alloc: Global, fields: &[Field]) -> Result<Vec<Spa
 
 /// Those of these fields that own, in order.
 fn owning_fields(alloc: Global, fields: &[Field]) -> Result<Vec<Field>, AllocError>
-    ensures { IfOk result (λ owning. owning.items ≡ filter (λ f. is_heap f.kind) fields.now) }
+    ensures { IfOk result (λ owning. owning.items ≡ filter (λ f. is_heap f.ty) fields.now) }
 {
     let mut owning = Vec::new(alloc);
     for field in fields {
-        if is_heap(field.kind) {
+        if is_heap(field.ty) {
             owning.push(*field)?;
         }
     }

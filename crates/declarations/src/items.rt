@@ -54,10 +54,10 @@ pub fn judge_struct(
 
 fn judge_types(scope: &Scope<'_>, fields: &[Field], found: &mut Vec<Mistake>) -> Result<(), Memory>
     ensures { (p : Program) → IsScope p scope.now
-        → OnOk result (Adds found.old.items found.new.items (flat_map (λ f. type_unknown p f.kind) fields.now)) }
+        → OnOk result (Adds found.old.items found.new.items (flat_map (λ f. type_unknown p f.ty) fields.now)) }
 {
     for field in fields {
-        judge_type(scope, field.kind, found)?;
+        judge_type(scope, field.ty, found)?;
     }
     Ok(())
 }

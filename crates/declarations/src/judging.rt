@@ -73,12 +73,12 @@ pub(crate) fn judge_twice(
     Ok(())
 }
 
-/// Whether a name was found at this place.
-fn is_at(found: Option<usize>, place: usize) -> bool
-    ensures { IsTrue result ↔ (found ≡ Some place) }
+/// Whether a name was found at this index.
+fn is_at(found: Option<usize>, index: usize) -> bool
+    ensures { IsTrue result ↔ (found ≡ Some index) }
 {
     match found {
-        Some(first) => first == place,
+        Some(first) => first == index,
         None => false,
     }
 }
@@ -105,8 +105,8 @@ pub(crate) fn judge_limit(
     Ok(())
 }
 
-fn name_at(names: &[Span], place: usize) -> Option<Span>
-    ensures { result ≡ slice_get names.now place }
+fn name_at(names: &[Span], index: usize) -> Option<Span>
+    ensures { result ≡ slice_get names.now index }
 {
-    names.get(place).copied()
+    names.get(index).copied()
 }

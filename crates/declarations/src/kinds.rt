@@ -6,7 +6,7 @@ use program::{Scalar, Side};
 
 /// What a variable holds, or an expression gives. An item is named by how many items stand before it in the text.
 #[derive(Clone, Copy, Debug, PartialEq, Eq)]
-pub enum Kind {
+pub enum ValueKind {
     /// A number or a truth value.
     Scalar(Scalar),
     /// A pointer to a struct.
@@ -21,53 +21,56 @@ pub enum Kind {
     Unknown,
 }
 
-impl Kind {
+impl ValueKind {
     ghost use Rattle.declarations.specs.Kinds as specs;
 
     /// Whether nothing is asked of it.
     pub fn is_silent(self) -> bool
         ensures { result ≡ specs.is_silent self }
     {
-        matches!(self, Kind::Missing | Kind::Unknown)
+        matches!(self, ValueKind::Missing | ValueKind::Unknown)
     }
 
     /// Whether it is built on a name that is not declared.
     pub fn is_unknown(self) -> bool
         ensures { result ≡ specs.is_unknown self }
     {
-        matches!(self, Kind::Unknown)
+        matches!(self, ValueKind::Unknown)
     }
 
     /// Whether it is int or byte.
     pub fn is_number(self) -> bool
         ensures { result ≡ specs.is_number self }
     {
-        matches!(self, Kind::Scalar(Scalar::Int | Scalar::Byte))
+        matches!(self, ValueKind::Scalar(Scalar::Int | Scalar::Byte))
     }
 
     /// Whether it is bool.
     pub fn is_truth(self) -> bool
         ensures { result ≡ specs.is_truth self }
     {
-        matches!(self, Kind::Scalar(Scalar::Bool))
+        matches!(self, ValueKind::Scalar(Scalar::Bool))
     }
 
     /// Whether it is a block of the exchange heap.
     pub fn is_block(self) -> bool
         ensures { result ≡ specs.is_block self }
     {
-        matches!(self, Kind::Pointer(_) | Kind::Array(_) | Kind::Endpoint(..))
+        matches!(
+            self,
+            ValueKind::Pointer(_) | ValueKind::Array(_) | ValueKind::Endpoint(..)
+        )
     }
 
     /// Whether both are of one kind, but for which scalar a number is.
-    fn is_like(self, other: Kind) -> bool
+    fn is_like(self, other: ValueKind) -> bool
         ensures { result ≡ specs.alike self other }
     {
         match (self, other) {
-            (Kind::Scalar(_), Kind::Scalar(_)) => self.is_number() == other.is_number(),
-            (Kind::Pointer(left), Kind::Pointer(right)) => left == right,
-            (Kind::Array(left), Kind::Array(right)) => left == right,
-            (Kind::Endpoint(side, left), Kind::Endpoint(other_side, right)) => {
+            (ValueKind::Scalar(_), ValueKind::Scalar(_)) => self.is_number() == other.is_number(),
+            (ValueKind::Pointer(left), ValueKind::Pointer(right)) => left == right,
+            (ValueKind::Array(left), ValueKind::Array(right)) => left == right,
+            (ValueKind::Endpoint(side, left), ValueKind::Endpoint(other_side, right)) => {
                 left == right && side == other_side
             }
             _ => false,
@@ -75,7 +78,7 @@ impl Kind {
     }
 
     /// Whether it may stand where the other is asked for.
-    pub fn agrees(self, asked: Kind) -> bool
+    pub fn agrees(self, asked: ValueKind) -> bool
         ensures { result ≡ specs.agree self asked }
     {
         self.is_silent() || asked.is_silent() || self.is_like(asked)

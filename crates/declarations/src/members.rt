@@ -130,11 +130,11 @@ impl<'a> Declared<'a> {
         self.outline.messages.get(place).copied()
     }
 
-    /// Where the named state at this place stands among all of its states.
-    pub(crate) fn named_place(&self, place: usize) -> Option<usize>
-        ensures { result ≡ slice_get self.now.counted.named.items place }
+    /// Where the named state at this index stands among all of its states.
+    pub(crate) fn named_place(&self, index: usize) -> Option<usize>
+        ensures { result ≡ slice_get self.now.counted.named.items index }
     {
-        self.counted.named.get(place).copied()
+        self.counted.named.get(index).copied()
     }
 }
 
@@ -183,12 +183,12 @@ impl<'a> Methods<'a> {
         self.callee(place)
     }
 
-    /// The method at this place.
-    fn callee(&self, place: usize) -> Option<Callee<'a>>
-        ensures { (c : ClassTree) (text : List ℕ) → AreMethods text c self.now → IsCallee (slice_get c.methods place) result }
+    /// The method at this index.
+    fn callee(&self, index: usize) -> Option<Callee<'a>>
+        ensures { (c : ClassTree) (text : List ℕ) → AreMethods text c self.now → IsCallee (slice_get c.methods index) result }
     {
-        let method = self.list.get(place)?;
-        let startable = *self.startable.get(place)?;
+        let method = self.list.get(index)?;
+        let startable = *self.startable.get(index)?;
         Some(Callee { method, startable })
     }
 }

@@ -37,10 +37,10 @@ pub(crate) fn judge_message(
 
 fn judge_types(scope: &Scope<'_>, params: &[Param], found: &mut Vec<Mistake>) -> Result<(), Memory>
     ensures { (p : Program) → IsScope p scope.now
-        → OnOk result (Adds found.old.items found.new.items (flat_map (λ x. type_unknown p x.kind) params.now)) }
+        → OnOk result (Adds found.old.items found.new.items (flat_map (λ x. type_unknown p x.ty) params.now)) }
 {
     for param in params {
-        judge_type(scope, param.kind, found)?;
+        judge_type(scope, param.ty, found)?;
     }
     Ok(())
 }

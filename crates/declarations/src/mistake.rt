@@ -4,7 +4,7 @@ ghost use Rattle.std.specs.Prelude.{◌≡◌, IfOk, map};
 ghost use Rattle.source.specs.Findings.{finding_parts};
 ghost use Rattle.declarations.specs.Mistakes.{finding_in, most_of};
 
-use crate::kinds::Kind;
+use crate::kinds::ValueKind;
 use program::{
     MOST_CONTRACTS, MOST_FIELDS, MOST_METHODS, MOST_PARAMETERS, MOST_STATES, MOST_VARIABLES, Side,
 };
@@ -15,7 +15,7 @@ use std::alloc::Global;
 #[derive(Clone, Copy, Debug, PartialEq, Eq)]
 pub enum Demand {
     /// That it is of this kind.
-    Kind(Kind),
+    Kind(ValueKind),
     /// `int` or `byte`.
     Number,
     /// `bool`.
@@ -42,9 +42,9 @@ pub enum Demand {
 #[derive(Clone, Copy, Debug, PartialEq, Eq)]
 pub enum Mismatch {
     /// This was asked, and something of that kind was given; nothing, if the kind is missing.
-    Given(Demand, Kind),
+    Given(Demand, ValueKind),
     /// A value of this kind is asked after `return`.
-    NoValue(Kind),
+    NoValue(ValueKind),
     /// No value is asked after `return`.
     ValueReturned,
     /// This end of a channel does not send the message that stands behind `Send` there.

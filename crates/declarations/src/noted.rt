@@ -6,7 +6,7 @@ ghost use Rattle.declarations.specs.Kinds.{type_kind};
 ghost use Rattle.declarations.specs.Program.{Program};
 ghost use Rattle.declarations.specs.Scopes.{IsScope, AreNoted};
 
-use crate::kinds::Kind;
+use crate::kinds::ValueKind;
 use crate::scope::Scope;
 use crate::signatures::signature_types;
 use crate::types::look_up_kind;
@@ -20,7 +20,7 @@ use tree::Heap;
 #[derive(Clone, Copy)]
 pub(crate) struct Noted {
     pub(crate) written: Heap,
-    pub(crate) kind: Kind,
+    pub(crate) kind: ValueKind,
 }
 
 /// The kinds of types, each by where the first name of its type begins. A kind is found once, so that no call and no `new`
@@ -63,8 +63,8 @@ impl NotedKinds {
     }
 
     /// The kind of this type, if it is noted.
-    pub(crate) fn find(&self, written: Heap) -> Option<Kind>
-        ensures { (p : Program) (k : Kind) → AreNoted p self.now → result ≡ Some k → k ≡ type_kind p (type.Heap written) }
+    pub(crate) fn find(&self, written: Heap) -> Option<ValueKind>
+        ensures { (p : Program) (k : ValueKind) → AreNoted p self.now → result ≡ Some k → k ≡ type_kind p (type.Heap written) }
     {
         let noted = self.first.get(&begins(written)?)?;
         kind_for(*noted, written)
@@ -72,8 +72,8 @@ impl NotedKinds {
 }
 
 /// The kind that is noted, if it is that of this type.
-fn kind_for(noted: Noted, written: Heap) -> Option<Kind>
-    ensures { (p : Program) (k : Kind) → noted.kind ≡ type_kind p (type.Heap noted.written) → result ≡ Some k
+fn kind_for(noted: Noted, written: Heap) -> Option<ValueKind>
+    ensures { (p : Program) (k : ValueKind) → noted.kind ≡ type_kind p (type.Heap noted.written) → result ≡ Some k
         → k ≡ type_kind p (type.Heap written) }
 {
     if is_same(noted.written, written) {

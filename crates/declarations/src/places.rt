@@ -8,7 +8,7 @@ ghost use Rattle.declarations.specs.Named.{message_written, sent_message};
 ghost use Rattle.declarations.specs.Program.{Program, as_contract, item_at};
 ghost use Rattle.tables.specs.Words.{word_at};
 
-use crate::kinds::Kind;
+use crate::kinds::ValueKind;
 use crate::scope::Scope;
 use crate::types::kind_of_type;
 use source::Span;
@@ -19,10 +19,10 @@ impl<'a> Scope<'a> {
 
     /// The kind of a type.
     #[inline(always)]
-    pub fn kind(&self, kind: Type) -> Kind
-        ensures { (p : Program) → IsScope p self.now → result ≡ type_kind p kind }
+    pub fn kind(&self, ty: Type) -> ValueKind
+        ensures { (p : Program) → IsScope p self.now → result ≡ type_kind p ty }
     {
-        kind_of_type(self, kind)
+        kind_of_type(self, ty)
     }
 
     /// How many items stand before the first item of this name, if it is a contract.
@@ -50,12 +50,12 @@ impl<'a> Scope<'a> {
         declared.messages.find(name)
     }
 
-    /// The message at this place in the contract that is the item at the first one.
-    pub fn message_at(&self, contract: usize, place: usize) -> Option<&'a Message>
-        ensures { (p : Program) → IsScope p self.now → option_map (λ m. message_tree m.now) result ≡ message_at p contract place }
+    /// The message at this index in the contract that is the item at the first one.
+    pub fn message_at(&self, contract: usize, index: usize) -> Option<&'a Message>
+        ensures { (p : Program) → IsScope p self.now → option_map (λ m. message_tree m.now) result ≡ message_at p contract index }
     {
         let declared = self.contract_at(contract)?;
-        declared.outline.messages.get(place).copied()
+        declared.outline.messages.get(index).copied()
     }
 
     /// The first message of this name in the contract that is the item at this place.

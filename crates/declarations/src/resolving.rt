@@ -8,7 +8,7 @@ ghost use Rattle.declarations.specs.Outlines.{outlined_messages, outlined_states
 ghost use Rattle.declarations.specs.Ready.{IsReady, declared_in, declared_messages, declared_states, resolved_declared, all_resolved};
 ghost use Rattle.declarations.specs.Resolution.{message_count, resolved_contracts};
 ghost use Rattle.declarations.specs.Scopes.{IsScope, declared_among, program_of_scope};
-ghost use Rattle.program.specs.Parts.{AreApart, IsWhole, contract_parts, contract_seen};
+ghost use Rattle.program.specs.Parts.{AreApart, IsWhole, contract_parts, contract_model};
 
 use crate::edges::edges_of;
 use crate::labels::Labels;
@@ -31,7 +31,7 @@ pub fn resolve_contracts(alloc: Global, scope: &Scope<'_>) -> Result<Vec<Contrac
     requires scope { IsScope (program_of_scope scope.now) scope.now }
     requires clean { contracts_mistakes (program_of_scope scope.now) ≡ [] }
     requires few { message_count (contracts_of (program_of_scope scope.now).items) < 2 ^ 32 }
-    ensures resolved { IfOk result (λ contracts. map contract_seen contracts.items
+    ensures resolved { IfOk result (λ contracts. map contract_model contracts.items
         ≡ resolved_contracts scope.now.text.now (contracts_of (program_of_scope scope.now).items)) }
     ensures apart { IfOk result (λ contracts. AreApart (map contract_parts contracts.items)) }
     ensures whole { IfOk result (λ contracts. All (λ c. IsWhole (contract_parts c)) contracts.items) }
@@ -56,7 +56,7 @@ fn resolve_members(
     requires ready { All (IsReady text.now) (declared_in items.now) }
     requires messages { declared_messages (declared_in items.now) < 2 ^ 32 }
     requires states { declared_states (declared_in items.now) < 2 ^ 32 }
-    ensures { IfOk result (λ contracts. map contract_seen contracts.items ≡ all_resolved text.now (declared_in items.now)) }
+    ensures { IfOk result (λ contracts. map contract_model contracts.items ≡ all_resolved text.now (declared_in items.now)) }
 {
     let mut contracts = Vec::new(alloc);
     let mut before = Before {
@@ -82,7 +82,7 @@ fn add_item(
     requires states { before.old.states + declared_states (declared_among item.now) < 2 ^ 32 }
     ensures messages { OnOk result (before.new.messages ≡ before.old.messages + declared_messages (declared_among item.now)) }
     ensures states { OnOk result (before.new.states ≡ before.old.states + declared_states (declared_among item.now)) }
-    ensures contracts { OnOk result (map contract_seen contracts.new.items ≡ map contract_seen contracts.old.items
+    ensures contracts { OnOk result (map contract_model contracts.new.items ≡ map contract_model contracts.old.items
         ++ map (resolved_declared text.now before.old.messages before.old.states) (declared_among item.now)) }
 {
     match item {
@@ -104,7 +104,7 @@ fn add_contract(
     requires states { before.old.states + length (counted_states (outlined_states declared.now.outline)) < 2 ^ 32 }
     ensures messages { OnOk result (before.new.messages ≡ before.old.messages + length (outlined_messages declared.now.outline)) }
     ensures states { OnOk result (before.new.states ≡ before.old.states + length (counted_states (outlined_states declared.now.outline))) }
-    ensures contracts { OnOk result (map contract_seen contracts.new.items ≡ map contract_seen contracts.old.items
+    ensures contracts { OnOk result (map contract_model contracts.new.items ≡ map contract_model contracts.old.items
         ++ resolved_declared text.now before.old.messages before.old.states declared.now ∷ []) }
 {
     let contract = resolve_contract(alloc, text, declared, before.messages, before.states)?;
@@ -125,7 +125,7 @@ fn resolve_contract(
     requires ready { IsReady text.now declared.now }
     requires messages { messages_before + length (outlined_messages declared.now.outline) < 2 ^ 32 }
     requires states { states_before + length (counted_states (outlined_states declared.now.outline)) < 2 ^ 32 }
-    ensures { IfOk result (λ c. contract_seen c ≡ resolved_declared text.now messages_before states_before declared.now) }
+    ensures { IfOk result (λ c. contract_model c ≡ resolved_declared text.now messages_before states_before declared.now) }
 {
     let outline = &declared.outline;
     let messages = number_messages(alloc, text, &outline.messages, messages_before)?;

@@ -69,12 +69,12 @@ impl<'a> Scope<'a> {
         Some((place, declared))
     }
 
-    /// What the item at this place declares, if it is a contract.
-    pub(crate) fn contract_at(&self, place: usize) -> Option<&Declared<'a>>
+    /// What the item at this index declares, if it is a contract.
+    pub(crate) fn contract_at(&self, index: usize) -> Option<&Declared<'a>>
         ensures { (p : Program) → IsScope p self.now
-            → IsContract p.text (item_at as_contract p place) (option_map (λ d. (place, d.now)) result) }
+            → IsContract p.text (item_at as_contract p index) (option_map (λ d. (index, d.now)) result) }
     {
-        self.declared_at(place)
+        self.declared_at(index)
     }
 
     /// The first item of this name, if it is a struct: how many items stand before it, and its fields.
@@ -96,20 +96,20 @@ impl<'a> Scope<'a> {
         }
     }
 
-    /// The fields of the item at this place, if it is a struct.
-    pub fn structure_at(&self, place: usize) -> Option<&Fields<'a>>
+    /// The fields of the item at this index, if it is a struct.
+    pub fn structure_at(&self, index: usize) -> Option<&Fields<'a>>
         ensures { (p : Program) → IsScope p self.now
-            → IsStruct p.text (item_at as_struct p place) (option_map (λ f. (place, f.now)) result) }
+            → IsStruct p.text (item_at as_struct p index) (option_map (λ f. (index, f.now)) result) }
     {
-        self.fields_at(place)
+        self.fields_at(index)
     }
 
-    /// The first field of this name in the struct that is the item at this place.
-    pub fn field(&self, place: usize, name: Span) -> Option<Field>
+    /// The first field of this name in the struct that is the item at this index.
+    pub fn field(&self, index: usize, name: Span) -> Option<Field>
         ensures { (p : Program) → IsScope p self.now
-            → result ≡ option_and_then (λ s. field_named p.text s.1 name) (item_at as_struct p place) }
+            → result ≡ option_and_then (λ s. field_named p.text s.1 name) (item_at as_struct p index) }
     {
-        let fields = self.fields_at(place)?;
+        let fields = self.fields_at(index)?;
         fields.find(self.text, name)
     }
 
@@ -155,22 +155,22 @@ impl<'a> Scope<'a> {
         self.names.find(name.slice(self.text))
     }
 
-    fn declared_at(&self, place: usize) -> Option<&Declared<'a>>
-        ensures { option_copied result ≡ option_and_then as_declared (slice_get self.now.members.items place) }
+    fn declared_at(&self, index: usize) -> Option<&Declared<'a>>
+        ensures { option_copied result ≡ option_and_then as_declared (slice_get self.now.members.items index) }
     {
-        self.members.get(place)?.contract()
+        self.members.get(index)?.contract()
     }
 
-    fn fields_at(&self, place: usize) -> Option<&Fields<'a>>
-        ensures { option_copied result ≡ option_and_then as_fields (slice_get self.now.members.items place) }
+    fn fields_at(&self, index: usize) -> Option<&Fields<'a>>
+        ensures { option_copied result ≡ option_and_then as_fields (slice_get self.now.members.items index) }
     {
-        self.members.get(place)?.fields()
+        self.members.get(index)?.fields()
     }
 
-    fn methods_at(&self, place: usize) -> Option<&Methods<'a>>
-        ensures { option_copied result ≡ option_and_then as_methods (slice_get self.now.members.items place) }
+    fn methods_at(&self, index: usize) -> Option<&Methods<'a>>
+        ensures { option_copied result ≡ option_and_then as_methods (slice_get self.now.members.items index) }
     {
-        self.members.get(place)?.methods()
+        self.members.get(index)?.methods()
     }
 }
 

@@ -29,14 +29,14 @@ fn add_messages(messages: &[&Message], types: &mut Vec<Heap>) -> Result<(), Allo
 
 fn add_params(params: &[Param], types: &mut Vec<Heap>) -> Result<(), AllocError> {
     for param in params {
-        add_type(param.kind, types)?;
+        add_type(param.ty, types)?;
     }
     Ok(())
 }
 
 fn add_fields(fields: &[Field], types: &mut Vec<Heap>) -> Result<(), AllocError> {
     for field in fields {
-        add_type(field.kind, types)?;
+        add_type(field.ty, types)?;
     }
     Ok(())
 }
@@ -53,7 +53,7 @@ fn add_methods(methods: &[Method], types: &mut Vec<Heap>) -> Result<(), AllocErr
 
 fn add_parameters(parameters: &[Parameter], types: &mut Vec<Heap>) -> Result<(), AllocError> {
     for parameter in parameters {
-        add_type(parameter.kind, types)?;
+        add_type(parameter.ty, types)?;
     }
     Ok(())
 }

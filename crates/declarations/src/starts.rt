@@ -17,7 +17,7 @@ pub struct Callee<'a> {
 fn is_lent(parameter: &Parameter) -> bool
     ensures { result ≡ is_lent parameter.now }
 {
-    matches!(parameter.kind, Type::Heap(_)) && !parameter.claims
+    matches!(parameter.ty, Type::Heap(_)) && !parameter.claims
 }
 
 /// Whether one of these parameters is of the exchange heap and not claimed.

@@ -9,7 +9,7 @@ ghost use Rattle.declarations.specs.Program.{Program, contract_named, struct_nam
 ghost use Rattle.declarations.specs.Scopes.{IsScope, IsDeclared};
 
 use crate::judging::{add_unknown, judge_name};
-use crate::kinds::Kind;
+use crate::kinds::ValueKind;
 use crate::members::Declared;
 use crate::mistake::{Mistake, NameSort};
 use crate::scope::Scope;
@@ -18,39 +18,39 @@ use source::{Memory, Span};
 use tree::{Heap, Type};
 
 /// Whether it is a type of the exchange heap.
-pub fn is_heap(kind: Type) -> bool
-    ensures { result ≡ is_heap kind }
+pub fn is_heap(ty: Type) -> bool
+    ensures { result ≡ is_heap ty }
 {
-    matches!(kind, Type::Heap(_))
+    matches!(ty, Type::Heap(_))
 }
 
 /// The kind of a type.
 #[inline(always)]
-pub(crate) fn kind_of_type(scope: &Scope<'_>, kind: Type) -> Kind
-    ensures { (p : Program) → IsScope p scope.now → result ≡ type_kind p kind }
+pub(crate) fn kind_of_type(scope: &Scope<'_>, ty: Type) -> ValueKind
+    ensures { (p : Program) → IsScope p scope.now → result ≡ type_kind p ty }
 {
-    match kind {
-        Type::Scalar(scalar) => Kind::Scalar(scalar),
+    match ty {
+        Type::Scalar(scalar) => ValueKind::Scalar(scalar),
         Type::Heap(heap) => kind_of_heap(scope, heap),
     }
 }
 
-fn kind_of_heap(scope: &Scope<'_>, kind: Heap) -> Kind
-    ensures { (p : Program) → IsScope p scope.now → result ≡ type_kind p (Type.Heap kind) }
+fn kind_of_heap(scope: &Scope<'_>, ty: Heap) -> ValueKind
+    ensures { (p : Program) → IsScope p scope.now → result ≡ type_kind p (Type.Heap ty) }
 {
-    match scope.noted.find(kind) {
+    match scope.noted.find(ty) {
         Some(noted) => noted,
-        None => look_up_kind(scope, kind),
+        None => look_up_kind(scope, ty),
     }
 }
 
 /// The kind of a type, by the names in it.
-pub(crate) fn look_up_kind(scope: &Scope<'_>, kind: Heap) -> Kind
-    ensures { (p : Program) → IsScope p scope.now → result ≡ type_kind p (Type.Heap kind) }
+pub(crate) fn look_up_kind(scope: &Scope<'_>, ty: Heap) -> ValueKind
+    ensures { (p : Program) → IsScope p scope.now → result ≡ type_kind p (Type.Heap ty) }
 {
-    match kind {
+    match ty {
         Heap::Pointer { name, .. } => kind_of_pointer(scope, name),
-        Heap::Array { element, .. } => Kind::Array(element),
+        Heap::Array { element, .. } => ValueKind::Array(element),
         Heap::Endpoint {
             contract,
             side,
@@ -61,72 +61,72 @@ pub(crate) fn look_up_kind(scope: &Scope<'_>, kind: Heap) -> Kind
 }
 
 /// The kind of a pointer to the struct of this name.
-fn kind_of_pointer(scope: &Scope<'_>, name: Span) -> Kind
+fn kind_of_pointer(scope: &Scope<'_>, name: Span) -> ValueKind
     ensures { (p : Program) → IsScope p scope.now → result ≡ pointer_kind (struct_named p name) }
 {
     match scope.structure(name) {
-        Some((place, _)) => Kind::Pointer(place),
-        None => Kind::Unknown,
+        Some((place, _)) => ValueKind::Pointer(place),
+        None => ValueKind::Unknown,
     }
 }
 
-fn kind_of_endpoint(scope: &Scope<'_>, contract: Span, side: Side, state: Option<Span>) -> Kind
+fn kind_of_endpoint(scope: &Scope<'_>, contract: Span, side: Side, state: Option<Span>) -> ValueKind
     ensures { (p : Program) → IsScope p scope.now → result ≡ endpoint_kind p.text (contract_named p contract) side state }
 {
     match scope.contract(contract) {
         Some((place, declared)) => kind_of_end(scope.text, place, declared, side, state),
-        None => Kind::Unknown,
+        None => ValueKind::Unknown,
     }
 }
 
 fn kind_of_end(
     text: &[u8],
-    place: usize,
+    index: usize,
     declared: &Declared<'_>,
     side: Side,
     state: Option<Span>,
-) -> Kind
+) -> ValueKind
     ensures { (c : ContractTree) → IsDeclared text.now c declared.now
-        → result ≡ endpoint_kind text.now (Some (place, c)) side state }
+        → result ≡ endpoint_kind text.now (Some (index, c)) side state }
 {
     match state {
-        Some(state) => kind_of_end_in(text, place, declared, side, state),
-        None => Kind::Endpoint(side, place),
+        Some(state) => kind_of_end_in(text, index, declared, side, state),
+        None => ValueKind::Endpoint(side, index),
     }
 }
 
 fn kind_of_end_in(
     text: &[u8],
-    place: usize,
+    index: usize,
     declared: &Declared<'_>,
     side: Side,
     state: Span,
-) -> Kind
+) -> ValueKind
     ensures { (c : ContractTree) → IsDeclared text.now c declared.now
-        → result ≡ endpoint_kind text.now (Some (place, c)) side (Some state) }
+        → result ≡ endpoint_kind text.now (Some (index, c)) side (Some state) }
 {
     match declared.states.find(state.slice(text)) {
-        Some(_) => Kind::Endpoint(side, place),
-        None => Kind::Unknown,
+        Some(_) => ValueKind::Endpoint(side, index),
+        None => ValueKind::Unknown,
     }
 }
 
 /// Adds the names in a type that are not declared.
 ///
 /// `Memory` is returned if a growth was refused.
-pub fn judge_type(scope: &Scope<'_>, kind: Type, found: &mut Vec<Mistake>) -> Result<(), Memory>
-    ensures { (p : Program) → IsScope p scope.now → OnOk result (Adds found.old.items found.new.items (type_unknown p kind)) }
+pub fn judge_type(scope: &Scope<'_>, ty: Type, found: &mut Vec<Mistake>) -> Result<(), Memory>
+    ensures { (p : Program) → IsScope p scope.now → OnOk result (Adds found.old.items found.new.items (type_unknown p ty)) }
 {
-    match kind {
+    match ty {
         Type::Scalar(_) => Ok(()),
         Type::Heap(heap) => judge_heap(scope, heap, found),
     }
 }
 
-fn judge_heap(scope: &Scope<'_>, kind: Heap, found: &mut Vec<Mistake>) -> Result<(), Memory>
-    ensures { (p : Program) → IsScope p scope.now → OnOk result (Adds found.old.items found.new.items (type_unknown p (Type.Heap kind))) }
+fn judge_heap(scope: &Scope<'_>, ty: Heap, found: &mut Vec<Mistake>) -> Result<(), Memory>
+    ensures { (p : Program) → IsScope p scope.now → OnOk result (Adds found.old.items found.new.items (type_unknown p (Type.Heap ty))) }
 {
-    match kind {
+    match ty {
         Heap::Pointer { name, .. } => judge_pointer(scope, name, found),
         Heap::Array { .. } => Ok(()),
         Heap::Endpoint {

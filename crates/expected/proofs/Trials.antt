@@ -16,15 +16,15 @@ use Rattle.syntax.proofs.Tops.{symbols_length}
 abbrev pub seen : Token → Symbol
 seen t = seen_as t.kind t.span
 
-symbols_seen : (ts : List Token) → symbols ts ≡ map seen ts ++ End ∷ []
-symbols_seen [] = refl
-symbols_seen (t ∷ ts) = ap (λ ys. seen t ∷ ys) (symbols_seen ts)
+symbols_model : (ts : List Token) → symbols ts ≡ map seen ts ++ End ∷ []
+symbols_model [] = refl
+symbols_model (t ∷ ts) = ap (λ ys. seen t ∷ ys) (symbols_model ts)
 
 -- the first symbols of a text are those of its first tokens
 front_seen : (n : ℕ) (ts : List Token) → n ≤ length ts → take n (symbols ts) ≡ map seen (take n ts)
 front_seen n ts h =
     let within : n ≤ length (map seen ts) = subst (λ m. n ≤ m) (sym (length-map ts seen)) h in
-    ap (take n) (symbols_seen ts) ∙ take-append-le n (map seen ts) (End ∷ []) within ∙ take-map seen n ts
+    ap (take n) (symbols_model ts) ∙ take-append-le n (map seen ts) (End ∷ []) within ∙ take-map seen n ts
 
 -- and all of its tokens' those before the end
 all_seen : (ts : List Token) → take (length ts) (symbols ts) ≡ map seen ts

@@ -6,7 +6,7 @@ use Rattle.std.specs.Global.{Global}
 use Rattle.std.proofs.lemmas.List.Elements.{All-nil, All-cons, All-append}
 use Rattle.source.specs.declared.place.Place.{Place}
 use Rattle.program.specs.Statements as stated
-use Rattle.program.specs.Statements.{StatementSeen, BlockSeen, CaseSeen, IfSeen, TestSeen, statement_seen, block_seen, case_seen, case_row, statement_step, block_step, case_step, if_step, test_step}
+use Rattle.program.specs.Statements.{StatementModel, BlockModel, CaseModel, IfModel, TestModel, statement_model, block_model, case_model, case_row, statement_step, block_step, case_step, if_step, test_step}
 use Rattle.program.specs.declared.number.VarId.{VarId}
 use Rattle.program.specs.declared.statement as made
 use Rattle.program.specs.declared.statement.Awaited.{Awaited}
@@ -17,8 +17,8 @@ use Rattle.program.specs.declared.statement.Statement.TheVariants as variants
 use Rattle.flow.specs.declared.graph.Entrance.{Entrance}
 use Rattle.flow.specs.declared.graph.Instr.{Instr}
 use Rattle.flow.specs.declared.graph.Instr.TheVariants as instr
-use Rattle.flow.specs.Cases.{EntranceSeen, entrance_seen}
-use Rattle.flow.specs.Graphs.{Switch, cases_seen, instruction_seen}
+use Rattle.flow.specs.Cases.{EntranceModel, entrance_model}
+use Rattle.flow.specs.Graphs.{Switch, cases_model, instruction_model}
 use Rattle.flow.specs.declared.cases.Cases.{Cases}
 use Rattle.flow.specs.Growths.{Grew, GrewCases, CasesBehind}
 use Rattle.flow.specs.Lowering.{Lays, LaidCases, LaysCases, block, cases, case_before, no_cases, waits}
@@ -39,12 +39,12 @@ pub none_stay : (n : ℕ) → CasesStay n no_cases
 none_stay n = record { stay = λ from next h fits. record { begin = All-nil (λ p. p < n); within = All-nil (IsBelow n) } }
 
 -- where a case begins
-abbrev pub entrance_at : Mention → Awaited → List VarId → ℕ → EntranceSeen
-entrance_at endpoint awaited bound point = record { endpoint = endpoint; awaited = awaited; bound = bound; next = point }
+abbrev pub entrance_at : Mention → Awaited → List VarId → ℕ → EntranceModel
+entrance_at endpoint awaited targets point = record { endpoint = endpoint; awaited = awaited; targets = targets; next = point }
 
 -- a case before others
-pub case_stays : (n : ℕ) (endpoint : Mention) (awaited : Awaited) (bound : List VarId) (body : Lays) (others : LaysCases) → StaysBelow n body → CasesStay n others → CasesStay n (case_before (entrance_at endpoint awaited bound) body others)
-case_stays n endpoint awaited bound body others inner outer = record {
+pub case_stays : (n : ℕ) (endpoint : Mention) (awaited : Awaited) (targets : List VarId) (body : Lays) (others : LaysCases) → StaysBelow n body → CasesStay n others → CasesStay n (case_before (entrance_at endpoint awaited targets) body others)
+case_stays n endpoint awaited targets body others inner outer = record {
   stay = λ from next h fits.
       let rest = others from next in
       let first = body (from + length rest.instructions) next in
@@ -72,16 +72,16 @@ waits_stay n place a inner = record {
 }
 
 -- a case without where it lies in memory
-case_is : (c : made.Case.Case) → case_seen c ≡ stated.Case c.endpoint c.awaited c.bound.items (block_seen c.body)
-case_is = folds.fold_out-Case StatementSeen BlockSeen CaseSeen IfSeen TestSeen statement_step block_step case_step if_step test_step
+case_is : (c : made.Case.Case) → case_model c ≡ stated.Case c.endpoint c.awaited c.targets.items (block_model c.body)
+case_is = folds.fold_out-Case StatementModel BlockModel CaseModel IfModel TestModel statement_step block_step case_step if_step test_step
 
 -- how many there are
-grew_cases_length : (old new : List Instr) (es : List EntranceSeen) (laid : LaidCases) → GrewCases old new es laid → length new ≡ length old + length laid.instructions
+grew_cases_length : (old new : List Instr) (es : List EntranceModel) (laid : LaidCases) → GrewCases old new es laid → length new ≡ length old + length laid.instructions
 grew_cases_length old new es laid g =
-    sym (seen_length new) ∙ ap length g.instructions ∙ length-append (map instruction_seen old) laid.instructions ∙ ap (λ n. n + length laid.instructions) (seen_length old)
+    sym (seen_length new) ∙ ap length g.instructions ∙ length-append (map instruction_model old) laid.instructions ∙ ap (λ n. n + length laid.instructions) (seen_length old)
 
 -- one case more, on top of those behind it
-grew_case : (old mid new : List Instr) (es : List EntranceSeen) (e : EntranceSeen) (entrance : ℕ → EntranceSeen) (body : Lays) (others : LaysCases) (entry next : ℕ) → GrewCases old mid es (others (length old) next) → Grew mid new entry (body (length mid) next) → e ≡ entrance entry
+grew_case : (old mid new : List Instr) (es : List EntranceModel) (e : EntranceModel) (entrance : ℕ → EntranceModel) (body : Lays) (others : LaysCases) (entry next : ℕ) → GrewCases old mid es (others (length old) next) → Grew mid new entry (body (length mid) next) → e ≡ entrance entry
     → GrewCases old new (es ++ e ∷ []) (case_before entrance body others (length old) next)
 grew_case old mid new es e entrance body others entry next g h is =
     let rest = others (length old) next in
@@ -89,39 +89,39 @@ grew_case old mid new es e entrance body others entry next g h is =
     let first = body (length old + length rest.instructions) next in
     let same : body (length mid) next ≡ first = ap (λ n. body n next) at in
     record {
-      instructions = h.instructions ∙ ap (λ l. map instruction_seen mid ++ l.instructions) same ∙ ap (λ l. l ++ first.instructions) g.instructions ∙ append_assoc (map instruction_seen old) rest.instructions first.instructions;
+      instructions = h.instructions ∙ ap (λ l. map instruction_model mid ++ l.instructions) same ∙ ap (λ l. l ++ first.instructions) g.instructions ∙ append_assoc (map instruction_model old) rest.instructions first.instructions;
       entrances = ap (λ l. l ++ e ∷ []) g.entrances ∙ ap (λ x. reverse rest.entrances ++ x ∷ []) (is ∙ ap entrance (h.begins ∙ ap (λ l. l.entry) same)) ∙ sym (reverse-append (entrance first.entry ∷ []) rest.entrances);
     }
 
 -- the cases of a row
 abbrev pub laid_cases : (exit again from next : ℕ) → List made.Case.Case → LaidCases
-laid_cases exit again from next done = cases (case_row (map case_seen done)) exit again from next
+laid_cases exit again from next done = cases (case_row (map case_model done)) exit again from next
 
 -- nothing is laid yet
 pub cases_begin : (all rest : List made.Case.Case) (old : List Instr) (exit again next : ℕ) → rest ≡ all → CasesBehind all rest [] old old [] (laid_cases exit again (length old) next)
 cases_begin all rest old exit again next is = record {
   split = sym is ∙ sym (append-nil rest);
-  grew = record { instructions = sym (append-nil (map instruction_seen old)); entrances = refl };
+  grew = record { instructions = sym (append-nil (map instruction_model old)); entrances = refl };
 }
 
 -- one more is laid, before those that are
 pub cases_go_on : {B : Type 0} (f : B → made.Case.Case) (all rest left : List made.Case.Case) (ys : List B) (y : B) (old mid new : List Instr) (es fs : List Entrance) (e : Entrance) (exit again entry next : ℕ) → rest ≡ push left (f y)
-    → CasesBehind all rest (map f (reverse ys)) old mid (map entrance_seen es) (laid_cases exit again (length old) next)
-    → Grew mid new entry (block (block_seen (f y).body) exit again (length mid) next)
-    → entrance_seen e ≡ entrance_at (f y).endpoint (f y).awaited (f y).bound.items entry → fs ≡ es ++ e ∷ []
-    → CasesBehind all left (map f (reverse (ys ++ y ∷ []))) old new (map entrance_seen fs) (laid_cases exit again (length old) next)
+    → CasesBehind all rest (map f (reverse ys)) old mid (map entrance_model es) (laid_cases exit again (length old) next)
+    → Grew mid new entry (block (block_model (f y).body) exit again (length mid) next)
+    → entrance_model e ≡ entrance_at (f y).endpoint (f y).awaited (f y).targets.items entry → fs ≡ es ++ e ∷ []
+    → CasesBehind all left (map f (reverse (ys ++ y ∷ []))) old new (map entrance_model fs) (laid_cases exit again (length old) next)
 cases_go_on f all rest left ys y old mid new es fs e exit again entry next more b g is grown =
     let c = f y in
     let done = map f (reverse ys) in
-    let others : LaysCases = cases (case_row (map case_seen done)) exit again in
-    let here : GrewCases old new (map entrance_seen es ++ entrance_seen e ∷ []) (case_before (entrance_at c.endpoint c.awaited c.bound.items) (block (block_seen c.body) exit again) others (length old) next) =
-    grew_case old mid new (map entrance_seen es) (entrance_seen e) (entrance_at c.endpoint c.awaited c.bound.items) (block (block_seen c.body) exit again) others entry next b.grew g is in
-    let row : GrewCases old new (map entrance_seen es ++ entrance_seen e ∷ []) (laid_cases exit again (length old) next (c ∷ done)) =
-    subst (λ x. GrewCases old new (map entrance_seen es ++ entrance_seen e ∷ []) (cases (stated.MoreCases x (case_row (map case_seen done))) exit again (length old) next)) (sym (case_is c)) here in
-    let entrances = ap (map entrance_seen) grown ∙ map-append entrance_seen es (e ∷ []) in
+    let others : LaysCases = cases (case_row (map case_model done)) exit again in
+    let here : GrewCases old new (map entrance_model es ++ entrance_model e ∷ []) (case_before (entrance_at c.endpoint c.awaited c.targets.items) (block (block_model c.body) exit again) others (length old) next) =
+    grew_case old mid new (map entrance_model es) (entrance_model e) (entrance_at c.endpoint c.awaited c.targets.items) (block (block_model c.body) exit again) others entry next b.grew g is in
+    let row : GrewCases old new (map entrance_model es ++ entrance_model e ∷ []) (laid_cases exit again (length old) next (c ∷ done)) =
+    subst (λ x. GrewCases old new (map entrance_model es ++ entrance_model e ∷ []) (cases (stated.MoreCases x (case_row (map case_model done))) exit again (length old) next)) (sym (case_is c)) here in
+    let entrances = ap (map entrance_model) grown ∙ map-append entrance_model es (e ∷ []) in
     record {
       split = b.split ∙ ap (λ r. r ++ done) more ∙ append_assoc left (c ∷ []) done ∙ ap (λ d. left ++ d) (sym (one_more f ys y));
-      grew = subst (λ d. GrewCases old new (map entrance_seen fs) (laid_cases exit again (length old) next d)) (sym (one_more f ys y))
+      grew = subst (λ d. GrewCases old new (map entrance_model fs) (laid_cases exit again (length old) next d)) (sym (one_more f ys y))
           (subst (λ l. GrewCases old new l (laid_cases exit again (length old) next (c ∷ done))) (sym entrances) row);
     }
 
@@ -130,22 +130,22 @@ map_reverse f [] = refl
 map_reverse f (x ∷ xs) = ap (map f) (reverse-append (x ∷ []) xs) ∙ map-append f (reverse xs) (x ∷ []) ∙ ap (λ l. l ++ f x ∷ []) (map_reverse f xs) ∙ sym (reverse-append (f x ∷ []) (map f xs))
 
 -- a switch on top of its cases
-pub switch_laid : (old mid new : List Instr) (place : Place) (a : ℕ → LaysCases) (es : List Entrance) (listed : List Entrance) (cs : Cases) (entry next : ℕ) → GrewCases old mid (map entrance_seen es) (a next (length old) next) → listed ≡ reverse es
-    → cases_seen cs ≡ map entrance_seen listed → new ≡ mid ++ instr.Switch place cs ∷ [] → entry ≡ length mid → Grew old new entry (waits place a (length old) next)
+pub switch_laid : (old mid new : List Instr) (place : Place) (a : ℕ → LaysCases) (es : List Entrance) (listed : List Entrance) (cs : Cases) (entry next : ℕ) → GrewCases old mid (map entrance_model es) (a next (length old) next) → listed ≡ reverse es
+    → cases_model cs ≡ map entrance_model listed → new ≡ mid ++ instr.Switch place cs ∷ [] → entry ≡ length mid → Grew old new entry (waits place a (length old) next)
 switch_laid old mid new place a es listed cs entry next g is same grown at =
     let all = a next (length old) next in
-    let entrances : cases_seen cs ≡ all.entrances = same ∙ ap (map entrance_seen) is ∙ map_reverse entrance_seen es ∙ ap reverse g.entrances ∙ reverse-reverse all.entrances in
+    let entrances : cases_model cs ≡ all.entrances = same ∙ ap (map entrance_model) is ∙ map_reverse entrance_model es ∙ ap reverse g.entrances ∙ reverse-reverse all.entrances in
     record {
-      instructions = ap (map instruction_seen) grown ∙ map-append instruction_seen mid (instr.Switch place cs ∷ []) ∙ ap (λ l. map instruction_seen mid ++ Switch place l ∷ []) entrances
-          ∙ ap (λ l. l ++ Switch place all.entrances ∷ []) g.instructions ∙ append_assoc (map instruction_seen old) all.instructions (Switch place all.entrances ∷ []);
-      begins = at ∙ grew_cases_length old mid (map entrance_seen es) all g;
+      instructions = ap (map instruction_model) grown ∙ map-append instruction_model mid (instr.Switch place cs ∷ []) ∙ ap (λ l. map instruction_model mid ++ Switch place l ∷ []) entrances
+          ∙ ap (λ l. l ++ Switch place all.entrances ∷ []) g.instructions ∙ append_assoc (map instruction_model old) all.instructions (Switch place all.entrances ∷ []);
+      begins = at ∙ grew_cases_length old mid (map entrance_model es) all g;
     }
 
 -- all cases are laid
-pub cases_end : (all rest done : List made.Case.Case) (old new : List Instr) (es : List EntranceSeen) (lays : List made.Case.Case → LaidCases) → length rest ≡ 0 → CasesBehind all rest done old new es lays → GrewCases old new es (lays all)
+pub cases_end : (all rest done : List made.Case.Case) (old new : List Instr) (es : List EntranceModel) (lays : List made.Case.Case → LaidCases) → length rest ≡ 0 → CasesBehind all rest done old new es lays → GrewCases old new es (lays all)
 cases_end all [] done old new es lays none b = subst (λ d. GrewCases old new es (lays d)) (sym b.split) b.grew
 cases_end all (x ∷ rest) done old new es lays none b = absurd (cc)
 
 -- a switch in memory
-pub switch_seen : (place : Place) (cs : Vec made.Case.Case Global) → statement_seen (variants.Switch place cs) ≡ stated.Switch place (case_row (map case_seen cs.items))
-switch_seen place cs = ap statement_seen (sym (variants.rolls-Switch place cs)) ∙ folds.fold-roll-Statement StatementSeen BlockSeen CaseSeen IfSeen TestSeen statement_step block_step case_step if_step test_step (layer.Switch place cs)
+pub switch_model : (place : Place) (cs : Vec made.Case.Case Global) → statement_model (variants.Switch place cs) ≡ stated.Switch place (case_row (map case_model cs.items))
+switch_model place cs = ap statement_model (sym (variants.rolls-Switch place cs)) ∙ folds.fold-roll-Statement StatementModel BlockModel CaseModel IfModel TestModel statement_step block_step case_step if_step test_step (layer.Switch place cs)

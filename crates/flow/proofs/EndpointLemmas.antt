@@ -9,17 +9,17 @@ use Rattle.std.proofs.lemmas.Bool.Decides.{nat_tests}
 use Rattle.std.proofs.lemmas.List.{append-nil, at_drop_all, at_drop_more}
 use Rattle.program.specs.Lists.{is_among}
 use Rattle.program.specs.declared.statement.Mention.{Mention}
-use Rattle.flow.specs.Cases.{entrance_seen, first_mentions}
+use Rattle.flow.specs.Cases.{entrance_model, first_mentions}
 use Rattle.flow.specs.declared.graph.Entrance.{Entrance}
 
 abbrev behind : List ℕ → List Entrance → List Mention
-behind seen cases = first_mentions seen (map entrance_seen cases)
+behind seen cases = first_mentions seen (map entrance_model cases)
 
 -- so many cases were looked at: the endpoints that they name are in the set, and these were found
 pub record Named (set : BTreeSet ℕ) (cases : List Entrance) (done : ℕ) (found : List Mention) : Type 0 where
   pub seen : List ℕ
   pub has : (q : ℕ) → contains nat_cmp set q ≡ is_among seen q
-  pub same : first_mentions [] (map entrance_seen cases) ≡ found ++ behind seen (drop done cases)
+  pub same : first_mentions [] (map entrance_model cases) ≡ found ++ behind seen (drop done cases)
 
 -- none was looked at
 pub named_first : (set : BTreeSet ℕ) (cases : List Entrance) → IsEmpty set → Named set cases 0 []
@@ -77,5 +77,5 @@ named_more set more cases done x found added lt at fresh is updates h =
     }
 
 -- all were looked at
-pub named_all : (set : BTreeSet ℕ) (cases : List Entrance) (done : ℕ) (found : List Mention) → length cases ≤ done → Named set cases done found → found ≡ first_mentions [] (map entrance_seen cases)
+pub named_all : (set : BTreeSet ℕ) (cases : List Entrance) (done : ℕ) (found : List Mention) → length cases ≤ done → Named set cases done found → found ≡ first_mentions [] (map entrance_model cases)
 named_all set cases done found le h = sym (h.same ∙ ap (λ l. found ++ l) (at_drop_all (behind h.seen) cases done le) ∙ append-nil found)

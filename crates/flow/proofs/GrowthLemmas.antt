@@ -2,27 +2,27 @@
 use Rattle.std.proofs.Common.{◌≡◌, ℕ, ◌+◌, List, [], ◌∷◌, ◌++◌, length, map, refl, sym, ap, ◌∙◌, append_assoc, length-append, append-nil}
 use Rattle.std.proofs.lemmas.List.{length-map, map-append}
 use Rattle.flow.specs.declared.graph.Instr.{Instr}
-use Rattle.flow.specs.Graphs.{Instruction, instruction_seen}
+use Rattle.flow.specs.Graphs.{Instruction, instruction_model}
 use Rattle.flow.specs.Growths.{Grew}
 use Rattle.flow.specs.Lowering.{Laid, Lays, nothing, one, both}
 
 -- as many instructions without where they lie in memory
-pub seen_length : (xs : List Instr) → length (map instruction_seen xs) ≡ length xs
-seen_length xs = length-map xs instruction_seen
+pub seen_length : (xs : List Instr) → length (map instruction_model xs) ≡ length xs
+seen_length xs = length-map xs instruction_model
 
 -- how many there are
 pub grew_length : (old new : List Instr) (entry : ℕ) (laid : Laid) → Grew old new entry laid → length new ≡ length old + length laid.instructions
 grew_length old new entry laid g =
-    sym (seen_length new) ∙ ap length g.instructions ∙ length-append (map instruction_seen old) laid.instructions ∙ ap (λ n. n + length laid.instructions) (seen_length old)
+    sym (seen_length new) ∙ ap length g.instructions ∙ length-append (map instruction_model old) laid.instructions ∙ ap (λ n. n + length laid.instructions) (seen_length old)
 
 -- where nothing is laid
 pub grew_none : (old : List Instr) (next : ℕ) → Grew old old next (nothing (length old) next)
-grew_none old next = record { instructions = sym (append-nil (map instruction_seen old)); begins = refl }
+grew_none old next = record { instructions = sym (append-nil (map instruction_model old)); begins = refl }
 
 -- one instruction
-pub grew_one : (old new : List Instr) (at next : ℕ) (i : Instr) (f : ℕ → Instruction) → new ≡ old ++ i ∷ [] → at ≡ length old → instruction_seen i ≡ f next → Grew old new at (one f (length old) next)
+pub grew_one : (old new : List Instr) (at next : ℕ) (i : Instr) (f : ℕ → Instruction) → new ≡ old ++ i ∷ [] → at ≡ length old → instruction_model i ≡ f next → Grew old new at (one f (length old) next)
 grew_one old new at next i f is at_end e = record {
-  instructions = ap (map instruction_seen) is ∙ map-append instruction_seen old (i ∷ []) ∙ ap (λ p. map instruction_seen old ++ p ∷ []) e;
+  instructions = ap (map instruction_model) is ∙ map-append instruction_model old (i ∷ []) ∙ ap (λ p. map instruction_model old ++ p ∷ []) e;
   begins = at_end;
 }
 
@@ -34,6 +34,6 @@ grew_both old mid new a b behind entry next first second =
     let same : a (length mid) behind ≡ a (length old + length below.instructions) below.entry = λ j. a (at j) (first.begins j) in
     let above = a (length old + length below.instructions) below.entry in
     record {
-      instructions = second.instructions ∙ ap (λ (l : Laid). map instruction_seen mid ++ l.instructions) same ∙ ap (λ l. l ++ above.instructions) first.instructions ∙ append_assoc (map instruction_seen old) below.instructions above.instructions;
+      instructions = second.instructions ∙ ap (λ (l : Laid). map instruction_model mid ++ l.instructions) same ∙ ap (λ l. l ++ above.instructions) first.instructions ∙ append_assoc (map instruction_model old) below.instructions above.instructions;
       begins = second.begins ∙ ap (λ (l : Laid). l.entry) same;
     }

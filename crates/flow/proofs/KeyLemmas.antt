@@ -12,7 +12,7 @@ use Rattle.std.proofs.lemmas.List.{length-map}
 use Rattle.std.proofs.lemmas.Option.{slice_get_past}
 use Rattle.program.specs.declared.statement.Awaited.{Awaited}
 use Rattle.program.specs.declared.statement.Awaited.TheVariants.{Message, Closed}
-use Rattle.flow.specs.Cases.{CaseKey, EntranceSeen, awaited_number, awaits, case_for, key_cmp, key_of}
+use Rattle.flow.specs.Cases.{CaseKey, EntranceModel, awaited_number, awaits, case_for, key_cmp, key_of}
 
 both_equal : (a b : Ordering) → is_eq (ordering_then a b) ≡ is_eq a && is_eq b
 both_equal Less b = refl
@@ -31,7 +31,7 @@ awaited_same (Some m) Closed = refl
 abbrev pub is_key : ℕ → Option ℕ → CaseKey → Bool
 is_key endpoint message x = is_eq (key_cmp (endpoint, message) x)
 
-key_same : (endpoint : ℕ) (message : Option ℕ) (c : EntranceSeen) → is_key endpoint message (key_of c) ≡ (c.endpoint.variable.0 == endpoint) && awaits c.awaited message
+key_same : (endpoint : ℕ) (message : Option ℕ) (c : EntranceModel) → is_key endpoint message (key_of c) ≡ (c.endpoint.variable.0 == endpoint) && awaits c.awaited message
 key_same endpoint message c =
     both_equal (nat_cmp endpoint c.endpoint.variable.0) (option_cmp nat_cmp message (awaited_number c.awaited))
     ∙ ap (λ b. b && is_eq (option_cmp nat_cmp message (awaited_number c.awaited))) (number_same endpoint c.endpoint.variable.0)
@@ -40,12 +40,12 @@ key_same endpoint message c =
 one_more : (n : ℕ) → 1 + n ≡ suc n
 one_more n = omega arith
 
-case_step : (b : Bool) (c : EntranceSeen) (cases : List EntranceSeen) (other : Option EntranceSeen) (at : ℕ) → other ≡ slice_get cases at → (if b then Some c else other) ≡ slice_get (c ∷ cases) (cond (not b) (1 + at) 0)
+case_step : (b : Bool) (c : EntranceModel) (cases : List EntranceModel) (other : Option EntranceModel) (at : ℕ) → other ≡ slice_get cases at → (if b then Some c else other) ≡ slice_get (c ∷ cases) (cond (not b) (1 + at) 0)
 case_step true c cases other at is = refl
 case_step false c cases other at is = is ∙ sym (ap (slice_get (c ∷ cases)) (one_more at))
 
 -- the case for it stands where its key stands first
-case_there : (cases : List EntranceSeen) (endpoint : ℕ) (message : Option ℕ) → case_for cases endpoint message ≡ slice_get cases (position_or_len (is_key endpoint message) (map key_of cases))
+case_there : (cases : List EntranceModel) (endpoint : ℕ) (message : Option ℕ) → case_for cases endpoint message ≡ slice_get cases (position_or_len (is_key endpoint message) (map key_of cases))
 case_there [] endpoint message = refl
 case_there (c ∷ cases) endpoint message =
     let at = position_or_len (is_key endpoint message) (map key_of cases) in
@@ -54,7 +54,7 @@ case_there (c ∷ cases) endpoint message =
     ∙ ap (λ b. slice_get (c ∷ cases) (cond (not b) (1 + at) 0)) (sym (key_same endpoint message c))
 
 -- and nowhere where its key stands nowhere
-pub case_at : (cases : List EntranceSeen) (endpoint : ℕ) (message : Option ℕ) → case_for cases endpoint message ≡ option_and_then (slice_get cases) (position (is_key endpoint message) (map key_of cases))
+pub case_at : (cases : List EntranceModel) (endpoint : ℕ) (message : Option ℕ) → case_for cases endpoint message ≡ option_and_then (slice_get cases) (position (is_key endpoint message) (map key_of cases))
 case_at cases endpoint message =
     let keys = map key_of cases in
     let at = position_or_len (is_key endpoint message) keys in

@@ -8,7 +8,7 @@ use Rattle.program.specs.declared.statement.Ways.{Ways}
 use Rattle.flow.specs.declared.graph.Branches.{Branches}
 use Rattle.flow.specs.declared.graph.Instr.{Instr}
 use Rattle.flow.specs.declared.graph.Instr.TheVariants as instr
-use Rattle.flow.specs.Graphs.{Branch, instruction_seen}
+use Rattle.flow.specs.Graphs.{Branch, instruction_model}
 use Rattle.flow.specs.Growths.{Grew}
 use Rattle.flow.specs.Lowering.{Lays, branches, turns}
 use Rattle.flow.proofs.GrowthLemmas.{seen_length, grew_length}
@@ -24,14 +24,14 @@ grew_turns old one two three new place w blank test body branch head inside next
     let inner = body next tests.entry (length old + 1 + length tests.instructions) tests.entry in
     let other : body next head (length two) head ≡ inner = λ j. body next (first.begins j) (wide j) (first.begins j) in
     let second : Grew two three inside inner = subst (Grew two three inside) other h in
-    let all : map instruction_seen three ≡ map instruction_seen old ++ Branch place blank ∷ (tests.instructions ++ inner.instructions) =
-    second.instructions ∙ ap (λ l. l ++ inner.instructions) (first.instructions ∙ ap (λ l. map instruction_seen l ++ tests.instructions) is ∙ ap (λ l. l ++ tests.instructions) (map-append instruction_seen old (instr.Branch place blank ∷ [])))
-    ∙ ap (λ l. l ++ inner.instructions) (append_assoc (map instruction_seen old) (Branch place blank ∷ []) tests.instructions)
-    ∙ append_assoc (map instruction_seen old) (Branch place blank ∷ tests.instructions) inner.instructions in
+    let all : map instruction_model three ≡ map instruction_model old ++ Branch place blank ∷ (tests.instructions ++ inner.instructions) =
+    second.instructions ∙ ap (λ l. l ++ inner.instructions) (first.instructions ∙ ap (λ l. map instruction_model l ++ tests.instructions) is ∙ ap (λ l. l ++ tests.instructions) (map-append instruction_model old (instr.Branch place blank ∷ [])))
+    ∙ ap (λ l. l ++ inner.instructions) (append_assoc (map instruction_model old) (Branch place blank ∷ []) tests.instructions)
+    ∙ append_assoc (map instruction_model old) (Branch place blank ∷ tests.instructions) inner.instructions in
     record {
-      instructions = ap (map instruction_seen) set ∙ map-set instruction_seen three branch (instr.Branch place (branches w inside next))
+      instructions = ap (map instruction_model) set ∙ map-set instruction_model three branch (instr.Branch place (branches w inside next))
           ∙ (λ j. slice_set (all j) ((at_end ∙ sym (seen_length old)) j) (Branch place (branches w inside next)))
-          ∙ set-append_seam (map instruction_seen old) (Branch place blank) (tests.instructions ++ inner.instructions) (Branch place (branches w inside next))
-          ∙ (λ j. map instruction_seen old ++ Branch place (branches w (second.begins j) next) ∷ (tests.instructions ++ inner.instructions));
+          ∙ set-append_seam (map instruction_model old) (Branch place blank) (tests.instructions ++ inner.instructions) (Branch place (branches w inside next))
+          ∙ (λ j. map instruction_model old ++ Branch place (branches w (second.begins j) next) ∷ (tests.instructions ++ inner.instructions));
       begins = first.begins;
     }

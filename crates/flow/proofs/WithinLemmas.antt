@@ -3,8 +3,8 @@ use Rattle.std.proofs.Common.{ℕ, Bool, true, false, ◌+◌, ◌<◌, ◌≤�
 use Rattle.std.specs.List.{All}
 use Rattle.std.proofs.lemmas.List.Elements.{All-nil, All-cons, All-append}
 use Rattle.source.specs.declared.place.Place.{Place}
-use Rattle.program.specs.Methods.{MethodSeen}
-use Rattle.program.specs.Statements.{CallSeen, NewSeen, SendSeen}
+use Rattle.program.specs.Methods.{MethodModel}
+use Rattle.program.specs.Statements.{CallModel, NewModel, SendModel}
 use Rattle.program.specs.declared.number.VarId.{VarId}
 use Rattle.program.specs.declared.statement.Action.{Action}
 use Rattle.program.specs.declared.statement.Action.TheVariants as action
@@ -122,23 +122,23 @@ one_of true n place scope = stop_stays n place
 one_of false n place scope = return_stays n place None scope
 
 -- the end of a method
-pub ending_stays : (n : ℕ) (m : MethodSeen) → StaysBelow n (one (λ next. ending m))
+pub ending_stays : (n : ℕ) (m : MethodModel) → StaysBelow n (one (λ next. ending m))
 ending_stays n m = one_of m.gives n m.close m.scope
 
 -- a call and a start
-pub called_stay : (n : ℕ) (c : CallSeen) → StaysBelow n (called c)
+pub called_stay : (n : ℕ) (c : CallModel) → StaysBelow n (called c)
 called_stay n c = both_stay n (reads c.reads) (both (one (Call c.place c.method c.arguments c.target)) (reads c.behind)) (reads_stay n c.reads)
     (both_stay n (one (Call c.place c.method c.arguments c.target)) (reads c.behind) (one_stays n (Call c.place c.method c.arguments c.target) (one_point n)) (reads_stay n c.behind))
 
-pub started_stay : (n : ℕ) (c : CallSeen) → StaysBelow n (started c)
+pub started_stay : (n : ℕ) (c : CallModel) → StaysBelow n (started c)
 started_stay n c = both_stay n (reads c.reads) (one (Start c.place c.method c.arguments)) (reads_stay n c.reads) (one_stays n (Start c.place c.method c.arguments) (one_point n))
 
 -- a send
-pub sent_stays : (n : ℕ) (s : SendSeen) → StaysBelow n (sent s)
+pub sent_stays : (n : ℕ) (s : SendModel) → StaysBelow n (sent s)
 sent_stays n s = both_stay n (reads s.reads) (one (Send s.place s.endpoint s.message s.payloads)) (reads_stay n s.reads) (one_stays n (Send s.place s.endpoint s.message s.payloads) (one_point n))
 
 -- a new block
-pub new_stays : (n : ℕ) (x : NewSeen) → StaysBelow n (made_new x)
+pub new_stays : (n : ℕ) (x : NewModel) → StaysBelow n (made_new x)
 new_stays n x = both_stay n (reads x.reads) (one (New x.target x.arguments)) (reads_stay n x.reads) (one_stays n (New x.target x.arguments) (one_point n))
 
 -- what a simple statement does

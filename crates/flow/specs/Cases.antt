@@ -13,17 +13,17 @@ use Rattle.program.specs.declared.statement.Mention.{Mention}
 use Rattle.flow.specs.declared.graph.Entrance.{Entrance}
 
 -- a case of a switch: its endpoint, what it waits for, what it binds, and the point at which the method goes on then
-pub record EntranceSeen : Type 0 where
+pub record EntranceModel : Type 0 where
   pub endpoint : Mention
   pub awaited : Awaited
-  pub bound : List VarId
+  pub targets : List VarId
   pub next : ℕ
 
-abbrev pub entrance_seen : Entrance → EntranceSeen
-entrance_seen e = record { endpoint = e.endpoint; awaited = e.awaited; bound = e.bound.items; next = e.next }
+abbrev pub entrance_model : Entrance → EntranceModel
+entrance_model e = record { endpoint = e.endpoint; awaited = e.awaited; targets = e.targets.items; next = e.next }
 
 -- the endpoints of cases, each where it is named first, but for these
-abbrev pub first_mentions : List ℕ → List EntranceSeen → List Mention
+abbrev pub first_mentions : List ℕ → List EntranceModel → List Mention
 first_mentions seen [] = []
 first_mentions seen (c ∷ cases) =
     if is_among seen c.endpoint.variable.0 then first_mentions seen cases
@@ -36,7 +36,7 @@ awaits Closed None = true
 awaits _ _ = false
 
 -- the first case for it at this endpoint
-abbrev pub case_for : List EntranceSeen → ℕ → Option ℕ → Option EntranceSeen
+abbrev pub case_for : List EntranceModel → ℕ → Option ℕ → Option EntranceModel
 case_for [] endpoint message = None
 case_for (c ∷ cases) endpoint message = if (c.endpoint.variable.0 == endpoint) && awaits c.awaited message then Some c
     else case_for cases endpoint message
@@ -49,7 +49,7 @@ abbrev pub awaited_number : Awaited → Option ℕ
 awaited_number (Message id) = Some id.0
 awaited_number Closed = None
 
-abbrev pub key_of : EntranceSeen → CaseKey
+abbrev pub key_of : EntranceModel → CaseKey
 key_of c = (c.endpoint.variable.0, awaited_number c.awaited)
 
 -- how these are compared
@@ -57,5 +57,5 @@ abbrev pub key_cmp : CaseKey → CaseKey → Ordering
 key_cmp x y = ordering_then (nat_cmp x.0 y.0) (option_cmp nat_cmp x.1 y.1)
 
 -- the map has for each key the position of the first case that has it
-abbrev pub AreCasePositions : List EntranceSeen → BTreeMap CaseKey ℕ → Type 0
+abbrev pub AreCasePositions : List EntranceModel → BTreeMap CaseKey ℕ → Type 0
 AreCasePositions cases positions = (k : CaseKey) → get key_cmp positions k ≡ first_position key_cmp (map key_of cases) k

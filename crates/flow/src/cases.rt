@@ -2,7 +2,7 @@
 
 ghost use Rattle.std.specs.Prelude.{◌≡◌, [], IfOk, map, option_map};
 ghost use Rattle.std.proofs.Props.{props};
-ghost use Rattle.flow.specs.Cases.{AreCasePositions, entrance_seen, first_mentions, key_of};
+ghost use Rattle.flow.specs.Cases.{AreCasePositions, entrance_model, first_mentions, key_of};
 
 use crate::graph::Entrance;
 use lemmas::first_positions;
@@ -17,19 +17,19 @@ pub struct Cases {
     list: Vec<Entrance>,
     endpoints: Vec<Mention>,
     firsts: BTreeMap<(usize, Option<u32>), usize>,
-    ghost named: { endpoints.items ≡ first_mentions [] (map entrance_seen list.items) },
-    ghost keyed: { AreCasePositions (map entrance_seen list.items) firsts } by { Prim.hlevel props },
+    ghost named: { endpoints.items ≡ first_mentions [] (map entrance_model list.items) },
+    ghost keyed: { AreCasePositions (map entrance_model list.items) firsts } by { Prim.hlevel props },
 }
 
 impl Cases {
     ghost use Rattle.flow.specs.Cases.{case_for};
-    ghost use Rattle.flow.specs.Graphs.{cases_seen};
+    ghost use Rattle.flow.specs.Graphs.{cases_model};
 
     /// These cases.
     ///
     /// `Memory` is answered where a growth was refused.
     pub fn new(alloc: Global, list: Vec<Entrance>) -> Result<Cases, Memory>
-        ensures { IfOk result (λ cases. cases_seen cases ≡ map entrance_seen list.items) }
+        ensures { IfOk result (λ cases. cases_model cases ≡ map entrance_model list.items) }
     {
         let endpoints = endpoints_of(alloc, &list)?;
         let firsts = first_positions(alloc, &keys_of(alloc, &list)?)?;
@@ -42,22 +42,22 @@ impl Cases {
 
     /// Its cases, in order of the text.
     pub fn list(&self) -> &[Entrance]
-        ensures { map entrance_seen result.now ≡ cases_seen self.now }
+        ensures { map entrance_model result.now ≡ cases_model self.now }
     {
         &self.list
     }
 
     /// Its endpoints, each where a case names it first.
     pub fn endpoints(&self) -> &[Mention]
-        ensures { result.now ≡ first_mentions [] (cases_seen self.now) }
+        ensures { result.now ≡ first_mentions [] (cases_model self.now) }
     {
         &self.endpoints
     }
 
     /// The case for a message at an endpoint, or, where there is no message, for the close.
     pub fn find(&self, endpoint: VarId, message: Option<MessageId>) -> Option<&Entrance>
-        ensures { option_map (λ e. entrance_seen e.now) result
-            ≡ case_for (cases_seen self.now) endpoint.0 (option_map (λ m. m.0) message) }
+        ensures { option_map (λ e. entrance_model e.now) result
+            ≡ case_for (cases_model self.now) endpoint.0 (option_map (λ m. m.0) message) }
     {
         let key = (endpoint.0, number_of(message));
         let position = self.firsts.get(&key).copied()?;
@@ -67,7 +67,7 @@ impl Cases {
 
 /// The endpoints of these cases, each where it is named first.
 fn endpoints_of(alloc: Global, cases: &[Entrance]) -> Result<Vec<Mention>, Memory>
-    ensures { IfOk result (λ endpoints. endpoints.items ≡ first_mentions [] (map entrance_seen cases.now)) }
+    ensures { IfOk result (λ endpoints. endpoints.items ≡ first_mentions [] (map entrance_model cases.now)) }
 {
     let mut seen = BTreeSet::new(alloc);
     let mut endpoints = Vec::new(alloc);
@@ -91,7 +91,7 @@ fn number_of(message: Option<MessageId>) -> Option<u32>
 
 /// What tells cases apart.
 fn key_of(case: &Entrance) -> (usize, Option<u32>)
-    ensures { result ≡ key_of (entrance_seen case.now) }
+    ensures { result ≡ key_of (entrance_model case.now) }
 {
     match case.awaited {
         Awaited::Message(id) => (case.endpoint.variable.0, Some(id.0)),
@@ -101,7 +101,7 @@ fn key_of(case: &Entrance) -> (usize, Option<u32>)
 
 /// What tells each of these cases apart.
 fn keys_of(alloc: Global, cases: &[Entrance]) -> Result<Vec<(usize, Option<u32>)>, Memory>
-    ensures { IfOk result (λ keys. keys.items ≡ map (λ c. key_of (entrance_seen c)) cases.now) }
+    ensures { IfOk result (λ keys. keys.items ≡ map (λ c. key_of (entrance_model c)) cases.now) }
 {
     let mut keys = Vec::new(alloc);
     for case in cases {

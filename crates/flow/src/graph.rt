@@ -19,7 +19,7 @@ pub enum Branches {
 pub struct Entrance {
     pub endpoint: Mention,
     pub awaited: Awaited,
-    pub bound: Vec<VarId>,
+    pub targets: Vec<VarId>,
     pub next: usize,
 }
 

@@ -1,8 +1,8 @@
 //! Instructions and simple statements, laid on top of those that are laid already.
 
 ghost use Rattle.std.specs.Prelude.{◌≡◌, IfOk, [], ◌∷◌, ◌++◌, length};
-ghost use Rattle.program.specs.Statements.{call_seen, new_seen, send_seen, simple_seen};
-ghost use Rattle.flow.specs.Cases.{entrance_seen};
+ghost use Rattle.program.specs.Statements.{call_model, new_model, send_model, simple_model};
+ghost use Rattle.flow.specs.Cases.{entrance_model};
 ghost use Rattle.flow.specs.Growths.{Grew};
 ghost use Rattle.flow.specs.Lowering as laid;
 
@@ -133,7 +133,7 @@ pub(crate) fn lay_simple(
     next: usize,
 ) -> Result<usize, Memory>
     ensures { IfOk result (λ entry. Grew instructions.old.items instructions.new.items entry
-        (laid.statement (simple_seen simple.now) exits.end exits.again (length instructions.old.items) next)) }
+        (laid.statement (simple_model simple.now) exits.end exits.again (length instructions.old.items) next)) }
 {
     let behind = lay_action(instructions, simple.action, exits, next)?;
     lay_reads(instructions, &simple.reads, behind)
@@ -147,7 +147,7 @@ pub(crate) fn lay_new(
     next: usize,
 ) -> Result<usize, Memory>
     ensures { IfOk result (λ entry. Grew instructions.old.items instructions.new.items entry
-        (laid.made_new (new_seen new.now) (length instructions.old.items) next)) }
+        (laid.made_new (new_model new.now) (length instructions.old.items) next)) }
 {
     let instruction = Instr::New {
         target: new.target,
@@ -166,7 +166,7 @@ pub(crate) fn lay_call(
     next: usize,
 ) -> Result<usize, Memory>
     ensures { IfOk result (λ entry. Grew instructions.old.items instructions.new.items entry
-        (laid.called (call_seen call.now) (length instructions.old.items) next)) }
+        (laid.called (call_model call.now) (length instructions.old.items) next)) }
 {
     let next = lay_reads(instructions, &call.behind, next)?;
     let instruction = Instr::Call(Calling {
@@ -188,7 +188,7 @@ pub(crate) fn lay_start(
     next: usize,
 ) -> Result<usize, Memory>
     ensures { IfOk result (λ entry. Grew instructions.old.items instructions.new.items entry
-        (laid.started (call_seen call.now) (length instructions.old.items) next)) }
+        (laid.started (call_model call.now) (length instructions.old.items) next)) }
 {
     let instruction = Instr::Start(Starting {
         place: call.place,
@@ -208,7 +208,7 @@ pub(crate) fn lay_send(
     next: usize,
 ) -> Result<usize, Memory>
     ensures { IfOk result (λ entry. Grew instructions.old.items instructions.new.items entry
-        (laid.sent (send_seen send.now) (length instructions.old.items) next)) }
+        (laid.sent (send_model send.now) (length instructions.old.items) next)) }
 {
     let instruction = Instr::Send(Sending {
         place: send.place,
@@ -223,14 +223,14 @@ pub(crate) fn lay_send(
 
 /// Where a case begins.
 pub(crate) fn entrance_of(alloc: Global, case: &Case, next: usize) -> Result<Entrance, Memory>
-    ensures { IfOk result (λ e. entrance_seen e
-        ≡ record { endpoint = case.now.endpoint; awaited = case.now.awaited; bound = case.now.bound.items; next = next }) }
+    ensures { IfOk result (λ e. entrance_model e
+        ≡ record { endpoint = case.now.endpoint; awaited = case.now.awaited; targets = case.now.targets.items; next = next }) }
 {
-    let bound = Vec::from_slice(alloc, &case.bound)?;
+    let targets = Vec::from_slice(alloc, &case.targets)?;
     Ok(Entrance {
         endpoint: case.endpoint,
         awaited: case.awaited,
-        bound,
+        targets,
         next,
     })
 }

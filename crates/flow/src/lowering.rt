@@ -1,11 +1,12 @@
 //! From statements to instructions, laid from the end of a method on.
 
 ghost use Rattle.std.specs.Prelude.{◌≡◌, ℕ, List, IfOk, [], length, map, option_map};
-ghost use Rattle.program.specs.Methods.{method_seen};
+ghost use Rattle.program.specs.Methods.{method_model};
 ghost use Rattle.program.specs.Statements as stated;
-ghost use Rattle.program.specs.Statements.{statement_seen, statement_row, block_seen, test_seen, if_seen, other_row, case_seen, case_row};
+ghost use Rattle.program.specs.Statements.{statement_model, statement_row, block_model, test_model};
+ghost use Rattle.program.specs.Statements.{if_model, other_row, case_model, case_row};
 ghost use Rattle.flow.specs.declared.graph.Instr.{Instr};
-ghost use Rattle.flow.specs.Graphs.{graph_seen, instruction_seen};
+ghost use Rattle.flow.specs.Graphs.{graph_model, instruction_model};
 ghost use Rattle.flow.specs.Growths.{Grew};
 ghost use Rattle.flow.specs.Lowering as laid;
 ghost use Rattle.flow.specs.Lowering.{Lays, graph_of};
@@ -35,8 +36,8 @@ use std::alloc::Global;
 ///
 /// `Memory` is answered where a growth was refused.
 pub fn lower(alloc: Global, method: &Method) -> Result<Graph, Memory>
-    ensures graph { IfOk result (λ g. graph_seen g ≡ graph_of (method_seen method.now)) }
-    ensures closed { IfOk result (λ g. IsClosed (graph_seen g)) }
+    ensures graph { IfOk result (λ g. graph_model g ≡ graph_of (method_model method.now)) }
+    ensures closed { IfOk result (λ g. IsClosed (graph_model g)) }
 {
     let mut instructions = Vec::new(alloc);
     let last = lay(&mut instructions, ending(method))?;
@@ -50,7 +51,7 @@ pub fn lower(alloc: Global, method: &Method) -> Result<Graph, Memory>
 
 /// What stands at the end of a method.
 fn ending(method: &Method) -> Instr
-    ensures { instruction_seen result ≡ laid.ending (method_seen method.now) }
+    ensures { instruction_model result ≡ laid.ending (method_model method.now) }
 {
     let place = method.close;
     if method.gives {
@@ -73,7 +74,7 @@ fn lay_statements(
     next: usize,
 ) -> Result<usize, Memory>
     ensures { IfOk result (λ entry. Grew instructions.old.items instructions.new.items entry
-        (laid.statements (statement_row (map statement_seen statements.now)) exits.end exits.again (length instructions.old.items) next)) }
+        (laid.statements (statement_row (map statement_model statements.now)) exits.end exits.again (length instructions.old.items) next)) }
 {
     let mut entry = next;
     for statement in statements.iter().rev() {
@@ -92,7 +93,7 @@ fn lay_statement(
     next: usize,
 ) -> Result<usize, Memory>
     ensures { IfOk result (λ entry. Grew instructions.old.items instructions.new.items entry
-        (laid.statement (statement_seen statement.now) exits.end exits.again (length instructions.old.items) next)) }
+        (laid.statement (statement_model statement.now) exits.end exits.again (length instructions.old.items) next)) }
 {
     match statement {
         Statement::Simple(simple) => lay_simple(instructions, simple, exits, next),
@@ -119,7 +120,7 @@ fn lay_block(
     next: usize,
 ) -> Result<usize, Memory>
     ensures { IfOk result (λ entry. Grew instructions.old.items instructions.new.items entry
-        (laid.block (block_seen block.now) exits.end exits.again (length instructions.old.items) next)) }
+        (laid.block (block_model block.now) exits.end exits.again (length instructions.old.items) next)) }
 {
     let behind = lay_forget(instructions, block.forget, next)?;
     lay_statements(alloc, instructions, &block.statements, exits, behind)
@@ -135,7 +136,7 @@ fn lay_otherwise(
     next: usize,
 ) -> Result<usize, Memory>
     ensures { IfOk result (λ entry. Grew instructions.old.items instructions.new.items entry
-        (laid.others (other_row [] (option_map block_seen otherwise.now)) exits.end exits.again (length instructions.old.items) next)) }
+        (laid.others (other_row [] (option_map block_model otherwise.now)) exits.end exits.again (length instructions.old.items) next)) }
 {
     match otherwise {
         Some(block) => lay_block(alloc, instructions, block, exits, next),
@@ -153,7 +154,7 @@ fn lay_if(
     next: usize,
 ) -> Result<usize, Memory>
     ensures { IfOk result (λ entry. Grew instructions.old.items instructions.new.items entry
-        (laid.condition (if_seen branches.now).first (laid.others (if_seen branches.now).others exits.end exits.again)
+        (laid.condition (if_model branches.now).first (laid.others (if_model branches.now).others exits.end exits.again)
         exits.end exits.again (length instructions.old.items) next)) }
 {
     let mut other = lay_otherwise(alloc, instructions, &branches.otherwise, exits, next)?;
@@ -177,7 +178,7 @@ fn lay_condition(
     ensures { IfOk result (λ entry. (below : List Instr) (otherwise : Lays)
         → Grew below instructions.old.items other (otherwise (length below) next)
         → Grew below instructions.new.items entry
-        (laid.condition (test_seen test.now) otherwise exits.end exits.again (length below) next)) }
+        (laid.condition (test_model test.now) otherwise exits.end exits.again (length below) next)) }
 {
     let body = lay_block(alloc, instructions, &test.body, exits, next)?;
     let branch = lay_branches(instructions, test.place, test.ways, body, other)?;
@@ -193,7 +194,7 @@ fn lay_while(
     next: usize,
 ) -> Result<usize, Memory>
     ensures { IfOk result (λ entry. (exit again : ℕ) → Grew instructions.old.items instructions.new.items entry
-        (laid.statement (stated.While (test_seen test.now)) exit again (length instructions.old.items) next)) }
+        (laid.statement (stated.While (test_model test.now)) exit again (length instructions.old.items) next)) }
 {
     let branch = lay_branches(instructions, test.place, test.ways, next, next)?;
     let head = lay_reads(instructions, &test.reads, branch)?;
@@ -220,7 +221,7 @@ fn lay_switch(
     next: usize,
 ) -> Result<usize, Memory>
     ensures { IfOk result (λ entry. (exit : ℕ) → Grew instructions.old.items instructions.new.items entry
-        (laid.statement (stated.Switch place (case_row (map case_seen cases.now))) exit again (length instructions.old.items) next)) }
+        (laid.statement (stated.Switch place (case_row (map case_model cases.now))) exit again (length instructions.old.items) next)) }
 {
     let exits = Exits { end: next, again };
     let mut entrances = Vec::new(alloc);

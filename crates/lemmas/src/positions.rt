@@ -23,15 +23,15 @@ pub fn first_positions<K: Ord + Copy>(
     Ok(positions)
 }
 
-/// Enters a key with this place, unless it has one.
+/// Enters a key with this index, unless it has one.
 fn enter<K: Ord + Copy>(
     positions: &mut BTreeMap<K, usize>,
     key: K,
-    place: usize,
+    index: usize,
 ) -> Result<(), AllocError>
     ensures { OnOk result ((k : K) → get K.cmp positions.new k
-        ≡ cond (eq_by_cmp K.cmp key k) (Some (unwrap_or (get K.cmp positions.old key) place)) (get K.cmp positions.old k)) }
+        ≡ cond (eq_by_cmp K.cmp key k) (Some (unwrap_or (get K.cmp positions.old key) index)) (get K.cmp positions.old k)) }
 {
-    positions.entry(key)?.or_insert(place);
+    positions.entry(key)?.or_insert(index);
     Ok(())
 }

@@ -4,8 +4,8 @@ use Rattle.std.proofs.Math.Logic.{∥∥₁_elim}
 use Rattle.std.proofs.Math.Nat.{ℕ_set}
 use Rattle.std.proofs.lemmas.Option.{slice_get_cases}
 use Rattle.std.specs.Option.{option_map}
-use Rattle.program.specs.Parts.{ContractSeen, Parts}
-use Rattle.program.specs.Programs.{ProgramSeen}
+use Rattle.program.specs.Parts.{ContractModel, Parts}
+use Rattle.program.specs.Programs.{ProgramModel}
 use Rattle.program.specs.declared.contract.Edge.{Edge}
 use Rattle.program.specs.declared.contract.Sign.{Sign}
 use Rattle.program.specs.declared.kind.Side.{Side}
@@ -28,19 +28,19 @@ one_bound edges first sign m n one y = ∥∥₁_elim one (ℕ_set m n) (λ x.
     omega (arith, up, down))
 
 -- it is the one of the program
-pub bound_is : (p : ProgramSeen) (bound : Bounds) (n : ℕ) (side : Side) (parts : Parts) (k : ℕ) → AreBounds p bound
-    → option_map (λ (c : ContractSeen). c.parts) (slice_get p.contracts n) ≡ Some parts → ∥ IsBound parts.edges parts.first (sign_to side) k ∥₁ → k ≡ bound n side
+pub bound_is : (p : ProgramModel) (bound : Bounds) (n : ℕ) (side : Side) (parts : Parts) (k : ℕ) → AreBounds p bound
+    → option_map (λ (c : ContractModel). c.parts) (slice_get p.contracts n) ≡ Some parts → ∥ IsBound parts.edges parts.first (sign_to side) k ∥₁ → k ≡ bound n side
 bound_is p bound n side parts k are there is = at (slice_get p.contracts n) refl there
   where
-    at : (o : Option ContractSeen) → slice_get p.contracts n ≡ o → option_map (λ (c : ContractSeen). c.parts) o ≡ Some parts → k ≡ bound n side
+    at : (o : Option ContractModel) → slice_get p.contracts n ≡ o → option_map (λ (c : ContractModel). c.parts) o ≡ Some parts → k ≡ bound n side
     at None here none = absurd (cc)
     at (Some c) here some =
         let same : parts ≡ c.parts = cc in
         one_bound c.parts.edges c.parts.first (sign_to side) k (bound n side) (subst (λ (x : Parts). ∥ IsBound x.edges x.first (sign_to side) k ∥₁) same is) (are.are n c side here)
 
-outside : (contracts : List ContractSeen) (n : ℕ) → slice_get contracts n ≡ None → length contracts ≤ n
+outside : (contracts : List ContractModel) (n : ℕ) → slice_get contracts n ≡ None → length contracts ≤ n
 outside contracts n none = ⊎_elim (λ h. absurd (let there = h.2 in cc)) (λ h. h.0) (slice_get_cases contracts n).1
 
 -- where there is no contract, there is no room
-pub bound_past : (p : ProgramSeen) (bound : Bounds) (n : ℕ) (side : Side) → AreBounds p bound → slice_get p.contracts n ≡ None → 0 ≡ bound n side
+pub bound_past : (p : ProgramModel) (bound : Bounds) (n : ℕ) (side : Side) → AreBounds p bound → slice_get p.contracts n ≡ None → 0 ≡ bound n side
 bound_past p bound n side are none = sym (are.past n side (outside p.contracts n none))

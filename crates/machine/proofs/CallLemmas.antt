@@ -3,7 +3,7 @@ use Rattle.std.proofs.Common.{◌≡◌, ℕ, List, [], ◌∷◌, Some, None, O
 use Rattle.std.specs.Prelude.{Option, Result, IsErrAnd, IfErr, OnOk}
 use Rattle.std.proofs.lemmas.List.{append-nil}
 use Rattle.source.specs.declared.place.Place.{Place}
-use Rattle.program.specs.Programs.{ProgramSeen}
+use Rattle.program.specs.Programs.{ProgramModel}
 use Rattle.program.specs.declared.call.Argument.{Argument}
 use Rattle.program.specs.declared.number.MethodId.{MethodId}
 use Rattle.program.specs.declared.statement.Mention.{Mention}
@@ -12,7 +12,7 @@ use Rattle.machine.specs.Answers.{IsFirstFault, IsRefusal, Pass, Tells, entered_
 use Rattle.machine.specs.Blocks.{argument_tests_in}
 use Rattle.machine.specs.Frames.{entered}
 use Rattle.machine.specs.Outcomes.{Bounds, Outcome, Faulty, Moved, Test, tested}
-use Rattle.machine.specs.Views.{frame_seen, stack_of}
+use Rattle.machine.specs.Views.{frame_model, stack_of}
 use Rattle.machine.specs.World.{Block, Frame, World, let_go}
 use Rattle.machine.proofs.FrameLemmas.{given_for}
 use Rattle.machine.specs.declared.worlds as made
@@ -48,30 +48,30 @@ told_alone X r x tests outcome o after e h is = subst (λ t. Tells t o after) (s
     at refusal.Memory h = absurd h
 
 -- what a call comes to behind its tests
-abbrev pub called_to : ProgramSeen → World → ℕ → made.Frame.Frame → List made.Frame.Frame → MethodId → List Argument → Outcome
+abbrev pub called_to : ProgramModel → World → ℕ → made.Frame.Frame → List made.Frame.Frame → MethodId → List Argument → Outcome
 called_to p w self f waiting method arguments =
-    Moved (with_stack w self (entered p method.0 (given_for (frame_seen f).variables arguments) ∷ with_variables (frame_seen f) (let_go (frame_seen f).variables arguments) ∷ map frame_seen (reverse waiting)) w.blocks)
+    Moved (with_stack w self (entered p method.0 (given_for (frame_model f).variables arguments) ∷ with_variables (frame_model f) (let_go (frame_model f).variables arguments) ∷ map frame_model (reverse waiting)) w.blocks)
 
 -- a call: its tests, and then that
-pub call_is : (p : ProgramSeen) (bound : Bounds) (w : World) (self : ℕ) (place : Place) (method : MethodId) (arguments given : List Argument) (target : Option Mention) (next : ℕ) (top : Option made.Frame.Frame) (waiting : List made.Frame.Frame) (f : made.Frame.Frame) (bs : List Block)
+pub call_is : (p : ProgramModel) (bound : Bounds) (w : World) (self : ℕ) (place : Place) (method : MethodId) (arguments given : List Argument) (target : Option Mention) (next : ℕ) (top : Option made.Frame.Frame) (waiting : List made.Frame.Frame) (f : made.Frame.Frame) (bs : List Block)
     → top ≡ Some f → w.blocks ≡ bs → given ≡ arguments
-    → on_stack p bound w self (Call place method arguments target next) 0 (stack_of top waiting) ≡ tested (argument_tests_in bs self (frame_seen f).variables [] given) (called_to p w self f waiting method arguments)
+    → on_stack p bound w self (Call place method arguments target next) 0 (stack_of top waiting) ≡ tested (argument_tests_in bs self (frame_model f).variables [] given) (called_to p w self f waiting method arguments)
 call_is p bound w self place method arguments given target next top waiting f bs e is args =
     ap (λ t. on_stack p bound w self (Call place method arguments target next) 0 (stack_of t waiting)) e
-    ∙ (ap (λ b. tested (argument_tests_in b self (frame_seen f).variables [] arguments) (called_to p w self f waiting method arguments)) is
-    ∙ ap (λ l. tested (argument_tests_in bs self (frame_seen f).variables [] l) (called_to p w self f waiting method arguments)) (sym args))
+    ∙ (ap (λ b. tested (argument_tests_in b self (frame_model f).variables [] arguments) (called_to p w self f waiting method arguments)) is
+    ∙ ap (λ l. tested (argument_tests_in bs self (frame_model f).variables [] l) (called_to p w self f waiting method arguments)) (sym args))
 
 -- the frame that begins stands on top
-pub entered_is : (p : ProgramSeen) (w : World) (self : ℕ) (method : MethodId) (arguments b d : List Argument) (top : Option made.Frame.Frame) (waiting : List made.Frame.Frame) (f begun : made.Frame.Frame) (stack : List Frame)
-    → top ≡ Some f → b ≡ arguments → d ≡ arguments → frame_seen begun ≡ entered p method.0 (given_for (frame_seen f).variables b) → stack ≡ entered_on (frame_seen begun) d (stack_of top waiting)
+pub entered_is : (p : ProgramModel) (w : World) (self : ℕ) (method : MethodId) (arguments b d : List Argument) (top : Option made.Frame.Frame) (waiting : List made.Frame.Frame) (f begun : made.Frame.Frame) (stack : List Frame)
+    → top ≡ Some f → b ≡ arguments → d ≡ arguments → frame_model begun ≡ entered p method.0 (given_for (frame_model f).variables b) → stack ≡ entered_on (frame_model begun) d (stack_of top waiting)
     → called_to p w self f waiting method arguments ≡ Moved (with_stack w self stack w.blocks)
 entered_is p w self method arguments b d top waiting f begun stack e same others begins is =
-    let rest = map frame_seen (reverse waiting) in
-    let started : frame_seen begun ≡ entered p method.0 (given_for (frame_seen f).variables arguments) = begins ∙ ap (λ l. entered p method.0 (given_for (frame_seen f).variables l)) same in
-    let stands : stack ≡ entered p method.0 (given_for (frame_seen f).variables arguments) ∷ with_variables (frame_seen f) (let_go (frame_seen f).variables arguments) ∷ rest =
-    is ∙ (ap (λ t. entered_on (frame_seen begun) d (stack_of t waiting)) e
-    ∙ (ap (λ g. g ∷ with_variables (frame_seen f) (let_go (frame_seen f).variables d) ∷ rest) started
-    ∙ ap (λ l. entered p method.0 (given_for (frame_seen f).variables arguments) ∷ with_variables (frame_seen f) (let_go (frame_seen f).variables l) ∷ rest) others)) in
+    let rest = map frame_model (reverse waiting) in
+    let started : frame_model begun ≡ entered p method.0 (given_for (frame_model f).variables arguments) = begins ∙ ap (λ l. entered p method.0 (given_for (frame_model f).variables l)) same in
+    let stands : stack ≡ entered p method.0 (given_for (frame_model f).variables arguments) ∷ with_variables (frame_model f) (let_go (frame_model f).variables arguments) ∷ rest =
+    is ∙ (ap (λ t. entered_on (frame_model begun) d (stack_of t waiting)) e
+    ∙ (ap (λ g. g ∷ with_variables (frame_model f) (let_go (frame_model f).variables d) ∷ rest) started
+    ∙ ap (λ l. entered p method.0 (given_for (frame_model f).variables arguments) ∷ with_variables (frame_model f) (let_go (frame_model f).variables l) ∷ rest) others)) in
     ap (λ s. Moved (with_stack w self s w.blocks)) (sym stands)
 
 -- want of memory, where the world would change

@@ -7,7 +7,7 @@ use Rattle.program.specs.Lists.{is_among}
 use Rattle.machine.specs.Blocks.{handed, received_block, sent_block}
 use Rattle.machine.specs.Answers.{in_state, left_in, queued}
 use Rattle.machine.specs.declared.worlds.Owner.TheVariants.{Process, Queue, Channel}
-use Rattle.machine.specs.BlockViews.{block_seen, blocks_seen, held_seen}
+use Rattle.machine.specs.BlockViews.{block_model, blocks_model, held_model}
 use Rattle.machine.specs.World.{Block, MessageHeld, block_at, changed}
 use Rattle.machine.specs.declared.worlds as made
 use Rattle.machine.specs.declared.worlds.Owner.{Owner}
@@ -109,29 +109,29 @@ one_further f i j b =
     (eqb_tells j i))
     (cases_lt j i)
 
-pub seen_set : (bs : List made.Block.Block) (i : ℕ) (b : made.Block.Block) → blocks_seen (set bs i b) ≡ set (blocks_seen bs) i (block_seen b)
+pub seen_set : (bs : List made.Block.Block) (i : ℕ) (b : made.Block.Block) → blocks_model (set bs i b) ≡ set (blocks_model bs) i (block_model b)
 seen_set [] i b = refl
 seen_set (x ∷ bs) zero b = refl
-seen_set (x ∷ bs) (suc i) b = ap (λ xs. block_seen x ∷ xs) (seen_set bs i b)
+seen_set (x ∷ bs) (suc i) b = ap (λ xs. block_model x ∷ xs) (seen_set bs i b)
 
-pub seen_length : (bs : List made.Block.Block) → length (blocks_seen bs) ≡ length bs
+pub seen_length : (bs : List made.Block.Block) → length (blocks_model bs) ≡ length bs
 seen_length [] = refl
 seen_length (x ∷ bs) = ap suc (seen_length bs)
 
-pub seen_at : (bs : List made.Block.Block) (i : ℕ) (d : made.Block.Block) → i < length bs → block_at (blocks_seen bs) i ≡ block_seen (get_or bs i d)
+pub seen_at : (bs : List made.Block.Block) (i : ℕ) (d : made.Block.Block) → i < length bs → block_at (blocks_model bs) i ≡ block_model (get_or bs i d)
 seen_at [] i d short = absurd (omega arith)
 seen_at (x ∷ bs) zero d short = refl
 seen_at (x ∷ bs) (suc i) d short = let less : i < length bs = omega arith in seen_at bs i d less
 
 -- one block is written
-pub written : (f : ℕ → Block → Block) (now : List made.Block.Block) (i : ℕ) (d b : made.Block.Block) → i < length now → block_seen b ≡ f i (block_seen (get_or now i d)) → blocks_seen (set now i b) ≡ changed (only_changed f i) (blocks_seen now)
+pub written : (f : ℕ → Block → Block) (now : List made.Block.Block) (i : ℕ) (d b : made.Block.Block) → i < length now → block_model b ≡ f i (block_model (get_or now i d)) → blocks_model (set now i b) ≡ changed (only_changed f i) (blocks_model now)
 written f now i d b short is =
-    let long : length (blocks_seen now) ≡ length now = seen_length now in
-    let at : block_at (blocks_seen now) i ≡ block_seen (get_or now i d) = seen_at now i d short in
-    seen_set now i b ∙ (ap (set (blocks_seen now) i) (is ∙ ap (f i) (sym at)) ∙ only_set f (blocks_seen now) i (omega arith))
+    let long : length (blocks_model now) ≡ length now = seen_length now in
+    let at : block_at (blocks_model now) i ≡ block_model (get_or now i d) = seen_at now i d short in
+    seen_set now i b ∙ (ap (set (blocks_model now) i) (is ∙ ap (f i) (sym at)) ∙ only_set f (blocks_model now) i (omega arith))
 
 -- a scan is one further
-pub scanned : (f : ℕ → Block → Block) (old : List Block) (now : List made.Block.Block) (i : ℕ) (d b : made.Block.Block) → i < length now → blocks_seen now ≡ changed (below_changed f i) old → block_seen b ≡ f i (block_seen (get_or now i d)) → blocks_seen (set now i b) ≡ changed (below_changed f (i + 1)) old
+pub scanned : (f : ℕ → Block → Block) (old : List Block) (now : List made.Block.Block) (i : ℕ) (d b : made.Block.Block) → i < length now → blocks_model now ≡ changed (below_changed f i) old → block_model b ≡ f i (block_model (get_or now i d)) → blocks_model (set now i b) ≡ changed (below_changed f (i + 1)) old
 scanned f old now i d b short before is =
     written f now i d b short is
     ∙ (ap (changed (only_changed f i)) before ∙ (changed_twice (below_changed f i) (only_changed f i) old ∙ changed_same (λ j x. only_changed f i j (below_changed f i j x)) (below_changed f (i + 1)) (one_further f i) old))
@@ -157,15 +157,15 @@ or_false false = refl
 pub handed_other : (to : Owner) (a j : ℕ) (b : Block) → j ≢ a → handed to (a ∷ []) j b ≡ b
 handed_other to a j b apart = rw (eqb_apart a j (λ e. apart (sym e))) refl
 
-pub hands_one : (to : Owner) (now : List made.Block.Block) (a : ℕ) (d b : made.Block.Block) → a < length now → block_seen b ≡ handed to (a ∷ []) a (block_seen (get_or now a d)) → blocks_seen (set now a b) ≡ changed (handed to (a ∷ [])) (blocks_seen now)
+pub hands_one : (to : Owner) (now : List made.Block.Block) (a : ℕ) (d b : made.Block.Block) → a < length now → block_model b ≡ handed to (a ∷ []) a (block_model (get_or now a d)) → blocks_model (set now a b) ≡ changed (handed to (a ∷ [])) (blocks_model now)
 hands_one to now a d b short is =
     written (handed to (a ∷ [])) now a d b short is
-    ∙ changed_same (only_changed (handed to (a ∷ [])) a) (handed to (a ∷ [])) (λ j x. ⊎_elim (λ h. ap (λ t. if t then handed to (a ∷ []) j x else x) h.0) (λ h. ap (λ t. if t then handed to (a ∷ []) j x else x) h.0 ∙ sym (handed_other to a j x h.1)) (eqb_tells j a)) (blocks_seen now)
+    ∙ changed_same (only_changed (handed to (a ∷ [])) a) (handed to (a ∷ [])) (λ j x. ⊎_elim (λ h. ap (λ t. if t then handed to (a ∷ []) j x else x) h.0) (λ h. ap (λ t. if t then handed to (a ∷ []) j x else x) h.0 ∙ sym (handed_other to a j x h.1)) (eqb_tells j a)) (blocks_model now)
 
-pub hands_none : (to : Owner) (now : List made.Block.Block) (a : ℕ) → length now ≤ a → blocks_seen now ≡ changed (handed to (a ∷ [])) (blocks_seen now)
+pub hands_none : (to : Owner) (now : List made.Block.Block) (a : ℕ) → length now ≤ a → blocks_model now ≡ changed (handed to (a ∷ [])) (blocks_model now)
 hands_none to now a past =
-    let long : length (blocks_seen now) ≡ length now = seen_length now in
-    sym (changed_past (handed to (a ∷ [])) (blocks_seen now) a (omega arith) (handed_other to a))
+    let long : length (blocks_model now) ≡ length now = seen_length now in
+    sym (changed_past (handed to (a ∷ [])) (blocks_model now) a (omega arith) (handed_other to a))
 
 pub handed_nothing : (to : Owner) (bs : List Block) → changed (handed to []) bs ≡ bs
 handed_nothing to bs = changed_none (handed to []) (λ j b. refl) bs
@@ -209,8 +209,8 @@ pub changed_length : (f : ℕ → Block → Block) (bs : List Block) → length 
 changed_length f [] = refl
 changed_length f (b ∷ bs) = ap suc (changed_length (λ a. f (suc a)) bs)
 
-pub same_length : (f : ℕ → Block → Block) (now old : List made.Block.Block) → blocks_seen now ≡ changed f (blocks_seen old) → length now ≡ length old
-same_length f now old e = sym (seen_length now) ∙ (ap length e ∙ (changed_length f (blocks_seen old) ∙ seen_length old))
+pub same_length : (f : ℕ → Block → Block) (now old : List made.Block.Block) → blocks_model now ≡ changed f (blocks_model old) → length now ≡ length old
+same_length f now old e = sym (seen_length now) ∙ (ap length e ∙ (changed_length f (blocks_model old) ∙ seen_length old))
 
 pub handed_at : (to : Owner) (a : ℕ) (b : Block) → handed to (a ∷ []) a b ≡ record { kind = b.kind; owner = to; peer = b.peer; state = b.state; queue = b.queue; fields = b.fields }
 handed_at to a b = rw (eqb_same a a refl) refl
@@ -245,15 +245,15 @@ lost_is a state to m bs =
     ∙ changed_same (λ j b. in_state a state j (handed Channel m.payload j b)) (sent_block a state to true m) (lost_one a state to m) bs
 
 -- ---- one address alone
-pub edits : (f : ℕ → Block → Block) (a : ℕ) → ((j : ℕ) (b : Block) → j ≢ a → f j b ≡ b) → (now : List made.Block.Block) (d b : made.Block.Block) → a < length now → d ≡ get_or now a d → block_seen b ≡ f a (block_seen d) → blocks_seen (set now a b) ≡ changed f (blocks_seen now)
+pub edits : (f : ℕ → Block → Block) (a : ℕ) → ((j : ℕ) (b : Block) → j ≢ a → f j b ≡ b) → (now : List made.Block.Block) (d b : made.Block.Block) → a < length now → d ≡ get_or now a d → block_model b ≡ f a (block_model d) → blocks_model (set now a b) ≡ changed f (blocks_model now)
 edits f a same now d b short at is =
-    written f now a d b short (is ∙ ap (λ x. f a (block_seen x)) at)
-    ∙ changed_same (only_changed f a) f (λ j x. ⊎_elim (λ h. ap (λ t. if t then f j x else x) h.0) (λ h. ap (λ t. if t then f j x else x) h.0 ∙ sym (same j x h.1)) (eqb_tells j a)) (blocks_seen now)
+    written f now a d b short (is ∙ ap (λ x. f a (block_model x)) at)
+    ∙ changed_same (only_changed f a) f (λ j x. ⊎_elim (λ h. ap (λ t. if t then f j x else x) h.0) (λ h. ap (λ t. if t then f j x else x) h.0 ∙ sym (same j x h.1)) (eqb_tells j a)) (blocks_model now)
 
-pub edits_none : (f : ℕ → Block → Block) (a : ℕ) → ((j : ℕ) (b : Block) → j ≢ a → f j b ≡ b) → (now : List made.Block.Block) → length now ≤ a → blocks_seen now ≡ changed f (blocks_seen now)
+pub edits_none : (f : ℕ → Block → Block) (a : ℕ) → ((j : ℕ) (b : Block) → j ≢ a → f j b ≡ b) → (now : List made.Block.Block) → length now ≤ a → blocks_model now ≡ changed f (blocks_model now)
 edits_none f a same now past =
-    let long : length (blocks_seen now) ≡ length now = seen_length now in
-    sym (changed_past f (blocks_seen now) a (omega arith) same)
+    let long : length (blocks_model now) ≡ length now = seen_length now in
+    sym (changed_past f (blocks_model now) a (omega arith) same)
 
 pub state_other : (a state j : ℕ) (b : Block) → j ≢ a → in_state a state j b ≡ b
 state_other a state j b apart = rw (eqb_apart j a apart) refl
@@ -274,7 +274,7 @@ left_other a ms j b apart = rw (eqb_apart j a apart) refl
 pub left_at : (a : ℕ) (ms : List MessageHeld) (b : Block) → left_in a ms a b ≡ the_sent b b.owner b.state ms
 left_at a ms b = ap (λ t. the_sent b b.owner b.state (if t then ms else b.queue)) (eqb_same a a refl)
 
-pub behind_front : (xs : List made.Held.Held) (m : MessageHeld) (ms : List MessageHeld) → map held_seen xs ≡ m ∷ ms → map held_seen (drop 1 xs) ≡ ms
+pub behind_front : (xs : List made.Held.Held) (m : MessageHeld) (ms : List MessageHeld) → map held_model xs ≡ m ∷ ms → map held_model (drop 1 xs) ≡ ms
 behind_front [] m ms is = absurd (cc)
 behind_front (x ∷ xs) m ms is = cc
 

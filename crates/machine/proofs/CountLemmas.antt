@@ -6,7 +6,7 @@ use Rattle.std.proofs.lemmas.List.{append-nil, append_assoc, get_or-set_same, ge
 use Rattle.machine.specs.Blocks.{owns_none}
 use Rattle.machine.specs.Heaps.{IsCounted, brings, one_if, owned_by}
 use Rattle.machine.specs.World.{Block, block_at, changed, is_process}
-use Rattle.machine.specs.BlockViews.{blocks_seen, held_seen}
+use Rattle.machine.specs.BlockViews.{blocks_model, held_model}
 use Rattle.machine.specs.declared.worlds.Block as made_block
 use Rattle.machine.specs.declared.worlds.Held as made_held
 use Rattle.machine.proofs.ChangeLemmas.{eqb_apart, seen_length}
@@ -142,31 +142,31 @@ counted_listed bs counts is = record { counts_are = λ q. with_zero counts q ∙
 
 -- blocks were changed so far, and the counts with them
 pub record Handed (f : ℕ → Block → Block) (old now : List made_block.Block) (olds counts : List ℕ) : Type 0 where
-  pub seen : blocks_seen now ≡ changed f (blocks_seen old)
-  pub counted : IsCounted (blocks_seen now) counts
+  pub seen : blocks_model now ≡ changed f (blocks_model old)
+  pub counted : IsCounted (blocks_model now) counts
   pub listed : length counts ≡ length olds
 
 -- what the messages so far bring, and the next one
 pub brings_more : (queue : List made_held.Held) (i : ℕ) (d : made_held.Held) → i < length queue
-    → brings (map held_seen (take (i + 1) queue)) ≡ brings (map held_seen (take i queue)) ++ (get_or queue i d).payload.items
+    → brings (map held_model (take (i + 1) queue)) ≡ brings (map held_model (take i queue)) ++ (get_or queue i d).payload.items
 brings_more [] i d short = absurd (omega arith)
 brings_more (h ∷ queue) zero d short = append-nil h.payload.items
 brings_more (h ∷ queue) (suc i) d short =
     let less : i < length queue = omega arith in
     let e : suc i + 1 ≡ suc (i + 1) = omega arith in
-    ap (λ k. brings (map held_seen (take k (h ∷ queue)))) e
-    ∙ (ap (λ l. h.payload.items ++ l) (brings_more queue i d less) ∙ sym (append_assoc h.payload.items (brings (map held_seen (take i queue))) (get_or queue i d).payload.items))
+    ap (λ k. brings (map held_model (take k (h ∷ queue)))) e
+    ∙ (ap (λ l. h.payload.items ++ l) (brings_more queue i d less) ∙ sym (append_assoc h.payload.items (brings (map held_model (take i queue))) (get_or queue i d).payload.items))
 
 -- a count is at most the number of blocks
-pub counted_most : (blocks : List made_block.Block) (counts : List ℕ) → IsCounted (blocks_seen blocks) counts → (q : ℕ) → get_or counts q 0 ≤ length blocks
+pub counted_most : (blocks : List made_block.Block) (counts : List ℕ) → IsCounted (blocks_model blocks) counts → (q : ℕ) → get_or counts q 0 ≤ length blocks
 counted_most blocks counts is q =
-    let counted : get_or counts q 0 ≡ owned_by (blocks_seen blocks) q = is.counts_are q in
-    let most : owned_by (blocks_seen blocks) q ≤ length (blocks_seen blocks) = owned_most (blocks_seen blocks) q in
-    let long : length (blocks_seen blocks) ≡ length blocks = seen_length blocks in
+    let counted : get_or counts q 0 ≡ owned_by (blocks_model blocks) q = is.counts_are q in
+    let most : owned_by (blocks_model blocks) q ≤ length (blocks_model blocks) = owned_most (blocks_model blocks) q in
+    let long : length (blocks_model blocks) ≡ length blocks = seen_length blocks in
     omega arith
 
 -- a count can grow
-pub room_for : {Z : Type 0} (blocks : Vec made_block.Block Z) (counts : List ℕ) → IsCounted (blocks_seen blocks.items) counts → (q : ℕ) → get_or counts q 0 < 2 ^ 63
+pub room_for : {Z : Type 0} (blocks : Vec made_block.Block Z) (counts : List ℕ) → IsCounted (blocks_model blocks.items) counts → (q : ℕ) → get_or counts q 0 < 2 ^ 63
 room_for blocks counts is q =
     let most : get_or counts q 0 ≤ length blocks.items = counted_most blocks.items counts is q in
     let all : blocks.len ≡ length blocks.items = blocks.ok.0 in

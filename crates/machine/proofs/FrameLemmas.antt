@@ -2,7 +2,7 @@
 use Rattle.std.proofs.Common.{◌≡◌, ℕ, ◌+◌, ◌<◌, ◌≤◌, true, false, List, [], ◌∷◌, ◌++◌, length, drop, slice_index_or, refl, sym, ap, ◌∙◌, ◌⊎◌, inl, inr, set, Some, None, map, arith}
 use Rattle.std.specs.Prelude.{IfNone, Option, if◌then◌else◌, is_some}
 use Rattle.std.proofs.lemmas.List.{append-nil, append_assoc, at_drop_all, at_drop_more, length_push}
-use Rattle.program.specs.Methods.{VariableSeen, variable_seen}
+use Rattle.program.specs.Methods.{VariableModel, variable_model}
 use Rattle.program.specs.WellFormed.{is_parameter}
 use Rattle.program.specs.declared.call.Argument.{Argument}
 use Rattle.program.specs.declared.method.Variable.{Variable}
@@ -60,7 +60,7 @@ given_for variables arguments = map (λ a. read variables a.mention.variable.0) 
 pub record Filled (has : List (Option ℕ)) (variables : List Variable) (arguments : List Argument) (done given : ℕ) (so_far : List (Option ℕ)) : Type 0 where
   pub within : given ≤ length arguments
   pub many : length so_far ≡ done
-  pub is : filled (map variable_seen variables) (given_for has arguments) ≡ so_far ++ filled (map variable_seen (drop done variables)) (given_for has (drop given arguments))
+  pub is : filled (map variable_model variables) (given_for has arguments) ≡ so_far ++ filled (map variable_model (drop done variables)) (given_for has (drop given arguments))
 
 pub filled_none : (has : List (Option ℕ)) (variables : List Variable) (arguments : List Argument) → Filled has variables arguments 0 0 []
 filled_none has variables arguments = record { within = omega arith; many = refl; is = refl }
@@ -69,10 +69,10 @@ filled_none has variables arguments = record { within = omega arith; many = refl
 pushed_on : (so_far more xs : List (Option ℕ)) (x : Option ℕ) → more ≡ so_far ++ x ∷ [] → so_far ++ x ∷ xs ≡ more ++ xs
 pushed_on so_far more xs x is = sym (append_assoc so_far (x ∷ []) xs) ∙ ap (λ l. l ++ xs) (sym is)
 
-at_parameter : (v : VariableSeen) (variables : List VariableSeen) (x : Option ℕ) (xs : List (Option ℕ)) → is_parameter v.role ≡ true → filled (v ∷ variables) (x ∷ xs) ≡ x ∷ filled variables xs
+at_parameter : (v : VariableModel) (variables : List VariableModel) (x : Option ℕ) (xs : List (Option ℕ)) → is_parameter v.role ≡ true → filled (v ∷ variables) (x ∷ xs) ≡ x ∷ filled variables xs
 at_parameter v variables x xs is = ap (λ t. if t then x ∷ filled variables xs else (None ∷ filled variables (x ∷ xs))) is
 
-at_local : (v : VariableSeen) (variables : List VariableSeen) (xs : List (Option ℕ)) → is_parameter v.role ≡ false → filled (v ∷ variables) xs ≡ None ∷ filled variables xs
+at_local : (v : VariableModel) (variables : List VariableModel) (xs : List (Option ℕ)) → is_parameter v.role ≡ false → filled (v ∷ variables) xs ≡ None ∷ filled variables xs
 at_local v variables [] is = refl
 at_local v variables (x ∷ xs) is = ap (λ t. if t then x ∷ filled variables xs else (None ∷ filled variables (x ∷ xs))) is
 
@@ -82,16 +82,16 @@ pub filled_parameter : (has : List (Option ℕ)) (variables : List Variable) (ar
 filled_parameter has variables arguments done given so_far more d e lt some is push h =
     let v = slice_index_or variables done d in
     let x = read has (slice_index_or arguments given e).mention.variable.0 in
-    let rest = map variable_seen (drop (done + 1) variables) in
+    let rest = map variable_model (drop (done + 1) variables) in
     record {
       within = omega arith;
       many = ap length push ∙ (length_push so_far x ∙ ap (λ n. n + 1) h.many);
       is =
           h.is
           ∙ (ap (λ l. so_far ++ l)
-          (at_drop_more (λ l. filled (map variable_seen l) (given_for has (drop given arguments))) variables done d lt
-          ∙ (at_drop_more (λ l. filled (variable_seen v ∷ rest) (given_for has l)) arguments given e some
-          ∙ at_parameter (variable_seen v) rest x (given_for has (drop (given + 1) arguments)) is))
+          (at_drop_more (λ l. filled (map variable_model l) (given_for has (drop given arguments))) variables done d lt
+          ∙ (at_drop_more (λ l. filled (variable_model v ∷ rest) (given_for has l)) arguments given e some
+          ∙ at_parameter (variable_model v) rest x (given_for has (drop (given + 1) arguments)) is))
           ∙ pushed_on so_far more (filled rest (given_for has (drop (given + 1) arguments))) x push);
     }
 
@@ -99,15 +99,15 @@ pub filled_local : (has : List (Option ℕ)) (variables : List Variable) (argume
     → done < length variables → is_parameter (slice_index_or variables done d).role ≡ false → more ≡ so_far ++ None ∷ [] → Filled has variables arguments done given so_far → Filled has variables arguments (done + 1) given more
 filled_local has variables arguments done given so_far more d lt is push h =
     let v = slice_index_or variables done d in
-    let rest = map variable_seen (drop (done + 1) variables) in
+    let rest = map variable_model (drop (done + 1) variables) in
     record {
       within = h.within;
       many = ap length push ∙ (length_push so_far None ∙ ap (λ n. n + 1) h.many);
       is =
           h.is
           ∙ (ap (λ l. so_far ++ l)
-          (at_drop_more (λ l. filled (map variable_seen l) (given_for has (drop given arguments))) variables done d lt
-          ∙ at_local (variable_seen v) rest (given_for has (drop given arguments)) is)
+          (at_drop_more (λ l. filled (map variable_model l) (given_for has (drop given arguments))) variables done d lt
+          ∙ at_local (variable_model v) rest (given_for has (drop given arguments)) is)
           ∙ pushed_on so_far more (filled rest (given_for has (drop given arguments))) None push);
     }
 
@@ -115,23 +115,23 @@ pub filled_past : (has : List (Option ℕ)) (variables : List Variable) (argumen
     → done < length variables → length arguments ≤ given → more ≡ so_far ++ None ∷ [] → Filled has variables arguments done given so_far → Filled has variables arguments (done + 1) given more
 filled_past has variables arguments done given so_far more d lt past push h =
     let v = slice_index_or variables done d in
-    let rest = map variable_seen (drop (done + 1) variables) in
+    let rest = map variable_model (drop (done + 1) variables) in
     record {
       within = h.within;
       many = ap length push ∙ (length_push so_far None ∙ ap (λ n. n + 1) h.many);
       is =
           h.is
           ∙ (ap (λ l. so_far ++ l)
-          (at_drop_more (λ l. filled (map variable_seen l) (given_for has (drop given arguments))) variables done d lt
-          ∙ (at_drop_all (λ l. filled (variable_seen v ∷ rest) (given_for has l)) arguments given past
+          (at_drop_more (λ l. filled (map variable_model l) (given_for has (drop given arguments))) variables done d lt
+          ∙ (at_drop_all (λ l. filled (variable_model v ∷ rest) (given_for has l)) arguments given past
           ∙ ap (λ l. None ∷ l) (sym (at_drop_all (λ l. filled rest (given_for has l)) arguments given past))))
           ∙ pushed_on so_far more (filled rest (given_for has (drop given arguments))) None push);
     }
 
 pub filled_all : (has : List (Option ℕ)) (variables : List Variable) (arguments : List Argument) (done given : ℕ) (so_far : List (Option ℕ)) → length variables ≤ done → Filled has variables arguments done given so_far
-    → so_far ≡ filled (map variable_seen variables) (given_for has arguments)
+    → so_far ≡ filled (map variable_model variables) (given_for has arguments)
 filled_all has variables arguments done given so_far le h =
-    sym (h.is ∙ (ap (λ l. so_far ++ l) (at_drop_all (λ l. filled (map variable_seen l) (given_for has (drop given arguments))) variables done le) ∙ append-nil so_far))
+    sym (h.is ∙ (ap (λ l. so_far ++ l) (at_drop_all (λ l. filled (map variable_model l) (given_for has (drop given arguments))) variables done le) ∙ append-nil so_far))
 
 -- the tests that the process has the block in each of these variables
 abbrev pub own_tests : List Block → ℕ → List (Option ℕ) → List Mention → List Test

@@ -5,9 +5,9 @@ use Rattle.std.proofs.lemmas.Bool.{cases_Bool, cases_eq, cases_lt}
 use Rattle.std.proofs.lemmas.List.{map-append}
 use Rattle.std.specs.Prelude.{◌⊎◌, ◌||◌, if◌then◌else◌, slice_get}
 use Rattle.program.specs.Lists.{is_among}
-use Rattle.program.specs.declared.kind.Kind.{Kind}
+use Rattle.program.specs.declared.kind.HeapKind.{HeapKind}
 use Rattle.machine.specs.Answers.{with_field}
-use Rattle.machine.specs.BlockViews.{block_seen, blocks_seen, held_seen}
+use Rattle.machine.specs.BlockViews.{block_model, blocks_model, held_model}
 use Rattle.machine.specs.Blocks.{exchanged_block, handed, new_block, received_block, sent_block}
 use Rattle.machine.specs.Heaps.{AreOwned, IsBrought, IsHeld, brings, occurs, of_process, one_if}
 use Rattle.machine.specs.World.{Block, MessageHeld, block_at, changed, is_inside, is_queue, owns}
@@ -136,19 +136,19 @@ changed_append f [] b = refl
 changed_append f (x ∷ bs) b = ap (λ (xs : List Block). f 0 x ∷ xs) (changed_append (λ a. f (suc a)) bs b)
 
 -- the new block, whose queue is empty, and whose fields are what is given
-pub made_seen : (kind : Kind) (self : ℕ) (given : List ℕ) (queue : List made_held.Held) (fields : List ℕ) → queue ≡ [] → fields ≡ given
-    → with_parts (new_block kind self 0 0 given) (Process self) (map held_seen queue) fields ≡ new_block kind self 0 0 given
-made_seen kind self given queue fields empty same =
-    ap (λ (q : List made_held.Held). with_parts (new_block kind self 0 0 given) (Process self) (map held_seen q) fields) empty
+pub made_model : (kind : HeapKind) (self : ℕ) (given : List ℕ) (queue : List made_held.Held) (fields : List ℕ) → queue ≡ [] → fields ≡ given
+    → with_parts (new_block kind self 0 0 given) (Process self) (map held_model queue) fields ≡ new_block kind self 0 0 given
+made_model kind self given queue fields empty same =
+    ap (λ (q : List made_held.Held). with_parts (new_block kind self 0 0 given) (Process self) (map held_model q) fields) empty
     ∙ ap (with_parts (new_block kind self 0 0 given) (Process self) []) same
 
 -- it is put behind the others
-pub made_pushed : (made : Block) (old new : List made_block.Block) (b : made_block.Block) → new ≡ old ++ b ∷ [] → block_seen b ≡ made
-    → blocks_seen new ≡ blocks_seen old ++ made ∷ []
+pub made_pushed : (made : Block) (old new : List made_block.Block) (b : made_block.Block) → new ≡ old ++ b ∷ [] → block_model b ≡ made
+    → blocks_model new ≡ blocks_model old ++ made ∷ []
 made_pushed made old new b pushed same =
-    ap blocks_seen pushed ∙ (map-append block_seen old (b ∷ []) ∙ ap (λ (x : Block). blocks_seen old ++ x ∷ []) same)
+    ap blocks_model pushed ∙ (map-append block_model old (b ∷ []) ∙ ap (λ (x : Block). blocks_model old ++ x ∷ []) same)
 
-module _ (bs : List Block) (self : ℕ) (given : List ℕ) (kind : Kind) (h : IsHeld bs)
+module _ (bs : List Block) (self : ℕ) (given : List ℕ) (kind : HeapKind) (h : IsHeld bs)
     (mine : (x : ℕ) → is_among given x ≡ true → owns bs self x ≡ true)
     (once : (x : ℕ) → occurs given x ≡ one_if (is_among given x)) where
   -- The block stands behind the others, and then what is given goes into it.

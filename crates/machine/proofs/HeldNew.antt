@@ -5,7 +5,7 @@ use Rattle.std.proofs.lemmas.Bool.{cases_Bool, cases_eq, cases_lt}
 use Rattle.std.proofs.lemmas.List.{length_push}
 use Rattle.std.specs.Prelude.{◌⊎◌, if◌then◌else◌}
 use Rattle.program.specs.Lists.{is_among}
-use Rattle.program.specs.declared.kind.Kind.{Kind}
+use Rattle.program.specs.declared.kind.HeapKind.{HeapKind}
 use Rattle.machine.specs.Blocks.{handed, new_block}
 use Rattle.machine.specs.Heaps.{IsHeld, occurs, one_if}
 use Rattle.machine.specs.World.{Block, block_at, changed, is_inside, no_block, no_kind, owns}
@@ -26,7 +26,7 @@ added_new : (bs : List Block) (b : Block) → block_at (bs ++ b ∷ []) (length 
 added_new [] b = refl
 added_new (x ∷ bs) b = added_new bs b
 
-module _ (bs : List Block) (self : ℕ) (given : List ℕ) (kind : Kind) (h : IsHeld bs)
+module _ (bs : List Block) (self : ℕ) (given : List ℕ) (kind : HeapKind) (h : IsHeld bs)
     (mine : (x : ℕ) → is_among given x ≡ true → owns bs self x ≡ true)
     (once : (x : ℕ) → occurs given x ≡ one_if (is_among given x)) where
   abbrev pub new_at : ℕ

@@ -3,7 +3,7 @@ use Rattle.std.proofs.Common.{◌≡◌, ℕ, zero, suc, true, false, List, [], 
 use Rattle.std.specs.Prelude.{Option, if◌then◌else◌}
 use Rattle.std.proofs.lemmas.Bool.Decides.{eqb_tells}
 use Rattle.std.proofs.lemmas.List.{set_comm}
-use Rattle.program.specs.Methods.{VariableSeen}
+use Rattle.program.specs.Methods.{VariableModel}
 use Rattle.program.specs.declared.number.VarId.{VarId}
 use Rattle.program.specs.Scopes.{outer_of}
 use Rattle.rules.specs.Scopes.{between, is_this}
@@ -20,18 +20,18 @@ forgotten_last : (xs : List (Option ℕ)) (gone : List ℕ) (v : ℕ) → forgot
 forgotten_last xs [] v = refl
 forgotten_last xs (a ∷ gone) v = forgotten_last (set xs a None) gone v
 
-pub walk_none : (vs : List VariableSeen) (n : ℕ) (outer : Option VarId) → between vs n outer None ≡ []
+pub walk_none : (vs : List VariableModel) (n : ℕ) (outer : Option VarId) → between vs n outer None ≡ []
 walk_none vs zero outer = refl
 walk_none vs (suc n) outer = refl
 
-pub walk_stops : (vs : List VariableSeen) (n : ℕ) (outer : Option VarId) (v : VarId) → is_this v outer ≡ true → between vs n outer (Some v) ≡ []
+pub walk_stops : (vs : List VariableModel) (n : ℕ) (outer : Option VarId) (v : VarId) → is_this v outer ≡ true → between vs n outer (Some v) ≡ []
 walk_stops vs zero outer v h = refl
 walk_stops vs (suc n) outer v h = ap (λ t. if t then [] else between vs n outer (outer_of vs v) ++ v.0 ∷ []) h
 
-pub walk_done : (vs : List VariableSeen) (n : ℕ) (outer at : Option VarId) → n ≡ 0 → between vs n outer at ≡ []
+pub walk_done : (vs : List VariableModel) (n : ℕ) (outer at : Option VarId) → n ≡ 0 → between vs n outer at ≡ []
 walk_done vs n outer at e = ap (λ m. between vs m outer at) e
 
-pub walk_more : (xs : List (Option ℕ)) (vs : List VariableSeen) (n m : ℕ) (outer : Option VarId) (v : VarId) → is_this v outer ≡ false → n ≡ suc m → forgotten (set xs v.0 None) (between vs m outer (outer_of vs v)) ≡ forgotten xs (between vs n outer (Some v))
+pub walk_more : (xs : List (Option ℕ)) (vs : List VariableModel) (n m : ℕ) (outer : Option VarId) (v : VarId) → is_this v outer ≡ false → n ≡ suc m → forgotten (set xs v.0 None) (between vs m outer (outer_of vs v)) ≡ forgotten xs (between vs n outer (Some v))
 walk_more xs vs n m outer v h e =
     let inner : List ℕ = between vs m outer (outer_of vs v) in
     forgotten_set xs inner v.0

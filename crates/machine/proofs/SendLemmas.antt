@@ -1,7 +1,7 @@
 -- A send whose tests pass.
 use Rattle.std.proofs.Common.{◌≡◌, ℕ, List, [], ◌∷◌, ◌++◌, true, Some, sym, ap, ◌∙◌, subst}
 use Rattle.std.specs.Prelude.{Option}
-use Rattle.program.specs.Programs.{ProgramSeen}
+use Rattle.program.specs.Programs.{ProgramModel}
 use Rattle.program.specs.declared.statement.Mention.{Mention}
 use Rattle.machine.specs.Answers.{Pass}
 use Rattle.machine.specs.Blocks.{argument_tests_in, edge_out_in, send_tests_in}
@@ -13,7 +13,7 @@ use Rattle.machine.proofs.CallLemmas.{pass_alone}
 use Rattle.machine.proofs.GiveLemmas.{passes}
 
 -- it changes the world; b, c and d are the blocks where the endpoint, the payloads and the way out are tested
-pub send_moves : (p : ProgramSeen) (bound : Bounds) (bs b c d : List Block) (self : ℕ) (variables : List (Option ℕ)) (e : ℕ) (x : Option ℕ) (at m : ℕ) (payloads sent : List Mention) (v : World)
+pub send_moves : (p : ProgramModel) (bound : Bounds) (bs b c d : List Block) (self : ℕ) (variables : List (Option ℕ)) (e : ℕ) (x : Option ℕ) (at m : ℕ) (payloads sent : List Mention) (v : World)
     → bs ≡ b → bs ≡ c → bs ≡ d → sent ≡ payloads
     → x ≡ read variables e → x ≡ Some at → is_own_in b self x ≡ true
     → Pass (argument_tests_in c self variables [] (payloads_claimed sent)) → Pass (send_tests_in bound d at (edge_out_in p d at m))

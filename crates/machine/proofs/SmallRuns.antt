@@ -2,13 +2,13 @@
 use Rattle.std.proofs.Common.{◌≡◌, ℕ, false, true, List, [], ◌∷◌, Some, None, refl}
 use Rattle.std.specs.Prelude.{Option}
 use Rattle.source.specs.declared.place.Place.{Place}
-use Rattle.program.specs.Methods.{MethodSeen, VariableSeen}
-use Rattle.program.specs.Parts.{ContractSeen}
-use Rattle.program.specs.Programs.{ProgramSeen}
-use Rattle.program.specs.Statements.{StatementSeen, StatementsSeen, Simple, New, Send, MoreStatements, NoStatement}
+use Rattle.program.specs.Methods.{MethodModel, VariableModel}
+use Rattle.program.specs.Parts.{ContractModel}
+use Rattle.program.specs.Programs.{ProgramModel}
+use Rattle.program.specs.Statements.{StatementModel, StatementsModel, Simple, New, Send, MoreStatements, NoStatement}
 use Rattle.program.specs.declared.contract.Sign.TheVariants as sign
-use Rattle.program.specs.declared.kind.Kind.{Kind}
-use Rattle.program.specs.declared.kind.Kind.TheVariants.{Struct, Endpoint}
+use Rattle.program.specs.declared.kind.HeapKind.{HeapKind}
+use Rattle.program.specs.declared.kind.HeapKind.TheVariants.{Struct, Endpoint}
 use Rattle.program.specs.declared.kind.Side.{Side}
 use Rattle.program.specs.declared.kind.Side.TheVariants.{Imp, Exp}
 use Rattle.program.specs.declared.method.Role.TheVariants.{Local}
@@ -27,7 +27,7 @@ use Rattle.machine.specs.declared.worlds.Owner.TheVariants.{Process, Queue, Insi
 abbrev at : Place
 at = record { line = 1; col = 1 }
 
-abbrev variable : Kind → Option ℕ → VariableSeen
+abbrev variable : HeapKind → Option ℕ → VariableModel
 variable k None = record { name = []; kind = k; role = Local; outer = None }
 variable k (Some n) = record { name = []; kind = k; role = Local; outer = Some record { 0 = n } }
 
@@ -35,7 +35,7 @@ abbrev mention : ℕ → Mention
 mention n = record { variable = record { 0 = n }; place = at }
 
 -- a contract whose exporting end sends a message once
-abbrev once : ContractSeen
+abbrev once : ContractModel
 once = record {
   name = [];
   parts = record {
@@ -47,7 +47,7 @@ once = record {
 }
 
 -- a method with the two ends of a channel and a struct
-abbrev method : StatementsSeen → MethodSeen
+abbrev method : StatementsModel → MethodModel
 method statements = record {
   name = at;
   takes = false;
@@ -59,12 +59,12 @@ method statements = record {
   close = at;
 }
 
-abbrev row : List StatementSeen → StatementsSeen
+abbrev row : List StatementModel → StatementsModel
 row [] = NoStatement
 row (s ∷ ss) = MoreStatements s (row ss)
 
 -- it opens the channel, and then does this
-abbrev opens : List StatementSeen → ProgramSeen
+abbrev opens : List StatementModel → ProgramModel
 opens statements = record {
   contracts = once ∷ [];
   messages = (Struct record { 0 = 0 } ∷ []) ∷ [];
@@ -72,11 +72,11 @@ opens statements = record {
   methods = method (MoreStatements (Simple [] (does.NewChannel record { place = at; contract = record { 0 = 0 }; first = mention 0; second = mention 1 })) (row statements)) ∷ [];
 }
 
-abbrev sends : ℕ → StatementSeen
+abbrev sends : ℕ → StatementModel
 sends n = Send record { reads = []; place = at; endpoint = mention 1; message = record { 0 = 0 }; payloads = mention n ∷ [] }
 
 -- it makes a struct of what is given
-abbrev makes : List Mention → StatementSeen
+abbrev makes : List Mention → StatementModel
 makes arguments = New record { reads = []; target = mention 2; arguments = arguments }
 
 abbrev bound : Bounds
@@ -85,18 +85,18 @@ bound c s = 1
 abbrev event : Event
 event = record { process = 0; choice = 0 }
 
-abbrev next : ProgramSeen → Outcome → Outcome
+abbrev next : ProgramModel → Outcome → Outcome
 next p (Moved w) = event_outcome p bound w event
 next p o = o
 
 -- so many events of the first process
-abbrev four : ProgramSeen → Outcome
+abbrev four : ProgramModel → Outcome
 four p = next p (next p (next p (next p (Moved (start_of p 0)))))
 
-abbrev three : ProgramSeen → Outcome
+abbrev three : ProgramModel → Outcome
 three p = next p (next p (next p (Moved (start_of p 0))))
 
-abbrev two : ProgramSeen → Outcome
+abbrev two : ProgramModel → Outcome
 two p = next p (next p (Moved (start_of p 0)))
 
 abbrev blocks_of : Outcome → List Block
@@ -108,7 +108,7 @@ owners [] = []
 owners (b ∷ bs) = b.owner ∷ owners bs
 
 -- a struct is sent, and read then
-abbrev reads_what_it_sent : ProgramSeen
+abbrev reads_what_it_sent : ProgramModel
 reads_what_it_sent = opens (makes [] ∷ sends 2 ∷ Simple (mention 2 ∷ []) does.Nothing ∷ [])
 
 pub sent_then : blocks_of (three reads_what_it_sent) ≡
@@ -121,28 +121,28 @@ pub read_then : four reads_what_it_sent ≡ Faulty F1
 read_then = refl
 
 -- an end is sent along the other one, to itself, and the other one is freed: the process has nothing where it ends
-abbrev sends_an_end : ProgramSeen
+abbrev sends_an_end : ProgramModel
 sends_an_end = opens (sends 0 ∷ Simple [] (does.Delete (mention 1)) ∷ [])
 
 pub end_sent : owners (blocks_of (three sends_an_end)) ≡ Queue 0 ∷ Freed ∷ []
 end_sent = refl
 
 -- the importing end is freed, a struct is sent all the same, and goes to the channel
-abbrev sends_to_nobody : ProgramSeen
+abbrev sends_to_nobody : ProgramModel
 sends_to_nobody = opens (Simple [] (does.Delete (mention 0)) ∷ makes [] ∷ sends 2 ∷ [])
 
 pub lost_then : owners (blocks_of (four sends_to_nobody)) ≡ Freed ∷ Process 0 ∷ Channel ∷ []
 lost_then = refl
 
 -- a message is sent twice where its contract has it once
-abbrev sends_twice : ProgramSeen
+abbrev sends_twice : ProgramModel
 sends_twice = opens (sends 0 ∷ makes [] ∷ sends 2 ∷ [])
 
 pub sent_twice : four sends_twice ≡ Faulty F4
 sent_twice = refl
 
 -- the process ends, and still has the ends of its channel
-abbrev keeps : ProgramSeen
+abbrev keeps : ProgramModel
 keeps = opens []
 
 pub kept_then : next keeps (next keeps (next keeps (Moved (start_of keeps 0)))) ≡ Faulty F7
@@ -156,7 +156,7 @@ abbrev end_of : Side → Owner → ℕ → List MessageHeld → Block
 end_of side owner peer queue =
     record { kind = Endpoint record { 0 = 0 } side record { 0 = 0 }; owner = owner; peer = peer; state = 0; queue = queue; fields = [] }
 
-abbrev deletes : ProgramSeen
+abbrev deletes : ProgramModel
 deletes = record {
   contracts = once ∷ [];
   messages = (Struct record { 0 = 0 } ∷ []) ∷ [];
@@ -211,7 +211,7 @@ two_ends_deleted = refl
 
 -- ---- what goes into blocks, and comes out
 -- It makes a struct of the importing end, and then what a field of that holds and what a variable has change places.
-abbrev exchanges : (field given : ℕ) → ProgramSeen
+abbrev exchanges : (field given : ℕ) → ProgramModel
 exchanges field given =
     opens
     (makes (mention 0 ∷ [])

@@ -1,9 +1,9 @@
 -- A switch: what is at the front of a queue, and where it goes.
 use Rattle.std.proofs.Common.{◌≡◌, ℕ, ◌<◌, List, [], ◌∷◌, Some, None, refl, sym, ap, ◌∙◌, slice_get, length, arith}
 use Rattle.source.specs.declared.place.Place.{Place}
-use Rattle.program.specs.Programs.{ProgramSeen}
+use Rattle.program.specs.Programs.{ProgramModel}
 use Rattle.program.specs.declared.statement.Mention.{Mention}
-use Rattle.flow.specs.Cases.{EntranceSeen, first_mentions}
+use Rattle.flow.specs.Cases.{EntranceModel, first_mentions}
 use Rattle.flow.specs.Graphs.{Switch}
 use Rattle.machine.specs.Answers.{front_of}
 use Rattle.machine.specs.Frames.{address}
@@ -32,13 +32,13 @@ abbrev pub no_mention : Mention
 no_mention = record { variable = record { 0 = 0 }; place = record { line = 0; col = 0 } }
 
 -- a switch: its tests, and then what comes at the chosen endpoint
-pub switch_is : (p : ProgramSeen) (bound : Bounds) (w : World) (self : ℕ) (f : Frame) (rest : List Frame) (place : Place) (cases : List EntranceSeen) (choice : ℕ) (bs : List Block) (es : List Mention) → w.blocks ≡ bs → es ≡ first_mentions [] cases
+pub switch_is : (p : ProgramModel) (bound : Bounds) (w : World) (self : ℕ) (f : Frame) (rest : List Frame) (place : Place) (cases : List EntranceModel) (choice : ℕ) (bs : List Block) (es : List Mention) → w.blocks ≡ bs → es ≡ first_mentions [] cases
     → event_of p bound w self f rest (Switch place cases) choice ≡ tested (own_tests bs self f.variables es) (receives_from p bound w self f rest cases (slice_get es choice))
 switch_is p bound w self f rest place cases choice bs es is named =
     ap (λ b. tested (own_tests b self f.variables (first_mentions [] cases)) (receives_from p bound w self f rest cases (slice_get (first_mentions [] cases) choice))) is
     ∙ ap (λ l. tested (own_tests bs self f.variables l) (receives_from p bound w self f rest cases (slice_get l choice))) (sym named)
 
-pub switch_goes : (p : ProgramSeen) (bound : Bounds) (w : World) (self : ℕ) (f : Frame) (rest : List Frame) (cases : List EntranceSeen) (es : List Mention) (choice : ℕ) (e : Mention) (at : ℕ) (bs : List Block)
+pub switch_goes : (p : ProgramModel) (bound : Bounds) (w : World) (self : ℕ) (f : Frame) (rest : List Frame) (cases : List EntranceModel) (es : List Mention) (choice : ℕ) (e : Mention) (at : ℕ) (bs : List Block)
     → slice_get es choice ≡ Some e → at ≡ address (read f.variables e.variable.0) → w.blocks ≡ bs
     → receives_from p bound w self f rest cases (slice_get es choice) ≡ receives p bound w self f rest cases e.variable.0 at (block_at bs at).queue
 switch_goes p bound w self f rest cases es choice e at bs there has is =

@@ -2,7 +2,7 @@
 use Rattle.std.specs.Prelude.{◌≡◌, ℕ, ◌==◌, Bool, true, false, List, [], ◌∷◌, ◌++◌, set, if◌then◌else◌}
 use Rattle.std.specs.Prelude.{Option, Result, Ok, Err, Some, None}
 use Rattle.source.specs.declared.place.Place.{Place}
-use Rattle.program.specs.Programs.{ProgramSeen}
+use Rattle.program.specs.Programs.{ProgramModel}
 use Rattle.flow.specs.Graphs.{Instruction, New, NewChannel, Delete, Exchange, Send, Switch, Call, Start, Return, Stop}
 use Rattle.program.specs.declared.call.Argument.{Argument}
 use Rattle.program.specs.declared.statement.Mention.{Mention}
@@ -38,12 +38,12 @@ abbrev pub with_variables : Frame → List (Option ℕ) → Frame
 with_variables f variables = record { method = f.method; point = f.point; variables = variables }
 
 -- what an instruction comes to on a stack
-abbrev pub on_stack : ProgramSeen → Bounds → World → ℕ → Instruction → ℕ → List Frame → Outcome
+abbrev pub on_stack : ProgramModel → Bounds → World → ℕ → Instruction → ℕ → List Frame → Outcome
 on_stack p bound w self i choice [] = NoProcess
 on_stack p bound w self i choice (f ∷ rest) = event_of p bound w self f rest i choice
 
 -- what the end of the innermost frame of a stack comes to, where it gives what a variable has
-abbrev pub ended : ProgramSeen → Bounds → World → ℕ → Option Mention → List Frame → Outcome
+abbrev pub ended : ProgramModel → Bounds → World → ℕ → Option Mention → List Frame → Outcome
 ended p bound w self value [] = NoProcess
 ended p bound w self value (f ∷ rest) = returns p bound w self f rest value rest
 

@@ -5,20 +5,20 @@ use Rattle.machine.specs.declared.worlds.Block as made_block
 use Rattle.machine.specs.declared.worlds.Held as made_held
 
 -- a message in a queue
-abbrev pub held_seen : made_held.Held → MessageHeld
-held_seen h = record { message = h.message.0; payload = h.payload.items }
+abbrev pub held_model : made_held.Held → MessageHeld
+held_model h = record { message = h.message.0; payload = h.payload.items }
 
 -- a block
-abbrev pub block_seen : made_block.Block → Block
-block_seen b = record {
+abbrev pub block_model : made_block.Block → Block
+block_model b = record {
   kind = b.kind;
   owner = b.owner;
   peer = b.peer;
   state = b.state.0;
-  queue = map held_seen b.queue.items;
+  queue = map held_model b.queue.items;
   fields = b.fields.items;
 }
 
 -- all blocks, by their addresses
-abbrev pub blocks_seen : List made_block.Block → List Block
-blocks_seen blocks = map block_seen blocks
+abbrev pub blocks_model : List made_block.Block → List Block
+blocks_model blocks = map block_model blocks

@@ -2,10 +2,10 @@
 use Rattle.std.specs.Prelude.{ℕ, zero, suc, ◌==◌, nat_lt, Bool, true, false, not, ◌&&◌, ◌||◌, if◌then◌else◌}
 use Rattle.std.specs.Prelude.{List, [], ◌∷◌, ◌++◌, length, Option, Some, None, is_some, set}
 use Rattle.program.specs.Lists.{is_among}
-use Rattle.program.specs.Programs.{ProgramSeen}
+use Rattle.program.specs.Programs.{ProgramModel}
 use Rattle.program.specs.declared.call.Argument.{Argument}
-use Rattle.program.specs.declared.kind.Kind.{Kind}
-use Rattle.program.specs.declared.kind.Kind.TheVariants.{Endpoint}
+use Rattle.program.specs.declared.kind.HeapKind.{HeapKind}
+use Rattle.program.specs.declared.kind.HeapKind.TheVariants.{Endpoint}
 use Rattle.program.specs.declared.kind.Side.{Side}
 use Rattle.program.specs.declared.kind.Side.TheVariants.{Imp}
 use Rattle.program.specs.declared.statement.Channel as made
@@ -96,7 +96,7 @@ received_block self a state m rest j b = record {
 }
 
 -- a new block of a process, with these addresses in its fields
-abbrev pub new_block : Kind → ℕ → ℕ → ℕ → List ℕ → Block
+abbrev pub new_block : HeapKind → ℕ → ℕ → ℕ → List ℕ → Block
 new_block kind self peer state fields = record {
   kind = kind;
   owner = Process self;
@@ -107,16 +107,16 @@ new_block kind self peer state fields = record {
 }
 
 -- whether it is an importing end
-abbrev pub is_imp : Kind → Bool
+abbrev pub is_imp : HeapKind → Bool
 is_imp (Endpoint contract Imp state) = true
 is_imp _ = false
 
 -- an end of a channel of a contract
-abbrev pub end_kind : made.Channel → Side → Kind
+abbrev pub end_kind : made.Channel → Side → HeapKind
 end_kind c side = Endpoint c.contract side record { 0 = 0 }
 
 -- how many messages the queue to it may hold
-abbrev pub bound_of : Bounds → Kind → ℕ
+abbrev pub bound_of : Bounds → HeapKind → ℕ
 bound_of bound (Endpoint contract side state) = bound contract.0 side
 bound_of bound _ = 0
 
@@ -138,11 +138,11 @@ argument_tests_in blocks self variables taken (a ∷ arguments) =
     ∷ argument_tests_in blocks self variables (if a.claimed then address (read variables a.mention.variable.0) ∷ taken else taken) arguments
 
 -- the state behind the edge along which the endpoint at an address sends a message
-abbrev pub edge_out_in : ProgramSeen → List Block → (at message : ℕ) → Option ℕ
+abbrev pub edge_out_in : ProgramModel → List Block → (at message : ℕ) → Option ℕ
 edge_out_in p blocks at message = end_on (edges_out p (Some (block_at blocks at).kind) (block_at blocks at).state) message
 
 -- and behind the edge along which it receives one
-abbrev pub edge_in_in : ProgramSeen → List Block → (at message : ℕ) → Option ℕ
+abbrev pub edge_in_in : ProgramModel → List Block → (at message : ℕ) → Option ℕ
 edge_in_in p blocks at message = end_on (edges_in p (Some (block_at blocks at).kind) (block_at blocks at).state) message
 
 -- whether the endpoint at an address may take one more message, unless it is freed

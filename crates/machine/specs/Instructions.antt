@@ -1,12 +1,12 @@
 -- What each instruction of a process tests and changes.
 use Rattle.std.specs.Prelude.{ℕ, ◌+◌, ◌==◌, Bool, if◌then◌else◌, Option, Some, None, unwrap_or}
 use Rattle.std.specs.Prelude.{List, [], ◌∷◌, ◌++◌, map, length, slice_get, set}
-use Rattle.program.specs.Programs.{ProgramSeen}
+use Rattle.program.specs.Programs.{ProgramModel}
 use Rattle.program.specs.declared.call.Argument.{Argument}
 use Rattle.program.specs.declared.kind.Side.TheVariants.{Imp, Exp}
 use Rattle.program.specs.declared.statement as stated
 use Rattle.program.specs.declared.statement.Mention.{Mention}
-use Rattle.flow.specs.Cases.{EntranceSeen, case_for, first_mentions}
+use Rattle.flow.specs.Cases.{EntranceModel, case_for, first_mentions}
 use Rattle.flow.specs.Graphs.{Instruction, Use, New, Move, Delete, Exchange, NewChannel, Send, Switch, Branch, Forget, Call, Start}
 use Rattle.flow.specs.Graphs.{Return, Stop}
 use Rattle.flow.specs.declared.graph.Branches.{Branches}
@@ -26,7 +26,7 @@ abbrev pub way : Branches → ℕ → ℕ
 way (Only point) choice = point
 way (Either inside past) choice = if choice == 0 then inside else past
 
-module _ (p : ProgramSeen) (bound : Bounds) (w : World) (self : ℕ) (f : Frame) (rest : List Frame) where
+module _ (p : ProgramModel) (bound : Bounds) (w : World) (self : ℕ) (f : Frame) (rest : List Frame) where
   -- the process goes on with these frames and blocks
   abbrev pub goes : List Frame → List Block → Outcome
   goes frames blocks = Moved record { processes = set w.processes self frames; blocks = blocks }
@@ -70,24 +70,24 @@ module _ (p : ProgramSeen) (bound : Bounds) (w : World) (self : ℕ) (f : Frame)
   edge_in at message = edge_in_in p w.blocks at message
 
   -- a close comes to a case
-  abbrev pub closes_at : Option EntranceSeen → Outcome
+  abbrev pub closes_at : Option EntranceModel → Outcome
   closes_at None = Faulty F5
   closes_at (Some c) = on c.next f.variables w.blocks
 
   -- the front message comes to a case
-  abbrev pub receives_at : Option EntranceSeen → ℕ → MessageHeld → List MessageHeld → Outcome
+  abbrev pub receives_at : Option EntranceModel → ℕ → MessageHeld → List MessageHeld → Outcome
   receives_at None at m ms = Faulty F5
   receives_at (Some c) at m ms =
-      on c.next (bound_to f.variables c.bound m.payload)
+      on c.next (bound_to f.variables c.targets m.payload)
       (changed (received_block self at (unwrap_or (edge_in at m.message) (block_at w.blocks at).state) m ms) w.blocks)
 
   -- what comes at an endpoint with this queue
-  abbrev pub receives : List EntranceSeen → ℕ → ℕ → List MessageHeld → Outcome
+  abbrev pub receives : List EntranceModel → ℕ → ℕ → List MessageHeld → Outcome
   receives cases v at [] = if freed w.blocks (block_at w.blocks at).peer then closes_at (case_for cases v None) else Waits
   receives cases v at (m ∷ ms) = receives_at (case_for cases v (Some m.message)) at m ms
 
   -- what comes at the chosen endpoint
-  abbrev pub receives_from : List EntranceSeen → Option Mention → Outcome
+  abbrev pub receives_from : List EntranceModel → Option Mention → Outcome
   receives_from cases None = NoChoice
   receives_from cases (Some v) = receives cases v.variable.0 (address (has v)) (block_at w.blocks (address (has v))).queue
 

@@ -2,7 +2,7 @@
 use Rattle.std.specs.Prelude.{ℕ, List, [], ◌∷◌, Option, None}
 use Rattle.std.specs.Option.{option_map}
 use Rattle.source.specs.declared.place.Place.{Place}
-use Rattle.program.specs.Programs.{ProgramSeen}
+use Rattle.program.specs.Programs.{ProgramModel}
 use Rattle.flow.specs.Graphs.{Instruction, Use, New, Move, Delete, Exchange, NewChannel, Send, Switch, Branch, Forget, Call, Start}
 use Rattle.flow.specs.Graphs.{Return, Stop}
 use Rattle.machine.specs.Frames.{instruction_at}
@@ -26,14 +26,14 @@ place_of (Return place value scope) = place
 place_of (Stop place) = place
 
 -- the place where a frame stands
-abbrev pub frame_place : ProgramSeen → Frame → Option Place
+abbrev pub frame_place : ProgramModel → Frame → Option Place
 frame_place p f = option_map place_of (instruction_at p f)
 
 -- the place where a process with these frames stands: where its innermost frame does
-abbrev pub stack_place : ProgramSeen → List Frame → Option Place
+abbrev pub stack_place : ProgramModel → List Frame → Option Place
 stack_place p [] = None
 stack_place p (f ∷ rest) = frame_place p f
 
 -- the place where a process of a world stands
-abbrev pub process_place : ProgramSeen → World → ℕ → Option Place
+abbrev pub process_place : ProgramModel → World → ℕ → Option Place
 process_place p w q = stack_place p (stack_at w.processes q)

@@ -1,14 +1,14 @@
 -- Worlds without where they lie in memory.
 use Rattle.std.specs.Prelude.{ℕ, List, [], ◌∷◌, Option, Some, None, map, reverse}
-pub use Rattle.machine.specs.BlockViews.{held_seen, block_seen, blocks_seen}
+pub use Rattle.machine.specs.BlockViews.{held_model, block_model, blocks_model}
 use Rattle.machine.specs.Bindings.{MayTake, variables_in}
 use Rattle.machine.specs.World.{Frame, World}
 use Rattle.machine.specs.declared.variables.Variables.{Variables}
 use Rattle.machine.specs.declared.worlds as made
 
 -- what the variables of a frame have
-abbrev pub variables_seen : Variables → List (Option ℕ)
-variables_seen v = variables_in v.count v.bindings.items
+abbrev pub variables_model : Variables → List (Option ℕ)
+variables_model v = variables_in v.count v.bindings.items
 
 -- a variable may take something without more memory
 abbrev pub Takes : Variables → ℕ → Type 0
@@ -19,18 +19,18 @@ abbrev pub StillTakes : (old new : Variables) → Type 0
 StillTakes old new = (u : ℕ) → Takes old u → Takes new u
 
 -- a frame
-abbrev pub frame_seen : made.Frame.Frame → Frame
-frame_seen f = record { method = f.method.0; point = f.point; variables = variables_seen f.variables }
+abbrev pub frame_model : made.Frame.Frame → Frame
+frame_model f = record { method = f.method.0; point = f.point; variables = variables_model f.variables }
 
 -- the frames of a process: the innermost one, and those that wait, of which the innermost lies last
 abbrev pub stack_of : Option made.Frame.Frame → List made.Frame.Frame → List Frame
 stack_of None waiting = []
-stack_of (Some f) waiting = frame_seen f ∷ map frame_seen (reverse waiting)
+stack_of (Some f) waiting = frame_model f ∷ map frame_model (reverse waiting)
 
 -- a process
-abbrev pub stack_seen : made.Process.Process → List Frame
-stack_seen p = stack_of p.top p.waiting.items
+abbrev pub stack_model : made.Process.Process → List Frame
+stack_model p = stack_of p.top p.waiting.items
 
 -- a world
-abbrev pub world_seen : made.World.World → World
-world_seen w = record { processes = map stack_seen w.processes.items; blocks = blocks_seen w.heap.blocks.items }
+abbrev pub world_model : made.World.World → World
+world_model w = record { processes = map stack_model w.processes.items; blocks = blocks_model w.heap.blocks.items }

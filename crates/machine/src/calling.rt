@@ -1,15 +1,15 @@
 //! Calls.
 
 ghost use Rattle.std.specs.Prelude.{◌≡◌, IfErr, IfOk, IsSome, OnErr, OnOk, map};
-ghost use Rattle.flow.specs.Graphs.{instruction_seen};
+ghost use Rattle.flow.specs.Graphs.{instruction_model};
 ghost use Rattle.flow.specs.declared.graph.Instr.{Instr};
-ghost use Rattle.program.specs.Methods.{variable_seen};
+ghost use Rattle.program.specs.Methods.{variable_model};
 ghost use Rattle.program.specs.WellFormed as formed;
-ghost use Rattle.rules.specs.Programs.{seen_of};
+ghost use Rattle.rules.specs.Programs.{model_of};
 ghost use Rattle.machine.specs.Answers.{Tells, entered_on, on_stack, with_stack};
 ghost use Rattle.machine.specs.Frames.{entered, filled};
 ghost use Rattle.machine.specs.Outcomes.{Bounds};
-ghost use Rattle.machine.specs.Views.{blocks_seen, frame_seen, stack_seen, variables_seen};
+ghost use Rattle.machine.specs.Views.{blocks_model, frame_model, stack_model, variables_model};
 ghost use Rattle.machine.specs.World as seen;
 ghost use Rattle.machine.specs.World.{read};
 
@@ -40,8 +40,8 @@ fn fill(
     variables: &[Variable],
     arguments: &[Argument],
 ) -> Result<Variables, Refusal>
-    ensures filled { IfOk result (λ has. variables_seen has ≡ filled (map variable_seen variables.now)
-        (map (λ a. read (frame_seen frame.now).variables a.mention.variable.0) arguments.now)) }
+    ensures filled { IfOk result (λ has. variables_model has ≡ filled (map variable_model variables.now)
+        (map (λ a. read (frame_model frame.now).variables a.mention.variable.0) arguments.now)) }
     ensures memory { IfErr result (λ refusal. refusal ≡ Refusal.Memory) }
 {
     let mut has = Variables::with_capacity(alloc, arguments.len())?;
@@ -65,8 +65,8 @@ pub(crate) fn enter(
     method: MethodId,
     arguments: &[Argument],
 ) -> Result<Frame, Refusal>
-    ensures entered { IfOk result (λ begun. frame_seen begun ≡ entered (seen_of program.now) method.0
-        (map (λ a. read (frame_seen frame.now).variables a.mention.variable.0) arguments.now)) }
+    ensures entered { IfOk result (λ begun. frame_model begun ≡ entered (model_of program.now) method.0
+        (map (λ a. read (frame_model frame.now).variables a.mention.variable.0) arguments.now)) }
     ensures memory { IfErr result (λ refusal. refusal ≡ Refusal.Memory) }
 {
     let Some(called) = program.methods().get(method.0 as usize) else {
@@ -86,8 +86,8 @@ pub(crate) fn enter(
 
 /// A frame is put on top of the one that calls, which lets go what is claimed of the arguments.
 fn push_frame(stack: &mut Process, begun: Frame, arguments: &[Argument]) -> Result<(), Refusal>
-    ensures pushed { OnOk result (stack_seen stack.new ≡ entered_on (frame_seen begun) arguments.now (stack_seen stack.old)) }
-    ensures same { OnErr result (stack_seen stack.new ≡ stack_seen stack.old) }
+    ensures pushed { OnOk result (stack_model stack.new ≡ entered_on (frame_model begun) arguments.now (stack_model stack.old)) }
+    ensures same { OnErr result (stack_model stack.new ≡ stack_model stack.old) }
     ensures memory { IfErr result (λ refusal. refusal ≡ Refusal.Memory) }
 {
     stack.waiting.reserve(1)?;
@@ -110,10 +110,11 @@ pub(crate) fn call(
     calling: &Calling,
 ) -> Result<(), Refusal>
     requires top { IsSome stack.old.top }
-    ensures tells { (bound : Bounds) (w : seen.World) → w.blocks ≡ blocks_seen blocks.now →
-        Tells result (on_stack (seen_of program.now) bound w process (instruction_seen (Instr.Call calling.now)) 0 (stack_seen stack.old))
-        (with_stack w process (stack_seen stack.new) (blocks_seen blocks.now)) }
-    ensures same { OnErr result (stack_seen stack.new ≡ stack_seen stack.old) }
+    ensures tells { (bound : Bounds) (w : seen.World) → w.blocks ≡ blocks_model blocks.now →
+        Tells result (on_stack (model_of program.now) bound w process (instruction_model (Instr.Call calling.now)) 0
+        (stack_model stack.old))
+        (with_stack w process (stack_model stack.new) (blocks_model blocks.now)) }
+    ensures same { OnErr result (stack_model stack.new ≡ stack_model stack.old) }
 {
     let Some(frame) = &stack.top else {
         unreachable!()

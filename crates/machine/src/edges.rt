@@ -2,23 +2,23 @@
 
 ghost use Rattle.std.specs.Prelude.{◌≡◌, ◌<◌, ◌||◌, IfErr, IfOk, IsTrue, MatchOption, Some, false, if◌then◌else◌};
 ghost use Rattle.std.specs.Prelude.{is_some, length, true, unwrap_or, ℕ};
-ghost use Rattle.program.specs.Programs.{ProgramSeen};
+ghost use Rattle.program.specs.Programs.{ProgramModel};
 ghost use Rattle.contracts.specs.Bounds.{sign_to};
 ghost use Rattle.contracts.specs.Leaving.{sign_from};
 ghost use Rattle.rules.specs.Endpoints.{edges_in, edges_out};
-ghost use Rattle.rules.specs.Programs.{seen_of};
+ghost use Rattle.rules.specs.Programs.{model_of};
 ghost use Rattle.machine.specs.Answers.{IsRefusal, Pass};
 ghost use Rattle.machine.specs.Blocks as told;
 ghost use Rattle.machine.specs.Blocks.{edge_in_in, edge_out_in, has_room_in, send_tests_in};
 ghost use Rattle.machine.specs.Outcomes.{Bounds};
 ghost use Rattle.machine.specs.Runs.{AreBounds};
-ghost use Rattle.machine.specs.Views.{blocks_seen};
+ghost use Rattle.machine.specs.Views.{blocks_model};
 ghost use Rattle.machine.specs.World.{block_at, cut_off, freed, no_kind};
 
 use crate::halts::{Fault, Refusal};
-use crate::reading::{is_cut_off, is_freed, kind_of, peer_of, queued, state_of};
+use crate::reading::{is_cut_off, is_freed, kind_of, peer_of, queue_length, state_of};
 use crate::worlds::Block;
-use program::{ContractId, Kind, MessageId, Side, StateId};
+use program::{ContractId, HeapKind, MessageId, Side, StateId};
 use rules::Program;
 
 /// What an endpoint sends along: its address, its peer and whether that is gone, and the state behind it.
@@ -32,7 +32,7 @@ pub(crate) struct Way {
 
 /// How many messages the queue to an end of a contract may hold; none, where there is no such contract.
 fn bound_at(program: &Program, contract: ContractId, side: Side) -> u32
-    ensures { (bound : Bounds) → AreBounds (seen_of program.now) bound → result ≡ bound contract.0 side }
+    ensures { (bound : Bounds) → AreBounds (model_of program.now) bound → result ≡ bound contract.0 side }
 {
     match program.sounds().get(contract.0 as usize) {
         Some(sound) => sound.bound(side),
@@ -41,22 +41,23 @@ fn bound_at(program: &Program, contract: ContractId, side: Side) -> u32
 }
 
 /// How many messages the queue to an endpoint of this kind may hold.
-fn bound_of(program: &Program, kind: Kind) -> u32
-    ensures bound { (bound : Bounds) → AreBounds (seen_of program.now) bound → result ≡ told.bound_of bound kind }
+fn bound_of(program: &Program, kind: HeapKind) -> u32
+    ensures bound { (bound : Bounds) → AreBounds (model_of program.now) bound → result ≡ told.bound_of bound kind }
     ensures none { kind ≡ no_kind → result ≡ 0 }
 {
     match kind {
-        Kind::Endpoint { contract, side, .. } => bound_at(program, contract, side),
-        Kind::Struct(_) | Kind::Array(_) => 0,
+        HeapKind::Endpoint { contract, side, .. } => bound_at(program, contract, side),
+        HeapKind::Struct(_) | HeapKind::Array(_) => 0,
     }
 }
 
 /// Whether the queue of an endpoint may take one more message, unless it is freed.
 fn has_room(program: &Program, blocks: &[Block], to: usize) -> bool
-    ensures room { (bound : Bounds) → AreBounds (seen_of program.now) bound → result ≡ has_room_in bound (blocks_seen blocks.now) to }
-    ensures there { IsTrue result → freed (blocks_seen blocks.now) to ≡ false → to < length (blocks_seen blocks.now) }
+    ensures room { (bound : Bounds) → AreBounds (model_of program.now) bound → result ≡ has_room_in bound (blocks_model blocks.now) to }
+    ensures there { IsTrue result → freed (blocks_model blocks.now) to ≡ false → to < length (blocks_model blocks.now) }
 {
-    is_freed(blocks, to) || queued(blocks, to) < bound_of(program, kind_of(blocks, to)) as usize
+    is_freed(blocks, to)
+        || queue_length(blocks, to) < bound_of(program, kind_of(blocks, to)) as usize
 }
 
 /// The state of an endpoint behind a send of the message. None, where it sends no such message in its state; where it is cut off, the
@@ -68,17 +69,18 @@ fn state_behind(
     message: MessageId,
 ) -> Option<StateId>
     ensures { MatchOption result
-        ((cut_off (blocks_seen blocks.now) at || is_some (edge_out_in (seen_of program.now) (blocks_seen blocks.now) at message.0)) ≡ false)
-        (λ q. ((cut_off (blocks_seen blocks.now) at || is_some (edge_out_in (seen_of program.now) (blocks_seen blocks.now) at message.0))
-        ≡ true) × (q.0 ≡ (if cut_off (blocks_seen blocks.now) at then (block_at (blocks_seen blocks.now) at).state
-        else unwrap_or (edge_out_in (seen_of program.now) (blocks_seen blocks.now) at message.0)
-        (block_at (blocks_seen blocks.now) at).state))) }
+        ((cut_off (blocks_model blocks.now) at || is_some (edge_out_in (model_of program.now) (blocks_model blocks.now) at message.0))
+        ≡ false)
+        (λ q. ((cut_off (blocks_model blocks.now) at || is_some (edge_out_in (model_of program.now) (blocks_model blocks.now) at message.0))
+        ≡ true) × (q.0 ≡ (if cut_off (blocks_model blocks.now) at then (block_at (blocks_model blocks.now) at).state
+        else unwrap_or (edge_out_in (model_of program.now) (blocks_model blocks.now) at message.0)
+        (block_at (blocks_model blocks.now) at).state))) }
 {
     let state = state_of(blocks, at);
     if is_cut_off(blocks, at) {
         return Some(state);
     }
-    program.sent(Some(kind_of(blocks, at)), state.0, message)
+    program.state_after_send(Some(kind_of(blocks, at)), state.0, message)
 }
 
 /// What an endpoint sends a message along, if its state sends it and the queue to its peer may take it.
@@ -88,19 +90,19 @@ pub(crate) fn way_out(
     at: usize,
     message: MessageId,
 ) -> Result<Way, Refusal>
-    ensures pass { IfOk result (λ way. (bound : Bounds) → AreBounds (seen_of program.now) bound
-        → Pass (send_tests_in bound (blocks_seen blocks.now) at
-        (edge_out_in (seen_of program.now) (blocks_seen blocks.now) at message.0))) }
+    ensures pass { IfOk result (λ way. (bound : Bounds) → AreBounds (model_of program.now) bound
+        → Pass (send_tests_in bound (blocks_model blocks.now) at
+        (edge_out_in (model_of program.now) (blocks_model blocks.now) at message.0))) }
     ensures at { IfOk result (λ way. way.at ≡ at) }
-    ensures peer { IfOk result (λ way. way.peer ≡ (block_at (blocks_seen blocks.now) at).peer) }
-    ensures gone { IfOk result (λ way. way.gone ≡ freed (blocks_seen blocks.now) (block_at (blocks_seen blocks.now) at).peer) }
-    ensures state { IfOk result (λ way. way.state.0 ≡ (if cut_off (blocks_seen blocks.now) at then
-        (block_at (blocks_seen blocks.now) at).state
-        else unwrap_or (edge_out_in (seen_of program.now) (blocks_seen blocks.now) at message.0)
-        (block_at (blocks_seen blocks.now) at).state)) }
-    ensures there { IfOk result (λ way. way.gone ≡ false → way.peer < length (blocks_seen blocks.now)) }
-    ensures refusal { IfErr result (λ refusal. (bound : Bounds) → AreBounds (seen_of program.now) bound → IsRefusal refusal
-        (send_tests_in bound (blocks_seen blocks.now) at (edge_out_in (seen_of program.now) (blocks_seen blocks.now) at message.0))) }
+    ensures peer { IfOk result (λ way. way.peer ≡ (block_at (blocks_model blocks.now) at).peer) }
+    ensures gone { IfOk result (λ way. way.gone ≡ freed (blocks_model blocks.now) (block_at (blocks_model blocks.now) at).peer) }
+    ensures state { IfOk result (λ way. way.state.0 ≡ (if cut_off (blocks_model blocks.now) at then
+        (block_at (blocks_model blocks.now) at).state
+        else unwrap_or (edge_out_in (model_of program.now) (blocks_model blocks.now) at message.0)
+        (block_at (blocks_model blocks.now) at).state)) }
+    ensures there { IfOk result (λ way. way.gone ≡ false → way.peer < length (blocks_model blocks.now)) }
+    ensures refusal { IfErr result (λ refusal. (bound : Bounds) → AreBounds (model_of program.now) bound → IsRefusal refusal
+        (send_tests_in bound (blocks_model blocks.now) at (edge_out_in (model_of program.now) (blocks_model blocks.now) at message.0))) }
 {
     let Some(state) = state_behind(program, blocks, at, message) else {
         return Err(Refusal::Fault(Fault::F4));
@@ -128,20 +130,20 @@ fn other(side: Side) -> Side
 }
 
 /// What stands at the other end of a channel.
-fn other_end(kind: Kind) -> Kind
-    ensures { (p : ProgramSeen) (q : ℕ) → edges_out p (Some result) q ≡ edges_in p (Some kind) q }
+fn other_end(kind: HeapKind) -> HeapKind
+    ensures { (p : ProgramModel) (q : ℕ) → edges_out p (Some result) q ≡ edges_in p (Some kind) q }
 {
     match kind {
-        Kind::Endpoint {
+        HeapKind::Endpoint {
             contract,
             side,
             state,
-        } => Kind::Endpoint {
+        } => HeapKind::Endpoint {
             contract,
             side: other(side),
             state,
         },
-        Kind::Struct(_) | Kind::Array(_) => kind,
+        HeapKind::Struct(_) | HeapKind::Array(_) => kind,
     }
 }
 
@@ -152,11 +154,11 @@ pub(crate) fn state_received(
     at: usize,
     message: MessageId,
 ) -> StateId
-    ensures { result.0 ≡ unwrap_or (edge_in_in (seen_of program.now) (blocks_seen blocks.now) at message.0)
-        (block_at (blocks_seen blocks.now) at).state }
+    ensures { result.0 ≡ unwrap_or (edge_in_in (model_of program.now) (blocks_model blocks.now) at message.0)
+        (block_at (blocks_model blocks.now) at).state }
 {
     let state = state_of(blocks, at);
-    match program.sent(Some(other_end(kind_of(blocks, at))), state.0, message) {
+    match program.state_after_send(Some(other_end(kind_of(blocks, at))), state.0, message) {
         Some(next) => next,
         None => state,
     }

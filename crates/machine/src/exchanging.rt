@@ -1,13 +1,13 @@
 //! A variable and a field of a block change places.
 
 ghost use Rattle.std.specs.Prelude.{◌≡◌, ◌∷◌, [], IfSome, List, MatchOption, OnErr, Some, false, true};
-ghost use Rattle.program.specs.Programs.{ProgramSeen};
+ghost use Rattle.program.specs.Programs.{ProgramModel};
 ghost use Rattle.flow.specs.Graphs as instruction;
 ghost use Rattle.machine.specs.Answers.{Tells, on_top};
 ghost use Rattle.machine.specs.Blocks.{is_own_still};
 ghost use Rattle.machine.specs.Machine.{event_of};
 ghost use Rattle.machine.specs.Outcomes.{Bounds};
-ghost use Rattle.machine.specs.Views.{blocks_seen, frame_seen};
+ghost use Rattle.machine.specs.Views.{blocks_model, frame_model};
 ghost use Rattle.machine.specs.World as seen;
 
 use crate::halts::{Fault, Refusal};
@@ -19,8 +19,8 @@ use program::Exchange;
 /// The address, where the process has the block and it is not the one at another address.
 fn own_apart(blocks: &[Block], process: usize, at: usize, address: Option<usize>) -> Option<usize>
     ensures some { IfSome result (λ a. address ≡ Some a) }
-    ensures own { MatchOption result (is_own_still (blocks_seen blocks.now) process (at ∷ []) address ≡ false)
-        (λ a. is_own_still (blocks_seen blocks.now) process (at ∷ []) address ≡ true) }
+    ensures own { MatchOption result (is_own_still (blocks_model blocks.now) process (at ∷ []) address ≡ false)
+        (λ a. is_own_still (blocks_model blocks.now) process (at ∷ []) address ≡ true) }
 {
     let a = own(blocks, process, address)?;
     if a == at {
@@ -38,12 +38,12 @@ pub(crate) fn exchange(
     e: Exchange,
     next: usize,
 ) -> Result<(), Refusal>
-    ensures tells { (p : ProgramSeen) (bound : Bounds) (w : seen.World) (rest : List seen.Frame) →
-        w.blocks ≡ blocks_seen heap.old.blocks.items →
-        Tells result (event_of p bound w process (frame_seen frame.old) rest (instruction.Exchange e next) 0)
-        (on_top w.processes process rest (frame_seen frame.new) (blocks_seen heap.new.blocks.items)) }
-    ensures same { OnErr result (frame_seen frame.new ≡ frame_seen frame.old) }
-    ensures same_blocks { OnErr result (blocks_seen heap.new.blocks.items ≡ blocks_seen heap.old.blocks.items) }
+    ensures tells { (p : ProgramModel) (bound : Bounds) (w : seen.World) (rest : List seen.Frame) →
+        w.blocks ≡ blocks_model heap.old.blocks.items →
+        Tells result (event_of p bound w process (frame_model frame.old) rest (instruction.Exchange e next) 0)
+        (on_top w.processes process rest (frame_model frame.new) (blocks_model heap.new.blocks.items)) }
+    ensures same { OnErr result (frame_model frame.new ≡ frame_model frame.old) }
+    ensures same_blocks { OnErr result (blocks_model heap.new.blocks.items ≡ blocks_model heap.old.blocks.items) }
 {
     let Some(at) = own(heap.blocks(), process, frame.has(e.holder)) else {
         return Err(Refusal::Fault(Fault::F1));

@@ -1,7 +1,7 @@
 //! A block is freed with all that is inside it, through any number of blocks. No memory is taken, and no call is as deep as the blocks.
 
 ghost use Rattle.std.specs.Prelude.{◌≡◌, ◌<◌, IfNone, IfSome, [], length, true};
-ghost use Rattle.machine.specs.BlockViews.{blocks_seen};
+ghost use Rattle.machine.specs.BlockViews.{blocks_model};
 ghost use Rattle.machine.specs.Blocks.{freed_block, goes_with};
 ghost use Rattle.machine.specs.Freeing.{IsPopped, IsStep, freed_one};
 ghost use Rattle.machine.specs.Heaps.{IsBrought, IsCounted, IsHeld, of_process};
@@ -14,20 +14,20 @@ use std::alloc::Global;
 /// Takes the last address out of the fields of a block.
 fn pop_field(blocks: &mut Vec<Block>, x: usize) -> Option<usize>
     requires there { x < length blocks.old.items }
-    ensures some { IfSome result (IsPopped (blocks_seen blocks.old.items) (blocks_seen blocks.new.items) x) }
-    ensures none { IfNone result ((block_at (blocks_seen blocks.old.items) x).fields ≡ []) }
-    ensures same { IfNone result (blocks_seen blocks.new.items ≡ blocks_seen blocks.old.items) }
+    ensures some { IfSome result (IsPopped (blocks_model blocks.old.items) (blocks_model blocks.new.items) x) }
+    ensures none { IfNone result ((block_at (blocks_model blocks.old.items) x).fields ≡ []) }
+    ensures same { IfNone result (blocks_model blocks.new.items ≡ blocks_model blocks.old.items) }
 {
     blocks[x].fields.pop()
 }
 
 /// Frees one block, whose fields hold nothing. Its queue is emptied, and what that owned goes to the channel.
 fn free_one(alloc: Global, blocks: &mut Vec<Block>, counts: &mut Vec<usize>, x: usize)
-    requires counted { IsCounted (blocks_seen blocks.old.items) counts.old.items }
-    requires brought { IsBrought (blocks_seen blocks.old.items) }
-    requires empty { (block_at (blocks_seen blocks.old.items) x).fields ≡ [] }
-    ensures freed { blocks_seen blocks.new.items ≡ changed (freed_one x) (blocks_seen blocks.old.items) }
-    ensures counted { IsCounted (blocks_seen blocks.new.items) counts.new.items }
+    requires counted { IsCounted (blocks_model blocks.old.items) counts.old.items }
+    requires brought { IsBrought (blocks_model blocks.old.items) }
+    requires empty { (block_at (blocks_model blocks.old.items) x).fields ≡ [] }
+    ensures freed { blocks_model blocks.new.items ≡ changed (freed_one x) (blocks_model blocks.old.items) }
+    ensures counted { IsCounted (blocks_model blocks.new.items) counts.new.items }
 {
     let queue = take_queue(alloc, blocks, x);
     lose(blocks, counts, &queue);
@@ -43,10 +43,10 @@ fn free_step(
     x: usize,
 ) -> Option<usize>
     requires there { x < length blocks.old.items }
-    requires counted { IsCounted (blocks_seen blocks.old.items) counts.old.items }
-    requires brought { IsBrought (blocks_seen blocks.old.items) }
-    ensures steps { IsStep (blocks_seen blocks.old.items) (blocks_seen blocks.new.items) x result }
-    ensures counted { IsCounted (blocks_seen blocks.new.items) counts.new.items }
+    requires counted { IsCounted (blocks_model blocks.old.items) counts.old.items }
+    requires brought { IsBrought (blocks_model blocks.old.items) }
+    ensures steps { IsStep (blocks_model blocks.old.items) (blocks_model blocks.new.items) x result }
+    ensures counted { IsCounted (blocks_model blocks.new.items) counts.new.items }
 {
     if let Some(inner) = pop_field(blocks, x) {
         return Some(inner);
@@ -61,14 +61,14 @@ fn free_step(
 
 /// Frees a block of a process and all that is inside it.
 pub(crate) fn free(alloc: Global, blocks: &mut Vec<Block>, counts: &mut Vec<usize>, a: usize)
-    requires counted { IsCounted (blocks_seen blocks.old.items) counts.old.items }
-    requires brought { IsBrought (blocks_seen blocks.old.items) }
-    requires held { IsHeld (blocks_seen blocks.old.items) }
-    requires owned { of_process (block_at (blocks_seen blocks.old.items) a).owner ≡ true }
-    ensures freed { blocks_seen blocks.new.items
-        ≡ changed (freed_block (goes_with (blocks_seen blocks.old.items) a)) (blocks_seen blocks.old.items) }
-    ensures counted { IsCounted (blocks_seen blocks.new.items) counts.new.items }
-    ensures brought { IsBrought (blocks_seen blocks.new.items) }
+    requires counted { IsCounted (blocks_model blocks.old.items) counts.old.items }
+    requires brought { IsBrought (blocks_model blocks.old.items) }
+    requires held { IsHeld (blocks_model blocks.old.items) }
+    requires owned { of_process (block_at (blocks_model blocks.old.items) a).owner ≡ true }
+    ensures freed { blocks_model blocks.new.items
+        ≡ changed (freed_block (goes_with (blocks_model blocks.old.items) a)) (blocks_model blocks.old.items) }
+    ensures counted { IsCounted (blocks_model blocks.new.items) counts.new.items }
+    ensures brought { IsBrought (blocks_model blocks.new.items) }
 {
     let mut at = Some(a);
     'way: while let Some(x) = at {

@@ -6,7 +6,7 @@ ghost use Rattle.rules.specs.Checks.{AreIn};
 ghost use Rattle.machine.specs.Answers.{IsFirstFault, claimed_in};
 ghost use Rattle.machine.specs.Blocks.{argument_tests_in, is_own_still};
 ghost use Rattle.machine.specs.Frames as told;
-ghost use Rattle.machine.specs.Views.{blocks_seen, frame_seen};
+ghost use Rattle.machine.specs.Views.{blocks_model, frame_model};
 ghost use Rattle.machine.specs.World.{read};
 ghost use Rattle.machine.specs.declared.halts.Fault.TheVariants.{F1, F3};
 
@@ -37,8 +37,8 @@ fn own_still(
 ) -> Option<usize>
     ensures some { IfSome result (λ a. address ≡ Some a) }
     ensures own { (listed : List ℕ) → AreIn listed taken.now → MatchOption result
-        (is_own_still (blocks_seen blocks.now) process listed address ≡ false)
-        (λ a. is_own_still (blocks_seen blocks.now) process listed address ≡ true) }
+        (is_own_still (blocks_model blocks.now) process listed address ≡ false)
+        (λ a. is_own_still (blocks_model blocks.now) process listed address ≡ true) }
 {
     let a = own(blocks, process, address)?;
     if taken.contains(&a) {
@@ -68,7 +68,7 @@ fn first_fault_by_set(
     arguments: &[Argument],
 ) -> Result<Option<Fault>, Refusal>
     ensures { IfOk result (λ first. IsFirstFault first
-        (argument_tests_in (blocks_seen blocks.now) process (frame_seen frame.now).variables [] arguments.now)) }
+        (argument_tests_in (blocks_model blocks.now) process (frame_model frame.now).variables [] arguments.now)) }
 {
     let mut taken = BTreeSet::new(alloc);
     for argument in arguments {
@@ -83,7 +83,7 @@ fn first_fault_by_set(
 
 /// Whether one of these arguments claims the block at an address.
 fn is_claimed(frame: &Frame, arguments: &[Argument], a: usize) -> bool
-    ensures { result ≡ is_among (claimed_in (frame_seen frame.now).variables [] arguments.now) a }
+    ensures { result ≡ is_among (claimed_in (frame_model frame.now).variables [] arguments.now) a }
 {
     for argument in arguments {
         if argument.claimed && frame.address(argument.mention) == a {
@@ -101,8 +101,8 @@ fn is_unclaimed(
     before: &[Argument],
     v: Mention,
 ) -> bool
-    ensures { result ≡ is_own_still (blocks_seen blocks.now) process
-        (claimed_in (frame_seen frame.now).variables [] before.now) (read (frame_seen frame.now).variables v.variable.0) }
+    ensures { result ≡ is_own_still (blocks_model blocks.now) process
+        (claimed_in (frame_model frame.now).variables [] before.now) (read (frame_model frame.now).variables v.variable.0) }
 {
     match own(blocks, process, frame.has(v)) {
         Some(a) => !is_claimed(frame, before, a),
@@ -118,7 +118,7 @@ fn first_fault_by_scan(
     arguments: &[Argument],
 ) -> Option<Fault>
     ensures { IsFirstFault result
-        (argument_tests_in (blocks_seen blocks.now) process (frame_seen frame.now).variables [] arguments.now) }
+        (argument_tests_in (blocks_model blocks.now) process (frame_model frame.now).variables [] arguments.now) }
 {
     for (number, argument) in arguments.iter().enumerate() {
         if !is_unclaimed(
@@ -146,7 +146,7 @@ pub(crate) fn first_fault(
     arguments: &[Argument],
 ) -> Option<Fault>
     ensures { IsFirstFault result
-        (argument_tests_in (blocks_seen blocks.now) process (frame_seen frame.now).variables [] arguments.now) }
+        (argument_tests_in (blocks_model blocks.now) process (frame_model frame.now).variables [] arguments.now) }
 {
     match first_fault_by_set(alloc, frame, blocks, process, arguments) {
         Ok(first) => first,
@@ -160,7 +160,7 @@ pub(crate) fn addresses(
     frame: &Frame,
     arguments: &[Argument],
 ) -> Result<Vec<usize>, Refusal>
-    ensures value { IfOk result (λ given. given.items ≡ told.addresses (frame_seen frame.now).variables arguments.now) }
+    ensures value { IfOk result (λ given. given.items ≡ told.addresses (frame_model frame.now).variables arguments.now) }
     ensures memory { IfErr result (λ refusal. refusal ≡ Refusal.Memory) }
 {
     let mut given = Vec::new(alloc);

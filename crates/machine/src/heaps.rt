@@ -2,7 +2,7 @@
 
 ghost use Rattle.std.specs.Prelude.{◌≡◌, ◌≢◌, ◌<◌, ◌++◌, ◌∷◌, [], IfErr, IfNone, IfSome, IsFalse, IsTrue, List, OnErr, OnOk};
 ghost use Rattle.std.specs.Prelude.{false, length, slice_get, true};
-ghost use Rattle.machine.specs.BlockViews.{block_seen, blocks_seen};
+ghost use Rattle.machine.specs.BlockViews.{block_model, blocks_model};
 ghost use Rattle.machine.specs.Blocks.{exchanged_block, freed_block, goes_with, handed, new_block, owns_none, received_block, sent_block};
 ghost use Rattle.machine.specs.Heaps.{AreOnce, AreOwned, AreOwnedBy, IsHeap, of_process};
 ghost use Rattle.machine.specs.Once.{heap_once};
@@ -14,7 +14,7 @@ use crate::freeing::free;
 use crate::halts::Refusal;
 use crate::reading::field_of;
 use crate::worlds::{Block, Held, Owner};
-use program::{Kind, MessageId, StateId};
+use program::{HeapKind, MessageId, StateId};
 use std::alloc::Global;
 use std::collections::VecDeque;
 
@@ -23,13 +23,13 @@ use std::collections::VecDeque;
 pub(crate) struct Heap {
     blocks: Vec<Block>,
     counts: Vec<usize>,
-    ghost kept: { IsHeap (blocks_seen blocks.items) counts.items } by { heap_once _ _ },
+    ghost kept: { IsHeap (blocks_model blocks.items) counts.items } by { heap_once _ _ },
 }
 
 impl Heap {
     /// A heap of no block.
     pub(crate) fn new(alloc: Global) -> Heap
-        ensures { blocks_seen result.blocks.items ≡ [] }
+        ensures { blocks_model result.blocks.items ≡ [] }
     {
         Heap {
             blocks: Vec::new(alloc),
@@ -46,14 +46,14 @@ impl Heap {
 
     /// Whether a process owns nothing.
     pub(crate) fn owns_none(&self, process: usize) -> bool
-        ensures { result ≡ owns_none (blocks_seen self.now.blocks.items) process }
+        ensures { result ≡ owns_none (blocks_model self.now.blocks.items) process }
     {
         process >= self.counts.len() || self.counts[process] == 0
     }
 
     /// There is a count for a process from now on. It is asked for before the process is first given a block.
     pub(crate) fn list(&mut self, process: usize) -> Result<(), Refusal>
-        ensures same { blocks_seen self.new.blocks.items ≡ blocks_seen self.old.blocks.items }
+        ensures same { blocks_model self.new.blocks.items ≡ blocks_model self.old.blocks.items }
         ensures listed { OnOk result (process < length self.new.counts.items) }
         ensures memory { IfErr result (λ refusal. refusal ≡ Refusal.Memory) }
     {
@@ -68,15 +68,15 @@ impl Heap {
         &mut self,
         alloc: Global,
         process: usize,
-        kind: Kind,
+        kind: HeapKind,
         given: &[usize],
     ) -> Result<(), Refusal>
-        requires owned { AreOwnedBy (blocks_seen self.old.blocks.items) process given.now }
+        requires owned { AreOwnedBy (blocks_model self.old.blocks.items) process given.now }
         requires once { AreOnce given.now }
-        ensures added { OnOk result (blocks_seen self.new.blocks.items
-            ≡ changed (handed (Owner.Inside (length (blocks_seen self.old.blocks.items))) given.now) (blocks_seen self.old.blocks.items)
+        ensures added { OnOk result (blocks_model self.new.blocks.items
+            ≡ changed (handed (Owner.Inside (length (blocks_model self.old.blocks.items))) given.now) (blocks_model self.old.blocks.items)
             ++ new_block kind process 0 0 given.now ∷ []) }
-        ensures same { OnErr result (blocks_seen self.new.blocks.items ≡ blocks_seen self.old.blocks.items) }
+        ensures same { OnErr result (blocks_model self.new.blocks.items ≡ blocks_model self.old.blocks.items) }
         ensures memory { IfErr result (λ refusal. refusal ≡ Refusal.Memory) }
     {
         let address = self.blocks.len();
@@ -101,8 +101,8 @@ impl Heap {
         requires owner { block.owner ≡ Owner.Process process }
         requires empty { block.queue.items ≡ [] }
         requires holds_none { block.fields.items ≡ [] }
-        ensures added { OnOk result (blocks_seen self.new.blocks.items ≡ blocks_seen self.old.blocks.items ++ block_seen block ∷ []) }
-        ensures same { OnErr result (blocks_seen self.new.blocks.items ≡ blocks_seen self.old.blocks.items) }
+        ensures added { OnOk result (blocks_model self.new.blocks.items ≡ blocks_model self.old.blocks.items ++ block_model block ∷ []) }
+        ensures same { OnErr result (blocks_model self.new.blocks.items ≡ blocks_model self.old.blocks.items) }
         ensures memory { IfErr result (λ refusal. refusal ≡ Refusal.Memory) }
     {
         self.list(process)?;
@@ -124,9 +124,9 @@ impl Heap {
         requires empty_too { second.queue.items ≡ [] }
         requires holds_none { first.fields.items ≡ [] }
         requires holds_none_too { second.fields.items ≡ [] }
-        ensures added { OnOk result (blocks_seen self.new.blocks.items
-            ≡ blocks_seen self.old.blocks.items ++ block_seen first ∷ block_seen second ∷ []) }
-        ensures same { OnErr result (blocks_seen self.new.blocks.items ≡ blocks_seen self.old.blocks.items) }
+        ensures added { OnOk result (blocks_model self.new.blocks.items
+            ≡ blocks_model self.old.blocks.items ++ block_model first ∷ block_model second ∷ []) }
+        ensures same { OnErr result (blocks_model self.new.blocks.items ≡ blocks_model self.old.blocks.items) }
         ensures memory { IfErr result (λ refusal. refusal ≡ Refusal.Memory) }
     {
         self.list(process)?;
@@ -141,9 +141,9 @@ impl Heap {
     /// Frees a block of a process and all that is inside it. The queues of what is freed are emptied, and what they owned goes to the
     /// channel.
     pub(crate) fn free(&mut self, alloc: Global, a: usize)
-        requires owned { of_process (block_at (blocks_seen self.old.blocks.items) a).owner ≡ true }
-        ensures { blocks_seen self.new.blocks.items
-            ≡ changed (freed_block (goes_with (blocks_seen self.old.blocks.items) a)) (blocks_seen self.old.blocks.items) }
+        requires owned { of_process (block_at (blocks_model self.old.blocks.items) a).owner ≡ true }
+        ensures { blocks_model self.new.blocks.items
+            ≡ changed (freed_block (goes_with (blocks_model self.old.blocks.items) a)) (blocks_model self.old.blocks.items) }
     {
         free(alloc, &mut self.blocks, &mut self.counts, a);
     }
@@ -157,13 +157,13 @@ impl Heap {
         field: usize,
         given: usize,
     ) -> Option<usize>
-        requires holder { owns (blocks_seen self.old.blocks.items) process at ≡ true }
-        requires given { owns (blocks_seen self.old.blocks.items) process given ≡ true }
+        requires holder { owns (blocks_model self.old.blocks.items) process at ≡ true }
+        requires given { owns (blocks_model self.old.blocks.items) process given ≡ true }
         requires apart { given ≢ at }
-        ensures held { result ≡ slice_get (block_at (blocks_seen self.old.blocks.items) at).fields field }
-        ensures exchanged { IfSome result (λ held. blocks_seen self.new.blocks.items
-            ≡ changed (exchanged_block process at field given held) (blocks_seen self.old.blocks.items)) }
-        ensures same { IfNone result (blocks_seen self.new.blocks.items ≡ blocks_seen self.old.blocks.items) }
+        ensures held { result ≡ slice_get (block_at (blocks_model self.old.blocks.items) at).fields field }
+        ensures exchanged { IfSome result (λ held. blocks_model self.new.blocks.items
+            ≡ changed (exchanged_block process at field given held) (blocks_model self.old.blocks.items)) }
+        ensures same { IfNone result (blocks_model self.new.blocks.items ≡ blocks_model self.old.blocks.items) }
     {
         let held = field_of(&self.blocks, at, field)?;
         set_field(&mut self.blocks, at, field, given);
@@ -176,10 +176,10 @@ impl Heap {
 
     /// What processes have goes to a process.
     pub(crate) fn hand_over(&mut self, given: &[usize], process: usize)
-        requires owned { AreOwned (blocks_seen self.old.blocks.items) given.now }
+        requires owned { AreOwned (blocks_model self.old.blocks.items) given.now }
         requires listed { process < length self.old.counts.items }
-        ensures { blocks_seen self.new.blocks.items
-            ≡ changed (handed (Owner.Process process) given.now) (blocks_seen self.old.blocks.items) }
+        ensures { blocks_model self.new.blocks.items
+            ≡ changed (handed (Owner.Process process) given.now) (blocks_model self.old.blocks.items) }
     {
         hand(
             &mut self.blocks,
@@ -198,13 +198,13 @@ impl Heap {
         message: MessageId,
         given: &[usize],
     ) -> bool
-        requires owned { AreOwned (blocks_seen self.old.blocks.items) given.now }
+        requires owned { AreOwned (blocks_model self.old.blocks.items) given.now }
         requires once { AreOnce given.now }
-        requires there { way.gone ≡ false → way.peer < length (blocks_seen self.old.blocks.items) }
-        ensures done { IsTrue result → blocks_seen self.new.blocks.items
+        requires there { way.gone ≡ false → way.peer < length (blocks_model self.old.blocks.items) }
+        ensures done { IsTrue result → blocks_model self.new.blocks.items
             ≡ changed (sent_block way.at way.state.0 way.peer way.gone record { message = message.0; payload = given.now })
-            (blocks_seen self.old.blocks.items) }
-        ensures same { IsFalse result → blocks_seen self.new.blocks.items ≡ blocks_seen self.old.blocks.items }
+            (blocks_model self.old.blocks.items) }
+        ensures same { IsFalse result → blocks_model self.new.blocks.items ≡ blocks_model self.old.blocks.items }
     {
         if way.gone {
             hand(&mut self.blocks, &mut self.counts, given, Owner::Channel);
@@ -225,12 +225,12 @@ impl Heap {
 
     /// The endpoint of a process receives the front of its queue, and is in a state then. What the message brings is answered.
     pub(crate) fn receive(&mut self, at: usize, state: StateId, process: usize) -> Vec<usize>
-        requires owned { owns (blocks_seen self.old.blocks.items) process at ≡ true }
-        requires some { 0 < length (block_at (blocks_seen self.old.blocks.items) at).queue }
-        ensures brings { (m : MessageHeld) (ms : List MessageHeld) → (block_at (blocks_seen self.old.blocks.items) at).queue ≡ m ∷ ms →
+        requires owned { owns (blocks_model self.old.blocks.items) process at ≡ true }
+        requires some { 0 < length (block_at (blocks_model self.old.blocks.items) at).queue }
+        ensures brings { (m : MessageHeld) (ms : List MessageHeld) → (block_at (blocks_model self.old.blocks.items) at).queue ≡ m ∷ ms →
             result.items ≡ m.payload }
-        ensures received { (m : MessageHeld) (ms : List MessageHeld) → (block_at (blocks_seen self.old.blocks.items) at).queue ≡ m ∷ ms →
-            blocks_seen self.new.blocks.items ≡ changed (received_block process at state.0 m ms) (blocks_seen self.old.blocks.items) }
+        ensures received { (m : MessageHeld) (ms : List MessageHeld) → (block_at (blocks_model self.old.blocks.items) at).queue ≡ m ∷ ms →
+            blocks_model self.new.blocks.items ≡ changed (received_block process at state.0 m ms) (blocks_model self.old.blocks.items) }
     {
         let Some(Held { payload, .. }) = take_front(&mut self.blocks, at) else {
             unreachable!()

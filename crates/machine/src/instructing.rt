@@ -1,14 +1,14 @@
 //! One instruction of a process.
 
 ghost use Rattle.std.specs.Prelude.{◌≡◌, ◌<◌, IsSome, List, OnErr, get_or, length, true};
-ghost use Rattle.flow.specs.Graphs.{instruction_seen};
-ghost use Rattle.rules.specs.Programs.{seen_of};
+ghost use Rattle.flow.specs.Graphs.{instruction_model};
+ghost use Rattle.rules.specs.Programs.{model_of};
 ghost use Rattle.machine.specs.Answers.{Tells, is_of_channel, is_of_frame, is_of_heap, is_of_process, on_stack, on_top, with_stack};
 ghost use Rattle.machine.specs.Frames as told;
 ghost use Rattle.machine.specs.Machine.{event_of};
 ghost use Rattle.machine.specs.Outcomes.{Bounds};
 ghost use Rattle.machine.specs.Runs.{AreBounds};
-ghost use Rattle.machine.specs.Views.{blocks_seen, frame_seen, stack_seen, world_seen};
+ghost use Rattle.machine.specs.Views.{blocks_model, frame_model, stack_model, world_model};
 ghost use Rattle.machine.specs.World as seen;
 ghost use Rattle.machine.specs.World.{stack_at};
 ghost use Rattle.machine.specs.declared.worlds.Process.{Process};
@@ -30,7 +30,7 @@ use std::alloc::Global;
 
 /// How many choices there are at an instruction.
 pub(crate) fn choices(instr: &Instr) -> usize
-    ensures { result ≡ told.choices (instruction_seen instr.now) }
+    ensures { result ≡ told.choices (instruction_model instr.now) }
 {
     match instr {
         Instr::Switch { cases, .. } => cases.endpoints().len(),
@@ -58,14 +58,14 @@ fn on_heap(
     chosen: Chosen,
     instr: &Instr,
 ) -> Result<(), Refusal>
-    requires of { is_of_heap (instruction_seen instr.now) ≡ true }
-    ensures tells { (bound : Bounds) (w : seen.World) (rest : List seen.Frame) → AreBounds (seen_of program.now) bound →
-        w.blocks ≡ blocks_seen heap.old.blocks.items →
-        Tells result (event_of (seen_of program.now) bound w chosen.process (frame_seen frame.old) rest (instruction_seen instr.now)
+    requires of { is_of_heap (instruction_model instr.now) ≡ true }
+    ensures tells { (bound : Bounds) (w : seen.World) (rest : List seen.Frame) → AreBounds (model_of program.now) bound →
+        w.blocks ≡ blocks_model heap.old.blocks.items →
+        Tells result (event_of (model_of program.now) bound w chosen.process (frame_model frame.old) rest (instruction_model instr.now)
         chosen.choice)
-        (on_top w.processes chosen.process rest (frame_seen frame.new) (blocks_seen heap.new.blocks.items)) }
-    ensures same { OnErr result (frame_seen frame.new ≡ frame_seen frame.old) }
-    ensures same_blocks { OnErr result (blocks_seen heap.new.blocks.items ≡ blocks_seen heap.old.blocks.items) }
+        (on_top w.processes chosen.process rest (frame_model frame.new) (blocks_model heap.new.blocks.items)) }
+    ensures same { OnErr result (frame_model frame.new ≡ frame_model frame.old) }
+    ensures same_blocks { OnErr result (blocks_model heap.new.blocks.items ≡ blocks_model heap.old.blocks.items) }
 {
     let process = chosen.process;
     match instr {
@@ -106,15 +106,15 @@ fn on_channel(
     chosen: Chosen,
     instr: &Instr,
 ) -> Result<(), Refusal>
-    requires of { is_of_channel (instruction_seen instr.now) ≡ true }
-    requires there { chosen.choice < told.choices (instruction_seen instr.now) }
-    ensures tells { (bound : Bounds) (w : seen.World) (rest : List seen.Frame) → AreBounds (seen_of program.now) bound →
-        w.blocks ≡ blocks_seen heap.old.blocks.items →
-        Tells result (event_of (seen_of program.now) bound w chosen.process (frame_seen frame.old) rest (instruction_seen instr.now)
+    requires of { is_of_channel (instruction_model instr.now) ≡ true }
+    requires there { chosen.choice < told.choices (instruction_model instr.now) }
+    ensures tells { (bound : Bounds) (w : seen.World) (rest : List seen.Frame) → AreBounds (model_of program.now) bound →
+        w.blocks ≡ blocks_model heap.old.blocks.items →
+        Tells result (event_of (model_of program.now) bound w chosen.process (frame_model frame.old) rest (instruction_model instr.now)
         chosen.choice)
-        (on_top w.processes chosen.process rest (frame_seen frame.new) (blocks_seen heap.new.blocks.items)) }
-    ensures same { OnErr result (frame_seen frame.new ≡ frame_seen frame.old) }
-    ensures same_blocks { OnErr result (blocks_seen heap.new.blocks.items ≡ blocks_seen heap.old.blocks.items) }
+        (on_top w.processes chosen.process rest (frame_model frame.new) (blocks_model heap.new.blocks.items)) }
+    ensures same { OnErr result (frame_model frame.new ≡ frame_model frame.old) }
+    ensures same_blocks { OnErr result (blocks_model heap.new.blocks.items ≡ blocks_model heap.old.blocks.items) }
 {
     let process = chosen.process;
     match instr {
@@ -133,15 +133,15 @@ fn on_frame(
     chosen: Chosen,
     instr: &Instr,
 ) -> Result<(), Refusal>
-    requires of { is_of_frame (instruction_seen instr.now) ≡ true }
-    requires there { chosen.choice < told.choices (instruction_seen instr.now) }
-    ensures tells { (bound : Bounds) (w : seen.World) (rest : List seen.Frame) → AreBounds (seen_of program.now) bound →
-        w.blocks ≡ blocks_seen heap.old.blocks.items →
-        Tells result (event_of (seen_of program.now) bound w chosen.process (frame_seen frame.old) rest (instruction_seen instr.now)
+    requires of { is_of_frame (instruction_model instr.now) ≡ true }
+    requires there { chosen.choice < told.choices (instruction_model instr.now) }
+    ensures tells { (bound : Bounds) (w : seen.World) (rest : List seen.Frame) → AreBounds (model_of program.now) bound →
+        w.blocks ≡ blocks_model heap.old.blocks.items →
+        Tells result (event_of (model_of program.now) bound w chosen.process (frame_model frame.old) rest (instruction_model instr.now)
         chosen.choice)
-        (on_top w.processes chosen.process rest (frame_seen frame.new) (blocks_seen heap.new.blocks.items)) }
-    ensures same { OnErr result (frame_seen frame.new ≡ frame_seen frame.old) }
-    ensures same_blocks { OnErr result (blocks_seen heap.new.blocks.items ≡ blocks_seen heap.old.blocks.items) }
+        (on_top w.processes chosen.process rest (frame_model frame.new) (blocks_model heap.new.blocks.items)) }
+    ensures same { OnErr result (frame_model frame.new ≡ frame_model frame.old) }
+    ensures same_blocks { OnErr result (blocks_model heap.new.blocks.items ≡ blocks_model heap.old.blocks.items) }
 {
     let process = chosen.process;
     match instr {
@@ -175,16 +175,16 @@ fn on_stack(
     chosen: Chosen,
     instr: &Instr,
 ) -> Result<(), Refusal>
-    requires of { is_of_process (instruction_seen instr.now) ≡ true }
-    requires there { chosen.choice < told.choices (instruction_seen instr.now) }
+    requires of { is_of_process (instruction_model instr.now) ≡ true }
+    requires there { chosen.choice < told.choices (instruction_model instr.now) }
     requires top { IsSome stack.old.top }
-    ensures tells { (bound : Bounds) (w : seen.World) → AreBounds (seen_of program.now) bound →
-        w.blocks ≡ blocks_seen heap.old.blocks.items →
-        Tells result (on_stack (seen_of program.now) bound w chosen.process (instruction_seen instr.now) chosen.choice
-        (stack_seen stack.old))
-        (with_stack w chosen.process (stack_seen stack.new) (blocks_seen heap.new.blocks.items)) }
-    ensures same { OnErr result (stack_seen stack.new ≡ stack_seen stack.old) }
-    ensures same_blocks { OnErr result (blocks_seen heap.new.blocks.items ≡ blocks_seen heap.old.blocks.items) }
+    ensures tells { (bound : Bounds) (w : seen.World) → AreBounds (model_of program.now) bound →
+        w.blocks ≡ blocks_model heap.old.blocks.items →
+        Tells result (on_stack (model_of program.now) bound w chosen.process (instruction_model instr.now) chosen.choice
+        (stack_model stack.old))
+        (with_stack w chosen.process (stack_model stack.new) (blocks_model heap.new.blocks.items)) }
+    ensures same { OnErr result (stack_model stack.new ≡ stack_model stack.old) }
+    ensures same_blocks { OnErr result (blocks_model heap.new.blocks.items ≡ blocks_model heap.old.blocks.items) }
 {
     match instr {
         Instr::Call(calling) => call(
@@ -216,13 +216,13 @@ impl World {
         instr: &Instr,
     ) -> Result<(), Refusal>
         requires there { chosen.process < length self.old.processes.items }
-        requires choice { chosen.choice < told.choices (instruction_seen instr.now) }
+        requires choice { chosen.choice < told.choices (instruction_model instr.now) }
         requires top { (d : Process) → IsSome (get_or self.old.processes.items chosen.process d).top }
-        ensures tells { (bound : Bounds) → AreBounds (seen_of program.now) bound →
-            Tells result (on_stack (seen_of program.now) bound (world_seen self.old) chosen.process (instruction_seen instr.now)
-            chosen.choice (stack_at (world_seen self.old).processes chosen.process))
-            (world_seen self.new) }
-        ensures same { OnErr result (world_seen self.new ≡ world_seen self.old) }
+        ensures tells { (bound : Bounds) → AreBounds (model_of program.now) bound →
+            Tells result (on_stack (model_of program.now) bound (world_model self.old) chosen.process (instruction_model instr.now)
+            chosen.choice (stack_at (world_model self.old).processes chosen.process))
+            (world_model self.new) }
+        ensures same { OnErr result (world_model self.new ≡ world_model self.old) }
     {
         match instr {
             Instr::Start(starting) => start(alloc, program, self, chosen.process, starting),

@@ -1,24 +1,24 @@
 //! Laws of replays, and of blocks inside blocks.
 
 ghost use Rattle.std.specs.Prelude.{◌≡◌, Bool, List, ℕ};
-ghost use Rattle.program.specs.Programs.{ProgramSeen};
+ghost use Rattle.program.specs.Programs.{ProgramModel};
 ghost use Rattle.machine.specs.Blocks.{goes_with};
 ghost use Rattle.machine.specs.Heaps.{AreAllInside, IsHeld};
 ghost use Rattle.machine.specs.Outcomes.{Bounds};
-ghost use Rattle.machine.specs.Replays.{IsReplay, ReplaySeen};
+ghost use Rattle.machine.specs.Replays.{IsReplay, ReplayModel};
 ghost use Rattle.machine.specs.World.{Block};
 ghost use Rattle.machine.specs.declared.halts.Event.{Event};
 
 /// Of one program, one method and one list of events there is one replay: two have the same steps, the same end and the same world.
 pub fn one_replay()
-    ensures { (p : ProgramSeen) (bound : Bounds) (m : ℕ) (events : List Event) (r s : ReplaySeen) →
+    ensures { (p : ProgramModel) (bound : Bounds) (m : ℕ) (events : List Event) (r s : ReplayModel) →
         IsReplay p bound m events r → IsReplay p bound m events s → r ≡ s }
 {}
 
 /// Events have a replay, whatever program, method and bounds there are.
 pub fn events_have_a_replay()
-    ensures { (p : ProgramSeen) (bound : Bounds) (m : ℕ) (events : List Event) →
-        ((r : ReplaySeen) → ¬ IsReplay p bound m events r) → ⊥ }
+    ensures { (p : ProgramModel) (bound : Bounds) (m : ℕ) (events : List Event) →
+        ((r : ReplayModel) → ¬ IsReplay p bound m events r) → ⊥ }
 {}
 
 /// In each world, what goes with a block is that block and all that is inside it, through any number of blocks. Nothing else is that.

@@ -1,41 +1,41 @@
 //! The variables of a frame, as instructions mention them.
 
 ghost use Rattle.std.specs.Prelude.{◌≡◌, ◌∷◌, [], IfErr, OnErr, OnOk, Some, set, ℕ};
-ghost use Rattle.program.specs.Methods.{method_seen};
+ghost use Rattle.program.specs.Methods.{method_model};
 ghost use Rattle.program.specs.Scopes.{outer_of};
-ghost use Rattle.rules.specs.Programs.{seen_of};
+ghost use Rattle.rules.specs.Programs.{model_of};
 ghost use Rattle.rules.specs.Scopes.{declared_between, is_this};
 ghost use Rattle.machine.specs.Answers.{with_variables};
 ghost use Rattle.machine.specs.Bindings.{AllMayTake};
 ghost use Rattle.machine.specs.Frames.{address, bound_to, forgotten, kind_at, variables_of};
 ghost use Rattle.machine.specs.Frames as told;
-ghost use Rattle.machine.specs.Views.{StillTakes, Takes, frame_seen, variables_seen};
+ghost use Rattle.machine.specs.Views.{StillTakes, Takes, frame_model, variables_model};
 ghost use Rattle.machine.specs.World.{let_go, read};
 
 use crate::halts::Refusal;
 use crate::variables::Variables;
 use crate::worlds::Frame;
-use program::{Argument, Kind, Mention, Method, MethodId, StructId, VarId};
+use program::{Argument, HeapKind, Mention, Method, MethodId, StructId, VarId};
 use rules::Program;
 
 impl Frame {
     /// What a variable has.
     pub(crate) fn has(&self, v: Mention) -> Option<usize>
-        ensures { result ≡ read (frame_seen self.now).variables v.variable.0 }
+        ensures { result ≡ read (frame_model self.now).variables v.variable.0 }
     {
         self.variables.has(v.variable)
     }
 
     /// The address in a variable; 0 where there is none, which a test has ruled out.
     pub(crate) fn address(&self, v: Mention) -> usize
-        ensures { result ≡ address (read (frame_seen self.now).variables v.variable.0) }
+        ensures { result ≡ address (read (frame_model self.now).variables v.variable.0) }
     {
         self.has(v).unwrap_or(0)
     }
 
     /// Takes the memory that is needed to give a variable something. What it has stays.
     pub(crate) fn list(&mut self, v: Mention) -> Result<(), Refusal>
-        ensures same { frame_seen self.new ≡ frame_seen self.old }
+        ensures same { frame_model self.new ≡ frame_model self.old }
         ensures takes { OnOk result (Takes self.new.variables v.variable.0) }
         ensures still { StillTakes self.old.variables self.new.variables }
         ensures memory { IfErr result (λ refusal. refusal ≡ Refusal.Memory) }
@@ -47,7 +47,7 @@ impl Frame {
     /// Replaces what a variable has. It takes no memory, so `list` comes before it if the variable is given something.
     pub(crate) fn put(&mut self, v: Mention, x: Option<usize>)
         requires takes { (a : ℕ) → x ≡ Some a → Takes self.old.variables v.variable.0 }
-        ensures put { frame_seen self.new ≡ with_variables (frame_seen self.old) (set (frame_seen self.old).variables v.variable.0 x) }
+        ensures put { frame_model self.new ≡ with_variables (frame_model self.old) (set (frame_model self.old).variables v.variable.0 x) }
         ensures still { StillTakes self.old.variables self.new.variables }
     {
         self.variables.put(v.variable, x);
@@ -55,9 +55,9 @@ impl Frame {
 
     /// Replaces what a variable has, if there is such a variable. It takes the memory for that first.
     pub(crate) fn take(&mut self, target: Option<Mention>, x: Option<usize>) -> Result<(), Refusal>
-        ensures taken { OnOk result (frame_seen self.new
-            ≡ with_variables (frame_seen self.old) (told.put (frame_seen self.old).variables target x)) }
-        ensures same { OnErr result (frame_seen self.new ≡ frame_seen self.old) }
+        ensures taken { OnOk result (frame_model self.new
+            ≡ with_variables (frame_model self.old) (told.put (frame_model self.old).variables target x)) }
+        ensures same { OnErr result (frame_model self.new ≡ frame_model self.old) }
         ensures memory { IfErr result (λ refusal. refusal ≡ Refusal.Memory) }
     {
         if let Some(v) = target {
@@ -69,20 +69,20 @@ impl Frame {
 }
 
 /// What a variable of a method holds.
-pub(crate) fn kind_at(program: &Program, method: MethodId, v: VarId) -> Kind
-    ensures { result ≡ kind_at (variables_of (seen_of program.now) method.0) v.0 }
+pub(crate) fn kind_at(program: &Program, method: MethodId, v: VarId) -> HeapKind
+    ensures { result ≡ kind_at (variables_of (model_of program.now) method.0) v.0 }
 {
     if let Some(method) = program.methods().get(method.0 as usize) {
         if let Some(variable) = method.variables.get(v.0) {
             return variable.kind;
         }
     }
-    Kind::Struct(StructId(0))
+    HeapKind::Struct(StructId(0))
 }
 
 /// The variable of the exchange heap before this one in scope.
 fn outer_of(method: &Method, variable: VarId) -> Option<VarId>
-    ensures { result ≡ outer_of (method_seen method.now).variables variable }
+    ensures { result ≡ outer_of (method_model method.now).variables variable }
 {
     method.variables.get(variable.0)?.outer
 }
@@ -104,8 +104,8 @@ pub(crate) fn forgets(
     outer: Option<VarId>,
     last: Option<VarId>,
 )
-    ensures { variables_seen variables.new
-        ≡ forgotten (variables_seen variables.old) (declared_between (method_seen method.now) outer last) }
+    ensures { variables_model variables.new
+        ≡ forgotten (variables_model variables.old) (declared_between (method_model method.now) outer last) }
 {
     let mut at = last;
     for _ in 0..method.variables.len() {
@@ -122,7 +122,7 @@ pub(crate) fn forgets(
 
 /// What is claimed of an argument is gone.
 fn lets_one_go(variables: &mut Variables, argument: Argument)
-    ensures gone { variables_seen variables.new ≡ let_go (variables_seen variables.old) (argument ∷ []) }
+    ensures gone { variables_model variables.new ≡ let_go (variables_model variables.old) (argument ∷ []) }
     ensures still { StillTakes variables.old variables.new }
 {
     if argument.claimed {
@@ -132,7 +132,7 @@ fn lets_one_go(variables: &mut Variables, argument: Argument)
 
 /// What is claimed of arguments is gone.
 pub(crate) fn lets_go(variables: &mut Variables, arguments: &[Argument])
-    ensures gone { variables_seen variables.new ≡ let_go (variables_seen variables.old) arguments.now }
+    ensures gone { variables_model variables.new ≡ let_go (variables_model variables.old) arguments.now }
     ensures still { StillTakes variables.old variables.new }
 {
     for argument in arguments {
@@ -141,23 +141,23 @@ pub(crate) fn lets_go(variables: &mut Variables, arguments: &[Argument])
 }
 
 /// Takes the memory that is needed to give each variable that a case binds something.
-pub(crate) fn list_bound(variables: &mut Variables, bound: &[VarId]) -> Result<(), Refusal>
-    ensures same { variables_seen variables.new ≡ variables_seen variables.old }
-    ensures takes { OnOk result (AllMayTake variables.new.count variables.new.bindings.items bound.now) }
+pub(crate) fn list_bound(variables: &mut Variables, targets: &[VarId]) -> Result<(), Refusal>
+    ensures same { variables_model variables.new ≡ variables_model variables.old }
+    ensures takes { OnOk result (AllMayTake variables.new.count variables.new.bindings.items targets.now) }
     ensures memory { IfErr result (λ refusal. refusal ≡ Refusal.Memory) }
 {
-    for variable in bound {
+    for variable in targets {
         variables.list(*variable)?;
     }
     Ok(())
 }
 
 /// The variables that a case binds take what its message brings.
-pub(crate) fn bind(variables: &mut Variables, bound: &[VarId], payload: &[usize])
-    requires takes { AllMayTake variables.old.count variables.old.bindings.items bound.now }
-    ensures { variables_seen variables.new ≡ bound_to (variables_seen variables.old) bound.now payload.now }
+pub(crate) fn bind(variables: &mut Variables, targets: &[VarId], payload: &[usize])
+    requires takes { AllMayTake variables.old.count variables.old.bindings.items targets.now }
+    ensures { variables_model variables.new ≡ bound_to (variables_model variables.old) targets.now payload.now }
 {
-    for number in 0..bound.len().min(payload.len()) {
-        variables.put(bound[number], Some(payload[number]));
+    for number in 0..targets.len().min(payload.len()) {
+        variables.put(targets[number], Some(payload[number]));
     }
 }

@@ -1,16 +1,16 @@
 //! Instructions that make and free blocks.
 
 ghost use Rattle.std.specs.Prelude.{◌≡◌, ◌+◌, ◌++◌, ◌∷◌, [], IfErr, List, OnErr, OnOk, length};
-ghost use Rattle.program.specs.Programs.{ProgramSeen};
+ghost use Rattle.program.specs.Programs.{ProgramModel};
 ghost use Rattle.flow.specs.Graphs.{New, NewChannel, Delete};
 ghost use Rattle.program.specs.declared.kind.Side.TheVariants.{Imp, Exp};
-ghost use Rattle.rules.specs.Programs.{seen_of};
+ghost use Rattle.rules.specs.Programs.{model_of};
 ghost use Rattle.machine.specs.Answers.{Tells, on_top};
 ghost use Rattle.machine.specs.Blocks.{end_kind, is_imp, new_block};
 ghost use Rattle.machine.specs.Frames.{kind_at, variables_of};
 ghost use Rattle.machine.specs.Machine.{event_of};
 ghost use Rattle.machine.specs.Outcomes.{Bounds};
-ghost use Rattle.machine.specs.Views.{block_seen, blocks_seen, frame_seen};
+ghost use Rattle.machine.specs.Views.{block_model, blocks_model, frame_model};
 ghost use Rattle.machine.specs.World as seen;
 
 use crate::halts::{Fault, Refusal};
@@ -19,7 +19,7 @@ use crate::mentions::kind_at;
 use crate::payloads::{are_unsent, lets_payloads_go, payload_addresses};
 use crate::reading::own;
 use crate::worlds::{Block, Frame, Owner};
-use program::{Channel, Kind, Mention, Side, StateId};
+use program::{Channel, HeapKind, Mention, Side, StateId};
 use rules::Program;
 use std::alloc::Global;
 use std::collections::VecDeque;
@@ -47,12 +47,12 @@ pub(crate) fn new(
     turn: Turn,
     making: &Making<'_>,
 ) -> Result<(), Refusal>
-    ensures tells { (bound : Bounds) (w : seen.World) (rest : List seen.Frame) → w.blocks ≡ blocks_seen heap.old.blocks.items →
-        Tells result (event_of (seen_of program.now) bound w turn.process (frame_seen frame.old) rest
+    ensures tells { (bound : Bounds) (w : seen.World) (rest : List seen.Frame) → w.blocks ≡ blocks_model heap.old.blocks.items →
+        Tells result (event_of (model_of program.now) bound w turn.process (frame_model frame.old) rest
         (New making.now.target making.now.arguments.now turn.next) 0)
-        (on_top w.processes turn.process rest (frame_seen frame.new) (blocks_seen heap.new.blocks.items)) }
-    ensures same { OnErr result (frame_seen frame.new ≡ frame_seen frame.old) }
-    ensures same_blocks { OnErr result (blocks_seen heap.new.blocks.items ≡ blocks_seen heap.old.blocks.items) }
+        (on_top w.processes turn.process rest (frame_model frame.new) (blocks_model heap.new.blocks.items)) }
+    ensures same { OnErr result (frame_model frame.new ≡ frame_model frame.old) }
+    ensures same_blocks { OnErr result (blocks_model heap.new.blocks.items ≡ blocks_model heap.old.blocks.items) }
 {
     if making.arguments.is_empty() {
         return new_alone(alloc, program, frame, heap, turn, making.target);
@@ -80,11 +80,11 @@ fn new_alone(
     turn: Turn,
     target: Mention,
 ) -> Result<(), Refusal>
-    ensures tells { (bound : Bounds) (w : seen.World) (rest : List seen.Frame) → w.blocks ≡ blocks_seen heap.old.blocks.items →
-        Tells result (event_of (seen_of program.now) bound w turn.process (frame_seen frame.old) rest (New target [] turn.next) 0)
-        (on_top w.processes turn.process rest (frame_seen frame.new) (blocks_seen heap.new.blocks.items)) }
-    ensures same { OnErr result (frame_seen frame.new ≡ frame_seen frame.old) }
-    ensures same_blocks { OnErr result (blocks_seen heap.new.blocks.items ≡ blocks_seen heap.old.blocks.items) }
+    ensures tells { (bound : Bounds) (w : seen.World) (rest : List seen.Frame) → w.blocks ≡ blocks_model heap.old.blocks.items →
+        Tells result (event_of (model_of program.now) bound w turn.process (frame_model frame.old) rest (New target [] turn.next) 0)
+        (on_top w.processes turn.process rest (frame_model frame.new) (blocks_model heap.new.blocks.items)) }
+    ensures same { OnErr result (frame_model frame.new ≡ frame_model frame.old) }
+    ensures same_blocks { OnErr result (blocks_model heap.new.blocks.items ≡ blocks_model heap.old.blocks.items) }
 {
     let address = heap.blocks().len();
     let kind = kind_at(program, frame.method, target.variable);
@@ -107,12 +107,12 @@ pub(crate) fn delete(
     at: Mention,
     next: usize,
 ) -> Result<(), Refusal>
-    ensures tells { (p : ProgramSeen) (bound : Bounds) (w : seen.World) (rest : List seen.Frame) →
-        w.blocks ≡ blocks_seen heap.old.blocks.items →
-        Tells result (event_of p bound w process (frame_seen frame.old) rest (Delete at next) 0)
-        (on_top w.processes process rest (frame_seen frame.new) (blocks_seen heap.new.blocks.items)) }
-    ensures same { OnErr result (frame_seen frame.new ≡ frame_seen frame.old) }
-    ensures same_blocks { OnErr result (blocks_seen heap.new.blocks.items ≡ blocks_seen heap.old.blocks.items) }
+    ensures tells { (p : ProgramModel) (bound : Bounds) (w : seen.World) (rest : List seen.Frame) →
+        w.blocks ≡ blocks_model heap.old.blocks.items →
+        Tells result (event_of p bound w process (frame_model frame.old) rest (Delete at next) 0)
+        (on_top w.processes process rest (frame_model frame.new) (blocks_model heap.new.blocks.items)) }
+    ensures same { OnErr result (frame_model frame.new ≡ frame_model frame.old) }
+    ensures same_blocks { OnErr result (blocks_model heap.new.blocks.items ≡ blocks_model heap.old.blocks.items) }
 {
     let Some(a) = own(heap.blocks(), process, frame.has(at)) else {
         return Err(Refusal::Fault(Fault::F2));
@@ -124,21 +124,21 @@ pub(crate) fn delete(
 }
 
 /// Whether it is an importing end.
-fn is_imp(kind: Kind) -> bool
+fn is_imp(kind: HeapKind) -> bool
     ensures { result ≡ is_imp kind }
 {
     match kind {
-        Kind::Endpoint { side, .. } => match side {
+        HeapKind::Endpoint { side, .. } => match side {
             Side::Imp => true,
             Side::Exp => false,
         },
-        Kind::Struct(_) | Kind::Array(_) => false,
+        HeapKind::Struct(_) | HeapKind::Array(_) => false,
     }
 }
 
 /// A new block of a process, with an empty queue and without owning fields.
-fn new_block(alloc: Global, process: usize, kind: Kind, peer: usize, state: StateId) -> Block
-    ensures { block_seen result ≡ new_block kind process peer state.0 [] }
+fn new_block(alloc: Global, process: usize, kind: HeapKind, peer: usize, state: StateId) -> Block
+    ensures { block_model result ≡ new_block kind process peer state.0 [] }
 {
     Block {
         kind,
@@ -151,10 +151,10 @@ fn new_block(alloc: Global, process: usize, kind: Kind, peer: usize, state: Stat
 }
 
 /// The kind of an end of a channel.
-fn end_kind(channel: Channel, side: Side) -> Kind
+fn end_kind(channel: Channel, side: Side) -> HeapKind
     ensures { result ≡ end_kind channel side }
 {
-    Kind::Endpoint {
+    HeapKind::Endpoint {
         contract: channel.contract,
         side,
         state: StateId(0),
@@ -169,10 +169,10 @@ fn open(
     channel: Channel,
     state: StateId,
 ) -> Result<(), Refusal>
-    ensures opened { OnOk result (blocks_seen heap.new.blocks.items ≡ blocks_seen heap.old.blocks.items
-        ++ new_block (end_kind channel Imp) process (length (blocks_seen heap.old.blocks.items) + 1) state.0 []
-        ∷ new_block (end_kind channel Exp) process (length (blocks_seen heap.old.blocks.items)) state.0 [] ∷ []) }
-    ensures same { OnErr result (blocks_seen heap.new.blocks.items ≡ blocks_seen heap.old.blocks.items) }
+    ensures opened { OnOk result (blocks_model heap.new.blocks.items ≡ blocks_model heap.old.blocks.items
+        ++ new_block (end_kind channel Imp) process (length (blocks_model heap.old.blocks.items) + 1) state.0 []
+        ∷ new_block (end_kind channel Exp) process (length (blocks_model heap.old.blocks.items)) state.0 [] ∷ []) }
+    ensures same { OnErr result (blocks_model heap.new.blocks.items ≡ blocks_model heap.old.blocks.items) }
     ensures memory { IfErr result (λ refusal. refusal ≡ Refusal.Memory) }
 {
     let address = heap.blocks().len();
@@ -196,11 +196,11 @@ pub(crate) fn new_channel(
     turn: Turn,
     channel: Channel,
 ) -> Result<(), Refusal>
-    ensures tells { (bound : Bounds) (w : seen.World) (rest : List seen.Frame) → w.blocks ≡ blocks_seen heap.old.blocks.items →
-        Tells result (event_of (seen_of program.now) bound w turn.process (frame_seen frame.old) rest (NewChannel channel turn.next) 0)
-        (on_top w.processes turn.process rest (frame_seen frame.new) (blocks_seen heap.new.blocks.items)) }
-    ensures same { OnErr result (frame_seen frame.new ≡ frame_seen frame.old) }
-    ensures same_blocks { OnErr result (blocks_seen heap.new.blocks.items ≡ blocks_seen heap.old.blocks.items) }
+    ensures tells { (bound : Bounds) (w : seen.World) (rest : List seen.Frame) → w.blocks ≡ blocks_model heap.old.blocks.items →
+        Tells result (event_of (model_of program.now) bound w turn.process (frame_model frame.old) rest (NewChannel channel turn.next) 0)
+        (on_top w.processes turn.process rest (frame_model frame.new) (blocks_model heap.new.blocks.items)) }
+    ensures same { OnErr result (frame_model frame.new ≡ frame_model frame.old) }
+    ensures same_blocks { OnErr result (blocks_model heap.new.blocks.items ≡ blocks_model heap.old.blocks.items) }
 {
     let address = heap.blocks().len();
     let state = program.first_state(channel.contract);

@@ -5,7 +5,7 @@ ghost use Rattle.program.specs.Lists.{is_among};
 ghost use Rattle.machine.specs.Answers.{IsFirstFault, Pass, claimed_in};
 ghost use Rattle.machine.specs.Blocks.{argument_tests_in, is_own_still};
 ghost use Rattle.machine.specs.Frames.{addresses, payloads_claimed};
-ghost use Rattle.machine.specs.Views.{StillTakes, blocks_seen, frame_seen, variables_seen};
+ghost use Rattle.machine.specs.Views.{StillTakes, blocks_model, frame_model, variables_model};
 ghost use Rattle.machine.specs.World.{let_go, read};
 ghost use Rattle.machine.specs.declared.halts.Fault.TheVariants.{F3};
 
@@ -18,7 +18,7 @@ use std::alloc::Global;
 
 /// Whether one of these payloads is the block at an address.
 fn is_sent(frame: &Frame, payloads: &[Mention], a: usize) -> bool
-    ensures { result ≡ is_among (claimed_in (frame_seen frame.now).variables [] (payloads_claimed payloads.now)) a }
+    ensures { result ≡ is_among (claimed_in (frame_model frame.now).variables [] (payloads_claimed payloads.now)) a }
 {
     for mention in payloads {
         if frame.address(*mention) == a {
@@ -36,9 +36,9 @@ fn is_unsent(
     before: &[Mention],
     v: Mention,
 ) -> bool
-    ensures { result ≡ is_own_still (blocks_seen blocks.now) process
-        (claimed_in (frame_seen frame.now).variables [] (payloads_claimed before.now))
-        (read (frame_seen frame.now).variables v.variable.0) }
+    ensures { result ≡ is_own_still (blocks_model blocks.now) process
+        (claimed_in (frame_model frame.now).variables [] (payloads_claimed before.now))
+        (read (frame_model frame.now).variables v.variable.0) }
 {
     match own(blocks, process, frame.has(v)) {
         Some(a) => !is_sent(frame, before, a),
@@ -55,9 +55,9 @@ pub(crate) fn are_unsent(
     payloads: &[Mention],
 ) -> bool
     ensures pass { IsTrue result → Pass
-        (argument_tests_in (blocks_seen blocks.now) process (frame_seen frame.now).variables [] (payloads_claimed payloads.now)) }
+        (argument_tests_in (blocks_model blocks.now) process (frame_model frame.now).variables [] (payloads_claimed payloads.now)) }
     ensures fault { IsFalse result → IsFirstFault (Some F3)
-        (argument_tests_in (blocks_seen blocks.now) process (frame_seen frame.now).variables [] (payloads_claimed payloads.now)) }
+        (argument_tests_in (blocks_model blocks.now) process (frame_model frame.now).variables [] (payloads_claimed payloads.now)) }
 {
     for (number, mention) in payloads.iter().enumerate() {
         if !is_unsent(frame, blocks, process, &payloads[..number], *mention) {
@@ -73,7 +73,7 @@ pub(crate) fn payload_addresses(
     frame: &Frame,
     payloads: &[Mention],
 ) -> Result<Vec<usize>, Refusal>
-    ensures value { IfOk result (λ given. given.items ≡ addresses (frame_seen frame.now).variables (payloads_claimed payloads.now)) }
+    ensures value { IfOk result (λ given. given.items ≡ addresses (frame_model frame.now).variables (payloads_claimed payloads.now)) }
     ensures memory { IfErr result (λ refusal. refusal ≡ Refusal.Memory) }
 {
     let mut given = Vec::new(alloc);
@@ -85,7 +85,7 @@ pub(crate) fn payload_addresses(
 
 /// A message or a new block claims all that is given with it: the variables are empty then.
 pub(crate) fn lets_payloads_go(variables: &mut Variables, payloads: &[Mention])
-    ensures gone { variables_seen variables.new ≡ let_go (variables_seen variables.old) (payloads_claimed payloads.now) }
+    ensures gone { variables_model variables.new ≡ let_go (variables_model variables.old) (payloads_claimed payloads.now) }
     ensures still { StillTakes variables.old variables.new }
 {
     for mention in payloads {

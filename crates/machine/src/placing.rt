@@ -1,12 +1,12 @@
 //! Where a process stands.
 
 ghost use Rattle.std.specs.Prelude.{◌≡◌, length, map, option_map, slice_get};
-ghost use Rattle.flow.specs.Graphs.{instruction_seen};
-ghost use Rattle.rules.specs.Programs.{seen_of};
+ghost use Rattle.flow.specs.Graphs.{instruction_model};
+ghost use Rattle.rules.specs.Programs.{model_of};
 ghost use Rattle.machine.specs.Heaps.{IsHeld};
 ghost use Rattle.machine.specs.Places as told;
 ghost use Rattle.machine.specs.Places.{stack_place};
-ghost use Rattle.machine.specs.Views.{blocks_seen, frame_seen, stack_seen, world_seen};
+ghost use Rattle.machine.specs.Views.{blocks_model, frame_model, stack_model, world_model};
 
 use crate::standing::instruction_at;
 use crate::worlds::{Block, Frame, Process, World};
@@ -16,7 +16,7 @@ use source::Place;
 
 /// The place of an instruction.
 pub(crate) fn place_of(instr: &Instr) -> Place
-    ensures { result ≡ told.place_of (instruction_seen instr.now) }
+    ensures { result ≡ told.place_of (instruction_model instr.now) }
 {
     match instr {
         Instr::Use { at, .. } | Instr::Delete { at, .. } => at.place,
@@ -35,7 +35,7 @@ pub(crate) fn place_of(instr: &Instr) -> Place
 impl Process {
     /// The frame in which it stands. None, where it has ended.
     pub fn innermost(&self) -> Option<&Frame>
-        ensures { option_map (λ f. frame_seen f.now) result ≡ slice_get (stack_seen self.now) 0 }
+        ensures { option_map (λ f. frame_model f.now) result ≡ slice_get (stack_model self.now) 0 }
     {
         match &self.top {
             Some(frame) => Some(frame),
@@ -45,7 +45,7 @@ impl Process {
 
     /// How many frames it has: none, where it has ended.
     pub fn frames(&self) -> usize
-        ensures { result ≡ length (stack_seen self.now) }
+        ensures { result ≡ length (stack_model self.now) }
     {
         match &self.top {
             Some(_) => self.waiting.len() + 1,
@@ -55,7 +55,7 @@ impl Process {
 
     /// The place of the instruction at which it stands. None, where it has ended.
     pub fn place(&self, program: &Program) -> Option<Place>
-        ensures { result ≡ stack_place (seen_of program.now) (stack_seen self.now) }
+        ensures { result ≡ stack_place (model_of program.now) (stack_model self.now) }
     {
         let frame = self.innermost()?;
         let instr = instruction_at(program, frame)?;
@@ -66,15 +66,15 @@ impl Process {
 impl World {
     /// Its processes, by their numbers.
     pub fn processes(&self) -> &[Process]
-        ensures { map stack_seen result.now ≡ (world_seen self.now).processes }
+        ensures { map stack_model result.now ≡ (world_model self.now).processes }
     {
         &self.processes
     }
 
     /// Its blocks, by their addresses. Their fields hold just what is inside them, and the owners lead up in finitely many steps.
     pub fn blocks(&self) -> &[Block]
-        ensures seen { blocks_seen result.now ≡ (world_seen self.now).blocks }
-        ensures held { IsHeld (blocks_seen result.now) }
+        ensures seen { blocks_model result.now ≡ (world_model self.now).blocks }
+        ensures held { IsHeld (blocks_model result.now) }
     {
         self.heap.blocks()
     }

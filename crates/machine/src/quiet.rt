@@ -1,15 +1,15 @@
 //! Instructions on one frame that change no block.
 
 ghost use Rattle.std.specs.Prelude.{◌≡◌, List, OnErr, ℕ};
-ghost use Rattle.program.specs.Programs.{ProgramSeen};
+ghost use Rattle.program.specs.Programs.{ProgramModel};
 ghost use Rattle.source.specs.declared.place.Place.{Place};
 ghost use Rattle.flow.specs.Graphs as instruction;
 ghost use Rattle.flow.specs.Graphs.{Use, Move, Branch};
-ghost use Rattle.rules.specs.Programs.{seen_of};
+ghost use Rattle.rules.specs.Programs.{model_of};
 ghost use Rattle.machine.specs.Answers.{Tells, on_top};
 ghost use Rattle.machine.specs.Machine.{event_of};
 ghost use Rattle.machine.specs.Outcomes.{Bounds, Moved};
-ghost use Rattle.machine.specs.Views.{blocks_seen, frame_seen};
+ghost use Rattle.machine.specs.Views.{blocks_model, frame_model};
 ghost use Rattle.machine.specs.World as seen;
 
 use crate::halts::{Fault, Refusal};
@@ -28,10 +28,10 @@ pub(crate) fn use_(
     at: Mention,
     next: usize,
 ) -> Result<(), Refusal>
-    ensures tells { (p : ProgramSeen) (bound : Bounds) (w : seen.World) (rest : List seen.Frame) → w.blocks ≡ blocks_seen blocks.now →
-        Tells result (event_of p bound w process (frame_seen frame.old) rest (Use at next) 0)
-        (on_top w.processes process rest (frame_seen frame.new) (blocks_seen blocks.now)) }
-    ensures same { OnErr result (frame_seen frame.new ≡ frame_seen frame.old) }
+    ensures tells { (p : ProgramModel) (bound : Bounds) (w : seen.World) (rest : List seen.Frame) → w.blocks ≡ blocks_model blocks.now →
+        Tells result (event_of p bound w process (frame_model frame.old) rest (Use at next) 0)
+        (on_top w.processes process rest (frame_model frame.new) (blocks_model blocks.now)) }
+    ensures same { OnErr result (frame_model frame.new ≡ frame_model frame.old) }
 {
     if own(blocks, process, frame.has(at)).is_none() {
         return Err(Refusal::Fault(Fault::F1));
@@ -49,10 +49,10 @@ pub(crate) fn move_(
     source: Mention,
     next: usize,
 ) -> Result<(), Refusal>
-    ensures tells { (p : ProgramSeen) (bound : Bounds) (w : seen.World) (rest : List seen.Frame) → w.blocks ≡ blocks_seen blocks.now →
-        Tells result (event_of p bound w process (frame_seen frame.old) rest (Move target source next) 0)
-        (on_top w.processes process rest (frame_seen frame.new) (blocks_seen blocks.now)) }
-    ensures same { OnErr result (frame_seen frame.new ≡ frame_seen frame.old) }
+    ensures tells { (p : ProgramModel) (bound : Bounds) (w : seen.World) (rest : List seen.Frame) → w.blocks ≡ blocks_model blocks.now →
+        Tells result (event_of p bound w process (frame_model frame.old) rest (Move target source next) 0)
+        (on_top w.processes process rest (frame_model frame.new) (blocks_model blocks.now)) }
+    ensures same { OnErr result (frame_model frame.new ≡ frame_model frame.old) }
 {
     let given = frame.has(source);
     if own(blocks, process, given).is_none() {
@@ -66,9 +66,9 @@ pub(crate) fn move_(
 
 /// A condition goes the way of the choice.
 pub(crate) fn branch(frame: &mut Frame, branches: Branches, choice: usize)
-    ensures { (p : ProgramSeen) (bound : Bounds) (w : seen.World) (rest : List seen.Frame) (process : ℕ) (place : Place) →
-        event_of p bound w process (frame_seen frame.old) rest (Branch place branches) choice
-        ≡ Moved (on_top w.processes process rest (frame_seen frame.new) w.blocks) }
+    ensures { (p : ProgramModel) (bound : Bounds) (w : seen.World) (rest : List seen.Frame) (process : ℕ) (place : Place) →
+        event_of p bound w process (frame_model frame.old) rest (Branch place branches) choice
+        ≡ Moved (on_top w.processes process rest (frame_model frame.new) w.blocks) }
 {
     frame.point = match branches {
         Branches::Only(point) => point,
@@ -79,8 +79,8 @@ pub(crate) fn branch(frame: &mut Frame, branches: Branches, choice: usize)
 /// Variables go out of scope.
 pub(crate) fn forget_(frame: &mut Frame, program: &Program, forget: Forget, next: usize)
     ensures { (bound : Bounds) (w : seen.World) (rest : List seen.Frame) (process : ℕ) →
-        event_of (seen_of program.now) bound w process (frame_seen frame.old) rest (instruction.Forget forget next) 0
-        ≡ Moved (on_top w.processes process rest (frame_seen frame.new) w.blocks) }
+        event_of (model_of program.now) bound w process (frame_model frame.old) rest (instruction.Forget forget next) 0
+        ≡ Moved (on_top w.processes process rest (frame_model frame.new) w.blocks) }
 {
     if let Some(method) = program.methods().get(frame.method.0 as usize) {
         forgets(

@@ -2,11 +2,11 @@
 
 ghost use Rattle.std.specs.Prelude.{◌≡◌, ◌<◌, IfNone, IfSome, Some, false, length, option_map, slice_get, true};
 ghost use Rattle.machine.specs.Answers.{front_of};
-ghost use Rattle.machine.specs.Views.{blocks_seen};
+ghost use Rattle.machine.specs.Views.{blocks_model};
 ghost use Rattle.machine.specs.World.{block_at, cut_off, freed, is_freed, is_own_in, is_process, is_queue};
 
 use crate::worlds::{Block, Owner};
-use program::{Kind, MessageId, StateId, StructId};
+use program::{HeapKind, MessageId, StateId, StructId};
 
 impl Owner {
     /// Whether it is this process.
@@ -44,8 +44,8 @@ impl Owner {
 pub(crate) fn own(blocks: &[Block], process: usize, address: Option<usize>) -> Option<usize>
     ensures some { IfSome result (λ a. address ≡ Some a) }
     ensures here { IfSome result (λ a. a < length blocks.now) }
-    ensures own { IfSome result (λ a. is_own_in (blocks_seen blocks.now) process address ≡ true) }
-    ensures none { IfNone result (is_own_in (blocks_seen blocks.now) process address ≡ false) }
+    ensures own { IfSome result (λ a. is_own_in (blocks_model blocks.now) process address ≡ true) }
+    ensures none { IfNone result (is_own_in (blocks_model blocks.now) process address ≡ false) }
 {
     let a = address?;
     let block = blocks.get(a)?;
@@ -58,7 +58,7 @@ pub(crate) fn own(blocks: &[Block], process: usize, address: Option<usize>) -> O
 
 /// Whether the block at an address is freed.
 pub(crate) fn is_freed(blocks: &[Block], a: usize) -> bool
-    ensures { result ≡ freed (blocks_seen blocks.now) a }
+    ensures { result ≡ freed (blocks_model blocks.now) a }
 {
     match blocks.get(a) {
         Some(block) => block.owner.is_freed(),
@@ -68,7 +68,7 @@ pub(crate) fn is_freed(blocks: &[Block], a: usize) -> bool
 
 /// The peer of an endpoint; 0 where no block is.
 pub(crate) fn peer_of(blocks: &[Block], a: usize) -> usize
-    ensures { result ≡ (block_at (blocks_seen blocks.now) a).peer }
+    ensures { result ≡ (block_at (blocks_model blocks.now) a).peer }
 {
     match blocks.get(a) {
         Some(block) => block.peer,
@@ -77,18 +77,18 @@ pub(crate) fn peer_of(blocks: &[Block], a: usize) -> usize
 }
 
 /// What the block at an address is.
-pub(crate) fn kind_of(blocks: &[Block], a: usize) -> Kind
-    ensures { result ≡ (block_at (blocks_seen blocks.now) a).kind }
+pub(crate) fn kind_of(blocks: &[Block], a: usize) -> HeapKind
+    ensures { result ≡ (block_at (blocks_model blocks.now) a).kind }
 {
     match blocks.get(a) {
         Some(block) => block.kind,
-        None => Kind::Struct(StructId(0)),
+        None => HeapKind::Struct(StructId(0)),
     }
 }
 
 /// The state of an endpoint.
 pub(crate) fn state_of(blocks: &[Block], a: usize) -> StateId
-    ensures { result.0 ≡ (block_at (blocks_seen blocks.now) a).state }
+    ensures { result.0 ≡ (block_at (blocks_model blocks.now) a).state }
 {
     match blocks.get(a) {
         Some(block) => block.state,
@@ -98,15 +98,15 @@ pub(crate) fn state_of(blocks: &[Block], a: usize) -> StateId
 
 /// What a field of a block holds, if the block has such a field.
 pub(crate) fn field_of(blocks: &[Block], at: usize, field: usize) -> Option<usize>
-    ensures { result ≡ slice_get (block_at (blocks_seen blocks.now) at).fields field }
+    ensures { result ≡ slice_get (block_at (blocks_model blocks.now) at).fields field }
 {
     let block = blocks.get(at)?;
     block.fields.get(field).copied()
 }
 
 /// How many messages are in the queue of an endpoint.
-pub(crate) fn queued(blocks: &[Block], a: usize) -> usize
-    ensures { result ≡ length (block_at (blocks_seen blocks.now) a).queue }
+pub(crate) fn queue_length(blocks: &[Block], a: usize) -> usize
+    ensures { result ≡ length (block_at (blocks_model blocks.now) a).queue }
 {
     match blocks.get(a) {
         Some(block) => block.queue.len(),
@@ -116,14 +116,14 @@ pub(crate) fn queued(blocks: &[Block], a: usize) -> usize
 
 /// Whether an endpoint is cut off.
 pub(crate) fn is_cut_off(blocks: &[Block], a: usize) -> bool
-    ensures { result ≡ cut_off (blocks_seen blocks.now) a }
+    ensures { result ≡ cut_off (blocks_model blocks.now) a }
 {
-    is_freed(blocks, peer_of(blocks, a)) && queued(blocks, a) == 0
+    is_freed(blocks, peer_of(blocks, a)) && queue_length(blocks, a) == 0
 }
 
 /// The message at the front of the queue of an endpoint.
 pub(crate) fn front(blocks: &[Block], a: usize) -> Option<MessageId>
-    ensures { option_map (λ m. m.0) result ≡ front_of (block_at (blocks_seen blocks.now) a).queue }
+    ensures { option_map (λ m. m.0) result ≡ front_of (block_at (blocks_model blocks.now) a).queue }
 {
     let held = blocks.get(a)?.queue.front()?;
     Some(held.message)

@@ -1,10 +1,10 @@
 //! Runs.
 
 ghost use Rattle.std.specs.Prelude.{◌≡◌, ◌<◌, IfOk, Some, length};
-ghost use Rattle.rules.specs.Programs.{seen_of};
+ghost use Rattle.rules.specs.Programs.{model_of};
 ghost use Rattle.machine.specs.Outcomes.{Bounds};
 ghost use Rattle.machine.specs.Runs.{AreBounds};
-ghost use Rattle.machine.specs.Replays.{IsKnown, IsReplay, replay_seen};
+ghost use Rattle.machine.specs.Replays.{IsKnown, IsReplay, replay_model};
 
 use crate::halts::{Event, Halt};
 use crate::worlds::World;
@@ -23,7 +23,7 @@ pub struct Replayed {
 }
 
 /// Want of memory is no answer, and every other halt is.
-fn known(halt: Halt) -> Result<Halt, Memory>
+fn refuse_memory(halt: Halt) -> Result<Halt, Memory>
     ensures same { IfOk result (λ answer. answer ≡ halt) }
     ensures known { IfOk result (λ answer. IsKnown (Some answer)) }
 {
@@ -42,16 +42,16 @@ pub fn replay(
     method: MethodId,
     events: &[Event],
 ) -> Result<Replayed, Memory>
-    requires there { method.0 < length (seen_of program.now).methods }
-    ensures { IfOk result (λ replayed. (bound : Bounds) → AreBounds (seen_of program.now) bound
-        → IsReplay (seen_of program.now) bound method.0 events.now (replay_seen replayed)) }
+    requires there { method.0 < length (model_of program.now).methods }
+    ensures { IfOk result (λ replayed. (bound : Bounds) → AreBounds (model_of program.now) bound
+        → IsReplay (model_of program.now) bound method.0 events.now (replay_model replayed)) }
 {
     let mut world = World::start(alloc, program, method)?;
     for steps in 0..events.len() {
         match world.step(alloc, program, events[steps]) {
             Ok(()) => {}
             Err(halt) => {
-                let halt = known(halt)?;
+                let halt = refuse_memory(halt)?;
                 return Ok(Replayed {
                     world,
                     steps,

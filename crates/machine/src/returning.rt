@@ -1,14 +1,14 @@
 //! The end of a frame.
 
 ghost use Rattle.std.specs.Prelude.{◌≡◌, [], IfErr, IsFalse, IsSome, IsTrue, OnErr, OnOk, Option};
-ghost use Rattle.program.specs.Programs.{ProgramSeen};
+ghost use Rattle.program.specs.Programs.{ProgramModel};
 ghost use Rattle.program.specs.declared.number.VarId.{VarId};
 ghost use Rattle.source.specs.declared.place.Place.{Place};
 ghost use Rattle.flow.specs.Graphs.{Return};
-ghost use Rattle.rules.specs.Programs.{seen_of};
+ghost use Rattle.rules.specs.Programs.{model_of};
 ghost use Rattle.machine.specs.Answers.{Tells, ended, given_back, on_stack, with_stack, with_variables};
 ghost use Rattle.machine.specs.Outcomes.{Bounds, Faulty};
-ghost use Rattle.machine.specs.Views.{blocks_seen, frame_seen, stack_of, stack_seen};
+ghost use Rattle.machine.specs.Views.{blocks_model, frame_model, stack_of, stack_model};
 ghost use Rattle.machine.specs.World as seen;
 ghost use Rattle.machine.specs.declared.halts.Fault.TheVariants.{F3};
 
@@ -22,13 +22,13 @@ use rules::Program;
 
 /// Whether the innermost frame may give what a variable has, if there is one.
 fn can_give(stack: &Process, blocks: &[Block], process: usize, value: Option<Mention>) -> bool
-    ensures may { IsTrue result → (p : ProgramSeen) (bound : Bounds) (w : seen.World) (place : Place) (scope : Option VarId) →
-        w.blocks ≡ blocks_seen blocks.now →
-        on_stack p bound w process (Return place value scope) 0 (stack_seen stack.now)
-        ≡ ended p bound w process value (stack_seen stack.now) }
-    ensures fault { IsFalse result → (p : ProgramSeen) (bound : Bounds) (w : seen.World) (place : Place) (scope : Option VarId) →
-        w.blocks ≡ blocks_seen blocks.now →
-        on_stack p bound w process (Return place value scope) 0 (stack_seen stack.now) ≡ Faulty F3 }
+    ensures may { IsTrue result → (p : ProgramModel) (bound : Bounds) (w : seen.World) (place : Place) (scope : Option VarId) →
+        w.blocks ≡ blocks_model blocks.now →
+        on_stack p bound w process (Return place value scope) 0 (stack_model stack.now)
+        ≡ ended p bound w process value (stack_model stack.now) }
+    ensures fault { IsFalse result → (p : ProgramModel) (bound : Bounds) (w : seen.World) (place : Place) (scope : Option VarId) →
+        w.blocks ≡ blocks_model blocks.now →
+        on_stack p bound w process (Return place value scope) 0 (stack_model stack.now) ≡ Faulty F3 }
 {
     match (&stack.top, value) {
         (Some(frame), Some(value)) => own(blocks, process, frame.has(value)).is_some(),
@@ -43,9 +43,9 @@ fn give_back(
     target: Option<Mention>,
     caller: &mut Frame,
 ) -> Result<(), Refusal>
-    ensures given { OnOk result (frame_seen caller.new ≡ with_variables (frame_seen caller.old)
-        (given_back value target (stack_of top.now []) (frame_seen caller.old).variables)) }
-    ensures same { OnErr result (frame_seen caller.new ≡ frame_seen caller.old) }
+    ensures given { OnOk result (frame_model caller.new ≡ with_variables (frame_model caller.old)
+        (given_back value target (stack_of top.now []) (frame_model caller.old).variables)) }
+    ensures same { OnErr result (frame_model caller.new ≡ frame_model caller.old) }
     ensures memory { IfErr result (λ refusal. refusal ≡ Refusal.Memory) }
 {
     if let (Some(frame), Some(value)) = (top, value) {
@@ -64,10 +64,10 @@ pub(crate) fn end(
     value: Option<Mention>,
 ) -> Result<(), Refusal>
     requires top { IsSome stack.old.top }
-    ensures tells { (bound : Bounds) (w : seen.World) → w.blocks ≡ blocks_seen heap.now.blocks.items →
-        Tells result (ended (seen_of program.now) bound w process value (stack_seen stack.old))
-        (with_stack w process (stack_seen stack.new) (blocks_seen heap.now.blocks.items)) }
-    ensures same { OnErr result (stack_seen stack.new ≡ stack_seen stack.old) }
+    ensures tells { (bound : Bounds) (w : seen.World) → w.blocks ≡ blocks_model heap.now.blocks.items →
+        Tells result (ended (model_of program.now) bound w process value (stack_model stack.old))
+        (with_stack w process (stack_model stack.new) (blocks_model heap.now.blocks.items)) }
+    ensures same { OnErr result (stack_model stack.new ≡ stack_model stack.old) }
 {
     let Some(last) = stack.waiting.len().checked_sub(1) else {
         if !heap.owns_none(process) {
@@ -94,10 +94,10 @@ pub(crate) fn return_(
 ) -> Result<(), Refusal>
     requires top { IsSome stack.old.top }
     ensures tells { (bound : Bounds) (w : seen.World) (place : Place) (scope : Option VarId) →
-        w.blocks ≡ blocks_seen heap.now.blocks.items →
-        Tells result (on_stack (seen_of program.now) bound w process (Return place value scope) 0 (stack_seen stack.old))
-        (with_stack w process (stack_seen stack.new) (blocks_seen heap.now.blocks.items)) }
-    ensures same { OnErr result (stack_seen stack.new ≡ stack_seen stack.old) }
+        w.blocks ≡ blocks_model heap.now.blocks.items →
+        Tells result (on_stack (model_of program.now) bound w process (Return place value scope) 0 (stack_model stack.old))
+        (with_stack w process (stack_model stack.new) (blocks_model heap.now.blocks.items)) }
+    ensures same { OnErr result (stack_model stack.new ≡ stack_model stack.old) }
 {
     if !can_give(stack, heap.blocks(), process, value) {
         return Err(Refusal::Fault(Fault::F3));

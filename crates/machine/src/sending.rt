@@ -1,14 +1,14 @@
 //! A send.
 
 ghost use Rattle.std.specs.Prelude.{◌≡◌, List, OnErr};
-ghost use Rattle.flow.specs.Graphs.{instruction_seen};
+ghost use Rattle.flow.specs.Graphs.{instruction_model};
 ghost use Rattle.flow.specs.declared.graph.Instr.{Instr};
-ghost use Rattle.rules.specs.Programs.{seen_of};
+ghost use Rattle.rules.specs.Programs.{model_of};
 ghost use Rattle.machine.specs.Answers.{Tells, on_top};
 ghost use Rattle.machine.specs.Machine.{event_of};
 ghost use Rattle.machine.specs.Outcomes.{Bounds};
 ghost use Rattle.machine.specs.Runs.{AreBounds};
-ghost use Rattle.machine.specs.Views.{blocks_seen, frame_seen};
+ghost use Rattle.machine.specs.Views.{blocks_model, frame_model};
 ghost use Rattle.machine.specs.World as seen;
 
 use crate::edges::way_out;
@@ -30,13 +30,13 @@ pub(crate) fn send(
     process: usize,
     sending: &Sending,
 ) -> Result<(), Refusal>
-    ensures tells { (bound : Bounds) (w : seen.World) (rest : List seen.Frame) → AreBounds (seen_of program.now) bound →
-        w.blocks ≡ blocks_seen heap.old.blocks.items →
-        Tells result (event_of (seen_of program.now) bound w process (frame_seen frame.old) rest
-        (instruction_seen (Instr.Send sending.now)) 0)
-        (on_top w.processes process rest (frame_seen frame.new) (blocks_seen heap.new.blocks.items)) }
-    ensures same { OnErr result (frame_seen frame.new ≡ frame_seen frame.old) }
-    ensures same_blocks { OnErr result (blocks_seen heap.new.blocks.items ≡ blocks_seen heap.old.blocks.items) }
+    ensures tells { (bound : Bounds) (w : seen.World) (rest : List seen.Frame) → AreBounds (model_of program.now) bound →
+        w.blocks ≡ blocks_model heap.old.blocks.items →
+        Tells result (event_of (model_of program.now) bound w process (frame_model frame.old) rest
+        (instruction_model (Instr.Send sending.now)) 0)
+        (on_top w.processes process rest (frame_model frame.new) (blocks_model heap.new.blocks.items)) }
+    ensures same { OnErr result (frame_model frame.new ≡ frame_model frame.old) }
+    ensures same_blocks { OnErr result (blocks_model heap.new.blocks.items ≡ blocks_model heap.old.blocks.items) }
 {
     let Some(at) = own(heap.blocks(), process, frame.has(sending.endpoint)) else {
         return Err(Refusal::Fault(Fault::F1));

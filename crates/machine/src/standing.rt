@@ -1,11 +1,11 @@
 //! Where a frame stands in its method.
 
 ghost use Rattle.std.specs.Prelude.{◌≡◌, option_map};
-ghost use Rattle.flow.specs.Graphs.{instruction_seen};
-ghost use Rattle.rules.specs.Programs.{seen_of};
+ghost use Rattle.flow.specs.Graphs.{instruction_model};
+ghost use Rattle.rules.specs.Programs.{model_of};
 ghost use Rattle.machine.specs.Frames as told;
 ghost use Rattle.machine.specs.Frames.{call_next, call_target};
-ghost use Rattle.machine.specs.Views.{frame_seen};
+ghost use Rattle.machine.specs.Views.{frame_model};
 
 use crate::worlds::Frame;
 use flow::Instr;
@@ -14,7 +14,7 @@ use rules::Program;
 
 /// The instruction at which a frame stands.
 pub(crate) fn instruction_at<'a>(program: &'a Program, frame: &Frame) -> Option<&'a Instr>
-    ensures { option_map (λ i. instruction_seen i.now) result ≡ told.instruction_at (seen_of program.now) (frame_seen frame.now) }
+    ensures { option_map (λ i. instruction_model i.now) result ≡ told.instruction_at (model_of program.now) (frame_model frame.now) }
 {
     if frame.method.0 as usize >= program.methods().len() {
         return None;
@@ -33,8 +33,8 @@ pub(crate) struct Behind {
 
 /// What stands behind the call at which a frame waits.
 pub(crate) fn behind_call(program: &Program, frame: &Frame) -> Behind
-    ensures target { result.target ≡ call_target (told.instruction_at (seen_of program.now) (frame_seen frame.now)) }
-    ensures next { result.next ≡ call_next (told.instruction_at (seen_of program.now) (frame_seen frame.now)) }
+    ensures target { result.target ≡ call_target (told.instruction_at (model_of program.now) (frame_model frame.now)) }
+    ensures next { result.next ≡ call_next (told.instruction_at (model_of program.now) (frame_model frame.now)) }
 {
     match instruction_at(program, frame) {
         Some(Instr::Call(calling)) => Behind {

@@ -1,12 +1,12 @@
 //! Starts of processes.
 
 ghost use Rattle.std.specs.Prelude.{◌≡◌, ◌<◌, IsSome, OnErr, get_or, length};
-ghost use Rattle.flow.specs.Graphs.{instruction_seen};
+ghost use Rattle.flow.specs.Graphs.{instruction_model};
 ghost use Rattle.flow.specs.declared.graph.Instr.{Instr};
-ghost use Rattle.rules.specs.Programs.{seen_of};
+ghost use Rattle.rules.specs.Programs.{model_of};
 ghost use Rattle.machine.specs.Answers.{Tells, on_stack, went_on};
 ghost use Rattle.machine.specs.Outcomes.{Bounds};
-ghost use Rattle.machine.specs.Views.{stack_seen, world_seen};
+ghost use Rattle.machine.specs.Views.{stack_model, world_model};
 ghost use Rattle.machine.specs.World.{stack_at};
 ghost use Rattle.machine.specs.declared.worlds.Process.{Process};
 
@@ -22,7 +22,7 @@ use std::alloc::Global;
 
 /// The innermost frame lets go what is claimed of arguments, and goes on at a point.
 fn go_on(stack: &mut Process, arguments: &[Argument], next: usize)
-    ensures { stack_seen stack.new ≡ went_on arguments.now next (stack_seen stack.old) }
+    ensures { stack_model stack.new ≡ went_on arguments.now next (stack_model stack.old) }
 {
     if let Some(frame) = &mut stack.top {
         lets_go(&mut frame.variables, arguments);
@@ -41,10 +41,10 @@ pub(crate) fn start(
     requires there { process < length world.old.processes.items }
     requires top { (d : Process) → IsSome (get_or world.old.processes.items process d).top }
     ensures tells { (bound : Bounds) →
-        Tells result (on_stack (seen_of program.now) bound (world_seen world.old) process (instruction_seen (Instr.Start starting.now)) 0
-        (stack_at (world_seen world.old).processes process))
-        (world_seen world.new) }
-    ensures same { OnErr result (world_seen world.new ≡ world_seen world.old) }
+        Tells result (on_stack (model_of program.now) bound (world_model world.old) process (instruction_model (Instr.Start starting.now)) 0
+        (stack_at (world_model world.old).processes process))
+        (world_model world.new) }
+    ensures same { OnErr result (world_model world.new ≡ world_model world.old) }
 {
     let Some(frame) = &world.processes[process].top else {
         unreachable!()

@@ -1,13 +1,13 @@
 //! One event of a world.
 
 ghost use Rattle.std.specs.Prelude.{◌≡◌, ◌<◌, ◌∷◌, [], IfNone, IfOk, IfSome, IsSome, OnErr, drop, get_or, length};
-ghost use Rattle.rules.specs.Programs.{seen_of};
+ghost use Rattle.rules.specs.Programs.{model_of};
 ghost use Rattle.machine.specs.Answers as answers;
 ghost use Rattle.machine.specs.Machine.{event_outcome};
 ghost use Rattle.machine.specs.Outcomes.{Bounds, TellsStep};
 ghost use Rattle.machine.specs.Places.{process_place};
 ghost use Rattle.machine.specs.Runs.{AreBounds, start_of};
-ghost use Rattle.machine.specs.Views.{frame_seen, world_seen};
+ghost use Rattle.machine.specs.Views.{frame_model, world_model};
 ghost use Rattle.machine.specs.World.{stack_at};
 ghost use Rattle.machine.specs.declared.worlds.Process.{Process};
 
@@ -40,9 +40,9 @@ impl World {
     fn innermost(&self, process: usize) -> Option<&Frame>
         ensures there { IfSome result (λ f. process < length self.now.processes.items) }
         ensures top { IfSome result (λ f. (d : Process) → IsSome (get_or self.now.processes.items process d).top) }
-        ensures stands { IfSome result (λ f. stack_at (world_seen self.now).processes process
-            ≡ frame_seen f.now ∷ drop 1 (stack_at (world_seen self.now).processes process)) }
-        ensures ended { IfNone result (stack_at (world_seen self.now).processes process ≡ []) }
+        ensures stands { IfSome result (λ f. stack_at (world_model self.now).processes process
+            ≡ frame_model f.now ∷ drop 1 (stack_at (world_model self.now).processes process)) }
+        ensures ended { IfNone result (stack_at (world_model self.now).processes process ≡ []) }
     {
         let stack = self.processes.get(process)?;
         match &stack.top {
@@ -55,8 +55,8 @@ impl World {
     ///
     /// `Memory` is answered where a growth was refused.
     pub fn start(alloc: Global, program: &Program, method: MethodId) -> Result<World, Memory>
-        requires there { method.0 < length (seen_of program.now).methods }
-        ensures { IfOk result (λ w. world_seen w ≡ start_of (seen_of program.now) method.0) }
+        requires there { method.0 < length (model_of program.now).methods }
+        ensures { IfOk result (λ w. world_model w ≡ start_of (model_of program.now) method.0) }
     {
         let nobody = Frame {
             method,
@@ -82,10 +82,10 @@ impl World {
     /// `NoSuchChoice` where the instruction has no such choice; `Fault` where the process does something wrong; `Waits` where it waits
     /// for a message and none is there; `Memory` where a growth was refused, and with memory the event would have been a step.
     pub fn step(&mut self, alloc: Global, program: &Program, event: Event) -> Result<(), Halt>
-        ensures tells { (bound : Bounds) → AreBounds (seen_of program.now) bound →
-            TellsStep result (event_outcome (seen_of program.now) bound (world_seen self.old) event)
-            (process_place (seen_of program.now) (world_seen self.old) event.process) (world_seen self.new) }
-        ensures same { OnErr result (world_seen self.new ≡ world_seen self.old) }
+        ensures tells { (bound : Bounds) → AreBounds (model_of program.now) bound →
+            TellsStep result (event_outcome (model_of program.now) bound (world_model self.old) event)
+            (process_place (model_of program.now) (world_model self.old) event.process) (world_model self.new) }
+        ensures same { OnErr result (world_model self.new ≡ world_model self.old) }
     {
         let chosen = Chosen {
             process: event.process as usize,

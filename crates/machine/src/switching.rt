@@ -1,17 +1,17 @@
 //! A switch.
 
 ghost use Rattle.std.specs.Prelude.{◌≡◌, ◌<◌, ◌∷◌, [], IfErr, List, OnErr, OnOk, Some, length, map, true, ℕ};
-ghost use Rattle.flow.specs.Cases.{entrance_seen, first_mentions};
+ghost use Rattle.flow.specs.Cases.{entrance_model, first_mentions};
 ghost use Rattle.flow.specs.Graphs as graphs;
-ghost use Rattle.flow.specs.Graphs.{cases_seen};
+ghost use Rattle.flow.specs.Graphs.{cases_model};
 ghost use Rattle.source.specs.declared.place.Place.{Place};
-ghost use Rattle.program.specs.Programs.{ProgramSeen};
-ghost use Rattle.rules.specs.Programs.{seen_of};
+ghost use Rattle.program.specs.Programs.{ProgramModel};
+ghost use Rattle.rules.specs.Programs.{model_of};
 ghost use Rattle.machine.specs.Answers.{IsRefusal, Pass, Tells, on_top};
 ghost use Rattle.machine.specs.Bindings.{AllMayTake};
 ghost use Rattle.machine.specs.Machine.{event_of, receives, receives_at};
 ghost use Rattle.machine.specs.Outcomes.{Bounds, Moved, test};
-ghost use Rattle.machine.specs.Views.{blocks_seen, frame_seen};
+ghost use Rattle.machine.specs.Views.{blocks_model, frame_model};
 ghost use Rattle.machine.specs.World as seen;
 ghost use Rattle.machine.specs.World.{MessageHeld, block_at, is_own_in, owns, read};
 ghost use Rattle.machine.specs.declared.halts.Fault.TheVariants.{F1};
@@ -34,10 +34,10 @@ fn are_own(
     endpoints: &[Mention],
 ) -> Result<(), Refusal>
     ensures pass { OnOk result (Pass
-        (map (λ e. test (is_own_in (blocks_seen blocks.now) process (read (frame_seen frame.now).variables e.variable.0)) F1)
+        (map (λ e. test (is_own_in (blocks_model blocks.now) process (read (frame_model frame.now).variables e.variable.0)) F1)
         endpoints.now)) }
     ensures refusal { IfErr result (λ refusal. IsRefusal refusal
-        (map (λ e. test (is_own_in (blocks_seen blocks.now) process (read (frame_seen frame.now).variables e.variable.0)) F1)
+        (map (λ e. test (is_own_in (blocks_model blocks.now) process (read (frame_model frame.now).variables e.variable.0)) F1)
         endpoints.now)) }
 {
     for endpoint in endpoints {
@@ -50,23 +50,28 @@ fn are_own(
 
 /// Where an endpoint stands in a switch: the variable that names it, and its address.
 #[derive(Clone, Copy)]
-struct Gate {
+struct Listener {
     variable: VarId,
     at: usize,
 }
 
 /// Nothing is in the queue of an endpoint: its close comes to a case, if its peer is gone.
-fn close(frame: &mut Frame, blocks: &[Block], cases: &Cases, gate: Gate) -> Result<(), Refusal>
-    ensures tells { (p : ProgramSeen) (bound : Bounds) (w : seen.World) (process : ℕ) (rest : List seen.Frame) →
-        w.blocks ≡ blocks_seen blocks.now →
-        Tells result (receives p bound w process (frame_seen frame.old) rest (cases_seen cases.now) gate.variable.0 gate.at [])
-        (on_top w.processes process rest (frame_seen frame.new) (blocks_seen blocks.now)) }
-    ensures same { OnErr result (frame_seen frame.new ≡ frame_seen frame.old) }
+fn close(
+    frame: &mut Frame,
+    blocks: &[Block],
+    cases: &Cases,
+    listener: Listener,
+) -> Result<(), Refusal>
+    ensures tells { (p : ProgramModel) (bound : Bounds) (w : seen.World) (process : ℕ) (rest : List seen.Frame) →
+        w.blocks ≡ blocks_model blocks.now →
+        Tells result (receives p bound w process (frame_model frame.old) rest (cases_model cases.now) listener.variable.0 listener.at [])
+        (on_top w.processes process rest (frame_model frame.new) (blocks_model blocks.now)) }
+    ensures same { OnErr result (frame_model frame.new ≡ frame_model frame.old) }
 {
-    if !is_freed(blocks, peer_of(blocks, gate.at)) {
+    if !is_freed(blocks, peer_of(blocks, listener.at)) {
         return Err(Refusal::Waits);
     }
-    let Some(case) = cases.find(gate.variable, None) else {
+    let Some(case) = cases.find(listener.variable, None) else {
         return Err(Refusal::Fault(Fault::F5));
     };
     frame.point = case.next;
@@ -89,47 +94,47 @@ fn receive_at(
     case: &Entrance,
     arrival: Arrival,
 )
-    requires owned { owns (blocks_seen heap.old.blocks.items) process arrival.at ≡ true }
-    requires some { 0 < length (block_at (blocks_seen heap.old.blocks.items) arrival.at).queue }
-    requires takes { AllMayTake frame.old.variables.count frame.old.variables.bindings.items case.now.bound.items }
+    requires owned { owns (blocks_model heap.old.blocks.items) process arrival.at ≡ true }
+    requires some { 0 < length (block_at (blocks_model heap.old.blocks.items) arrival.at).queue }
+    requires takes { AllMayTake frame.old.variables.count frame.old.variables.bindings.items case.now.targets.items }
     ensures { (bound : Bounds) (w : seen.World) (rest : List seen.Frame) (m : MessageHeld) (ms : List MessageHeld) →
-        w.blocks ≡ blocks_seen heap.old.blocks.items →
-        (block_at (blocks_seen heap.old.blocks.items) arrival.at).queue ≡ m ∷ ms → arrival.message.0 ≡ m.message →
-        receives_at (seen_of program.now) bound w process (frame_seen frame.old) rest (Some (entrance_seen case.now)) arrival.at m ms
-        ≡ Moved (on_top w.processes process rest (frame_seen frame.new) (blocks_seen heap.new.blocks.items)) }
+        w.blocks ≡ blocks_model heap.old.blocks.items →
+        (block_at (blocks_model heap.old.blocks.items) arrival.at).queue ≡ m ∷ ms → arrival.message.0 ≡ m.message →
+        receives_at (model_of program.now) bound w process (frame_model frame.old) rest (Some (entrance_model case.now)) arrival.at m ms
+        ≡ Moved (on_top w.processes process rest (frame_model frame.new) (blocks_model heap.new.blocks.items)) }
 {
     let state = state_received(program, heap.blocks(), arrival.at, arrival.message);
     let payload = heap.receive(arrival.at, state, process);
-    bind(&mut frame.variables, &case.bound, &payload);
+    bind(&mut frame.variables, &case.targets, &payload);
     frame.point = case.next;
 }
 
 /// What is at the front of the queue of an endpoint, or its close, comes to a case.
-fn come(
+fn deliver(
     program: &Program,
     frame: &mut Frame,
     heap: &mut Heap,
     process: usize,
     cases: &Cases,
-    gate: Gate,
+    listener: Listener,
 ) -> Result<(), Refusal>
-    requires owned { owns (blocks_seen heap.old.blocks.items) process gate.at ≡ true }
-    ensures tells { (bound : Bounds) (w : seen.World) (rest : List seen.Frame) → w.blocks ≡ blocks_seen heap.old.blocks.items →
-        Tells result (receives (seen_of program.now) bound w process (frame_seen frame.old) rest (cases_seen cases.now)
-        gate.variable.0 gate.at (block_at (blocks_seen heap.old.blocks.items) gate.at).queue)
-        (on_top w.processes process rest (frame_seen frame.new) (blocks_seen heap.new.blocks.items)) }
-    ensures same { OnErr result (frame_seen frame.new ≡ frame_seen frame.old) }
-    ensures same_blocks { OnErr result (blocks_seen heap.new.blocks.items ≡ blocks_seen heap.old.blocks.items) }
+    requires owned { owns (blocks_model heap.old.blocks.items) process listener.at ≡ true }
+    ensures tells { (bound : Bounds) (w : seen.World) (rest : List seen.Frame) → w.blocks ≡ blocks_model heap.old.blocks.items →
+        Tells result (receives (model_of program.now) bound w process (frame_model frame.old) rest (cases_model cases.now)
+        listener.variable.0 listener.at (block_at (blocks_model heap.old.blocks.items) listener.at).queue)
+        (on_top w.processes process rest (frame_model frame.new) (blocks_model heap.new.blocks.items)) }
+    ensures same { OnErr result (frame_model frame.new ≡ frame_model frame.old) }
+    ensures same_blocks { OnErr result (blocks_model heap.new.blocks.items ≡ blocks_model heap.old.blocks.items) }
 {
-    let Some(message) = front(heap.blocks(), gate.at) else {
-        return close(frame, heap.blocks(), cases, gate);
+    let Some(message) = front(heap.blocks(), listener.at) else {
+        return close(frame, heap.blocks(), cases, listener);
     };
-    let Some(case) = cases.find(gate.variable, Some(message)) else {
+    let Some(case) = cases.find(listener.variable, Some(message)) else {
         return Err(Refusal::Fault(Fault::F5));
     };
-    list_bound(&mut frame.variables, &case.bound)?;
+    list_bound(&mut frame.variables, &case.targets)?;
     let arrival = Arrival {
-        at: gate.at,
+        at: listener.at,
         message,
     };
     receive_at(program, frame, heap, process, case, arrival);
@@ -145,22 +150,22 @@ pub(crate) fn switch(
     cases: &Cases,
     choice: usize,
 ) -> Result<(), Refusal>
-    requires there { choice < length (first_mentions [] (cases_seen cases.now)) }
+    requires there { choice < length (first_mentions [] (cases_model cases.now)) }
     ensures tells { (bound : Bounds) (w : seen.World) (rest : List seen.Frame) (place : Place) →
-        w.blocks ≡ blocks_seen heap.old.blocks.items →
-        Tells result (event_of (seen_of program.now) bound w process (frame_seen frame.old) rest
-        (graphs.Switch place (cases_seen cases.now)) choice)
-        (on_top w.processes process rest (frame_seen frame.new) (blocks_seen heap.new.blocks.items)) }
-    ensures same { OnErr result (frame_seen frame.new ≡ frame_seen frame.old) }
-    ensures same_blocks { OnErr result (blocks_seen heap.new.blocks.items ≡ blocks_seen heap.old.blocks.items) }
+        w.blocks ≡ blocks_model heap.old.blocks.items →
+        Tells result (event_of (model_of program.now) bound w process (frame_model frame.old) rest
+        (graphs.Switch place (cases_model cases.now)) choice)
+        (on_top w.processes process rest (frame_model frame.new) (blocks_model heap.new.blocks.items)) }
+    ensures same { OnErr result (frame_model frame.new ≡ frame_model frame.old) }
+    ensures same_blocks { OnErr result (blocks_model heap.new.blocks.items ≡ blocks_model heap.old.blocks.items) }
 {
     let endpoints = cases.endpoints();
     are_own(frame, heap.blocks(), process, endpoints)?;
     let endpoint = endpoints[choice];
     let at = frame.address(endpoint);
-    let gate = Gate {
+    let listener = Listener {
         variable: endpoint.variable,
         at,
     };
-    come(program, frame, heap, process, cases, gate)
+    deliver(program, frame, heap, process, cases, listener)
 }

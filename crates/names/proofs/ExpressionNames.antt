@@ -15,8 +15,8 @@ use Rattle.declarations.specs.Mistakes.{Adds}
 use Rattle.declarations.specs.Kinds.{is_unknown}
 use Rattle.names.specs.Operands.{IsJudged, Judges, IsJoined, IsSigned}
 use Rattle.names.specs.Shapes.{Shape, Joined, Joint, Signed, joint_of, sign_of, signed, shape, joined, atom_shape}
-use Rattle.declarations.specs.declared.kinds.Kind.{Kind}
-use Rattle.declarations.specs.declared.kinds.Kind.TheVariants as kind
+use Rattle.declarations.specs.declared.kinds.ValueKind.{ValueKind}
+use Rattle.declarations.specs.declared.kinds.ValueKind.TheVariants as kind
 use Rattle.names.specs.declared.operands.Operand.{Operand}
 use Rattle.declarations.specs.declared.scope.Scope.{Scope}
 use Rattle.names.specs.declared.variables.Variables.{Variables}
@@ -28,7 +28,7 @@ judged_as s e = record { kind = kind_of s e; place = place_of e }
 
 is_judged_as : (s : InScope) (e : Shape) (o : Operand) → o.kind ≡ kind_of s e → o.place ≡ place_of e → o ≡ judged_as s e
 is_judged_as s e o kind-is place-is =
-    let operand : Kind → Place → Operand = λ k p. record { kind = k; place = p } in
+    let operand : ValueKind → Place → Operand = λ k p. record { kind = k; place = p } in
     ap (λ k. operand k o.place) kind-is ∙ ap (operand (kind_of s e)) place-is
 
 -- two operands that are joined, by the expressions that they are
@@ -46,9 +46,9 @@ judged_joined s joint l r first second both =
       found = adds_then first.found (adds_then second.found asked.found);
     }
 
-judged_signed : (s : InScope) (p : Prefix) (e : Shape) {old mid new : List Mistake} {inner o : Operand} → IsJudged s e old mid inner → IsSigned (sign_of p.operator) p.place.place inner mid new o → IsJudged s (Signed (sign_of p.operator) p.place.place e) old new o
+judged_signed : (s : InScope) (p : Prefix) (e : Shape) {old mid new : List Mistake} {inner o : Operand} → IsJudged s e old mid inner → IsSigned (sign_of p.operator) p.span.place inner mid new o → IsJudged s (Signed (sign_of p.operator) p.span.place e) old new o
 judged_signed s p e {mid = mid} {new = new} {inner = inner} first sign =
-    let unknown : Kind → Kind = λ k. if is_unknown k then kind.Unknown else signed_kind (sign_of p.operator) in
+    let unknown : ValueKind → ValueKind = λ k. if is_unknown k then kind.Unknown else signed_kind (sign_of p.operator) in
     record {
       kind = sign.kind ∙ ap unknown first.kind;
       place = sign.at;
@@ -100,5 +100,5 @@ judges_signed ps qs a tree (Ok o) new {scope = scope} {variables = variables} {o
     (record { all = λ p f is_scope is_frame. all _ (atom_shape a) old (first.all p f is_scope is_frame) }))
 
 -- one more sign, from behind
-pub judged_more : (s : InScope) (e : Shape) (ps : List Prefix) (p : Prefix) {old mid new : List Mistake} {inner o : Operand} → IsJudged s (signed ps e) old mid inner → IsSigned (sign_of p.operator) p.place.place inner mid new o → IsJudged s (signed (p ∷ ps) e) old new o
+pub judged_more : (s : InScope) (e : Shape) (ps : List Prefix) (p : Prefix) {old mid new : List Mistake} {inner o : Operand} → IsJudged s (signed ps e) old mid inner → IsSigned (sign_of p.operator) p.span.place inner mid new o → IsJudged s (signed (p ∷ ps) e) old new o
 judged_more s e ps p = judged_signed s p (signed ps e)

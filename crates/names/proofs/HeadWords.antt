@@ -22,8 +22,8 @@ use Rattle.declarations.specs.declared.mistake.Mistake.{Mistake}
 use Rattle.declarations.specs.declared.mistake.Mistake.TheVariants.{CaseTwice}
 use Rattle.declarations.specs.Mistakes.{Adds}
 use Rattle.declarations.specs.Kinds.{is_silent}
-use Rattle.declarations.specs.declared.kinds.Kind.{Kind}
-use Rattle.declarations.specs.declared.kinds.Kind.TheVariants as kind
+use Rattle.declarations.specs.declared.kinds.ValueKind.{ValueKind}
+use Rattle.declarations.specs.declared.kinds.ValueKind.TheVariants as kind
 use Rattle.program.specs.declared.kind.Side.{Side}
 use Rattle.names.specs.Heads.{awaiting_of, awaited_word, key_words, head_words, same_message, same_key, key_at, is_before, switch_heads}
 use Rattle.lemmas.specs.Places.{first_position}
@@ -146,7 +146,7 @@ switch_heads_are s =
     ∙ mapped head_of case_tree (made.Switch.out-Switch s).others.items)
 
 -- a case on what is no endpoint
-pub no_endpoint : (s : InScope) (all earlier : List Head) (k : Kind) (h : Head) → ((end : Side) (n : ℕ) → k ≡ kind.Endpoint end n → ⊥) → kind_head_mistakes s all earlier k h ≡ (if is_silent k then [] else other_head_mistakes k h)
+pub no_endpoint : (s : InScope) (all earlier : List Head) (k : ValueKind) (h : Head) → ((end : Side) (n : ℕ) → k ≡ kind.Endpoint end n → ⊥) → kind_head_mistakes s all earlier k h ≡ (if is_silent k then [] else other_head_mistakes k h)
 no_endpoint s all earlier (kind.Scalar t) h other = refl
 no_endpoint s all earlier (kind.Pointer n) h other = refl
 no_endpoint s all earlier (kind.Array t) h other = refl

@@ -12,7 +12,7 @@ use Rattle.names.specs.Bodies.{Surroundings, statement_turn, statements_turn, bl
 use Rattle.names.specs.Cases.{Head, typed_turn, bind_turn, binds_turn}
 use Rattle.declarations.specs.Program.{Program}
 use Rattle.names.specs.Variables.{Variable, Frame, variable_named, declared_variable}
-use Rattle.declarations.specs.declared.kinds.Kind.{Kind}
+use Rattle.declarations.specs.declared.kinds.ValueKind.{ValueKind}
 
 pub record Extends (f g : Frame) : Type 0 where
   pub more : List Variable
@@ -31,7 +31,7 @@ one_more : (b : Bool) (vs : List Variable) (v : Variable) → (if b then vs else
 one_more true vs v = sym (append-nil vs)
 one_more false vs v = refl
 
-declared_extends : (text : List ℕ) (name : Span) (kind : Kind) (heap : Bool) (f : Frame) → Extends f (declared_variable text name kind heap f).frame
+declared_extends : (text : List ℕ) (name : Span) (kind : ValueKind) (heap : Bool) (f : Frame) → Extends f (declared_variable text name kind heap f).frame
 declared_extends text name kind heap f = record {
   more = if is_some (variable_named text f.variables name) then [] else record { name = name; kind = kind } ∷ [];
   is = one_more (is_some (variable_named text f.variables name)) f.variables (record { name = name; kind = kind });
@@ -84,8 +84,8 @@ typed_extends p param name None f = declared_extends _ _ _ _ f
 
 binds_extend : (p : Program) (params : List contract_nodes.Param.Param) (binds : List made.Bind.Bind) (f : Frame) → Extends f (binds_turn p params binds f).frame
 binds_extend p params [] f = same_extends f f refl
-binds_extend p [] (b ∷ binds) f = extends_then f _ _ (typed_extends p None b.name b.kind f) (binds_extend p [] binds (bind_turn p None b f).frame)
-binds_extend p (x ∷ params) (b ∷ binds) f = extends_then f _ _ (typed_extends p (Some x) b.name b.kind f) (binds_extend p params binds (bind_turn p (Some x) b f).frame)
+binds_extend p [] (b ∷ binds) f = extends_then f _ _ (typed_extends p None b.name b.ty f) (binds_extend p [] binds (bind_turn p None b f).frame)
+binds_extend p (x ∷ params) (b ∷ binds) f = extends_then f _ _ (typed_extends p (Some x) b.name b.ty f) (binds_extend p params binds (bind_turn p (Some x) b f).frame)
 
 -- what stood before a case stands in front behind what it binds and what it does
 pub case_extends : (m : Surroundings) (params : List contract_nodes.Param.Param) (binds : List made.Bind.Bind) (xs : StatementTrees) (f : Frame) → Extends f (statements_turn m xs (binds_turn m.program params binds f).frame).frame

@@ -12,21 +12,21 @@ use Rattle.declarations.specs.declared.mistake.NameSort.TheVariants as sort
 use Rattle.names.specs.Mentions.{IsGiven, GivesIn}
 use Rattle.declarations.specs.Program.{Program, as_struct, item_at}
 use Rattle.declarations.specs.Scopes.{IsScope, AreFields, IsStruct}
-use Rattle.declarations.specs.declared.kinds.Kind.{Kind}
-use Rattle.declarations.specs.declared.kinds.Kind.TheVariants as kind
+use Rattle.declarations.specs.declared.kinds.ValueKind.{ValueKind}
+use Rattle.declarations.specs.declared.kinds.ValueKind.TheVariants as kind
 use Rattle.declarations.specs.declared.fields.Fields.{Fields}
 use Rattle.declarations.specs.declared.scope.Scope.{Scope}
 
 -- the field of a struct that was found
-abbrev InStruct : InScope → List ℕ → ℕ → Span → Fields → List Mistake → List Mistake → Kind → Type 0
+abbrev InStruct : InScope → List ℕ → ℕ → Span → Fields → List Mistake → List Mistake → ValueKind → Type 0
 InStruct s text place field f old new k = (x : StructTree) → AreFields text x f → IsGiven (struct_field_kind s (field_named text x field)) (if is_some (field_named text x field) then [] else Unknown field (sort.Field place) ∷ []) old new k
 
-given_in : (s : InScope) (field : Span) (f : Fields) (old new : List Mistake) (k : Kind) (place : ℕ) (o : Option (ℕ × StructTree)) → item_at as_struct s.program place ≡ o → IsStruct s.program.text o (Some (place, f)) → InStruct s s.program.text place field f old new k
+given_in : (s : InScope) (field : Span) (f : Fields) (old new : List Mistake) (k : ValueKind) (place : ℕ) (o : Option (ℕ × StructTree)) → item_at as_struct s.program place ≡ o → IsStruct s.program.text o (Some (place, f)) → InStruct s s.program.text place field f old new k
     → IsGiven (field_kind s (kind.Pointer place) field) (field_mistakes s (kind.Pointer place) field field) old new k
 given_in s field f old new k place None is h all = absurd h
 given_in s field f old new k place (Some x) is h all = rw is (all x.1 h.1)
 
-pub given_pointed : (scope : Scope) (field : Span) (f : Fields) (old new : List Mistake) (place : ℕ) (r : Result Kind Memory)
+pub given_pointed : (scope : Scope) (field : Span) (f : Fields) (old new : List Mistake) (place : ℕ) (r : Result ValueKind Memory)
     → ((p : Program) → IsScope p scope → IsStruct p.text (item_at as_struct p place) (Some (place, f)))
     → IfOk r (λ k. (s : InScope) (x : StructTree) → IsScope s.program scope → AreFields scope.text.now x f
     → IsGiven (struct_field_kind s (field_named scope.text.now x field)) (if is_some (field_named scope.text.now x field) then [] else Unknown field (sort.Field place) ∷ []) old new k)

@@ -14,8 +14,8 @@ use Rattle.declarations.specs.Declarations.{is_declared, names_of_states, states
 use Rattle.declarations.specs.Kinds.{endpoint_kind, is_heap, pointer_kind, type_kind}
 use Rattle.declarations.specs.Named.{field_named}
 use Rattle.declarations.specs.Program.{Program, as_struct, contract_named, item_at, struct_named}
-use Rattle.declarations.specs.declared.kinds.Kind.{Kind}
-use Rattle.declarations.specs.declared.kinds.Kind.TheVariants as kind
+use Rattle.declarations.specs.declared.kinds.ValueKind.{ValueKind}
+use Rattle.declarations.specs.declared.kinds.ValueKind.TheVariants as kind
 use Rattle.names.specs.Expressions.{InScope, field_kind, is_owning, owns, struct_field_kind}
 
 no_pointer : {X : Type 0} (o : Option (ℕ × X)) (n : Scalar) → pointer_kind o ≡ kind.Scalar n → ⊥
@@ -42,7 +42,7 @@ scalar_type p (type.Heap (heap.Endpoint contract end state bang in_heap)) n is =
 
 scalar_field : (s : InScope) (o : Option made.Field.Field) (n : Scalar) → struct_field_kind s o ≡ kind.Scalar n → is_owning o ≡ false
 scalar_field s None n is = refl
-scalar_field s (Some f) n is = scalar_type s.program f.kind n is
+scalar_field s (Some f) n is = scalar_type s.program f.ty n is
 
 scalar_in : (s : InScope) (o : Option (ℕ × StructTree)) (field : Span) (n : Scalar)
     → option_map_or (λ x. struct_field_kind s (field_named s.program.text x.1 field)) o kind.Unknown ≡ kind.Scalar n
@@ -51,7 +51,7 @@ scalar_in s None field n is = refl
 scalar_in s (Some x) field n is = scalar_field s (field_named s.program.text x.1 field) n is
 
 -- a field that is a scalar
-pub scalar_owns : (s : InScope) (held : Kind) (field : Span) (n : Scalar) → field_kind s held field ≡ kind.Scalar n → owns s held field ≡ false
+pub scalar_owns : (s : InScope) (held : ValueKind) (field : Span) (n : Scalar) → field_kind s held field ≡ kind.Scalar n → owns s held field ≡ false
 scalar_owns s (kind.Scalar t) field n is = refl
 scalar_owns s (kind.Pointer place) field n is = scalar_in s (item_at as_struct s.program place) field n is
 scalar_owns s (kind.Array t) field n is = refl

@@ -13,8 +13,8 @@ use Rattle.names.specs.Values.{class_meant, Role, send_mistakes, argument_mistak
 use Rattle.names.specs.Expressions.{InScope}
 use Rattle.declarations.specs.Kinds.{is_silent, unless}
 use Rattle.names.specs.Shapes.{Shape}
-use Rattle.declarations.specs.declared.kinds.Kind.{Kind}
-use Rattle.declarations.specs.declared.kinds.Kind.TheVariants as kind
+use Rattle.declarations.specs.declared.kinds.ValueKind.{ValueKind}
+use Rattle.declarations.specs.declared.kinds.ValueKind.TheVariants as kind
 use Rattle.source.specs.declared.token.Span.{Span}
 use Rattle.program.specs.declared.kind.Side.{Side}
 use Rattle.declarations.specs.declared.mistake.Demand.TheVariants as demand
@@ -30,7 +30,7 @@ class_lacks text None h = refl
 class_lacks text (Some c) h = absurd h
 
 -- a call on what is no endpoint
-pub no_send : (s : InScope) (k : Kind) (role : Role) (variable word : Span) (arguments : List Shape) → ((end : Side) (n : ℕ) → k ≡ kind.Endpoint end n → ⊥) → send_mistakes s k role variable word arguments ≡ unless (is_silent k) variable.place (Given demand.Endpoint k) ++ argument_mistakes s [] arguments
+pub no_send : (s : InScope) (k : ValueKind) (role : Role) (variable word : Span) (arguments : List Shape) → ((end : Side) (n : ℕ) → k ≡ kind.Endpoint end n → ⊥) → send_mistakes s k role variable word arguments ≡ unless (is_silent k) variable.place (Given demand.Endpoint k) ++ argument_mistakes s [] arguments
 no_send s (kind.Scalar t) role variable word arguments other = refl
 no_send s (kind.Pointer n) role variable word arguments other = refl
 no_send s (kind.Array t) role variable word arguments other = refl

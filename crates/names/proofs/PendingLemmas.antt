@@ -12,7 +12,7 @@ use Rattle.names.specs.Expressions.{InScope}
 use Rattle.declarations.specs.Mistakes.{Adds}
 use Rattle.names.specs.Shapes.{Shape, shape}
 use Rattle.names.specs.Values.{argument_asked, argument_mistakes, number_of_arguments}
-use Rattle.declarations.specs.declared.kinds.Kind.{Kind}
+use Rattle.declarations.specs.declared.kinds.ValueKind.{ValueKind}
 
 -- of all that was to be added, the rest still is
 pub record Pends (old new : List Mistake) (all rest : List Mistake) : Type 0 where
@@ -28,12 +28,12 @@ pends_less {mid = mid} {more = more} {rest = rest} pends adds =
 pub pends_none : {old new : List Mistake} {all : List Mistake} → Pends old new all [] → Adds old new all
 pends_none {new = new} pends = record { all = sym (append-nil new) ∙ sym pends.is }
 
-none_left : (i : ℕ) → drop {A = Kind} i [] ≡ []
+none_left : (i : ℕ) → drop {A = ValueKind} i [] ≡ []
 none_left zero = refl
 none_left (suc i) = refl
 
 -- an argument, and those behind it
-argument_next : (s : InScope) (kinds : List Kind) (es : List Shape) (i : ℕ) (e : Shape) → i < length es → argument_mistakes s (drop i kinds) (drop i es) ≡ argument_asked s (slice_get kinds i) (get_or es i e) ++ argument_mistakes s (drop (suc i) kinds) (drop (suc i) es)
+argument_next : (s : InScope) (kinds : List ValueKind) (es : List Shape) (i : ℕ) (e : Shape) → i < length es → argument_mistakes s (drop i kinds) (drop i es) ≡ argument_asked s (slice_get kinds i) (get_or es i e) ++ argument_mistakes s (drop (suc i) kinds) (drop (suc i) es)
 argument_next s kinds [] i e lt = absurd (omega (arith, lt))
 argument_next s [] (x ∷ es) zero e lt = refl
 argument_next s (k ∷ kinds) (x ∷ es) zero e lt = refl
@@ -41,13 +41,13 @@ argument_next s [] (x ∷ es) (suc i) e lt = ap (λ kinds. argument_mistakes s k
 argument_next s (k ∷ kinds) (x ∷ es) (suc i) e lt = argument_next s kinds es i e (omega (arith, lt))
 
 -- kinds behind the last argument are not looked at
-pub kinds_enough : (s : InScope) (kinds : List Kind) (es : List Shape) → argument_mistakes s (take (length es) kinds) es ≡ argument_mistakes s kinds es
+pub kinds_enough : (s : InScope) (kinds : List ValueKind) (es : List Shape) → argument_mistakes s (take (length es) kinds) es ≡ argument_mistakes s kinds es
 kinds_enough s kinds [] = refl
 kinds_enough s [] (e ∷ es) = refl
 kinds_enough s (k ∷ kinds) (e ∷ es) = ap (λ l. argument_asked s (Some k) e ++ l) (kinds_enough s kinds es)
 
 -- an argument in memory, and those behind it
-pub argument_less : {X : Type 0} {old mid new : List Mistake} {all : List Mistake} (tree : X → ExpressionTree) (s : InScope) (kinds : List Kind) (xs : List X) (i : ℕ) (x : X) (k : Option Kind)
+pub argument_less : {X : Type 0} {old mid new : List Mistake} {all : List Mistake} (tree : X → ExpressionTree) (s : InScope) (kinds : List ValueKind) (xs : List X) (i : ℕ) (x : X) (k : Option ValueKind)
     → i < length xs → x ≡ get_or xs i x → k ≡ slice_get kinds i
     → Pends old mid all (argument_mistakes s (drop i kinds) (drop i (map shape (map tree xs))))
     → Adds mid new (argument_asked s k (shape (tree x)))
@@ -63,7 +63,7 @@ argument_less {old = old} {mid = mid} {new = new} {all = all} tree s kinds xs i 
     pends_less (subst (Pends old mid all) next pends) adds
 
 -- kinds of as many parameters as there are arguments
-pub enough_kinds : {X Y : Type 0} (tree : X → ExpressionTree) (kind : Y → Kind) (s : InScope) (params : List Y) (xs : List X) → argument_mistakes s (map kind (take (length xs) params)) (map shape (map tree xs)) ≡ argument_mistakes s (map kind params) (map shape (map tree xs))
+pub enough_kinds : {X Y : Type 0} (tree : X → ExpressionTree) (kind : Y → ValueKind) (s : InScope) (params : List Y) (xs : List X) → argument_mistakes s (map kind (take (length xs) params)) (map shape (map tree xs)) ≡ argument_mistakes s (map kind params) (map shape (map tree xs))
 enough_kinds tree kind s params xs =
     let es : List Shape = map shape (map tree xs) in
     let size : length es ≡ length xs = length-map (map tree xs) (shape {l = Joined Or}) ∙ length-map xs tree in

@@ -18,8 +18,8 @@ use Rattle.names.specs.Shapes.{Joined, Joint, Logic, Likeness, Sum, Sign, Denial
 use Rattle.tree.specs.declared.class as made
 use Rattle.names.specs.Variables.{Variable, variable_named}
 use Rattle.tables.specs.Words.{word_at, same_word}
-use Rattle.declarations.specs.declared.kinds.Kind.{Kind}
-use Rattle.declarations.specs.declared.kinds.Kind.TheVariants as kind
+use Rattle.declarations.specs.declared.kinds.ValueKind.{ValueKind}
+use Rattle.declarations.specs.declared.kinds.ValueKind.TheVariants as kind
 
 -- what is in scope: a program, and variables
 pub record InScope : Type 0 where
@@ -45,21 +45,21 @@ place_of (Signed sign place inner) = place
 place_of (Joined joint left right) = place_of left
 
 -- the kind of a field of what a variable holds; of an array there is the length alone
-abbrev pub struct_field_kind : InScope → Option made.Field.Field → Kind
+abbrev pub struct_field_kind : InScope → Option made.Field.Field → ValueKind
 struct_field_kind s None = kind.Unknown
-struct_field_kind s (Some f) = type_kind s.program f.kind
+struct_field_kind s (Some f) = type_kind s.program f.ty
 
 -- A field owns where it is of a type of the exchange heap, whether the names in that are declared or not.
 abbrev pub is_owning : Option made.Field.Field → Bool
 is_owning None = false
-is_owning (Some f) = is_heap f.kind
+is_owning (Some f) = is_heap f.ty
 
 -- whether a field of what a variable holds owns
-abbrev pub owns : InScope → Kind → Span → Bool
+abbrev pub owns : InScope → ValueKind → Span → Bool
 owns s (kind.Pointer n) field = option_map_or (λ x. is_owning (field_named s.program.text x.1 field)) (item_at as_struct s.program n) false
 owns s _ field = false
 
-abbrev pub field_kind : InScope → Kind → Span → Kind
+abbrev pub field_kind : InScope → ValueKind → Span → ValueKind
 field_kind s (kind.Array element) field = if is_length s field then kind.Scalar scalar.Int else kind.Unknown
 field_kind s (kind.Pointer n) field =
     option_map_or (λ x. struct_field_kind s (field_named s.program.text x.1 field)) (item_at as_struct s.program n) kind.Unknown
@@ -67,26 +67,26 @@ field_kind s kind.Unknown field = kind.Unknown
 field_kind s _ field = kind.Missing
 
 -- the kind of an element, where the index is built on an unknown name or not
-abbrev pub element_kind : Kind → Bool → Kind
+abbrev pub element_kind : ValueKind → Bool → ValueKind
 element_kind kind.Unknown lost = kind.Unknown
 element_kind (kind.Array element) lost = if lost then kind.Unknown else kind.Scalar element
 element_kind _ lost = if lost then kind.Unknown else kind.Missing
 
 -- the kind of what is meant by a name; of a name that nothing declares it is unknown
-abbrev pub held : Option Variable → Kind
+abbrev pub held : Option Variable → ValueKind
 held None = kind.Unknown
 held (Some v) = v.kind
 
-abbrev pub joined_kind : Joint → Kind
+abbrev pub joined_kind : Joint → ValueKind
 joined_kind Sum = kind.Scalar scalar.Int
 joined_kind _ = kind.Scalar scalar.Bool
 
-abbrev pub signed_kind : Sign → Kind
+abbrev pub signed_kind : Sign → ValueKind
 signed_kind Denial = kind.Scalar scalar.Bool
 signed_kind Minus = kind.Scalar scalar.Int
 
 -- An operator gives its own kind, but for operands that are built on an unknown name.
-abbrev pub kind_of : InScope → Shape → Kind
+abbrev pub kind_of : InScope → Shape → ValueKind
 kind_of s (Number place) = kind.Scalar scalar.Int
 kind_of s (Truth place) = kind.Scalar scalar.Bool
 kind_of s (Mention name) = held (meant s name)
@@ -98,31 +98,31 @@ kind_of s (Joined joint left right) = if is_unknown (kind_of s left) || is_unkno
     else joined_kind joint
 
 -- what is asked of an operand
-abbrev pub asked_number : Kind → Place → List Mistake
+abbrev pub asked_number : ValueKind → Place → List Mistake
 asked_number k place = unless (is_silent k || is_number k) place (Given demand.Number k)
 
-abbrev pub asked_truth : Kind → Place → List Mistake
+abbrev pub asked_truth : ValueKind → Place → List Mistake
 asked_truth k place = unless (is_silent k || is_truth k) place (Given demand.Truth k)
 
-abbrev pub asked_either : Kind → Place → List Mistake
+abbrev pub asked_either : ValueKind → Place → List Mistake
 asked_either k place = unless (is_silent k || (is_number k || is_truth k)) place (Given demand.Scalar k)
 
 -- Of two that are compared the left one decides, where it is a number or a truth value.
-abbrev pub asked_like : Kind → Kind → Place → List Mistake
+abbrev pub asked_like : ValueKind → ValueKind → Place → List Mistake
 asked_like left k place = if is_number left then asked_number k place
     else (if is_truth left then asked_truth k place else asked_either k place)
 
-abbrev pub left_asked : Joint → Kind → Place → List Mistake
+abbrev pub left_asked : Joint → ValueKind → Place → List Mistake
 left_asked Logic k place = asked_truth k place
 left_asked Likeness k place = asked_either k place
 left_asked _ k place = asked_number k place
 
-abbrev pub right_asked : Joint → Kind → Kind → Place → List Mistake
+abbrev pub right_asked : Joint → ValueKind → ValueKind → Place → List Mistake
 right_asked Logic left k place = asked_truth k place
 right_asked Likeness left k place = asked_like left k place
 right_asked _ left k place = asked_number k place
 
-abbrev pub sign_asked : Sign → Kind → Place → List Mistake
+abbrev pub sign_asked : Sign → ValueKind → Place → List Mistake
 sign_asked Denial k place = asked_truth k place
 sign_asked Minus k place = asked_number k place
 
@@ -136,12 +136,12 @@ mention_mistakes s name = variable_mistakes s name
     ++ unless (not (is_block (held (meant s name)))) name.place (Given demand.NoBlock (held (meant s name)))
 
 -- only an array has elements
-abbrev pub element_mistakes : Kind → Span → List Mistake
+abbrev pub element_mistakes : ValueKind → Span → List Mistake
 element_mistakes (kind.Array element) name = []
 element_mistakes k name = unless (is_silent k) name.place (Given demand.Array k)
 
 -- a struct has its fields, an array its length, anything else none
-abbrev pub field_mistakes : InScope → Kind → Span → Span → List Mistake
+abbrev pub field_mistakes : InScope → ValueKind → Span → Span → List Mistake
 field_mistakes s (kind.Array element) name field = if is_length s field then [] else Unknown field sort.Length ∷ []
 field_mistakes s (kind.Pointer n) name field =
     option_map_or (λ x. if is_some (field_named s.program.text x.1 field) then [] else Unknown field (sort.Field n) ∷ [])

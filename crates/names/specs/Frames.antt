@@ -17,8 +17,8 @@ use Rattle.names.specs.declared.variables.Variable.{Variable}
 use Rattle.names.specs.declared.variables.Variables.{Variables}
 
 -- a variable without its memory
-abbrev pub variable_seen : Variable → model.Variable
-variable_seen v = record { name = v.name; kind = v.kind }
+abbrev pub variable_model : Variable → model.Variable
+variable_model v = record { name = v.name; kind = v.kind }
 
 -- the names of the variables in scope, as they are written
 abbrev pub words_in : List ℕ → List model.Variable → List (List ℕ)
@@ -27,7 +27,7 @@ words_in text variables = words_at text (map (λ v. v.name) variables)
 -- These are the variables in scope, each findable by its name, and no two of one name. Of the exchange heap they are
 -- counted as far as one past the limit.
 pub record IsFrame (text : List ℕ) (f : Frame) (v : Variables) : Type 0 where
-  pub list : map variable_seen v.list.items ≡ f.variables
+  pub list : map variable_model v.list.items ≡ f.variables
   pub names : IsTable (words_in text f.variables) v.names
   pub apart : IsApart (words_in text f.variables)
   pub heap : v.heap ≡ min f.heap (MOST_VARIABLES + 1)

@@ -14,7 +14,7 @@ ghost use Rattle.names.specs.Variables.{Frame};
 use crate::expressions::judge_whole;
 use crate::variables::Variables;
 use crate::wholes::judge_asked;
-use declarations::{Kind, Mistake, Scope};
+use declarations::{Mistake, Scope, ValueKind};
 use source::Memory;
 use std::alloc::Global;
 use tree::{Expression, Field, Param, Parameter};
@@ -23,7 +23,7 @@ use tree::{Expression, Field, Param, Parameter};
 fn judge_argument(
     scope: &Scope<'_>,
     variables: &Variables<'_>,
-    asked: Option<Kind>,
+    asked: Option<ValueKind>,
     argument: &Expression,
     found: &mut Vec<Mistake>,
 ) -> Result<(), Memory>
@@ -40,17 +40,17 @@ fn judge_argument(
     }
 }
 
-fn kind_at(kinds: &[Kind], place: usize) -> Option<Kind>
-    ensures { result ≡ slice_get kinds.now place }
+fn kind_at(kinds: &[ValueKind], index: usize) -> Option<ValueKind>
+    ensures { result ≡ slice_get kinds.now index }
 {
-    kinds.get(place).copied()
+    kinds.get(index).copied()
 }
 
 /// Adds what is wrong with arguments for parameters of these kinds.
 pub(crate) fn judge_arguments(
     scope: &Scope<'_>,
     variables: &Variables<'_>,
-    asked: &[Kind],
+    asked: &[ValueKind],
     arguments: &[Expression],
     found: &mut Vec<Mistake>,
 ) -> Result<(), Memory>
@@ -71,13 +71,13 @@ fn parameter_kinds(
     scope: &Scope<'_>,
     parameters: &[Parameter],
     most: usize,
-) -> Result<Vec<Kind>, Memory>
+) -> Result<Vec<ValueKind>, Memory>
     ensures { IfOk result (λ kinds. (p : Program) → IsScope p scope.now
-        → kinds.items ≡ map (λ x. type_kind p x.kind) (take most parameters.now)) }
+        → kinds.items ≡ map (λ x. type_kind p x.ty) (take most parameters.now)) }
 {
     let mut kinds = Vec::new(alloc);
     for parameter in &parameters[..most.min(parameters.len())] {
-        kinds.push(scope.kind(parameter.kind))?;
+        kinds.push(scope.kind(parameter.ty))?;
     }
     Ok(kinds)
 }
@@ -88,13 +88,13 @@ fn message_kinds(
     scope: &Scope<'_>,
     parameters: &[Param],
     most: usize,
-) -> Result<Vec<Kind>, Memory>
+) -> Result<Vec<ValueKind>, Memory>
     ensures { IfOk result (λ kinds. (p : Program) → IsScope p scope.now
-        → kinds.items ≡ map (λ x. type_kind p x.kind) (take most parameters.now)) }
+        → kinds.items ≡ map (λ x. type_kind p x.ty) (take most parameters.now)) }
 {
     let mut kinds = Vec::new(alloc);
     for parameter in &parameters[..most.min(parameters.len())] {
-        kinds.push(scope.kind(parameter.kind))?;
+        kinds.push(scope.kind(parameter.ty))?;
     }
     Ok(kinds)
 }
@@ -105,13 +105,13 @@ fn field_kinds(
     scope: &Scope<'_>,
     fields: &[Field],
     most: usize,
-) -> Result<Vec<Kind>, Memory>
+) -> Result<Vec<ValueKind>, Memory>
     ensures { IfOk result (λ kinds. (p : Program) → IsScope p scope.now
-        → kinds.items ≡ map (λ f. type_kind p f.kind) (take most fields.now)) }
+        → kinds.items ≡ map (λ f. type_kind p f.ty) (take most fields.now)) }
 {
     let mut kinds = Vec::new(alloc);
     for field in &fields[..most.min(fields.len())] {
-        kinds.push(scope.kind(field.kind))?;
+        kinds.push(scope.kind(field.ty))?;
     }
     Ok(kinds)
 }
@@ -127,7 +127,7 @@ pub(crate) fn judge_parameter_arguments(
 ) -> Result<(), Memory>
     ensures { (p : Program) (f : Frame) → IsScope p scope.now → IsFrame p.text f variables.now
         → OnOk result (Adds found.old.items found.new.items (argument_mistakes (record { program = p; variables = f.variables })
-        (map (λ x. type_kind p x.kind) parameters.now) (map shape (map expression_tree arguments.now)))) }
+        (map (λ x. type_kind p x.ty) parameters.now) (map shape (map expression_tree arguments.now)))) }
 {
     let kinds = parameter_kinds(alloc, scope, parameters, arguments.len())?;
     judge_arguments(scope, variables, &kinds, arguments, found)
@@ -144,7 +144,7 @@ pub(crate) fn judge_message_arguments(
 ) -> Result<(), Memory>
     ensures { (p : Program) (f : Frame) → IsScope p scope.now → IsFrame p.text f variables.now
         → OnOk result (Adds found.old.items found.new.items (argument_mistakes (record { program = p; variables = f.variables })
-        (map (λ x. type_kind p x.kind) parameters.now) (map shape (map expression_tree arguments.now)))) }
+        (map (λ x. type_kind p x.ty) parameters.now) (map shape (map expression_tree arguments.now)))) }
 {
     let kinds = message_kinds(alloc, scope, parameters, arguments.len())?;
     judge_arguments(scope, variables, &kinds, arguments, found)
@@ -161,7 +161,7 @@ pub(crate) fn judge_field_arguments(
 ) -> Result<(), Memory>
     ensures { (p : Program) (f : Frame) → IsScope p scope.now → IsFrame p.text f variables.now
         → OnOk result (Adds found.old.items found.new.items (argument_mistakes (record { program = p; variables = f.variables })
-        (map (λ x. type_kind p x.kind) fields.now) (map shape (map expression_tree arguments.now)))) }
+        (map (λ x. type_kind p x.ty) fields.now) (map shape (map expression_tree arguments.now)))) }
 {
     let kinds = field_kinds(alloc, scope, fields, arguments.len())?;
     judge_arguments(scope, variables, &kinds, arguments, found)

@@ -10,7 +10,7 @@ ghost use Rattle.tree.specs.Trees.{message_tree};
 
 use crate::operands::{add_wrong_type, ask};
 use crate::told::judge_count;
-use declarations::{Demand, Kind, Mismatch, Mistake};
+use declarations::{Demand, Mismatch, Mistake, ValueKind};
 use program::{Direction, Side};
 use source::{Memory, Span};
 use tree::{Awaited, Bind, Message};
@@ -79,7 +79,7 @@ pub(crate) fn judge_case_twice(
 
 /// Adds what is wrong with a case on what is no endpoint.
 pub(crate) fn judge_other_head(
-    kind: Kind,
+    kind: ValueKind,
     endpoint: Span,
     awaited: Awaited,
     binds: &[Bind],
@@ -107,7 +107,7 @@ pub(crate) fn judge_message_case(
     binds: &[Bind],
     found: &mut Vec<Mistake>,
 ) -> Result<(), Memory>
-    ensures { (p : Program) (vs : List Variable) (k : Kind) → OnOk result (Adds found.old.items found.new.items
+    ensures { (p : Program) (vs : List Variable) (k : ValueKind) → OnOk result (Adds found.old.items found.new.items
         (message_case_mistakes (record { program = p; variables = vs }) k (Some (message_tree message.now)) end word binds.now)) }
 {
     let well = receives(end, message.direction);

@@ -15,18 +15,18 @@ ghost use Rattle.names.specs.Variables.{Frame, declared_variable};
 
 use crate::operands::ask;
 use crate::variables::{Variable, Variables};
-use declarations::{Demand, Kind, Mismatch, Mistake, Scope, is_heap, judge_type};
+use declarations::{Demand, Mismatch, Mistake, Scope, ValueKind, is_heap, judge_type};
 use source::{Memory, Span};
 use std::alloc::Global;
 use tree::{Bind, Param, Type};
 
 /// The kind of what a message brings for this parameter, if there is one.
-fn brought_kind(scope: &Scope<'_>, parameter: Option<&Param>) -> Kind
+fn brought_kind(scope: &Scope<'_>, parameter: Option<&Param>) -> ValueKind
     ensures { (p : Program) → IsScope p scope.now → result ≡ brought_kind p (option_map (λ x. x.now) parameter.entry) }
 {
     match parameter {
-        Some(parameter) => scope.kind(parameter.kind),
-        None => Kind::Unknown,
+        Some(parameter) => scope.kind(parameter.ty),
+        None => ValueKind::Unknown,
     }
 }
 
@@ -35,7 +35,7 @@ fn brings_heap(parameter: Option<&Param>) -> bool
     ensures { result ≡ brings_heap (option_map (λ x. x.now) parameter.entry) }
 {
     match parameter {
-        Some(parameter) => is_heap(parameter.kind),
+        Some(parameter) => is_heap(parameter.ty),
         None => false,
     }
 }
@@ -43,17 +43,17 @@ fn brings_heap(parameter: Option<&Param>) -> bool
 /// Adds what is wrong with a type that is bound where this kind is brought.
 fn judge_bound_type(
     scope: &Scope<'_>,
-    kind: Type,
-    brought: Kind,
+    ty: Type,
+    brought: ValueKind,
     name: Span,
     found: &mut Vec<Mistake>,
 ) -> Result<(), Memory>
     ensures { (p : Program) → IsScope p scope.now → OnOk result
-        (Adds found.old.items found.new.items (type_unknown p kind ++ unless (agree (type_kind p kind) brought) name.place
-        (Mismatch.Given (Demand.Kind brought) (type_kind p kind)))) }
+        (Adds found.old.items found.new.items (type_unknown p ty ++ unless (agree (type_kind p ty) brought) name.place
+        (Mismatch.Given (Demand.Kind brought) (type_kind p ty)))) }
 {
-    judge_type(scope, kind, found)?;
-    let bound = scope.kind(kind);
+    judge_type(scope, ty, found)?;
+    let bound = scope.kind(ty);
     let mismatch = Mismatch::Given(Demand::Kind(brought), bound);
     ask(bound.agrees(brought), name.place, mismatch, found)
 }
@@ -87,7 +87,7 @@ fn judge_bind<'a>(
         (Turned p.text found.old.items found.new.items variables.new (bind_turn p (option_map (λ x. x.now) parameter.entry) bind f)) }
 {
     let brought = brought_kind(scope, parameter);
-    match bind.kind {
+    match bind.ty {
         Some(kind) => {
             judge_bound_type(scope, kind, brought, bind.name, found)?;
             let variable = Variable {
@@ -107,10 +107,10 @@ fn judge_bind<'a>(
     }
 }
 
-fn parameter_at(parameters: &[Param], place: usize) -> Option<&Param>
-    ensures { option_map (λ x. x.now) result ≡ slice_get parameters.now place }
+fn parameter_at(parameters: &[Param], index: usize) -> Option<&Param>
+    ensures { option_map (λ x. x.now) result ≡ slice_get parameters.now index }
 {
-    parameters.get(place)
+    parameters.get(index)
 }
 
 /// Adds what is wrong with the names that a case binds for these parameters, and declares them.

@@ -8,7 +8,7 @@ ghost use Rattle.tree.specs.Values.{call_tree};
 ghost use Rattle.names.specs.Bodies as bodies;
 ghost use Rattle.names.specs.Expressions.{meant, held};
 ghost use Rattle.declarations.specs.Mistakes.{Adds};
-ghost use Rattle.names.specs.Frames.{IsContext, IsFrame, AreSurroundings, variable_seen};
+ghost use Rattle.names.specs.Frames.{IsContext, IsFrame, AreSurroundings, variable_model};
 ghost use Rattle.declarations.specs.Program.{Program, class_named};
 ghost use Rattle.declarations.specs.Scopes.{IsScope, IsCallee};
 ghost use Rattle.names.specs.Operands.{in_frame};
@@ -19,7 +19,7 @@ ghost use Rattle.names.specs.Values.{sends, is_alone, message_mistakes, contract
 ghost use Rattle.names.specs.Values.{class_mistakes, class_meant, member_mistakes, call_mistakes};
 ghost use Rattle.names.specs.Variables.{Frame};
 ghost use Rattle.names.specs.Variables as model;
-ghost use Rattle.source.specs.declared.token.Span.{Span as SpanSeen};
+ghost use Rattle.source.specs.declared.token.Span.{Span as SpanModel};
 ghost use Rattle.tables.specs.Words.{word_at, same_word};
 
 use crate::arguments::{judge_arguments, judge_message_arguments, judge_parameter_arguments};
@@ -27,7 +27,7 @@ use crate::operands::ask;
 use crate::surroundings::{NameContext, Surroundings};
 use crate::told::judge_count;
 use crate::variables::Variables;
-use declarations::{Callee, Demand, Kind, Mismatch, Mistake, NameSort, Scope, add_unknown};
+use declarations::{Callee, Demand, Mismatch, Mistake, NameSort, Scope, ValueKind, add_unknown};
 use program::{Direction, Side};
 use source::{Memory, Span};
 use tree::{Call, Expression, Message, Type};
@@ -36,7 +36,7 @@ use tree::{Call, Expression, Message, Type};
 #[derive(Clone, Copy, PartialEq, Eq)]
 pub(crate) enum Role {
     /// It is a value of which this kind is asked.
-    Asked(Kind),
+    Asked(ValueKind),
     /// It stands alone.
     Alone,
     /// It is started.
@@ -66,12 +66,12 @@ fn result_fits(scope: &Scope<'_>, given: Option<Type>, role: Role) -> bool
 }
 
 /// The kind of what a method gives, if it gives anything.
-fn kind_given(scope: &Scope<'_>, given: Option<Type>) -> Kind
+fn kind_given(scope: &Scope<'_>, given: Option<Type>) -> ValueKind
     ensures { (p : Program) → IsScope p scope.now → result ≡ result_kind p given }
 {
     match given {
         Some(written) => scope.kind(written),
-        None => Kind::Missing,
+        None => ValueKind::Missing,
     }
 }
 
@@ -108,7 +108,7 @@ fn judge_known_method(
     site: &CallSite<'_>,
     found: &mut Vec<Mistake>,
 ) -> Result<(), Memory>
-    ensures { (p : Program) (f : Frame) (class : Option SpanSeen) → IsContext p f context.now
+    ensures { (p : Program) (f : Frame) (class : Option SpanModel) → IsContext p f context.now
         → callee.entry.startable ≡ can_start (method_tree callee.entry.method.now)
         → OnOk result (Adds found.old.items found.new.items (method_mistakes (in_frame p f)
         (Some (method_tree callee.entry.method.now)) class site.now.role site.now.name
@@ -234,29 +234,29 @@ fn send_mismatch(role: Role, end: Side, word: Span) -> Mismatch
     match role {
         Role::Alone => Mismatch::NotSent(end, word),
         Role::Started => Mismatch::SendStarted,
-        Role::Asked(kind) => Mismatch::Given(Demand::Kind(kind), Kind::Missing),
+        Role::Asked(kind) => Mismatch::Given(Demand::Kind(kind), ValueKind::Missing),
     }
 }
 
-/// Adds what is wrong with a send at an end of the contract that is the item at this place.
+/// Adds what is wrong with a send at an end of the contract that is the item at this index.
 fn judge_end(
     context: &NameContext<'_, '_>,
-    place: usize,
+    index: usize,
     end: Side,
     site: &CallSite<'_>,
     found: &mut Vec<Mistake>,
 ) -> Result<(), Memory>
     ensures { (p : Program) (f : Frame) → IsContext p f context.now
-        → OnOk result (Adds found.old.items found.new.items (message_mistakes (in_frame p f) place
-        (contract_message (in_frame p f) place site.now.name) end site.now.role site.now.name
+        → OnOk result (Adds found.old.items found.new.items (message_mistakes (in_frame p f) index
+        (contract_message (in_frame p f) index site.now.name) end site.now.role site.now.name
         (map shape (map expression_tree site.now.arguments.now)))) }
 {
-    match context.scope.sent_message(place, site.name) {
+    match context.scope.sent_message(index, site.name) {
         Some(message) => judge_known_message(context, message, end, site, found),
         None => judge_unknown(
             context,
             site.name,
-            NameSort::Sent(place),
+            NameSort::Sent(index),
             site.arguments,
             found,
         ),
@@ -266,7 +266,7 @@ fn judge_end(
 /// Adds what is wrong with a call on a variable of this kind, which is a send.
 fn judge_send(
     context: &NameContext<'_, '_>,
-    kind: Kind,
+    kind: ValueKind,
     variable: Span,
     site: &CallSite<'_>,
     found: &mut Vec<Mistake>,
@@ -281,7 +281,7 @@ fn judge_send(
         ..
     } = *context;
     match kind {
-        Kind::Endpoint(end, place) => judge_end(context, place, end, site, found),
+        ValueKind::Endpoint(end, place) => judge_end(context, place, end, site, found),
         _ => {
             let mismatch = Mismatch::Given(Demand::Endpoint, kind);
             ask(kind.is_silent(), variable.place, mismatch, found)?;

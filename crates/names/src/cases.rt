@@ -25,7 +25,7 @@ use crate::heads::{Heads, awaiting_at};
 use crate::simple_statements::{judge_use, kind_held};
 use crate::surroundings::NameContext;
 use crate::variables::Variables;
-use declarations::{Kind, Mistake, NameSort, Scope, add_unknown};
+use declarations::{Mistake, NameSort, Scope, ValueKind, add_unknown};
 use program::Side;
 use source::{Memory, Span};
 use std::alloc::Global;
@@ -39,17 +39,17 @@ struct ContractEnd {
     item: usize,
 }
 
-/// Adds what is wrong with the head of the case at this place in its switch.
+/// Adds what is wrong with the head of the case at this index in its switch.
 pub(crate) fn judge_head<'a>(
     context: &NameContext<'_, 'a>,
     heads: &Heads<'a>,
-    place: usize,
+    index: usize,
     case: &Case,
     found: &mut Vec<Mistake>,
 ) -> Result<(), Memory>
     ensures { (p : Program) (f : Frame) (all : List Head) → IsContext p f context.now → IsHeads p.text all heads.now
         → OnOk result (Adds found.old.items found.new.items
-        (head_mistakes (in_frame p f) all (take place all) (case_head case.now))) }
+        (head_mistakes (in_frame p f) all (take index all) (case_head case.now))) }
 {
     let NameContext {
         scope,
@@ -58,9 +58,9 @@ pub(crate) fn judge_head<'a>(
     } = *context;
     judge_use(scope, variables, case.endpoint, found)?;
     match kind_held(scope, variables, case.endpoint) {
-        Kind::Endpoint(side, item) => {
+        ValueKind::Endpoint(side, item) => {
             let end = ContractEnd { side, item };
-            judge_endpoint_head(context, heads, place, end, case, found)
+            judge_endpoint_head(context, heads, index, end, case, found)
         }
         kind => judge_no_endpoint(kind, case, found),
     }
@@ -70,19 +70,19 @@ pub(crate) fn judge_head<'a>(
 fn judge_endpoint_head<'a>(
     context: &NameContext<'_, 'a>,
     heads: &Heads<'a>,
-    place: usize,
+    index: usize,
     end: ContractEnd,
     case: &Case,
     found: &mut Vec<Mistake>,
 ) -> Result<(), Memory>
     ensures { (p : Program) (f : Frame) (all : List Head) → IsScope p context.now.scope.now → IsHeads p.text all heads.now
         → OnOk result (Adds found.old.items found.new.items (kind_head_mistakes (in_frame p f) all
-        (take place all) (Kind.Endpoint end.side end.item) (case_head case.now))) }
+        (take index all) (ValueKind.Endpoint end.side end.item) (case_head case.now))) }
 {
     let text = context.scope.text;
-    let twice = heads.is_twice(text, place, awaiting_at(case));
+    let twice = heads.is_twice(text, index, awaiting_at(case));
     judge_awaited(context, end, twice, case, found)?;
-    let lacking = heads.is_lacking(text, place, case.endpoint);
+    let lacking = heads.is_lacking(text, index, case.endpoint);
     judge_lacking(lacking, case.endpoint, found)
 }
 
@@ -96,7 +96,7 @@ fn judge_awaited(
 ) -> Result<(), Memory>
     ensures { (p : Program) (f : Frame) (earlier : List Head) → IsScope p context.now.scope.now
         → twice ≡ awaits_too p.text (case_head case.now) earlier → OnOk result (Adds found.old.items found.new.items
-        (endpoint_head_mistakes (in_frame p f) earlier (Kind.Endpoint end.side end.item) end.side (case_head case.now))) }
+        (endpoint_head_mistakes (in_frame p f) earlier (ValueKind.Endpoint end.side end.item) end.side (case_head case.now))) }
 {
     match case.message {
         Awaited::Closed(word) => {
@@ -119,7 +119,7 @@ fn judge_message(
     ensures { (p : Program) (f : Frame) (earlier : List Head) → IsScope p context.now.scope.now
         → case.now.message ≡ Awaited.Message word → twice ≡ awaits_too p.text (case_head case.now) earlier
         → OnOk result (Adds found.old.items found.new.items (awaited_mistakes (in_frame p f) earlier
-        (Kind.Endpoint end.side end.item) end.side (case_head case.now) (Awaited.Message word))) }
+        (ValueKind.Endpoint end.side end.item) end.side (case_head case.now) (Awaited.Message word))) }
 {
     match context.scope.message(end.item, word) {
         Some(message) => {
@@ -131,7 +131,7 @@ fn judge_message(
 }
 
 /// Adds what is wrong with a case on what is no endpoint, unless its kind is unknown.
-fn judge_no_endpoint(kind: Kind, case: &Case, found: &mut Vec<Mistake>) -> Result<(), Memory>
+fn judge_no_endpoint(kind: ValueKind, case: &Case, found: &mut Vec<Mistake>) -> Result<(), Memory>
     ensures { OnOk result (Adds found.old.items found.new.items
         (if is_silent kind then [] else other_head_mistakes kind (case_head case.now))) }
 {
@@ -155,7 +155,7 @@ pub(crate) fn judge_binds<'a>(
 {
     let binds = &case.binds;
     match kind_held(scope, variables, case.endpoint) {
-        Kind::Endpoint(end, place) => {
+        ValueKind::Endpoint(end, place) => {
             let message = awaited_message(scope, place, end, case.message);
             let parameters = parameters_of(message);
             judge_bound(alloc, scope, variables, parameters, binds, found)
@@ -164,18 +164,18 @@ pub(crate) fn judge_binds<'a>(
     }
 }
 
-/// The message that a case awaits at this end of the contract that is the item at this place.
+/// The message that a case awaits at this end of the contract that is the item at this index.
 fn awaited_message<'a>(
     scope: &Scope<'a>,
-    place: usize,
+    index: usize,
     end: Side,
     awaited: Awaited,
 ) -> Option<&'a Message>
     ensures { (p : Program) (vs : List Variable) → IsScope p scope.now → option_map (λ m. message_tree m.now) result
-        ≡ awaited_message (record { program = p; variables = vs }) (Kind.Endpoint end place) awaited }
+        ≡ awaited_message (record { program = p; variables = vs }) (ValueKind.Endpoint end index) awaited }
 {
     match awaited {
-        Awaited::Message(word) => scope.message(place, word),
+        Awaited::Message(word) => scope.message(index, word),
         Awaited::Closed(_) => None,
     }
 }

@@ -14,7 +14,7 @@ ghost use Rattle.names.specs.Variables.{Frame};
 use crate::mentions::{judge_field, judge_variable};
 use crate::operands::ask;
 use crate::variables::Variables;
-use declarations::{Demand, Kind, Mismatch, Mistake, Scope};
+use declarations::{Demand, Mismatch, Mistake, Scope, ValueKind};
 use source::{Memory, Span};
 use tree::Exchange;
 
@@ -38,20 +38,20 @@ pub(crate) fn judge_exchange(
 /// The kind of the field with which something is exchanged; adds what is wrong with the field, or with what has it.
 fn judge_holder(
     scope: &Scope<'_>,
-    held: Kind,
+    held: ValueKind,
     holder: Span,
     field: Span,
     found: &mut Vec<Mistake>,
-) -> Result<Kind, Memory>
+) -> Result<ValueKind, Memory>
     ensures { IfOk result (GivesIn scope.now (λ s. exchanged_kind s held field)
         (λ s. holder_mistakes s held holder field) found.old.items found.new.items) }
 {
     match held {
-        Kind::Pointer(_) => judge_owning(scope, held, holder, field, found),
+        ValueKind::Pointer(_) => judge_owning(scope, held, holder, field, found),
         _ => {
             let mismatch = Mismatch::Given(Demand::Pointer, held);
             ask(held.is_silent(), holder.place, mismatch, found)?;
-            Ok(Kind::Unknown)
+            Ok(ValueKind::Unknown)
         }
     }
 }
@@ -59,11 +59,11 @@ fn judge_holder(
 /// The kind of a field of what a variable holds; adds what is wrong with it, and one that does not own.
 fn judge_owning(
     scope: &Scope<'_>,
-    held: Kind,
+    held: ValueKind,
     holder: Span,
     field: Span,
     found: &mut Vec<Mistake>,
-) -> Result<Kind, Memory>
+) -> Result<ValueKind, Memory>
     ensures { IfOk result (GivesIn scope.now (λ s. field_kind s held field) (λ s. field_mistakes s held holder field
         ++ unless (is_silent (field_kind s held field) || is_block (field_kind s held field)) field.place
         (Mismatch.Given Demand.Block (field_kind s held field)))

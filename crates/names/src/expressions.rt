@@ -1,7 +1,7 @@
 //! What is wrong with the names and kinds in expressions.
 
 ghost use Rattle.std.specs.Prelude.{◌≡◌, ℕ, List, OnOk, IfOk};
-ghost use Rattle.declarations.specs.declared.mistake.Mistake.{Mistake as MistakeSeen};
+ghost use Rattle.declarations.specs.declared.mistake.Mistake.{Mistake as MistakeModel};
 ghost use Rattle.tree.specs.ExpressionTrees.{expression_tree, disjunction_tree, conjunction_tree, equality_tree, relation_tree};
 ghost use Rattle.tree.specs.ExpressionTrees.{sum_tree, factors_tree, factor_tree, unary_tree, prefixed_tree, atom_tree, target_tree};
 ghost use Rattle.names.specs.Expressions.{InScope, kind_of, expression_mistakes, whole_mistakes};
@@ -19,7 +19,7 @@ use crate::operands::{Joint, Operand, join, sign};
 use crate::terms::{Terms, joined_terms};
 use crate::variables::Variables;
 use crate::wholes::judge_whole_operand;
-use declarations::{Kind, Mistake, Scope};
+use declarations::{Mistake, Scope, ValueKind};
 use source::Memory;
 use tree::{
     Atom, Conjunction, Disjunction, Equality, Expression, Factor, FactorOperator, Factors, Prefix,
@@ -159,7 +159,7 @@ fn judge_factor(
     terms: &mut Terms,
     found: &mut Vec<Mistake>,
 ) -> Result<(), Memory>
-    ensures { OnOk result ((t : TermShapes) (start : List MistakeSeen)
+    ensures { OnOk result ((t : TermShapes) (start : List MistakeModel)
         → JudgesTerms scope.now variables.now t start found.old.items terms.old
         → JudgesTerms scope.now variables.now (with_factor t (factor_tree factor.now)) start found.new.items terms.new) }
 {
@@ -213,7 +213,7 @@ fn judge_signs(
     inner: Operand,
     found: &mut Vec<Mistake>,
 ) -> Result<Operand, Memory>
-    ensures { IfOk result (λ o. (s : InScope) (e : Shape) (start : List MistakeSeen) → IsJudged s e start found.old.items inner
+    ensures { IfOk result (λ o. (s : InScope) (e : Shape) (start : List MistakeModel) → IsJudged s e start found.old.items inner
         → IsJudged s (signed prefixes.now e) start found.new.items o) }
 {
     let mut operand = inner;
@@ -279,7 +279,7 @@ pub(crate) fn judge_expression(
     variables: &Variables<'_>,
     expression: &Expression,
     found: &mut Vec<Mistake>,
-) -> Result<Kind, Memory>
+) -> Result<ValueKind, Memory>
     ensures kind { IfOk result (λ kind. (p : Program) (f : Frame) → IsScope p scope.now → IsFrame p.text f variables.now
         → kind ≡ kind_of (record { program = p; variables = f.variables }) (shape (expression_tree expression.now))) }
     ensures found { (p : Program) (f : Frame) → IsScope p scope.now
@@ -297,7 +297,7 @@ pub(crate) fn judge_whole(
     variables: &Variables<'_>,
     expression: &Expression,
     found: &mut Vec<Mistake>,
-) -> Result<Kind, Memory>
+) -> Result<ValueKind, Memory>
     ensures kind { IfOk result (λ kind. (p : Program) (f : Frame) → IsScope p scope.now → IsFrame p.text f variables.now
         → kind ≡ kind_of (record { program = p; variables = f.variables }) (shape (expression_tree expression.now))) }
     ensures found { (p : Program) (f : Frame) → IsScope p scope.now → IsFrame p.text f variables.now → OnOk result (Adds found.old.items

@@ -48,21 +48,21 @@ impl<'a> Heads<'a> {
         Ok(Heads { cases, endpoints })
     }
 
-    /// Whether one of the heads before this place awaits the same as this case.
-    pub(crate) fn is_twice(&self, text: &'a [u8], place: usize, case: Awaiting) -> bool
-        ensures { (all : List Head) (h : Head) → IsHeads text.now all self.now → case ≡ awaiting_of h
-            → result ≡ awaits_too text.now h (take place all) }
+    /// Whether one of the heads before this index awaits the same as this case.
+    pub(crate) fn is_twice(&self, text: &'a [u8], index: usize, awaiting: Awaiting) -> bool
+        ensures { (all : List Head) (h : Head) → IsHeads text.now all self.now → awaiting ≡ awaiting_of h
+            → result ≡ awaits_too text.now h (take index all) }
     {
-        stands_before(self.place_of(key_of(text, case)), place)
+        stands_before(self.place_of(key_of(text, awaiting)), index)
     }
 
-    /// Whether the endpoint has no case for its close, and none of the heads before this place names it.
-    pub(crate) fn is_lacking(&self, text: &'a [u8], place: usize, endpoint: Span) -> bool
+    /// Whether the endpoint has no case for its close, and none of the heads before this index names it.
+    pub(crate) fn is_lacking(&self, text: &'a [u8], index: usize, endpoint: Span) -> bool
         ensures { (all : List Head) (h : Head) → IsHeads text.now all self.now → endpoint ≡ h.endpoint
-            → result ≡ lacks text.now all (take place all) h }
+            → result ≡ lacks text.now all (take index all) h }
     {
         let word = endpoint.slice(text);
-        let named = stands_before(self.endpoints.find(word), place);
+        let named = stands_before(self.endpoints.find(word), index);
         let closed = self.place_of((word, None)).is_some();
         !(named || closed)
     }
@@ -75,22 +75,22 @@ impl<'a> Heads<'a> {
     }
 }
 
-/// Whether it is found, and before this place.
-fn stands_before(found: Option<usize>, place: usize) -> bool
-    ensures { result ≡ is_before place found }
+/// Whether it is found, and before this index.
+fn stands_before(found: Option<usize>, index: usize) -> bool
+    ensures { result ≡ is_before index found }
 {
     match found {
-        Some(first) => first < place,
+        Some(first) => first < index,
         None => false,
     }
 }
 
 /// What is written at a head.
-fn key_of<'a>(text: &'a [u8], case: Awaiting) -> Key<'a>
-    ensures { key_words result ≡ (word_at text.now case.endpoint, awaited_word text.now case.awaited) }
+fn key_of<'a>(text: &'a [u8], awaiting: Awaiting) -> Key<'a>
+    ensures { key_words result ≡ (word_at text.now awaiting.endpoint, awaited_word text.now awaiting.awaited) }
 {
-    let word = case.endpoint.slice(text);
-    match case.awaited {
+    let word = awaiting.endpoint.slice(text);
+    match awaiting.awaited {
         Awaited::Message(message) => (word, Some(message.slice(text))),
         Awaited::Closed(_) => (word, None),
     }

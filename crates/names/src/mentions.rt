@@ -1,7 +1,7 @@
 //! What is wrong with the variables in an expression, their fields and their elements.
 
 ghost use Rattle.std.specs.Prelude.{◌≡◌, ℕ, List, [], ◌∷◌, OnOk, IfOk, is_some, codes, if◌then◌else◌};
-ghost use Rattle.declarations.specs.declared.mistake.Mistake.{Mistake as MistakeSeen};
+ghost use Rattle.declarations.specs.declared.mistake.Mistake.{Mistake as MistakeModel};
 ghost use Rattle.source.specs.declared.token.Span.{Span};
 ghost use Rattle.tree.specs.Trees.{StructTree};
 ghost use Rattle.names.specs.Expressions.{InScope, meant, held, variable_mistakes, field_kind, field_mistakes};
@@ -18,7 +18,7 @@ ghost use Rattle.tables.specs.Words.{word_at, same_word};
 use crate::operands::{Operand, ask, ask_number};
 use crate::variables::Variables;
 use declarations::{
-    Demand, Fields, Kind, Mismatch, Mistake, NameSort, Scope, add_unknown, is_heap,
+    Demand, Fields, Mismatch, Mistake, NameSort, Scope, ValueKind, add_unknown, is_heap,
 };
 use program::Scalar;
 use source::{Memory, Span};
@@ -30,7 +30,7 @@ pub(crate) fn judge_variable(
     variables: &Variables<'_>,
     name: Span,
     found: &mut Vec<Mistake>,
-) -> Result<Kind, Memory>
+) -> Result<ValueKind, Memory>
     ensures { IfOk result
         (Gives scope.now variables.now (λ s. held (meant s name)) (λ s. variable_mistakes s name) found.old.items found.new.items) }
 {
@@ -38,7 +38,7 @@ pub(crate) fn judge_variable(
         Some(variable) => Ok(variable.kind),
         None => {
             add_unknown(name, NameSort::Variable(variables.len()), found)?;
-            Ok(Kind::Unknown)
+            Ok(ValueKind::Unknown)
         }
     }
 }
@@ -90,7 +90,7 @@ pub(crate) fn judge_element_of(
     index: Operand,
     found: &mut Vec<Mistake>,
 ) -> Result<Operand, Memory>
-    ensures { IfOk result (λ o. (e : Shape) (start : List MistakeSeen) → Judges scope.now variables.now e start found.old.items index
+    ensures { IfOk result (λ o. (e : Shape) (start : List MistakeModel) → Judges scope.now variables.now e start found.old.items index
         → Judges scope.now variables.now (shapes.Element variable e) start found.new.items o) }
 {
     ask_number(index.kind, index.place, found)?;
@@ -103,11 +103,11 @@ pub(crate) fn judge_element_of(
 }
 
 /// Adds a variable that has no elements.
-fn judge_element(held: Kind, variable: Span, found: &mut Vec<Mistake>) -> Result<(), Memory>
+fn judge_element(held: ValueKind, variable: Span, found: &mut Vec<Mistake>) -> Result<(), Memory>
     ensures { OnOk result (Adds found.old.items found.new.items (element_mistakes held variable)) }
 {
     match held {
-        Kind::Array(_) => Ok(()),
+        ValueKind::Array(_) => Ok(()),
         _ => {
             let mismatch = Mismatch::Given(Demand::Array, held);
             ask(held.is_silent(), variable.place, mismatch, found)
@@ -116,58 +116,58 @@ fn judge_element(held: Kind, variable: Span, found: &mut Vec<Mistake>) -> Result
 }
 
 /// The kind of an element, where the index is built on an unknown name or not.
-fn kind_of_element(held: Kind, lost: bool) -> Kind
+fn kind_of_element(held: ValueKind, lost: bool) -> ValueKind
     ensures { result ≡ element_kind held lost }
 {
     match held {
-        _ if lost => Kind::Unknown,
-        Kind::Unknown => Kind::Unknown,
-        Kind::Array(element) => Kind::Scalar(element),
-        _ => Kind::Missing,
+        _ if lost => ValueKind::Unknown,
+        ValueKind::Unknown => ValueKind::Unknown,
+        ValueKind::Array(element) => ValueKind::Scalar(element),
+        _ => ValueKind::Missing,
     }
 }
 
 /// The kind of a field of what a variable holds; adds what is wrong with it.
 pub(crate) fn judge_field(
     scope: &Scope<'_>,
-    held: Kind,
+    held: ValueKind,
     variable: Span,
     field: Span,
     found: &mut Vec<Mistake>,
-) -> Result<Kind, Memory>
+) -> Result<ValueKind, Memory>
     ensures { IfOk result
         (GivesIn scope.now (λ s. field_kind s held field) (λ s. field_mistakes s held variable field) found.old.items found.new.items) }
 {
     match held {
-        Kind::Array(_) => judge_length(scope.text, field, found),
-        Kind::Pointer(place) => judge_struct_field(scope, place, field, found),
-        Kind::Unknown => Ok(Kind::Unknown),
+        ValueKind::Array(_) => judge_length(scope.text, field, found),
+        ValueKind::Pointer(place) => judge_struct_field(scope, place, field, found),
+        ValueKind::Unknown => Ok(ValueKind::Unknown),
         _ => {
             let mismatch = Mismatch::Given(Demand::Fields, held);
             ask(held.is_silent(), variable.place, mismatch, found)?;
-            Ok(Kind::Missing)
+            Ok(ValueKind::Missing)
         }
     }
 }
 
 /// Whether a field of this kind, of what a variable holds, owns.
 #[inline(always)]
-pub(crate) fn owns(scope: &Scope<'_>, held: Kind, field: Span, kind: Kind) -> bool
+pub(crate) fn owns(scope: &Scope<'_>, held: ValueKind, field: Span, kind: ValueKind) -> bool
     ensures { (s : InScope) → IsScope s.program scope.now → kind ≡ field_kind s held field → result ≡ owns s held field }
 {
     match kind {
         // Most fields are scalars, which own nothing, so these are not looked up a second time.
-        Kind::Scalar(_) => false,
+        ValueKind::Scalar(_) => false,
         _ => is_owner(scope, held, field),
     }
 }
 
 /// Whether a field of what a variable holds owns.
-fn is_owner(scope: &Scope<'_>, held: Kind, field: Span) -> bool
+fn is_owner(scope: &Scope<'_>, held: ValueKind, field: Span) -> bool
     ensures { (s : InScope) → IsScope s.program scope.now → result ≡ owns s held field }
 {
     match held {
-        Kind::Pointer(place) => is_owning(scope.field(place, field)),
+        ValueKind::Pointer(place) => is_owning(scope.field(place, field)),
         _ => false,
     }
 }
@@ -176,22 +176,22 @@ fn is_owning(field: Option<Field>) -> bool
     ensures { result ≡ is_owning field }
 {
     match field {
-        Some(field) => is_heap(field.kind),
+        Some(field) => is_heap(field.ty),
         None => false,
     }
 }
 
 /// The kind of a field of an array; adds any but its length.
-fn judge_length(text: &[u8], field: Span, found: &mut Vec<Mistake>) -> Result<Kind, Memory>
+fn judge_length(text: &[u8], field: Span, found: &mut Vec<Mistake>) -> Result<ValueKind, Memory>
     ensures { IfOk result (let is_length = same_word (word_at text.now field) (codes "Length") in
-        IsGiven (if is_length then Kind.Scalar Scalar.Int else Kind.Unknown)
+        IsGiven (if is_length then ValueKind.Scalar Scalar.Int else ValueKind.Unknown)
         (if is_length then [] else Mistake.Unknown field NameSort.Length ∷ []) found.old.items found.new.items) }
 {
     if is_length(text, field) {
-        return Ok(Kind::Scalar(Scalar::Int));
+        return Ok(ValueKind::Scalar(Scalar::Int));
     }
     add_unknown(field, NameSort::Length, found)?;
-    Ok(Kind::Unknown)
+    Ok(ValueKind::Unknown)
 }
 
 /// Whether this name is `Length`.
@@ -205,37 +205,37 @@ pub(crate) fn is_length(text: &[u8], name: Span) -> bool
 // Nothing is said of the pointer's own name, so in the clause that of the field stands for it.
 fn judge_struct_field(
     scope: &Scope<'_>,
-    place: usize,
+    index: usize,
     field: Span,
     found: &mut Vec<Mistake>,
-) -> Result<Kind, Memory>
-    ensures { IfOk result (GivesIn scope.now (λ s. field_kind s (Kind.Pointer place) field)
-        (λ s. field_mistakes s (Kind.Pointer place) field field) found.old.items found.new.items) }
+) -> Result<ValueKind, Memory>
+    ensures { IfOk result (GivesIn scope.now (λ s. field_kind s (ValueKind.Pointer index) field)
+        (λ s. field_mistakes s (ValueKind.Pointer index) field field) found.old.items found.new.items) }
 {
-    match scope.structure_at(place) {
-        Some(fields) => judge_field_in(scope, place, fields, field, found),
-        None => Ok(Kind::Unknown),
+    match scope.structure_at(index) {
+        Some(fields) => judge_field_in(scope, index, fields, field, found),
+        None => Ok(ValueKind::Unknown),
     }
 }
 
-/// The kind of a field of a struct, which is the item at this place; adds one that it lacks.
+/// The kind of a field of a struct, which is the item at this index; adds one that it lacks.
 fn judge_field_in(
     scope: &Scope<'_>,
-    place: usize,
+    index: usize,
     fields: &Fields<'_>,
     field: Span,
     found: &mut Vec<Mistake>,
-) -> Result<Kind, Memory>
+) -> Result<ValueKind, Memory>
     ensures { IfOk result (λ k. (s : InScope) (x : StructTree) → IsScope s.program scope.now → AreFields scope.now.text.now x fields.now
         → IsGiven (struct_field_kind s (field_named scope.now.text.now x field))
-        (if is_some (field_named scope.now.text.now x field) then [] else Mistake.Unknown field (NameSort.Field place) ∷ [])
+        (if is_some (field_named scope.now.text.now x field) then [] else Mistake.Unknown field (NameSort.Field index) ∷ [])
         found.old.items found.new.items k) }
 {
     match fields.find(scope.text, field) {
-        Some(declared) => Ok(scope.kind(declared.kind)),
+        Some(declared) => Ok(scope.kind(declared.ty)),
         None => {
-            add_unknown(field, NameSort::Field(place), found)?;
-            Ok(Kind::Unknown)
+            add_unknown(field, NameSort::Field(index), found)?;
+            Ok(ValueKind::Unknown)
         }
     }
 }

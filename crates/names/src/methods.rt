@@ -74,15 +74,11 @@ fn judge_method<'a>(
 }
 
 /// Adds the names in the type that a method gives, if it gives anything, that are not declared.
-fn judge_result(
-    scope: &Scope<'_>,
-    kind: Option<Type>,
-    found: &mut Vec<Mistake>,
-) -> Result<(), Memory>
-    ensures { (p : Program) → IsScope p scope.now → OnOk result (Adds found.old.items found.new.items (result_unknown p kind)) }
+fn judge_result(scope: &Scope<'_>, ty: Option<Type>, found: &mut Vec<Mistake>) -> Result<(), Memory>
+    ensures { (p : Program) → IsScope p scope.now → OnOk result (Adds found.old.items found.new.items (result_unknown p ty)) }
 {
-    match kind {
-        Some(kind) => judge_type(scope, kind, found),
+    match ty {
+        Some(ty) => judge_type(scope, ty, found),
         None => Ok(()),
     }
 }
@@ -115,9 +111,9 @@ fn judge_parameter<'a>(
     ensures { (p : Program) (f : Frame) → IsScope p scope.now → IsFrame p.text f variables.old
         → OnOk result (Turned p.text found.old.items found.new.items variables.new (parameter_turn p parameter f)) }
 {
-    judge_type(scope, parameter.kind, found)?;
-    let kind = scope.kind(parameter.kind);
-    let heap = is_heap(parameter.kind);
+    judge_type(scope, parameter.ty, found)?;
+    let kind = scope.kind(parameter.ty);
+    let heap = is_heap(parameter.ty);
     let variable = Variable {
         name: parameter.name,
         kind,

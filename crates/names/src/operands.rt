@@ -8,7 +8,7 @@ ghost use Rattle.names.specs.Expressions.{left_asked, right_asked, joined_kind, 
 ghost use Rattle.names.specs.Operands.{IsJoined, IsSigned};
 ghost use Rattle.names.specs.Shapes.{sign_of};
 
-use declarations::{Demand, Kind, Mismatch, Mistake};
+use declarations::{Demand, Mismatch, Mistake, ValueKind};
 use program::Scalar;
 use source::{Memory, Place};
 use tree::{Prefix, PrefixOperator};
@@ -16,27 +16,27 @@ use tree::{Prefix, PrefixOperator};
 /// What an expression gives, and where it begins.
 #[derive(Clone, Copy)]
 pub(crate) struct Operand {
-    pub(crate) kind: Kind,
+    pub(crate) kind: ValueKind,
     pub(crate) place: Place,
 }
 
 impl Operand {
     /// A number.
     pub(crate) fn number(place: Place) -> Operand
-        ensures { result ≡ record { kind = Kind.Scalar Scalar.Int; place = place } }
+        ensures { result ≡ record { kind = ValueKind.Scalar Scalar.Int; place = place } }
     {
         Operand {
-            kind: Kind::Scalar(Scalar::Int),
+            kind: ValueKind::Scalar(Scalar::Int),
             place,
         }
     }
 
     /// A truth value.
     pub(crate) fn truth(place: Place) -> Operand
-        ensures { result ≡ record { kind = Kind.Scalar Scalar.Bool; place = place } }
+        ensures { result ≡ record { kind = ValueKind.Scalar Scalar.Bool; place = place } }
     {
         Operand {
-            kind: Kind::Scalar(Scalar::Bool),
+            kind: ValueKind::Scalar(Scalar::Bool),
             place,
         }
     }
@@ -82,7 +82,11 @@ pub(crate) fn ask(
 }
 
 /// Asks for a number.
-pub(crate) fn ask_number(kind: Kind, place: Place, found: &mut Vec<Mistake>) -> Result<(), Memory>
+pub(crate) fn ask_number(
+    kind: ValueKind,
+    place: Place,
+    found: &mut Vec<Mistake>,
+) -> Result<(), Memory>
     ensures { OnOk result (Adds found.old.items found.new.items (asked_number kind place)) }
 {
     if kind.is_silent() || kind.is_number() {
@@ -92,7 +96,11 @@ pub(crate) fn ask_number(kind: Kind, place: Place, found: &mut Vec<Mistake>) -> 
 }
 
 /// Asks for a truth value.
-pub(crate) fn ask_truth(kind: Kind, place: Place, found: &mut Vec<Mistake>) -> Result<(), Memory>
+pub(crate) fn ask_truth(
+    kind: ValueKind,
+    place: Place,
+    found: &mut Vec<Mistake>,
+) -> Result<(), Memory>
     ensures { OnOk result (Adds found.old.items found.new.items (asked_truth kind place)) }
 {
     if kind.is_silent() || kind.is_truth() {
@@ -102,7 +110,7 @@ pub(crate) fn ask_truth(kind: Kind, place: Place, found: &mut Vec<Mistake>) -> R
 }
 
 /// Asks for a number or a truth value.
-fn ask_either(kind: Kind, place: Place, found: &mut Vec<Mistake>) -> Result<(), Memory>
+fn ask_either(kind: ValueKind, place: Place, found: &mut Vec<Mistake>) -> Result<(), Memory>
     ensures { OnOk result (Adds found.old.items found.new.items (asked_either kind place)) }
 {
     if kind.is_silent() || kind.is_number() || kind.is_truth() {
@@ -112,7 +120,12 @@ fn ask_either(kind: Kind, place: Place, found: &mut Vec<Mistake>) -> Result<(), 
 }
 
 /// Asks for what can be compared with what stands on the left.
-fn ask_like(left: Kind, kind: Kind, place: Place, found: &mut Vec<Mistake>) -> Result<(), Memory>
+fn ask_like(
+    left: ValueKind,
+    kind: ValueKind,
+    place: Place,
+    found: &mut Vec<Mistake>,
+) -> Result<(), Memory>
     ensures { OnOk result (Adds found.old.items found.new.items (asked_like left kind place)) }
 {
     if left.is_number() {
@@ -139,7 +152,7 @@ fn ask_left(joint: Joint, left: Operand, found: &mut Vec<Mistake>) -> Result<(),
 /// What is asked on the right of an operator.
 fn ask_right(
     joint: Joint,
-    left: Kind,
+    left: ValueKind,
     right: Operand,
     found: &mut Vec<Mistake>,
 ) -> Result<(), Memory>
@@ -154,15 +167,15 @@ fn ask_right(
 }
 
 /// The kind of two operands that are joined.
-fn kind_joined(joint: Joint, left: Kind, right: Kind) -> Kind
-    ensures { result ≡ (if is_unknown left || is_unknown right then Kind.Unknown else joined_kind joint) }
+fn kind_joined(joint: Joint, left: ValueKind, right: ValueKind) -> ValueKind
+    ensures { result ≡ (if is_unknown left || is_unknown right then ValueKind.Unknown else joined_kind joint) }
 {
     if left.is_unknown() || right.is_unknown() {
-        return Kind::Unknown;
+        return ValueKind::Unknown;
     }
     match joint {
-        Joint::Logic | Joint::Likeness | Joint::Order => Kind::Scalar(Scalar::Bool),
-        Joint::Sum => Kind::Scalar(Scalar::Int),
+        Joint::Logic | Joint::Likeness | Joint::Order => ValueKind::Scalar(Scalar::Bool),
+        Joint::Sum => ValueKind::Scalar(Scalar::Int),
     }
 }
 
@@ -199,15 +212,15 @@ fn ask_signed(
 }
 
 /// The kind of an operand with a sign before it.
-fn kind_signed(operator: PrefixOperator, inner: Kind) -> Kind
-    ensures { result ≡ (if is_unknown inner then Kind.Unknown else signed_kind (sign_of operator)) }
+fn kind_signed(operator: PrefixOperator, inner: ValueKind) -> ValueKind
+    ensures { result ≡ (if is_unknown inner then ValueKind.Unknown else signed_kind (sign_of operator)) }
 {
     if inner.is_unknown() {
-        return Kind::Unknown;
+        return ValueKind::Unknown;
     }
     match operator {
-        PrefixOperator::Not => Kind::Scalar(Scalar::Bool),
-        PrefixOperator::Negate => Kind::Scalar(Scalar::Int),
+        PrefixOperator::Not => ValueKind::Scalar(Scalar::Bool),
+        PrefixOperator::Negate => ValueKind::Scalar(Scalar::Int),
     }
 }
 
@@ -217,11 +230,11 @@ pub(crate) fn sign(
     inner: Operand,
     found: &mut Vec<Mistake>,
 ) -> Result<Operand, Memory>
-    ensures { IfOk result (IsSigned (sign_of prefix.operator) prefix.place.place inner found.old.items found.new.items) }
+    ensures { IfOk result (IsSigned (sign_of prefix.operator) prefix.span.place inner found.old.items found.new.items) }
 {
     ask_signed(prefix.operator, inner, found)?;
     Ok(Operand {
         kind: kind_signed(prefix.operator, inner.kind),
-        place: prefix.place.place,
+        place: prefix.span.place,
     })
 }

@@ -8,7 +8,7 @@ ghost use Rattle.declarations.specs.Resolution.{resolved_contracts};
 ghost use Rattle.declarations.specs.Scopes.{IsScope};
 ghost use Rattle.names.specs.Findings.{program_mistakes};
 ghost use Rattle.names.specs.Resolving.{Explains};
-ghost use Rattle.program.specs.Parts.{AreApart, IsWhole, contract_parts, contract_seen};
+ghost use Rattle.program.specs.Parts.{AreApart, IsWhole, contract_parts, contract_model};
 
 use crate::fault::NameFaults;
 use crate::items::judge_program;
@@ -30,7 +30,7 @@ pub fn resolve(alloc: Global, tree: &Tree, text: &[u8]) -> Result<Resolved, Name
     requires { length (program (program_tree tree.now)) < 2 ^ 32 }
     ensures found { IfErr result (Explains (program_of text.now tree.now)) }
     ensures clean { OnOk result (program_mistakes (program_of text.now tree.now) ≡ []) }
-    ensures resolved { IfOk result (λ r. map contract_seen r.contracts.items
+    ensures resolved { IfOk result (λ r. map contract_model r.contracts.items
         ≡ resolved_contracts text.now (contracts_of (program_tree tree.now))) }
     ensures apart { IfOk result (λ r. AreApart (map contract_parts r.contracts.items)) }
     ensures whole { IfOk result (λ r. All (λ c. IsWhole (contract_parts c)) r.contracts.items) }

@@ -28,7 +28,7 @@ use crate::values::judge_value;
 use crate::variables::{Variable, Variables};
 use crate::wholes::judge_asked;
 use declarations::{
-    Demand, Kind, Mismatch, Mistake, NameSort, Scope, add_unknown, is_heap, judge_type,
+    Demand, Mismatch, Mistake, NameSort, Scope, ValueKind, add_unknown, is_heap, judge_type,
 };
 use program::Side;
 use source::{Memory, Span};
@@ -38,7 +38,7 @@ use tree::{Assign, Declare, Expression, NewChannel, Type, Value};
 fn judge_given<'a>(
     around: &Surroundings<'_, 'a>,
     variables: &Variables<'a>,
-    asked: Kind,
+    asked: ValueKind,
     value: &Option<Value>,
     found: &mut Vec<Mistake>,
 ) -> Result<(), Memory>
@@ -62,14 +62,14 @@ pub(crate) fn judge_declare<'a>(
         result (Turned m.program.text found.old.items found.new.items variables.new (declaration_turn m (declare_tree declare.now) f)) }
 {
     let (alloc, scope) = (around.alloc, around.scope);
-    let kind = scope.kind(declare.kind);
-    judge_type(scope, declare.kind, found)?;
+    let kind = scope.kind(declare.ty);
+    judge_type(scope, declare.ty, found)?;
     judge_given(around, variables, kind, &declare.value, found)?;
     let variable = Variable {
         name: declare.name,
         kind,
     };
-    let heap = is_heap(declare.kind);
+    let heap = is_heap(declare.ty);
     variables.declare(alloc, scope.text, variable, heap, found)
 }
 
@@ -90,13 +90,13 @@ pub(crate) fn judge_assign<'a>(
 }
 
 /// The kind of what this name means.
-pub(crate) fn kind_held(scope: &Scope<'_>, variables: &Variables<'_>, name: Span) -> Kind
+pub(crate) fn kind_held(scope: &Scope<'_>, variables: &Variables<'_>, name: Span) -> ValueKind
     ensures { (p : Program) (f : Frame) → IsScope p scope.now → IsFrame p.text f variables.now
         → result ≡ held (meant (record { program = p; variables = f.variables }) name) }
 {
     match variables.find(scope.text, name) {
         Some(variable) => variable.kind,
-        None => Kind::Unknown,
+        None => ValueKind::Unknown,
     }
 }
 
@@ -135,55 +135,55 @@ pub(crate) fn judge_delete(
     )
 }
 
-/// Whether it is an end of the contract that is the item at this place.
-fn is_end_of(place: usize, kind: Kind) -> bool
-    ensures { result ≡ is_end_of place kind }
+/// Whether it is an end of the contract that is the item at this index.
+fn is_end_of(index: usize, kind: ValueKind) -> bool
+    ensures { result ≡ is_end_of index kind }
 {
     match kind {
-        Kind::Endpoint(_, contract) => place == contract,
+        ValueKind::Endpoint(_, contract) => index == contract,
         _ => false,
     }
 }
 
 /// Whether both are the same end of a channel.
-fn same_end(first: Kind, second: Kind) -> bool
+fn same_end(first: ValueKind, second: ValueKind) -> bool
     ensures { result ≡ same_end first second }
 {
     match (first, second) {
-        (Kind::Endpoint(first, _), Kind::Endpoint(second, _)) => first == second,
+        (ValueKind::Endpoint(first, _), ValueKind::Endpoint(second, _)) => first == second,
         _ => false,
     }
 }
 
-/// What is asked of the second end of a new channel of the contract that is the item at this place: the other end, where the first
+/// What is asked of the second end of a new channel of the contract that is the item at this index: the other end, where the first
 /// is one.
-fn demand_beside(place: usize, first: Kind) -> Demand
-    ensures { result ≡ demand_beside place first }
+fn demand_beside(index: usize, first: ValueKind) -> Demand
+    ensures { result ≡ demand_beside index first }
 {
     match first {
-        Kind::Endpoint(Side::Imp, contract) if place == contract => {
-            Demand::Kind(Kind::Endpoint(Side::Exp, place))
+        ValueKind::Endpoint(Side::Imp, contract) if index == contract => {
+            Demand::Kind(ValueKind::Endpoint(Side::Exp, index))
         }
-        Kind::Endpoint(Side::Exp, contract) if place == contract => {
-            Demand::Kind(Kind::Endpoint(Side::Imp, place))
+        ValueKind::Endpoint(Side::Exp, contract) if index == contract => {
+            Demand::Kind(ValueKind::Endpoint(Side::Imp, index))
         }
-        _ => Demand::EndOf(place),
+        _ => Demand::EndOf(index),
     }
 }
 
 /// Adds what is wrong with these kinds for the two ends of a new channel of a contract.
 fn judge_ends(
-    place: usize,
-    kinds: (Kind, Kind),
+    index: usize,
+    kinds: (ValueKind, ValueKind),
     first: Span,
     second: Span,
     found: &mut Vec<Mistake>,
 ) -> Result<(), Memory>
-    ensures { OnOk result (Adds found.old.items found.new.items (ends_mistakes place kinds.0 kinds.1 first second)) }
+    ensures { OnOk result (Adds found.old.items found.new.items (ends_mistakes index kinds.0 kinds.1 first second)) }
 {
     let (left, right) = kinds;
-    let is_left = is_end_of(place, left);
-    let first_mismatch = Mismatch::Given(Demand::EndOf(place), left);
+    let is_left = is_end_of(index, left);
+    let first_mismatch = Mismatch::Given(Demand::EndOf(index), left);
     ask(
         left.is_silent() || is_left,
         first.place,
@@ -191,8 +191,8 @@ fn judge_ends(
         found,
     )?;
     let apart = !(is_left && same_end(left, right));
-    let well = right.is_silent() || (is_end_of(place, right) && apart);
-    let second_mismatch = Mismatch::Given(demand_beside(place, left), right);
+    let well = right.is_silent() || (is_end_of(index, right) && apart);
+    let second_mismatch = Mismatch::Given(demand_beside(index, left), right);
     ask(well, second.place, second_mismatch, found)
 }
 

@@ -182,24 +182,24 @@ fn judge_switch<'a>(
     Ok(())
 }
 
-/// Adds what is wrong in the case at this place in its switch. What it binds and declares is in scope there alone.
+/// Adds what is wrong in the case at this index in its switch. What it binds and declares is in scope there alone.
 #[cycle(bodies)]
 fn judge_case<'a>(
     around: &Surroundings<'_, 'a>,
     variables: &mut Variables<'a>,
     heads: &Heads<'a>,
-    place: usize,
+    index: usize,
     case: &Case,
     found: &mut Vec<Mistake>,
 ) -> Result<(), Memory>
     ensures { (m : bodies.Surroundings) (f : Frame) (all : List Head) → AreSurroundings m around.now
         → IsFrame m.program.text f variables.old → IsHeads m.program.text all heads.now
-        → slice_get all place ≡ Some (head_of (case_tree case.now))
+        → slice_get all index ≡ Some (head_of (case_tree case.now))
         → OnOk result (Turned m.program.text found.old.items found.new.items variables.new
-        (case_turn m all (take place all) (case_tree case.now) f)) }
+        (case_turn m all (take index all) (case_tree case.now) f)) }
 {
     let scope = around.scope;
-    judge_head(&around.context(variables), heads, place, case, found)?;
+    judge_head(&around.context(variables), heads, index, case, found)?;
     let outer = variables.len();
     judge_binds(around.alloc, scope, variables, case, found)?;
     judge_statements(around, variables, &case.statements, found)?;

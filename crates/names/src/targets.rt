@@ -13,7 +13,7 @@ use crate::expressions::judge_operand;
 use crate::mentions::{is_length, judge_element_of, judge_field, judge_variable, owns};
 use crate::operands::ask;
 use crate::variables::Variables;
-use declarations::{Kind, Mismatch, Mistake, Scope};
+use declarations::{Mismatch, Mistake, Scope, ValueKind};
 use source::{Memory, Span};
 use tree::Target;
 
@@ -23,7 +23,7 @@ pub(crate) fn judge_target(
     variables: &Variables<'_>,
     target: &Target,
     found: &mut Vec<Mistake>,
-) -> Result<Kind, Memory>
+) -> Result<ValueKind, Memory>
     ensures { IfOk result (Gives scope.now variables.now (λ s. target_kind s (target_tree target.now))
         (λ s. target_mistakes s (target_tree target.now)) found.old.items found.new.items) }
 {
@@ -47,7 +47,7 @@ fn judge_field_target(
     variable: Span,
     field: Span,
     found: &mut Vec<Mistake>,
-) -> Result<Kind, Memory>
+) -> Result<ValueKind, Memory>
     ensures { IfOk result (Gives scope.now variables.now (λ s. field_kind s (held (meant s variable)) field)
         (λ s. variable_mistakes s variable ++ (field_mistakes s (held (meant s variable)) variable field
         ++ (length_mistakes s (held (meant s variable)) field ++ unless (not (owns s (held (meant s variable)) field)) field.place
@@ -65,7 +65,7 @@ fn judge_field_target(
 /// Adds the length of an array.
 fn judge_written(
     scope: &Scope<'_>,
-    held: Kind,
+    held: ValueKind,
     field: Span,
     found: &mut Vec<Mistake>,
 ) -> Result<(), Memory>
@@ -73,7 +73,7 @@ fn judge_written(
         → OnOk result (Adds found.old.items found.new.items (length_mistakes s held field)) }
 {
     match held {
-        Kind::Array(_) => {
+        ValueKind::Array(_) => {
             let well = !is_length(scope.text, field);
             ask(well, field.place, Mismatch::LengthWritten, found)
         }

@@ -1,7 +1,7 @@
 //! The terms of a sum, while its factors are judged from the left.
 
 ghost use Rattle.std.specs.Prelude.{IfOk, List};
-ghost use Rattle.declarations.specs.declared.mistake.Mistake.{Mistake as MistakeSeen};
+ghost use Rattle.declarations.specs.declared.mistake.Mistake.{Mistake as MistakeModel};
 ghost use Rattle.names.specs.Expressions.{InScope};
 ghost use Rattle.names.specs.Operands.{IsJudged};
 ghost use Rattle.names.specs.Shapes.{Shape};
@@ -21,7 +21,7 @@ pub(crate) struct Terms {
 impl Terms {
     /// The first factor of a sum.
     pub(crate) fn from_first(first: Operand) -> Terms
-        ensures { (s : InScope) (e : Shape) (old new : List MistakeSeen) → IsJudged s e old new first
+        ensures { (s : InScope) (e : Shape) (old new : List MistakeModel) → IsJudged s e old new first
             → IsJudgedTerms s (first_term e) old new result }
     {
         Terms {
@@ -34,7 +34,7 @@ impl Terms {
 /// All terms as one operand; adds what is wrong with the operator before the last one.
 #[inline(always)]
 pub(crate) fn joined_terms(terms: Terms, found: &mut Vec<Mistake>) -> Result<Operand, Memory>
-    ensures { IfOk result (λ o. (s : InScope) (t : TermShapes) (start : List MistakeSeen) → IsJudgedTerms s t start found.old.items terms
+    ensures { IfOk result (λ o. (s : InScope) (t : TermShapes) (start : List MistakeModel) → IsJudgedTerms s t start found.old.items terms
         → IsJudged s (whole t) start found.new.items o) }
 {
     match terms.before {

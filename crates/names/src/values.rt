@@ -21,7 +21,7 @@ use crate::surroundings::{NameContext, Surroundings};
 use crate::told::judge_count;
 use crate::variables::Variables;
 use crate::wholes::{judge_asked, judge_number};
-use declarations::{Demand, Kind, Mismatch, Mistake, NameSort, Scope};
+use declarations::{Demand, Mismatch, Mistake, NameSort, Scope, ValueKind};
 use source::{Memory, Span};
 use tree::{Expression, Made, New, Value};
 
@@ -32,7 +32,7 @@ fn judge_structure(
     name: Span,
     arguments: &[Expression],
     found: &mut Vec<Mistake>,
-) -> Result<Kind, Memory>
+) -> Result<ValueKind, Memory>
     ensures kind { IfOk result (λ kind. (p : Program) → IsScope p context.now.scope.now → kind ≡ pointer_kind (struct_named p name)) }
     ensures found { (p : Program) (f : Frame) → IsContext p f context.now
         → OnOk result (Adds found.old.items found.new.items (struct_made_mistakes (in_frame p f)
@@ -47,11 +47,11 @@ fn judge_structure(
         Some((place, owning)) => {
             judge_count(owning.len(), arguments.len(), name.place, found)?;
             judge_field_arguments(alloc, scope, variables, owning, arguments, found)?;
-            Ok(Kind::Pointer(place))
+            Ok(ValueKind::Pointer(place))
         }
         None => {
             judge_unknown(context, name, NameSort::Struct, arguments, found)?;
-            Ok(Kind::Unknown)
+            Ok(ValueKind::Unknown)
         }
     }
 }
@@ -61,7 +61,7 @@ fn judge_made(
     context: &NameContext<'_, '_>,
     made: &Made,
     found: &mut Vec<Mistake>,
-) -> Result<Kind, Memory>
+) -> Result<ValueKind, Memory>
     ensures kind { IfOk result (λ kind. (p : Program) (f : Frame) → IsScope p context.now.scope.now
         → kind ≡ made_kind (in_frame p f) (made_tree made.now)) }
     ensures found { (p : Program) (f : Frame) → IsContext p f context.now
@@ -78,7 +78,7 @@ fn judge_made(
         }
         Made::Array { element, length } => {
             judge_number(context.scope, context.variables, length, found)?;
-            Ok(Kind::Array(*element))
+            Ok(ValueKind::Array(*element))
         }
     }
 }
@@ -86,7 +86,7 @@ fn judge_made(
 /// Adds what is wrong with what `new` makes where this kind is asked.
 fn judge_new(
     context: &NameContext<'_, '_>,
-    asked: Kind,
+    asked: ValueKind,
     new: &New,
     found: &mut Vec<Mistake>,
 ) -> Result<(), Memory>
@@ -102,7 +102,7 @@ fn judge_new(
 pub(crate) fn judge_value<'a>(
     around: &Surroundings<'_, 'a>,
     variables: &Variables<'a>,
-    asked: Kind,
+    asked: ValueKind,
     value: &Value,
     found: &mut Vec<Mistake>,
 ) -> Result<(), Memory>

@@ -2,10 +2,10 @@
 
 ghost use Rattle.std.specs.Prelude.{◌≡◌, ◌+◌, ◌-◌, ℕ, List, [], length, take, OnOk, option_map};
 ghost use Rattle.declarations.specs.Mistakes.{Adds};
-ghost use Rattle.names.specs.Frames.{IsFrame, Turned, variable_seen};
+ghost use Rattle.names.specs.Frames.{IsFrame, Turned, variable_model};
 ghost use Rattle.names.specs.Variables.{Frame, variable_named, past_heap, entered_variable, declared_variable};
 
-use declarations::{Kind, Limit, Mistake, add_twice};
+use declarations::{Limit, Mistake, ValueKind, add_twice};
 use program::MOST_VARIABLES;
 use source::{Memory, Span};
 use std::alloc::Global;
@@ -15,7 +15,7 @@ use tables::Table;
 #[derive(Clone, Copy, PartialEq, Eq)]
 pub(crate) struct Variable {
     pub(crate) name: Span,
-    pub(crate) kind: Kind,
+    pub(crate) kind: ValueKind,
 }
 
 /// The variables in scope, in order of declaration, and how many of the exchange heap the method has declared so far,
@@ -49,7 +49,7 @@ impl<'a> Variables<'a> {
     /// The variable of this name.
     pub(crate) fn find(&self, text: &[u8], name: Span) -> Option<Variable>
         ensures { (f : Frame) → IsFrame text.now f self.now
-            → option_map variable_seen result ≡ variable_named text.now f.variables name }
+            → option_map variable_model result ≡ variable_named text.now f.variables name }
     {
         let place = self.names.find(name.slice(text))?;
         self.list.get(place).copied()

@@ -16,7 +16,7 @@ use crate::expressions::judge_operand;
 use crate::mentions::judge_variable;
 use crate::operands::{Operand, ask, ask_number, ask_truth};
 use crate::variables::Variables;
-use declarations::{Demand, Kind, Mismatch, Mistake, Scope};
+use declarations::{Demand, Mismatch, Mistake, Scope, ValueKind};
 use source::Memory;
 use tree::{Expression, name_alone};
 
@@ -45,7 +45,7 @@ pub(crate) fn judge_whole_operand(
 pub(crate) fn judge_asked(
     scope: &Scope<'_>,
     variables: &Variables<'_>,
-    asked: Kind,
+    asked: ValueKind,
     expression: &Expression,
     found: &mut Vec<Mistake>,
 ) -> Result<(), Memory>

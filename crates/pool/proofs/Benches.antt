@@ -2,7 +2,7 @@
 use Rattle.std.proofs.Common.{◌≡◌, ℕ, ◌+◌, List, ◌++◌, ap, ◌∙◌, arith}
 use Rattle.pool.specs.declared.bench.Bench.{Bench}
 use Rattle.pool.specs.declared.held.Hand.{Hand}
-use Rattle.pool.specs.declared.held.Held.{Held}
+use Rattle.pool.specs.declared.held.HeldTask.{HeldTask}
 use Rattle.pool.specs.Rule.{copies, hand}
 use Rattle.pool.specs.Counts.{Does}
 use Rattle.pool.proofs.Shares.{copies-append}
@@ -17,5 +17,5 @@ module _ {S X : Type 0} (gives : ℕ → X → Type 0) where
   }
 
 -- what a task more in the owner's hand comes to
-pub took_more : (v w : Hand) (xs : List Held) → w ≡ hand v.parts v.put (v.taken ++ xs) → (n : ℕ) → copies n w.taken ≡ copies n v.taken + copies n xs
+pub took_more : (v w : Hand) (xs : List HeldTask) → w ≡ hand v.parts v.put (v.taken ++ xs) → (n : ℕ) → copies n w.taken ≡ copies n v.taken + copies n xs
 took_more v w xs is n = ap (λ (u : Hand). copies n u.taken) is ∙ copies-append n v.taken xs

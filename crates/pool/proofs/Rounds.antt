@@ -9,7 +9,7 @@ use Rattle.crossbeam_deque.specs.Steals.{MatchSteal}
 use Rattle.crossbeam_deque.specs.declared.steal.Steal.{Steal}
 use Rattle.crossbeam_deque.specs.declared.steal.Steal.TheVariants.{Empty, Success, Retry}
 use Rattle.analyse.specs.declared.task.Task.{Task}
-use Rattle.pool.specs.declared.held.Held.{Held}
+use Rattle.pool.specs.declared.held.HeldTask.{HeldTask}
 use Rattle.pool.specs.declared.held.Hand.{Hand}
 use Rattle.pool.specs.Rule.{hand, copies, IsPart}
 use Rattle.pool.specs.Counts.{Owner, Ticket, taken_by}
@@ -18,7 +18,7 @@ use Rattle.pool.specs.Rounds.{AreNew, AreRound, IsFresh}
 use Rattle.pool.proofs.Shares.{taken_one}
 
 -- a steal leaves the parts and what was put
-pub after_steal : (s : Steal Held) (v w : Hand) (E F : Type 0)
+pub after_steal : (s : Steal HeldTask) (v w : Hand) (E F : Type 0)
     → MatchSteal s ((w ≡ v) × E) ((w ≡ v) × F) (λ x. (w ≡ hand v.parts v.put (v.taken ++ x ∷ [])) × IsPart v.put (x ∷ []))
     → (w.parts ≡ v.parts) × (w.put ≡ v.put)
 after_steal Empty v w E F h = (ap (λ (u : Hand). u.parts) h.0, ap (λ (u : Hand). u.put) h.0)
@@ -26,7 +26,7 @@ after_steal (Success x) v w E F h = (ap (λ (u : Hand). u.parts) h.0, ap (λ (u 
 after_steal Retry v w E F h = (ap (λ (u : Hand). u.parts) h.0, ap (λ (u : Hand). u.put) h.0)
 
 -- a task that was stolen may be run
-pub stolen : (P : Held → Type 0) (s : Steal Held) (v w : Hand) (E F G H : Type 0) → All P v.put → G → H
+pub stolen : (P : HeldTask → Type 0) (s : Steal HeldTask) (v w : Hand) (E F G H : Type 0) → All P v.put → G → H
     → MatchSteal s ((w ≡ v) × E) ((w ≡ v) × F) (λ x. (w ≡ hand v.parts v.put (v.taken ++ x ∷ [])) × IsPart v.put (x ∷ [])) → MatchSteal s G H P
 stolen P Empty v w E F G H all g k h = g
 stolen P (Success x) v w E F G H all g k h = taken_one P v.put x h.1 all
@@ -34,13 +34,13 @@ stolen P Retry v w E F G H all g k h = k
 
 -- the passes after a steal
 pub round_set : (takes : Task → Type 0) (thieves : List Thief) (ps : List Ticket) (d : ℕ) (q : Ticket) → AreRound takes thieves ps → d < length thieves
-    → ((t : Thief) → IsPassOf (stealer_deque (slice_index_or thieves d t)) q) → (view q).parts ≡ 1 → All (λ (x : Held). takes x.task) (view q).put
+    → ((t : Thief) → IsPassOf (stealer_deque (slice_index_or thieves d t)) q) → (view q).parts ≡ 1 → All (λ (x : HeldTask). takes x.task) (view q).put
     → AreRound takes thieves (set ps d q)
 round_set takes thieves ps d q r in_place pass part tasks = record {
   lengths = length-set ps d q ∙ r.lengths;
   passes = λ j t p below. at j t p below (ℕ_discrete j d);
   parts = All-set (λ (x : Ticket). (view x).parts ≡ 1) ps d q part r.parts;
-  tasks = All-set (λ (x : Ticket). All (λ (y : Held). takes y.task) (view x).put) ps d q tasks r.tasks;
+  tasks = All-set (λ (x : Ticket). All (λ (y : HeldTask). takes y.task) (view x).put) ps d q tasks r.tasks;
   fifo = r.fifo;
 }
   where
@@ -63,13 +63,13 @@ none_taken n (p ∷ ps) none =
 
 -- new passes of all deques are a round for whoever steals from them, and have taken nothing
 pub fresh_round : (takes : Task → Type 0) (owners : List Owner) (thieves : List Thief) (ps : List Ticket) (o : Owner) → AreThieves owners thieves
-    → All (λ (x : Owner). All (λ (y : Held). takes y.task) (worker_view x).put) owners → AreNew owners ps → IsFresh takes thieves ps
+    → All (λ (x : Owner). All (λ (y : HeldTask). takes y.task) (worker_view x).put) owners → AreNew owners ps → IsFresh takes thieves ps
 fresh_round takes owners thieves ps o are tasks new = record {
   round = record {
     lengths = new.lengths ∙ sym are.lengths;
     passes = λ d t p below. subst (λ x. IsPassOf x (slice_index_or ps d p)) (sym (are.each d o t (omega (arith, are.lengths)))) (new.each d o p (omega (arith, are.lengths))).pass;
     parts = λ d p below. (new.each d o p (omega (arith, new.lengths))).part;
-    tasks = λ d p below. subst (All (λ (y : Held). takes y.task)) (sym (new.each d o p (omega (arith, new.lengths))).put) (tasks d o (omega (arith, new.lengths)));
+    tasks = λ d p below. subst (All (λ (y : HeldTask). takes y.task)) (sym (new.each d o p (omega (arith, new.lengths))).put) (tasks d o (omega (arith, new.lengths)));
     fifo = are.fifo;
   };
   none = λ n. none_taken n ps (λ d p below. (new.each d o p (omega (arith, new.lengths))).none);

@@ -8,7 +8,7 @@ use lib.ListN.{get_elem?}
 use Rattle.crossbeam_deque.specs.Tasks.{Pushes, Takes, Finds, Forks, Merges}
 use Rattle.crossbeam_deque.proofs.Lists.{at_set, at_snoc}
 use Rattle.pool.specs.declared.held.Hand.{Hand}
-use Rattle.pool.specs.declared.held.Held.{Held}
+use Rattle.pool.specs.declared.held.HeldTask.{HeldTask}
 use Rattle.pool.specs.Rule.{hand, held_number, parts_of, copies, took, Fits, EachFits, Shares, IsPart}
 
 module _ (f : Hand → ℕ) where
@@ -51,7 +51,7 @@ total_alone f views port v at all zero_idle idle_zero =
     omega arith
 
 -- the views after a change of one pass fit, if it fits and the others do
-fits_set : (put : List Held) (views : List Hand) (port : ℕ) (w : Hand) → Fits put w → ((j : ℕ) (u : Hand) → j ≢ port → get_elem? views j ≡ some u → Fits put u) → EachFits put (set views port w)
+fits_set : (put : List HeldTask) (views : List Hand) (port : ℕ) (w : Hand) → Fits put w → ((j : ℕ) (u : Hand) → j ≢ port → get_elem? views j ≡ some u → Fits put u) → EachFits put (set views port w)
 fits_set put views port w mine others j u e =
     ⊎_elim (λ (x : (j ≡ port) × (w ≡ u)). subst (Fits put) x.1 mine) (λ (x : (j ≢ port) × (get_elem? views j ≡ some u)). others j u x.0 x.1) (at_set views port j w u e)
 
@@ -62,7 +62,7 @@ begins = ([], [], refl, refl, (λ n. refl), fits_set [] (hand 1024 [] [] ∷ [])
     last zero u other at = absurd (other refl)
     last (suc j) u other at = absurd (some-ne-none u (sym at))
 
-pub pushes : (port : ℕ) (v : Hand) (xs : List Held) → v.parts ≡ 1024 → Pushes Shares port v xs (λ w. w ≡ hand v.parts (v.put ++ xs) v.taken)
+pub pushes : (port : ℕ) (v : Hand) (xs : List HeldTask) → v.parts ≡ 1024 → Pushes Shares port v xs (λ w. w ≡ hand v.parts (v.put ++ xs) v.taken)
 pushes port v xs full items views h at =
     let w = hand v.parts (v.put ++ xs) v.taken in
     let mine = h.5 port v at in (
@@ -80,7 +80,7 @@ pushes port v xs full items views h at =
       refl,
     )
 
-pub copies-append : (n : ℕ) (xs ys : List Held) → copies n (xs ++ ys) ≡ copies n xs + copies n ys
+pub copies-append : (n : ℕ) (xs ys : List HeldTask) → copies n (xs ++ ys) ≡ copies n xs + copies n ys
 copies-append n xs ys = sum_by-append (λ x. cond (held_number x == n) 1 0) xs ys
 
 pub takes : (port : ℕ) (v : Hand) → 0 < v.parts → Takes Shares port v 1 (λ xs w. (w ≡ hand v.parts v.put (v.taken ++ xs)) × IsPart v.put xs)
@@ -150,7 +150,7 @@ module _ {X : Type 0} (P : X → Type 0) where
   right xs ys h = subst (All P) (drop-append_seam xs ys) (All-drop P (length xs) (xs ++ ys) h)
 
 -- what holds of each task that was put holds of one that was taken
-pub taken_one : (P : Held → Type 0) (put : List Held) (x : Held) → IsPart put (x ∷ []) → All P put → P x
+pub taken_one : (P : HeldTask → Type 0) (put : List HeldTask) (x : HeldTask) → IsPart put (x ∷ []) → All P put → P x
 taken_one P put x part all =
     let whole : All P ((part.0 ++ x ∷ []) ++ part.1) = subst (All P) part.2 all in
     All-head P x [] (right P part.0 (x ∷ []) (left P (part.0 ++ x ∷ []) part.1 whole))

@@ -8,15 +8,15 @@ use Rattle.pool.specs.declared.bench.Bench.{Bench}
 use Rattle.pool.specs.declared.deque.Sharing.{Sharing}
 use Rattle.pool.specs.declared.done.Done.{Done}
 use Rattle.pool.specs.declared.held.Hand.{Hand}
-use Rattle.pool.specs.declared.held.Held.{Held}
+use Rattle.pool.specs.declared.held.HeldTask.{HeldTask}
 
 -- the owner's side of a deque
 abbrev pub Owner : Type 0
-Owner = Worker Held Global Hand Sharing
+Owner = Worker HeldTask Global Hand Sharing
 
 -- what a worker needs to steal from a deque
 abbrev pub Ticket : Type 0
-Ticket = Pass Held Hand Global
+Ticket = Pass HeldTask Hand Global
 
 -- how often the number stands in the list
 abbrev pub times : ℕ → List ℕ → ℕ

@@ -7,22 +7,22 @@ use Rattle.analyse.specs.declared.task.Task.{Task}
 use Rattle.pool.specs.Counts.{Owner, Ticket}
 use Rattle.pool.specs.declared.deque.Sharing.{Sharing}
 use Rattle.pool.specs.declared.held.Hand.{Hand}
-use Rattle.pool.specs.declared.held.Held.{Held}
+use Rattle.pool.specs.declared.held.HeldTask.{HeldTask}
 
 -- what other threads steal by
 abbrev pub Thief : Type 0
-Thief = Stealer Held Global Hand Sharing
+Thief = Stealer HeldTask Global Hand Sharing
 
 -- the owner's parts of the right to know the whole
 abbrev pub owner_parts : Owner → ℕ
 owner_parts o = (worker_view o).parts
 
 -- what was put into its deque
-abbrev pub owner_put : Owner → List Held
+abbrev pub owner_put : Owner → List HeldTask
 owner_put o = (worker_view o).put
 
 -- what the owner has taken itself
-abbrev pub owner_taken : Owner → List Held
+abbrev pub owner_taken : Owner → List HeldTask
 owner_taken o = (worker_view o).taken
 
 -- the owner takes tasks in their order, has all parts, and has taken nothing
@@ -35,12 +35,12 @@ pub record IsWhole (o : Owner) : Type 0 where
 pub record IsOwn (takes : Task → Type 0) (o : Owner) : Type 0 where
   pub fifo : worker_flavor o ≡ 0
   pub part : 0 < owner_parts o
-  pub tasks : All (λ (x : Held). takes x.task) (owner_put o)
+  pub tasks : All (λ (x : HeldTask). takes x.task) (owner_put o)
 
 -- all tasks are still in the deques, and may be run
 pub record AreFilled (takes : Task → Type 0) (owners : List Owner) : Type 0 where
   pub whole : All IsWhole owners
-  pub tasks : All (λ (o : Owner). All (λ (x : Held). takes x.task) (owner_put o)) owners
+  pub tasks : All (λ (o : Owner). All (λ (x : HeldTask). takes x.task) (owner_put o)) owners
 
 -- the owner is that of the same deque, and knows the same of what was put
 pub record Keeps (old new : Owner) : Type 0 where

@@ -5,7 +5,7 @@ use Rattle.crossbeam_deque.specs.Handles.{IsPassOf, stealer_deque, stealer_flavo
 use Rattle.analyse.specs.declared.task.Task.{Task}
 use Rattle.pool.specs.Counts.{Owner, Ticket, taken_by}
 use Rattle.pool.specs.Owners.{CutOff, Thief}
-use Rattle.pool.specs.declared.held.Held.{Held}
+use Rattle.pool.specs.declared.held.HeldTask.{HeldTask}
 
 -- there is a pass of each deque, with one part, and all of its tasks may be run
 pub record AreRound (takes : Task → Type 0) (thieves : List Thief) (ps : List Ticket) : Type 0 where
@@ -13,7 +13,7 @@ pub record AreRound (takes : Task → Type 0) (thieves : List Thief) (ps : List 
   pub passes : (d : ℕ) (t : Thief) (p : Ticket) → d < length thieves
       → IsPassOf (stealer_deque (slice_index_or thieves d t)) (slice_index_or ps d p)
   pub parts : All (λ (p : Ticket). (view p).parts ≡ 1) ps
-  pub tasks : All (λ (p : Ticket). All (λ (x : Held). takes x.task) (view p).put) ps
+  pub tasks : All (λ (p : Ticket). All (λ (x : HeldTask). takes x.task) (view p).put) ps
   pub fifo : All (λ (t : Thief). stealer_flavor t ≡ 0) thieves
 
 -- the same, and none has taken anything

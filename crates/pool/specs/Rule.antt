@@ -4,20 +4,20 @@ use mathlib.Core.Option.{some}
 use lib.ListN.{get_elem?}
 use Rattle.analyse.specs.Tasks.{number_of}
 use Rattle.pool.specs.declared.held.Hand.{Hand}
-use Rattle.pool.specs.declared.held.Held.{Held}
+use Rattle.pool.specs.declared.held.HeldTask.{HeldTask}
 
-abbrev pub hand : ℕ → List Held → List Held → Hand
+abbrev pub hand : ℕ → List HeldTask → List HeldTask → Hand
 hand parts put taken = record { parts = parts; put = put; taken = taken }
 
 -- the number of a task in a deque
-abbrev pub held_number : Held → ℕ
+abbrev pub held_number : HeldTask → ℕ
 held_number x = number_of x.task
 
 abbrev pub parts_of : Hand → ℕ
 parts_of v = v.parts
 
 -- how often these tasks have the number
-abbrev pub copies : ℕ → List Held → ℕ
+abbrev pub copies : ℕ → List HeldTask → ℕ
 copies n xs = count_by (λ x. held_number x == n) xs
 
 -- how often the pass has taken a task of the number
@@ -25,19 +25,19 @@ abbrev pub took : ℕ → Hand → ℕ
 took n v = copies n v.taken
 
 -- a pass with no part has taken nothing, and one with a part knows what was put
-abbrev pub Fits : List Held → Hand → Type 0
+abbrev pub Fits : List HeldTask → Hand → Type 0
 Fits put v = (v.parts ≡ 0 → v.taken ≡ []) × (0 < v.parts → v.put ≡ put)
 
-abbrev pub EachFits : List Held → List Hand → Type 0
+abbrev pub EachFits : List HeldTask → List Hand → Type 0
 EachFits put views = (port : ℕ) (v : Hand) → get_elem? views port ≡ some v → Fits put v
 
 -- These tasks are inside, and these are the views of all passes. There are 1024 parts in all; what was put is what is gone, and behind
 -- it what is inside; and the passes have taken what is gone.
-abbrev pub Shares : List Held → List Hand → Type 0
-Shares items views = (put : List Held) × (gone : List Held) × (put ≡ gone ++ items) × (sum_by parts_of views ≡ 1024)
+abbrev pub Shares : List HeldTask → List Hand → Type 0
+Shares items views = (put : List HeldTask) × (gone : List HeldTask) × (put ≡ gone ++ items) × (sum_by parts_of views ≡ 1024)
     × ((n : ℕ) → sum_by (took n) views ≡ copies n gone)
     × EachFits put views
 
 -- these tasks stand in the list, side by side
-abbrev pub IsPart : List Held → List Held → Type 0
-IsPart put xs = (front : List Held) × (rest : List Held) × (put ≡ (front ++ xs) ++ rest)
+abbrev pub IsPart : List HeldTask → List HeldTask → Type 0
+IsPart put xs = (front : List HeldTask) × (rest : List HeldTask) × (put ≡ (front ++ xs) ++ rest)

@@ -2,7 +2,7 @@
 
 ghost use Rattle.std.specs.Prelude.{◌≡◌, ℕ, ◌+◌, ◌<◌, All, OnOk, length, slice_index_or, vec_len};
 ghost use Rattle.crossbeam_deque.specs.Handles.{IsPassOf, view, worker_deque, worker_flavor};
-ghost use Rattle.pool.specs.Counts.{Owner as OwnerSeen, all_put, all_taken, taken_by};
+ghost use Rattle.pool.specs.Counts.{Owner as OwnerModel, all_put, all_taken, taken_by};
 ghost use Rattle.pool.specs.Owners.{EachChanges, GotParts, OneChanges, TookIn, owner_parts};
 ghost use Rattle.pool.specs.Rounds.{AreOf, all_by};
 ghost use Rattle.pool.specs.Rule.{copies};
@@ -10,15 +10,15 @@ ghost use Rattle.pool.specs.Rule.{copies};
 use crate::deque::{Cut, Owner, Sweeps, Ticket};
 use source::Memory;
 
-/// Takes a pass into the owner at a place.
-fn absorb_at(owners: &mut Vec<Owner>, place: usize, pass: Ticket)
-    requires place { place < length owners.old.items }
-    requires part { (o : OwnerSeen) → 0 < owner_parts (slice_index_or owners.old.items place o) }
-    requires pass { (o : OwnerSeen) → IsPassOf (worker_deque (slice_index_or owners.old.items place o)) pass }
-    ensures one { OneChanges place (TookIn pass) owners.old.items owners.new.items }
+/// Takes a pass into the owner at an index.
+fn absorb_at(owners: &mut Vec<Owner>, index: usize, pass: Ticket)
+    requires index { index < length owners.old.items }
+    requires part { (o : OwnerModel) → 0 < owner_parts (slice_index_or owners.old.items index o) }
+    requires pass { (o : OwnerModel) → IsPassOf (worker_deque (slice_index_or owners.old.items index o)) pass }
+    ensures one { OneChanges index (TookIn pass) owners.old.items owners.new.items }
     ensures taken { (n : ℕ) → all_taken n owners.new.items ≡ all_taken n owners.old.items + copies n (view pass).taken }
 {
-    let owner = &mut owners[place];
+    let owner = &mut owners[index];
     owner.absorb::<Cut>(pass);
 }
 

@@ -1,7 +1,7 @@
 //! Passes cut off for the workers, one of each deque for each of them.
 
 ghost use Rattle.std.specs.Prelude.{◌≡◌, ◌<◌, ◌+◌, All, IfOk, OnOk, length, slice_index_or, vec_len};
-ghost use Rattle.pool.specs.Counts.{Owner as OwnerSeen};
+ghost use Rattle.pool.specs.Counts.{Owner as OwnerModel};
 ghost use Rattle.pool.specs.Owners.{CutOff, EachChanges, IsWhole, LostParts, OneChanges, owner_parts};
 ghost use Rattle.pool.specs.Rounds.{AreCutOff, AreNew};
 
@@ -9,13 +9,13 @@ use crate::deque::{Cut, Owner, Ticket};
 use source::Memory;
 use std::alloc::Global;
 
-/// A pass of the deque at a place.
-fn cut_at(owners: &mut Vec<Owner>, place: usize) -> Ticket
-    requires place { place < length owners.old.items }
-    requires part { (o : OwnerSeen) → 1 < owner_parts (slice_index_or owners.old.items place o) }
-    ensures { OneChanges place (λ old new. CutOff old new result) owners.old.items owners.new.items }
+/// A pass of the deque at an index.
+fn cut_at(owners: &mut Vec<Owner>, index: usize) -> Ticket
+    requires index { index < length owners.old.items }
+    requires part { (o : OwnerModel) → 1 < owner_parts (slice_index_or owners.old.items index o) }
+    ensures { OneChanges index (λ old new. CutOff old new result) owners.old.items owners.new.items }
 {
-    let owner = &mut owners[place];
+    let owner = &mut owners[index];
     owner.another::<Cut>()
 }
 

@@ -3,7 +3,7 @@
 ghost use Rattle.std.specs.Prelude.{◌≡◌, ◌-◌, ◌+◌, ◌++◌, ℕ, []};
 ghost use Rattle.pool.specs.Rule.{IsPart, Shares, copies, hand};
 
-use crate::held::{Hand, Held};
+use crate::held::{Hand, HeldTask};
 use crossbeam_deque::protocol::{Join, Outcome, Protocol, Split};
 use crossbeam_deque::{Pass, Stealer, Worker};
 use std::alloc::Global;
@@ -11,7 +11,7 @@ use std::alloc::Global;
 /// The rule of a deque between any two steps.
 pub struct Sharing;
 
-impl Protocol<Held, Hand> for Sharing {
+impl Protocol<HeldTask, Hand> for Sharing {
     ghost holds = { Shares };
 
     ghost first = { hand 1024 [] [] };
@@ -22,21 +22,21 @@ impl Protocol<Held, Hand> for Sharing {
 /// A task is put. Only who has all parts puts, so all is put before the first pass is cut off.
 pub struct Puts;
 
-impl Outcome<Held, Hand> for Puts {
+impl Outcome<HeldTask, Hand> for Puts {
     ghost then = { λ v xs w. w ≡ hand v.parts (v.put ++ xs) v.taken };
 }
 
 /// A task is taken: it is one of those that were put.
 pub struct Takes;
 
-impl Outcome<Held, Hand> for Takes {
+impl Outcome<HeldTask, Hand> for Takes {
     ghost then = { λ v xs w. (w ≡ hand v.parts v.put (v.taken ++ xs)) × IsPart v.put xs };
 }
 
 /// The same where all passes were taken in: an empty deque then says that all that was put was taken.
 pub struct Sweeps;
 
-impl Outcome<Held, Hand> for Sweeps {
+impl Outcome<HeldTask, Hand> for Sweeps {
     ghost then = { λ v xs w. (w ≡ hand v.parts v.put (v.taken ++ xs)) × IsPart v.put xs };
 
     ghost empty = { λ v. v.parts ≡ 1024 → (n : ℕ) → copies n v.put ≡ copies n v.taken };
@@ -58,10 +58,10 @@ impl Join<Hand> for Cut {
 }
 
 /// The owner's side of a deque: it puts tasks, and takes them in their order.
-pub(crate) type Owner = Worker<Held, Global, Hand, Sharing>;
+pub(crate) type Owner = Worker<HeldTask, Global, Hand, Sharing>;
 
 /// What other threads steal by.
-pub(crate) type Thief = Stealer<Held, Global, Hand, Sharing>;
+pub(crate) type Thief = Stealer<HeldTask, Global, Hand, Sharing>;
 
 /// What a worker needs to steal from one deque, and what it knows of it.
-pub(crate) type Ticket = Pass<Held, Hand>;
+pub(crate) type Ticket = Pass<HeldTask, Hand>;

@@ -7,7 +7,7 @@ ghost use Rattle.pool.specs.Counts.{all_put, times};
 ghost use Rattle.pool.specs.Owners.{AreFilled, AreThieves};
 
 use crate::deque::{Owner, Puts, Thief};
-use crate::held::Held;
+use crate::held::HeldTask;
 use crate::job::Job;
 use analyse::{Task, give_up_all};
 use source::Memory;
@@ -34,11 +34,11 @@ fn empty_deques<J: Job>(
     Ok(owners)
 }
 
-/// Puts a task into the deque at a place.
+/// Puts a task into the deque at an index.
 ///
 /// `Memory` is answered where a growth was refused, and the task is given up.
-fn put_at<J: Job>(job: &J, owners: &mut Vec<Owner>, place: usize, task: Task) -> Result<(), Memory>
-    requires place { place < length owners.old.items }
+fn put_at<J: Job>(job: &J, owners: &mut Vec<Owner>, index: usize, task: Task) -> Result<(), Memory>
+    requires index { index < length owners.old.items }
     requires task { J.takes job.now task }
     requires filled { AreFilled (J.takes job.now) owners.old.items }
     ensures filled { OnOk result (AreFilled (J.takes job.now) owners.new.items) }
@@ -46,8 +46,8 @@ fn put_at<J: Job>(job: &J, owners: &mut Vec<Owner>, place: usize, task: Task) ->
     ensures put { OnOk result ((n : ℕ) → all_put n owners.new.items ≡ all_put n owners.old.items + times n (number_of task ∷ [])) }
 {
     let _ = job;
-    let owner = &mut owners[place];
-    match owner.push_as::<Puts>(Held { task }) {
+    let owner = &mut owners[index];
+    match owner.push_as::<Puts>(HeldTask { task }) {
         Ok(()) => Ok(()),
         Err(_) => Err(Memory),
     }
@@ -82,7 +82,7 @@ fn put_all<J: Job>(job: &J, mut owners: Vec<Owner>, tasks: Vec<Task>) -> Result<
 /// A deque for each of so many workers, and the tasks in them.
 ///
 /// `Memory` is answered where a growth was refused, and all tasks are given up.
-pub(crate) fn filled<J: Job>(
+pub(crate) fn fill_deques<J: Job>(
     alloc: Global,
     job: &J,
     count: usize,

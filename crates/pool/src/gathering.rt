@@ -1,7 +1,7 @@
 //! What all workers have done, put together.
 
 ghost use Rattle.std.specs.Prelude.{◌++◌, [], ◌∷◌, List, IfOk};
-ghost use Rattle.pool.specs.Counts.{Owner as OwnerSeen};
+ghost use Rattle.pool.specs.Counts.{Owner as OwnerModel};
 ghost use Rattle.pool.specs.Stints.{AreGathered, AreWork, IsWork};
 
 use crate::bench::Bench;
@@ -29,7 +29,7 @@ fn gather_one<J: Job, G>(
     all: Gathered<J::Seat, J::Out>,
     shift: Shift<J::Seat, J::Out>,
 ) -> Result<Gathered<J::Seat, J::Out>, Memory>
-    ensures { (begun : List OwnerSeen) (owner : OwnerSeen)
+    ensures { (begun : List OwnerModel) (owner : OwnerModel)
         → AreGathered (J.takes common.now.job.now) (J.seats common.now.job.now) (J.gives common.now.job.now) common.now.thieves.now
         begun all
         → IfOk shift (IsWork (J.takes common.now.job.now) (J.seats common.now.job.now) (J.gives common.now.job.now) common.now.thieves.now
@@ -70,7 +70,7 @@ pub(crate) fn gather<J: Job, G>(
     first: Shift<J::Seat, J::Out>,
     others: Vec<Shift<J::Seat, J::Out>>,
 ) -> Result<Gathered<J::Seat, J::Out>, Memory>
-    ensures { (one : OwnerSeen) (rest : List OwnerSeen)
+    ensures { (one : OwnerModel) (rest : List OwnerModel)
         → IfOk first (IsWork (J.takes common.now.job.now) (J.seats common.now.job.now) (J.gives common.now.job.now)
         common.now.thieves.now one)
         → AreWork (J.takes common.now.job.now) (J.seats common.now.job.now) (J.gives common.now.job.now) common.now.thieves.now

@@ -6,23 +6,23 @@ use analyse::Task;
 use std::collections::LinkedList;
 
 /// A task in a deque. It gives the task up where it is dropped, so a deque that is dropped gives up all that is left in it.
-pub struct Held {
+pub struct HeldTask {
     pub(crate) task: Task,
 }
 
-impl Held {
+impl HeldTask {
     /// The task, which is no longer given up then.
     pub(crate) fn into_task(self) -> Task
         ensures { result ≡ self.task }
     {
-        let Held { task } = self;
+        let HeldTask { task } = self;
         task
     }
 }
 
-impl Drop for Held {
+impl Drop for HeldTask {
     fn drop(self) {
-        let Held { task } = self;
+        let HeldTask { task } = self;
         task.give_up();
     }
 }
@@ -30,6 +30,6 @@ impl Drop for Held {
 /// What a pass knows: its parts of the right to know the whole, the tasks that were put, and those that it has taken.
 pub struct Hand {
     pub(crate) parts: u64,
-    pub(crate) put: LinkedList<Held>,
-    pub(crate) taken: LinkedList<Held>,
+    pub(crate) put: LinkedList<HeldTask>,
+    pub(crate) taken: LinkedList<HeldTask>,
 }

@@ -9,7 +9,7 @@ use crate::absorbing::{absorb_all, sweep};
 use crate::cutting::cut_all;
 use crate::done::Done;
 use crate::fault::PoolFault;
-use crate::filling::{filled, stealers};
+use crate::filling::{fill_deques, stealers};
 use crate::gate::Gate;
 use crate::gathering::{Gathered, gather};
 use crate::job::Job;
@@ -63,7 +63,7 @@ fn share_all<J: Job, G: Gate, R: Threads + Wait + Sync>(
     ensures gives { IfOk result (λ r. All (λ d. J.gives job.now (method_of d) d.out) r.1.items) }
 {
     let count = seats.len();
-    let mut owners = filled(alloc, job, count, tasks)?;
+    let mut owners = fill_deques(alloc, job, count, tasks)?;
     let thieves = stealers(alloc, &owners)?;
     let rounds = cut_all(alloc, &mut owners, count)?;
     let common = Common {

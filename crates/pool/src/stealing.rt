@@ -9,7 +9,7 @@ ghost use Rattle.pool.specs.Rule.{copies};
 use crate::bench::Bench;
 use crate::deque::{Takes, Ticket};
 use crate::gate::Gate;
-use crate::held::Held;
+use crate::held::HeldTask;
 use crate::job::Job;
 use crate::stints::Common;
 use crate::working::run_one;
@@ -17,13 +17,13 @@ use crossbeam_deque::Steal;
 use source::Memory;
 use std::sync::Wait;
 
-/// Tries to steal a task from the deque at a place.
+/// Tries to steal a task from the deque at an index.
 fn steal_at<J: Job, G: Gate>(
     common: &Common<'_, J, G>,
     passes: &mut Vec<Ticket>,
-    place: usize,
-) -> Steal<Held>
-    requires place { place < length common.now.thieves.now }
+    index: usize,
+) -> Steal<HeldTask>
+    requires index { index < length common.now.thieves.now }
     requires round { AreRound (J.takes common.now.job.now) common.now.thieves.now passes.old.items }
     ensures round { AreRound (J.takes common.now.job.now) common.now.thieves.now passes.new.items }
     ensures task { MatchSteal result (passes.new.items ≡ passes.new.items) (passes.new.items ≡ passes.new.items)
@@ -32,21 +32,21 @@ fn steal_at<J: Job, G: Gate>(
         ((n : ℕ) → taken_by n passes.new.items ≡ taken_by n passes.old.items)
         (λ x. (n : ℕ) → taken_by n passes.new.items ≡ taken_by n passes.old.items + copies n (x ∷ [])) }
 {
-    let pass = &mut passes[place];
-    common.thieves[place].steal_as::<Takes>(pass)
+    let pass = &mut passes[index];
+    common.thieves[index].steal_as::<Takes>(pass)
 }
 
-/// Steals tasks from the deque at a place, until it is found empty.
+/// Steals tasks from the deque at an index, until it is found empty.
 ///
 /// `Memory` is answered where a growth was refused. No more tasks are taken then.
 fn steal_from<J: Job, G: Gate, R: Wait>(
     rt: &R,
     common: &Common<'_, J, G>,
-    place: usize,
+    index: usize,
     passes: &mut Vec<Ticket>,
     bench: &mut Bench<J::Seat, J::Out>,
 ) -> Result<(), Memory>
-    requires place { place < length common.now.thieves.now }
+    requires index { index < length common.now.thieves.now }
     requires round { AreRound (J.takes common.now.job.now) common.now.thieves.now passes.old.items }
     requires seat { J.seats common.now.job.now bench.old.seat }
     ensures round { AreRound (J.takes common.now.job.now) common.now.thieves.now passes.new.items }
@@ -55,7 +55,7 @@ fn steal_from<J: Job, G: Gate, R: Wait>(
         bench.old bench.new) }
 {
     for _ in rt.forever() {
-        match steal_at(common, passes, place) {
+        match steal_at(common, passes, index) {
             Steal::Success(held) => run_one(common, held, bench)?,
             Steal::Empty => return Ok(()),
             Steal::Retry => {}

@@ -11,7 +11,7 @@ use crate::bench::Bench;
 use crate::deque::{Owner, Takes};
 use crate::done::Done;
 use crate::gate::Gate;
-use crate::held::Held;
+use crate::held::HeldTask;
 use crate::job::Job;
 use crate::stealing::steal_round;
 use crate::stints::{Common, Shift, Stint};
@@ -24,7 +24,7 @@ use std::sync::Wait;
 /// `Memory` is answered where a growth was refused, and the task is given up.
 pub(crate) fn run_one<J: Job, G: Gate>(
     common: &Common<'_, J, G>,
-    held: Held,
+    held: HeldTask,
     bench: &mut Bench<J::Seat, J::Out>,
 ) -> Result<(), Memory>
     requires task { J.takes common.now.job.now held.task }

@@ -4,17 +4,17 @@ use Rattle.std.specs.Prelude.{slice_get, IfSome, IsSomeAnd}
 use Rattle.std.specs.List.{filter}
 use Rattle.std.specs.Option.{option_map_or}
 use Rattle.program.specs.Kinds.{same_scalar, same_side}
-use Rattle.program.specs.Parts.{StateParts, MessageParts, ContractSeen}
+use Rattle.program.specs.Parts.{StateParts, MessageParts, ContractModel}
 use Rattle.program.specs.declared.number.MessageId.{MessageId}
 use Rattle.program.specs.declared.number.StateId.{StateId}
-use Rattle.program.specs.Methods.{MethodSeen, VariableSeen}
-use Rattle.program.specs.Statements.{CallSeen, NewSeen, SendSeen, StatementSeen, Simple, New, Call, Start, Send}
+use Rattle.program.specs.Methods.{MethodModel, VariableModel}
+use Rattle.program.specs.Statements.{CallModel, NewModel, SendModel, StatementModel, Simple, New, Call, Start, Send}
 use Rattle.program.specs.Statements.{Block, If, While, Switch}
-use Rattle.program.specs.Statements.{StatementsSeen, NoStatement, MoreStatements, BlockSeen, Braces, TestSeen, Test}
-use Rattle.program.specs.Statements.{OthersSeen, NoOther, Else, ElseIf, CaseSeen, Case, CasesSeen, NoCase, MoreCases}
+use Rattle.program.specs.Statements.{StatementsModel, NoStatement, MoreStatements, BlockModel, Braces, TestModel, Test}
+use Rattle.program.specs.Statements.{OthersModel, NoOther, Else, ElseIf, CaseModel, Case, CasesModel, NoCase, MoreCases}
 use Rattle.program.specs.declared.call.Argument.{Argument}
-use Rattle.program.specs.declared.kind.Kind.{Kind}
-use Rattle.program.specs.declared.kind.Kind.TheVariants.{Struct, Array, Endpoint}
+use Rattle.program.specs.declared.kind.HeapKind.{HeapKind}
+use Rattle.program.specs.declared.kind.HeapKind.TheVariants.{Struct, Array, Endpoint}
 use Rattle.program.specs.declared.method.Role.{Role}
 use Rattle.program.specs.declared.method.Role.TheVariants.{Lent, Claimed, Local}
 use Rattle.program.specs.declared.number.VarId.{VarId}
@@ -41,52 +41,52 @@ is_claimed Claimed = true
 is_claimed Local = false
 
 -- the parameters of a method that are of the exchange heap
-abbrev pub parameters : MethodSeen → List VariableSeen
+abbrev pub parameters : MethodModel → List VariableModel
 parameters m = filter (λ v. is_parameter v.role) m.variables
 
 -- blocks of one type; the state of an endpoint is no part of it
-abbrev pub same_type : Kind → Kind → Bool
+abbrev pub same_type : HeapKind → HeapKind → Bool
 same_type (Struct m) (Struct n) = m.0 == n.0
 same_type (Array s) (Array t) = same_scalar s t
 same_type (Endpoint m s p) (Endpoint n t q) = (m.0 == n.0) && same_side s t
 same_type _ _ = false
 
 -- the two ends of a channel of this contract
-abbrev pub are_ends : ℕ → Kind → Kind → Bool
+abbrev pub are_ends : ℕ → HeapKind → HeapKind → Bool
 are_ends contract (Endpoint m s p) (Endpoint n t q) = (m.0 == contract) && ((n.0 == contract) && not (same_side s t))
 are_ends contract _ _ = false
 
 -- a state, and a message, of a contract
-pub record IsStateOf (c : ContractSeen) (id : StateId) : Type 0 where
+pub record IsStateOf (c : ContractModel) (id : StateId) : Type 0 where
   pub place : ℕ
   pub state : StateParts
   pub there : slice_get c.parts.states place ≡ Some state
   pub is : state.id ≡ id
 
-pub record IsMessageOf (c : ContractSeen) (id : MessageId) : Type 0 where
+pub record IsMessageOf (c : ContractModel) (id : MessageId) : Type 0 where
   pub place : ℕ
   pub message : MessageParts
   pub there : slice_get c.parts.messages place ≡ Some message
   pub is : message.id ≡ id
 
 -- The numbers in a kind stand for something. Of a struct there is nothing but its number.
-abbrev pub IsKind : List ContractSeen → Kind → Type 0
+abbrev pub IsKind : List ContractModel → HeapKind → Type 0
 IsKind contracts (Struct n) = Unit {0}
 IsKind contracts (Array element) = Unit {0}
 IsKind contracts (Endpoint contract side state) = IsSomeAnd (slice_get contracts contract.0) (λ c. IsStateOf c state)
 
 -- the contract of an endpoint
-abbrev pub contract_held : List ContractSeen → Kind → Option ContractSeen
+abbrev pub contract_held : List ContractModel → HeapKind → Option ContractModel
 contract_held contracts (Endpoint contract side state) = slice_get contracts contract.0
 contract_held contracts _ = None
 
 -- an end of a channel
-abbrev pub is_end : Kind → Bool
+abbrev pub is_end : HeapKind → Bool
 is_end (Endpoint contract side state) = true
 is_end _ = false
 
 -- what a block of this kind has in its fields that own: of a struct the kind of each, in order; of an array nothing
-abbrev pub field_kinds : (structs : List (List Kind)) → Kind → List Kind
+abbrev pub field_kinds : (structs : List (List HeapKind)) → HeapKind → List HeapKind
 field_kinds structs (Struct n) = option_map_or (λ kinds. kinds) (slice_get structs n.0) []
 field_kinds structs (Array element) = []
 field_kinds structs (Endpoint contract side state) = []
@@ -95,12 +95,12 @@ field_kinds structs (Endpoint contract side state) = []
 -- methods; the variables of its own method, and what that gives; the last variable in scope, and the last that stays at a `break` and at
 -- a `continue`.
 pub record Setting : Type 0 where
-  pub contracts : List ContractSeen
-  pub messages : List (List Kind)
-  pub structs : List (List Kind)
-  pub methods : List MethodSeen
-  pub variables : List VariableSeen
-  pub result : Option Kind
+  pub contracts : List ContractModel
+  pub messages : List (List HeapKind)
+  pub structs : List (List HeapKind)
+  pub methods : List MethodModel
+  pub variables : List VariableModel
+  pub result : Option HeapKind
   pub scope : Option VarId
   pub at_break : Option VarId
   pub at_continue : Option VarId
@@ -148,14 +148,14 @@ in_loop s = record {
 }
 
 -- the endpoints of cases, and those of the cases that wait for the close
-abbrev pub endpoints : CasesSeen → List ℕ
+abbrev pub endpoints : CasesModel → List ℕ
 endpoints NoCase = []
-endpoints (MoreCases (Case endpoint awaited bound body) cases) = endpoint.variable.0 ∷ endpoints cases
+endpoints (MoreCases (Case endpoint awaited targets body) cases) = endpoint.variable.0 ∷ endpoints cases
 
-abbrev pub closes : CasesSeen → List ℕ
+abbrev pub closes : CasesModel → List ℕ
 closes NoCase = []
-closes (MoreCases (Case endpoint (Message id) bound body) cases) = closes cases
-closes (MoreCases (Case endpoint Closed bound body) cases) = endpoint.variable.0 ∷ closes cases
+closes (MoreCases (Case endpoint (Message id) targets body) cases) = closes cases
+closes (MoreCases (Case endpoint Closed targets body) cases) = endpoint.variable.0 ∷ closes cases
 
 module _ (s : Setting) where
   -- the number of a variable
@@ -169,52 +169,52 @@ module _ (s : Setting) where
   IsIn v = IsInScope s.variables s.scope v
 
   -- a variable of this type
-  abbrev pub Holds : Kind → VarId → Type 0
+  abbrev pub Holds : HeapKind → VarId → Type 0
   Holds k v = IsSomeAnd (slice_get s.variables v.0) (λ x. same_type x.kind k ≡ true)
 
   -- a variable for each of these, of its type
-  abbrev pub HoldAll : List Kind → List VarId → Type 0
+  abbrev pub HoldAll : List HeapKind → List VarId → Type 0
   HoldAll [] [] = Unit {0}
   HoldAll [] (v ∷ vs) = ⊥
   HoldAll (k ∷ kinds) [] = ⊥
   HoldAll (k ∷ kinds) (v ∷ vs) = Holds k v × HoldAll kinds vs
 
   -- an endpoint whose contract is so
-  abbrev pub IsEnd : (ContractSeen → Type 0) → Mention → Type 0
+  abbrev pub IsEnd : (ContractModel → Type 0) → Mention → Type 0
   IsEnd P m = IsSomeAnd (slice_get s.variables m.variable.0) (λ v. IsSomeAnd (contract_held s.contracts v.kind) P)
 
   -- an argument for each parameter, of its type, and claimed where the parameter is
-  abbrev pub AreGiven : List VariableSeen → List Argument → Type 0
+  abbrev pub AreGiven : List VariableModel → List Argument → Type 0
   AreGiven [] [] = Unit {0}
   AreGiven [] (a ∷ given) = ⊥
   AreGiven (p ∷ params) [] = ⊥
   AreGiven (p ∷ params) (a ∷ given) = (Holds p.kind a.mention.variable × (a.claimed ≡ is_claimed p.role)) × AreGiven params given
 
   -- a variable exactly where a block is given, of its type
-  abbrev pub IsTaken : Option Kind → Option Mention → Type 0
+  abbrev pub IsTaken : Option HeapKind → Option Mention → Type 0
   IsTaken None None = Unit {0}
   IsTaken None (Some m) = ⊥
   IsTaken (Some k) None = ⊥
   IsTaken (Some k) (Some m) = Holds k m.variable
 
   -- it is in scope there
-  abbrev pub IsTarget : Option Kind → Option Mention → Type 0
+  abbrev pub IsTarget : Option HeapKind → Option Mention → Type 0
   IsTarget result target = IsTaken result target × IfSome target (λ m. IsIn m.variable)
 
   -- a call of this method
-  pub record IsCallOf (c : CallSeen) (m : MethodSeen) : Type 0 where
+  pub record IsCallOf (c : CallModel) (m : MethodModel) : Type 0 where
     pub reads : Each IsMention c.reads
     pub arguments : AreGiven (parameters m) c.arguments
     pub target : IsTarget m.result c.target
     pub behind : Each IsMention c.behind
 
   -- A method is started where it gives nothing and claims its parameters.
-  pub record IsStartOf (c : CallSeen) (m : MethodSeen) : Type 0 where
+  pub record IsStartOf (c : CallModel) (m : MethodModel) : Type 0 where
     pub call : IsCallOf c m
     pub void : m.gives ≡ false
     pub claimed : Each (λ v. is_claimed v.role ≡ true) (parameters m)
 
-  pub record IsSend (x : SendSeen) : Type 0 where
+  pub record IsSend (x : SendModel) : Type 0 where
     pub reads : Each IsMention x.reads
     pub endpoint : IsEnd (λ c. IsMessageOf c x.message) x.endpoint
     pub payloads : IsSomeAnd (slice_get s.messages x.message.0) (λ kinds. HoldAll kinds (map (λ m. m.variable) x.payloads))
@@ -224,7 +224,7 @@ module _ (s : Setting) where
       (λ w. are_ends c.contract.0 v.kind w.kind ≡ true))
 
   -- A new block: what takes it is in scope and no endpoint, and for each field that owns a variable of its type is given.
-  pub record IsNew (n : NewSeen) : Type 0 where
+  pub record IsNew (n : NewModel) : Type 0 where
     pub reads : Each IsMention n.reads
     pub in_scope : IsIn n.target.variable
     pub taken : IsSomeAnd (slice_get s.variables n.target.variable.0) (λ x. (is_end x.kind ≡ false)
@@ -248,18 +248,18 @@ module _ (s : Setting) where
   IsAction (does.Continue f) = GoesBack s.scope s.at_continue f
   IsAction (does.Return place value scope) = IsTaken s.result value × (scope ≡ s.scope)
 
-  abbrev pub IsAwaited : Awaited → ContractSeen → Type 0
+  abbrev pub IsAwaited : Awaited → ContractModel → Type 0
   IsAwaited (Message id) c = IsMessageOf c id
   IsAwaited Closed c = Unit {0}
 
   -- what a case binds, for what its message brings; a close brings nothing
   abbrev pub IsBrought : Awaited → List VarId → Type 0
-  IsBrought (Message id) bound = IsSomeAnd (slice_get s.messages id.0) (λ kinds. HoldAll kinds bound)
-  IsBrought Closed bound = bound ≡ []
+  IsBrought (Message id) targets = IsSomeAnd (slice_get s.messages id.0) (λ kinds. HoldAll kinds targets)
+  IsBrought Closed targets = targets ≡ []
 
 abbrev mutual
   -- a statement
-  pub IsStatement : Setting → StatementSeen → Type 0
+  pub IsStatement : Setting → StatementModel → Type 0
   IsStatement s (Simple reads action) = Each (IsMention s) reads × IsAction s action
   IsStatement s (New n) = IsNew s n
   IsStatement s (Call c) = IsSomeAnd (slice_get s.methods c.method.0) (IsCallOf s c)
@@ -272,37 +272,37 @@ abbrev mutual
   IsStatement s (Switch place cases) = Each (λ e. is_among (closes cases) e ≡ true) (endpoints cases) × AreCases (in_switch s) cases
 
   -- Statements in a row, and the last variable in scope behind them. What is declared comes into scope between them.
-  pub AreStatements : Setting → StatementsSeen → (behind : Option VarId) → Type 0
+  pub AreStatements : Setting → StatementsModel → (behind : Option VarId) → Type 0
   AreStatements s NoStatement behind = Grows s.variables s.scope behind
   AreStatements s (MoreStatements x xs) behind =
       (here : Option VarId) × (Grows s.variables s.scope here × (IsStatement (reached s here) x × AreStatements (reached s here) xs behind))
 
   -- What a block declares goes out of scope behind it.
-  pub IsBlock : Setting → BlockSeen → Type 0
+  pub IsBlock : Setting → BlockModel → Type 0
   IsBlock s (Braces statements forget) = (behind : Option VarId) × (AreStatements s statements behind × GoesBack behind s.scope forget)
 
-  pub IsTest : Setting → TestSeen → Type 0
+  pub IsTest : Setting → TestModel → Type 0
   IsTest s (Test place reads ways body) = Each (IsMention s) reads × IsBlock s body
 
-  pub AreOthers : Setting → OthersSeen → Type 0
+  pub AreOthers : Setting → OthersModel → Type 0
   AreOthers s NoOther = Unit {0}
   AreOthers s (Else b) = IsBlock s b
   AreOthers s (ElseIf t others) = IsTest s t × AreOthers s others
 
   -- A case. What it binds comes into scope before its statements, and goes out of it behind them.
-  pub IsCase : Setting → CaseSeen → Type 0
-  IsCase s (Case endpoint awaited bound (Braces statements forget)) =
-      (IsEnd s (IsAwaited s awaited) endpoint × IsBrought s awaited bound)
-      × ((inner : Option VarId) × (behind : Option VarId) × (InTurn s.variables s.scope bound inner
+  pub IsCase : Setting → CaseModel → Type 0
+  IsCase s (Case endpoint awaited targets (Braces statements forget)) =
+      (IsEnd s (IsAwaited s awaited) endpoint × IsBrought s awaited targets)
+      × ((inner : Option VarId) × (behind : Option VarId) × (InTurn s.variables s.scope targets inner
       × (AreStatements (reached s inner) statements behind × GoesBack behind s.scope forget)))
 
-  pub AreCases : Setting → CasesSeen → Type 0
+  pub AreCases : Setting → CasesModel → Type 0
   AreCases s NoCase = Unit {0}
   AreCases s (MoreCases c cases) = IsCase s c × AreCases s cases
 
 -- where the statements of a method begin, if these parameters are in scope there; a `break` and a `continue` leave them in scope
-abbrev pub setting : List ContractSeen → (messages structs : List (List Kind)) → List MethodSeen → MethodSeen → (begins : Option VarId)
-    → Setting
+abbrev pub setting : List ContractModel → (messages structs : List (List HeapKind)) → List MethodModel → MethodModel
+    → (begins : Option VarId) → Setting
 setting contracts messages structs methods m begins = record {
   contracts = contracts;
   messages = messages;
@@ -316,8 +316,8 @@ setting contracts messages structs methods m begins = record {
 }
 
 -- a method among those of a program of these contracts, whose messages bring this, and whose structs have this
-pub record IsWellFormed (contracts : List ContractSeen) (messages structs : List (List Kind)) (methods : List MethodSeen)
-    (m : MethodSeen) : Type 0 where
+pub record IsWellFormed (contracts : List ContractModel) (messages structs : List (List HeapKind)) (methods : List MethodModel)
+    (m : MethodModel) : Type 0 where
   pub result : IfSome m.result (IsKind contracts)
   pub void : m.gives ≡ false → m.result ≡ None
   pub kinds : Each (λ v. IsKind contracts v.kind) m.variables
@@ -326,17 +326,18 @@ pub record IsWellFormed (contracts : List ContractSeen) (messages structs : List
   -- the last variable in scope where the method begins: all parameters are in scope there
   pub begins : Option VarId
   pub begins_with : IfSome begins (λ v. v.0 < length m.variables)
-  pub parameters : (n : VarId) (v : VariableSeen) → slice_get m.variables n.0 ≡ Some v → is_parameter v.role ≡ true
+  pub parameters : (n : VarId) (v : VariableModel) → slice_get m.variables n.0 ≡ Some v → is_parameter v.role ≡ true
       → IsInScope m.variables begins n
   pub statements : AreStatements (setting contracts messages structs methods m begins) m.statements m.scope
 
 -- what a struct has in its fields that own, in order: kinds as they are declared, no more than may be
-pub record AreFields (contracts : List ContractSeen) (kinds : List Kind) : Type 0 where
+pub record AreFields (contracts : List ContractModel) (kinds : List HeapKind) : Type 0 where
   pub few : length kinds ≤ MOST_FIELDS
   pub kinds_are : Each (IsKind contracts) kinds
 
 -- a program: what its messages bring, what its structs have in fields that own, and its methods
-pub record AreWellFormed (contracts : List ContractSeen) (messages structs : List (List Kind)) (methods : List MethodSeen) : Type 0 where
+pub record AreWellFormed (contracts : List ContractModel) (messages structs : List (List HeapKind)) (methods : List MethodModel)
+    : Type 0 where
   pub messages_are : Each (Each (IsKind contracts)) messages
   pub structs_are : Each (AreFields contracts) structs
   pub methods_are : Each (IsWellFormed contracts messages structs methods) methods

@@ -19,7 +19,7 @@ pub enum Side {
 
 /// What a variable of the exchange heap holds, by its type.
 #[derive(Clone, Copy, Debug, PartialEq, Eq)]
-pub enum Kind {
+pub enum HeapKind {
     /// A struct.
     Struct(StructId),
     /// An array of such elements.

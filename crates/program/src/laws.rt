@@ -2,7 +2,7 @@
 
 ghost use Rattle.std.specs.Prelude.{◌≡◌};
 ghost use Rattle.std.specs.Thread.{IsSync};
-ghost use Rattle.program.specs.contracts.kind.Kind as kind;
+ghost use Rattle.program.specs.contracts.kind.HeapKind as kind;
 ghost use Rattle.program.specs.contracts.methods.Methods as methods;
 ghost use Rattle.program.specs.contracts.statement.Statement as statement;
 ghost use Rattle.program.specs.declared.limits.TheConstants.{MOST_CONTRACTS, MOST_FIELDS, MOST_METHODS};

@@ -13,7 +13,7 @@ mod statement;
 
 pub use call::{Argument, Call, Send};
 pub use contract::{Contract, Direction, Edge, Message, Part, Resolved, Sign, State};
-pub use kind::{Kind, Scalar, Side};
+pub use kind::{HeapKind, Scalar, Side};
 pub use limits::{
     MOST_CONTRACTS, MOST_FIELDS, MOST_METHODS, MOST_PARAMETERS, MOST_STATES, MOST_VARIABLES,
 };

@@ -1,6 +1,6 @@
 //! A method with a number for each of its variables.
 
-use crate::kind::Kind;
+use crate::kind::HeapKind;
 use crate::number::VarId;
 use crate::statement::Statement;
 use source::Place;
@@ -21,7 +21,7 @@ pub enum Role {
 #[derive(Drop)]
 pub struct Variable {
     pub name: Vec<u8>,
-    pub kind: Kind,
+    pub kind: HeapKind,
     pub role: Role,
     pub outer: Option<VarId>,
 }
@@ -34,7 +34,7 @@ pub struct Method {
     pub name: Place,
     pub takes: bool,
     pub gives: bool,
-    pub result: Option<Kind>,
+    pub result: Option<HeapKind>,
     pub variables: Vec<Variable>,
     pub statements: Vec<Statement>,
     pub scope: Option<VarId>,

@@ -1,14 +1,14 @@
 //! The methods of a program, and what is known of them.
 
 ghost use Rattle.std.specs.Prelude.{◌≡◌, ◌<◌, Some, length, map, slice_get};
-ghost use Rattle.program.specs.Parts.{contract_seen};
-ghost use Rattle.program.specs.Methods.{method_seen};
-ghost use Rattle.program.specs.Programs.{contracts_seen, messages_seen, methods_seen, rows, structs_seen};
+ghost use Rattle.program.specs.Parts.{contract_model};
+ghost use Rattle.program.specs.Methods.{method_model};
+ghost use Rattle.program.specs.Programs.{contracts_model, messages_model, methods_model, rows, structs_model};
 ghost use Rattle.program.specs.Lists.{Each};
 ghost use Rattle.program.specs.WellFormed.{AreFields, AreWellFormed, IsKind, IsWellFormed};
 
 use crate::contract::Resolved;
-use crate::kind::Kind;
+use crate::kind::HeapKind;
 use crate::method::Method;
 use crate::number::MethodId;
 use std::marker::Model;
@@ -22,47 +22,47 @@ use std::marker::Model;
 #[derive(Drop)]
 pub struct Methods {
     contracts: Resolved,
-    messages: Vec<Vec<Kind>>,
-    structs: Vec<Vec<Kind>>,
+    messages: Vec<Vec<HeapKind>>,
+    structs: Vec<Vec<HeapKind>>,
     list: Vec<Method>,
 }
 
 impl Model for Methods {
     ghost use Rattle.std.specs.Coded.{codes};
     ghost use Rattle.std.specs.Prelude.{List, map};
-    ghost use Rattle.program.specs.Parts.{contract_seen};
-    ghost use Rattle.program.specs.Methods.{method_seen};
+    ghost use Rattle.program.specs.Parts.{contract_model};
+    ghost use Rattle.program.specs.Methods.{method_model};
     ghost use Rattle.program.specs.Programs.{rows};
     ghost use Rattle.program.specs.WellFormed.{AreWellFormed};
     ghost use Rattle.program.specs.contracts.statement.Statement as statement;
     ghost use Rattle.program.specs.declared.contract.Contract.{Contract};
-    ghost use Rattle.program.specs.declared.kind.Kind.{Kind};
+    ghost use Rattle.program.specs.declared.kind.HeapKind.{HeapKind};
     ghost use Rattle.program.specs.declared.method.Method.{Method};
 
-    ghost Value = { List Contract × List (List Kind) × List (List Kind) × List Method };
+    ghost Value = { List Contract × List (List HeapKind) × List (List HeapKind) × List Method };
 
     ghost coded = { Prim.hlevel (codes, statement.the_row.coded) };
 
     ghost view = { λ m. (m.contracts.contracts.items, rows m.messages.items, rows m.structs.items, m.list.items) };
 
-    ghost invariant = { λ m. AreWellFormed (map contract_seen m.contracts.contracts.items) (rows m.messages.items)
-        (rows m.structs.items) (map method_seen m.list.items) };
+    ghost invariant = { λ m. AreWellFormed (map contract_model m.contracts.contracts.items) (rows m.messages.items)
+        (rows m.structs.items) (map method_model m.list.items) };
 }
 
 impl Methods {
     /// The methods of a program with these contracts, whose messages bring this for their parameters of the exchange heap.
     pub fn new(
         contracts: Resolved,
-        messages: Vec<Vec<Kind>>,
-        structs: Vec<Vec<Kind>>,
+        messages: Vec<Vec<HeapKind>>,
+        structs: Vec<Vec<HeapKind>>,
         list: Vec<Method>,
     ) -> Methods
-        requires well_formed { AreWellFormed (map contract_seen contracts.contracts.items) (rows messages.items)
-            (rows structs.items) (map method_seen list.items) }
-        ensures contracts { contracts_seen result ≡ map contract_seen contracts.contracts.items }
-        ensures messages { messages_seen result ≡ rows messages.items }
-        ensures structs { structs_seen result ≡ rows structs.items }
-        ensures methods { methods_seen result ≡ map method_seen list.items }
+        requires well_formed { AreWellFormed (map contract_model contracts.contracts.items) (rows messages.items)
+            (rows structs.items) (map method_model list.items) }
+        ensures contracts { contracts_model result ≡ map contract_model contracts.contracts.items }
+        ensures messages { messages_model result ≡ rows messages.items }
+        ensures structs { structs_model result ≡ rows structs.items }
+        ensures methods { methods_model result ≡ map method_model list.items }
     {
         Methods {
             contracts,
@@ -74,42 +74,42 @@ impl Methods {
 
     /// The contracts, in order of the text.
     pub fn contracts(&self) -> &Resolved
-        ensures { map contract_seen result.now.contracts.items ≡ contracts_seen self.now }
+        ensures { map contract_model result.now.contracts.items ≡ contracts_model self.now }
     {
         &self.contracts
     }
 
     /// What each message brings for its parameters of the exchange heap, in order; a message has its place here as its number.
-    pub fn messages(&self) -> &[Vec<Kind>]
-        ensures messages { rows result.now ≡ messages_seen self.now }
-        ensures kinds { Each (Each (IsKind (contracts_seen self.now))) (messages_seen self.now) }
+    pub fn messages(&self) -> &[Vec<HeapKind>]
+        ensures messages { rows result.now ≡ messages_model self.now }
+        ensures kinds { Each (Each (IsKind (contracts_model self.now))) (messages_model self.now) }
     {
         &self.messages
     }
 
     /// What each struct has in its fields that own, in order; a struct has its place here as its number.
-    pub fn structs(&self) -> &[Vec<Kind>]
-        ensures structs { rows result.now ≡ structs_seen self.now }
-        ensures kinds { Each (AreFields (contracts_seen self.now)) (structs_seen self.now) }
+    pub fn structs(&self) -> &[Vec<HeapKind>]
+        ensures structs { rows result.now ≡ structs_model self.now }
+        ensures kinds { Each (AreFields (contracts_model self.now)) (structs_model self.now) }
     {
         &self.structs
     }
 
     /// The methods, in order of the text.
     pub fn list(&self) -> &[Method]
-        ensures list { map method_seen result.now ≡ methods_seen self.now }
-        ensures well_formed { AreWellFormed (contracts_seen self.now) (messages_seen self.now) (structs_seen self.now)
-            (methods_seen self.now) }
+        ensures list { map method_model result.now ≡ methods_model self.now }
+        ensures well_formed { AreWellFormed (contracts_model self.now) (messages_model self.now) (structs_model self.now)
+            (methods_model self.now) }
     {
         self.list.as_slice()
     }
 
     /// The method of this number.
     pub fn method(&self, id: MethodId) -> &Method
-        requires there { id.0 < length (methods_seen self.now) }
-        ensures method { slice_get (methods_seen self.now) id.0 ≡ Some (method_seen result.now) }
-        ensures well_formed { IsWellFormed (contracts_seen self.now) (messages_seen self.now) (structs_seen self.now)
-            (methods_seen self.now) (method_seen result.now) }
+        requires there { id.0 < length (methods_model self.now) }
+        ensures method { slice_get (methods_model self.now) id.0 ≡ Some (method_model result.now) }
+        ensures well_formed { IsWellFormed (contracts_model self.now) (messages_model self.now) (structs_model self.now)
+            (methods_model self.now) (method_model result.now) }
     {
         &self.list[id.0 as usize]
     }

@@ -163,6 +163,6 @@ pub enum Awaited {
 pub struct Case {
     pub endpoint: Mention,
     pub awaited: Awaited,
-    pub bound: Vec<VarId>,
+    pub targets: Vec<VarId>,
     pub body: Block,
 }

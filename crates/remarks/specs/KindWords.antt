@@ -7,8 +7,8 @@ use Rattle.program.specs.declared.kind.Scalar.TheVariants.{Int, Byte, Bool}
 use Rattle.program.specs.declared.kind.Side.TheVariants.{Imp, Exp}
 use Rattle.declarations.specs.Program.{Program}
 use Rattle.tree.specs.Trees.{defined_name}
-use Rattle.declarations.specs.declared.kinds.Kind.{Kind}
-use Rattle.declarations.specs.declared.kinds.Kind.TheVariants as kind
+use Rattle.declarations.specs.declared.kinds.ValueKind.{ValueKind}
+use Rattle.declarations.specs.declared.kinds.ValueKind.TheVariants as kind
 use Rattle.declarations.specs.declared.mistake.Demand.{Demand}
 use Rattle.declarations.specs.declared.mistake.Demand.TheVariants as demand
 use Rattle.remarks.specs.declared.listing.TheConstants.{MAX_NAME}
@@ -28,7 +28,7 @@ scalar_words Byte = codes "byte"
 scalar_words Bool = codes "bool"
 
 -- what is of this kind
-abbrev pub kind_words : Program → Kind → List ℕ
+abbrev pub kind_words : Program → ValueKind → List ℕ
 kind_words p (kind.Scalar s) = scalar_words s
 kind_words p (kind.Pointer n) = codes "a block of " ++ item_name p n
 kind_words p (kind.Array s) = codes "an array of " ++ scalar_words s

@@ -9,8 +9,8 @@ use Rattle.remarks.specs.declared.candidates.ItemSort.TheVariants as sort
 use Rattle.remarks.specs.declared.listing.Listing.{Listing}
 
 -- a text in memory and its items, as a program
-abbrev pub program_seen : Listing → Program
-program_seen l = record { text = l.text.now; items = map item_tree l.items.now }
+abbrev pub program_model : Listing → Program
+program_model l = record { text = l.text.now; items = map item_tree l.items.now }
 
 -- the name of an item that is of a sort
 abbrev pub name_of_sort : ItemSort → DefinitionTree → List Span

@@ -24,14 +24,14 @@ use Rattle.std.specs.Str.Lossy.{utf8_lossy}
 use Rattle.tables.specs.Words.{word_at}
 
 -- what is said, and where
-pub record RemarkSeen : Type 0 where
+pub record RemarkModel : Type 0 where
   pub place : Place
   pub text : List ℕ
 
-abbrev pub remark_seen : Remark → RemarkSeen
-remark_seen r = record { place = r.place; text = r.text.items }
+abbrev pub remark_model : Remark → RemarkModel
+remark_model r = record { place = r.place; text = r.text.items }
 
-abbrev pub at : Place → List ℕ → Option RemarkSeen
+abbrev pub at : Place → List ℕ → Option RemarkModel
 at place text = Some (record { place = place; text = text })
 
 abbrev pub side_words : Side → List ℕ
@@ -74,18 +74,18 @@ front_words (sort.Sent n) = codes "Send"
 front_words _ = []
 
 -- the nearest of the names that could be meant, if one is near
-abbrev pub near_remark : Program → Span → NameSort → Option RemarkSeen
+abbrev pub near_remark : Program → Span → NameSort → Option RemarkModel
 near_remark p name s = option_and_then
     (λ near. at near.place (codes "the nearest name is " ++ (front_words s ++ cut_name (word_at p.text near))))
     (nearest_name p.text (word_sought p name s) (candidates p name.place s))
 
 -- what more is said of a name of a sort that nothing declares
-abbrev pub unknown_remark : Program → Span → NameSort → Option RemarkSeen
+abbrev pub unknown_remark : Program → Span → NameSort → Option RemarkModel
 unknown_remark p name sort.Length = at name.place (codes "an array has only its Length")
 unknown_remark p name s = near_remark p name s
 
 -- what more is said of a mistake
-abbrev pub remark_of : Program → Mistake → Option RemarkSeen
+abbrev pub remark_of : Program → Mistake → Option RemarkModel
 remark_of p (mistake.DeclaredTwice name first) = at first (codes "declared here first")
 remark_of p (mistake.Unknown name sort) = unknown_remark p name sort
 remark_of p (mistake.WrongType place why) = at place (mismatch_words p why)

@@ -7,7 +7,7 @@ ghost use Rattle.declarations.specs.Program.{as_class, as_contract, as_struct, i
 ghost use Rattle.nearest.specs.Locals.{is_before};
 ghost use Rattle.remarks.specs.Candidates.{class_meant, contract_meant, item_around, item_meant};
 ghost use Rattle.remarks.specs.Candidates.{method_around, struct_meant};
-ghost use Rattle.remarks.specs.Listings.{program_seen};
+ghost use Rattle.remarks.specs.Listings.{program_model};
 ghost use Rattle.tree.specs.Trees.{class_tree, contract_tree, definition_tree, item_tree};
 ghost use Rattle.tree.specs.Trees.{method_tree, struct_tree};
 
@@ -20,7 +20,7 @@ impl<'a> Listing<'a> {
     /// The contract before which so many items stand, and without a number the one around a place.
     pub(crate) fn contract_meant(&self, place: Place, number: Option<usize>) -> Option<&'a Contract>
         ensures { option_map (λ c. contract_tree c.now) result
-            ≡ contract_meant (program_seen self.now) place number }
+            ≡ contract_meant (program_model self.now) place number }
     {
         as_contract(&self.item_meant(place, number)?.definition)
     }
@@ -28,7 +28,7 @@ impl<'a> Listing<'a> {
     /// The struct before which so many items stand, and without a number the one around a place.
     pub(crate) fn struct_meant(&self, place: Place, number: Option<usize>) -> Option<&'a Struct>
         ensures { option_map (λ s. struct_tree s.now) result
-            ≡ struct_meant (program_seen self.now) place number }
+            ≡ struct_meant (program_model self.now) place number }
     {
         as_struct(&self.item_meant(place, number)?.definition)
     }
@@ -36,7 +36,7 @@ impl<'a> Listing<'a> {
     /// The class of a name, and without a name the one around a place.
     pub(crate) fn class_meant(&self, place: Place, name: Option<Span>) -> Option<&'a Class>
         ensures { option_map (λ c. class_tree c.now) result
-            ≡ class_meant (program_seen self.now) place name }
+            ≡ class_meant (program_model self.now) place name }
     {
         match name {
             Some(name) => as_class(&self.item_named(name)?.definition),
@@ -47,7 +47,7 @@ impl<'a> Listing<'a> {
     /// The method around a place: the last of its class that is named before it.
     pub(crate) fn method_around(&self, place: Place) -> Option<&'a Method>
         ensures { option_map (λ m. method_tree m.now) result
-            ≡ method_around (program_seen self.now) place }
+            ≡ method_around (program_model self.now) place }
     {
         last_method(&self.class_meant(place, None)?.methods, place)
     }
@@ -55,7 +55,7 @@ impl<'a> Listing<'a> {
     /// The item before which so many stand, and without a number the one around a place.
     fn item_meant(&self, place: Place, number: Option<usize>) -> Option<&'a Item>
         ensures { option_map (λ i. item_tree i.now) result
-            ≡ item_meant (program_seen self.now) place number }
+            ≡ item_meant (program_model self.now) place number }
     {
         match number {
             Some(number) => self.items.get(number),
@@ -66,7 +66,7 @@ impl<'a> Listing<'a> {
     /// The item around a place: the last that is named before it.
     fn item_around(&self, place: Place) -> Option<&'a Item>
         ensures { option_map (λ i. item_tree i.now) result
-            ≡ item_around (program_seen self.now) place }
+            ≡ item_around (program_model self.now) place }
     {
         self.items
             .iter()
@@ -77,8 +77,8 @@ impl<'a> Listing<'a> {
     /// The first item of a name.
     fn item_named(&self, name: Span) -> Option<&'a Item>
         ensures { option_map (λ i. item_tree i.now) result
-            ≡ option_and_then (slice_get (program_seen self.now).items)
-            (first_among self.now.text.now (item_names (program_seen self.now)) name) }
+            ≡ option_and_then (slice_get (program_model self.now).items)
+            (first_among self.now.text.now (item_names (program_model self.now)) name) }
     {
         let word = name.slice(self.text);
         self.items

@@ -7,7 +7,7 @@ ghost use Rattle.std.specs.Option.{option_map_or};
 ghost use Rattle.declarations.specs.Declarations.{message_among, messages_of, names_of_messages};
 ghost use Rattle.declarations.specs.Declarations.{names_of_states, state_among, states_of};
 ghost use Rattle.remarks.specs.Candidates.{candidates, variables_at};
-ghost use Rattle.remarks.specs.Listings.{name_of_sort, program_seen};
+ghost use Rattle.remarks.specs.Listings.{name_of_sort, program_model};
 ghost use Rattle.tree.specs.Trees.{class_tree, contract_tree, definition_tree, member_tree};
 ghost use Rattle.tree.specs.Trees.{struct_tree};
 
@@ -35,7 +35,7 @@ impl Listing<'_> {
         sort: NameSort,
     ) -> Result<Vec<Span>, Memory>
         ensures { IfOk result (λ names. names.items
-            ≡ candidates (program_seen self.now) place sort) }
+            ≡ candidates (program_model self.now) place sort) }
     {
         match sort {
             NameSort::Variable(count) => self.variables_at(alloc, place, count),
@@ -54,7 +54,7 @@ impl Listing<'_> {
     /// The variables in scope at a place where so many are. Returns `Memory` if a growth is refused.
     fn variables_at(&self, alloc: Global, place: Place, count: usize) -> Result<Vec<Span>, Memory>
         ensures { IfOk result (λ names. names.items
-            ≡ variables_at (program_seen self.now) place count) }
+            ≡ variables_at (program_model self.now) place count) }
     {
         let Some(method) = self.method_around(place) else {
             return Ok(Vec::new(alloc));
@@ -68,9 +68,9 @@ impl Listing<'_> {
     /// growth is refused.
     fn fronts_at(&self, alloc: Global, place: Place, count: usize) -> Result<Vec<Span>, Memory>
         ensures { IfOk result (λ names. names.items
-            ≡ variables_at (program_seen self.now) place count
+            ≡ variables_at (program_model self.now) place count
             ++ flat_map (λ i. name_of_sort ItemSort.Class i.definition)
-            (program_seen self.now).items) }
+            (program_model self.now).items) }
     {
         let mut names = self.variables_at(alloc, place, count)?;
         self.add_items(&mut names, ItemSort::Class)?;
@@ -80,7 +80,7 @@ impl Listing<'_> {
     /// The names of the items of a sort. Returns `Memory` if a growth is refused.
     fn item_names(&self, alloc: Global, sort: ItemSort) -> Result<Vec<Span>, Memory>
         ensures { IfOk result (λ names. names.items
-            ≡ flat_map (λ i. name_of_sort sort i.definition) (program_seen self.now).items) }
+            ≡ flat_map (λ i. name_of_sort sort i.definition) (program_model self.now).items) }
     {
         let mut names = Vec::new(alloc);
         self.add_items(&mut names, sort)?;
@@ -90,7 +90,7 @@ impl Listing<'_> {
     /// Adds the names of the items of a sort. Returns `Memory` if a growth is refused.
     fn add_items(&self, names: &mut Vec<Span>, sort: ItemSort) -> Result<(), Memory>
         ensures { OnOk result (names.new.items ≡ names.old.items
-            ++ flat_map (λ i. name_of_sort sort i.definition) (program_seen self.now).items) }
+            ++ flat_map (λ i. name_of_sort sort i.definition) (program_model self.now).items) }
     {
         for item in self.items {
             if let Some(name) = name_of_sort(&item.definition, sort) {

@@ -2,7 +2,7 @@
 
 ghost use Rattle.std.specs.Prelude.{◌≡◌, IfOk, option_map};
 ghost use Rattle.remarks.specs.FaultRemarks.{fault_remark};
-ghost use Rattle.remarks.specs.Remarks.{remark_seen};
+ghost use Rattle.remarks.specs.Remarks.{remark_model};
 
 use crate::line::{Remark, plain};
 use source::{Memory, Place, TextFault};
@@ -14,7 +14,7 @@ const START: Place = Place { line: 1, col: 1 };
 /// What more is said of a fault of the text: what is missing, or how much is allowed. Returns `None` for `TextFault::Memory`, which is no
 /// fault of the text. Returns `Memory` if an allocation is refused.
 pub fn fault_remark(alloc: Global, fault: TextFault) -> Result<Option<Remark>, Memory>
-    ensures { IfOk result (λ said. option_map remark_seen said ≡ fault_remark fault) }
+    ensures { IfOk result (λ said. option_map remark_model said ≡ fault_remark fault) }
 {
     match fault {
         TextFault::Stray(place) => plain(alloc, place, "no blank, comment or token begins so"),

@@ -2,12 +2,12 @@
 
 ghost use Rattle.std.specs.Prelude.{◌≡◌, ◌++◌, OnOk, string_bytes};
 ghost use Rattle.remarks.specs.KindWords.{demand_words, kind_words};
-ghost use Rattle.remarks.specs.Listings.{program_seen};
+ghost use Rattle.remarks.specs.Listings.{program_model};
 
 use crate::line::add;
 use crate::listing::Listing;
 use crate::words::scalar_words;
-use declarations::{Demand, Kind};
+use declarations::{Demand, ValueKind};
 use program::Side;
 use source::Memory;
 use std::alloc::Global;
@@ -17,31 +17,31 @@ pub(crate) fn add_kind(
     alloc: Global,
     text: &mut String,
     listing: &Listing<'_>,
-    kind: Kind,
+    kind: ValueKind,
 ) -> Result<(), Memory>
     ensures { OnOk result (string_bytes text.new
-        ≡ string_bytes text.old ++ kind_words (program_seen listing.now) kind) }
+        ≡ string_bytes text.old ++ kind_words (program_model listing.now) kind) }
 {
     match kind {
-        Kind::Scalar(scalar) => add(text, scalar_words(scalar)),
-        Kind::Pointer(item) => {
+        ValueKind::Scalar(scalar) => add(text, scalar_words(scalar)),
+        ValueKind::Pointer(item) => {
             add(text, "a block of ")?;
             listing.add_item(alloc, text, item)
         }
-        Kind::Array(scalar) => {
+        ValueKind::Array(scalar) => {
             add(text, "an array of ")?;
             add(text, scalar_words(scalar))
         }
-        Kind::Endpoint(Side::Imp, item) => {
+        ValueKind::Endpoint(Side::Imp, item) => {
             listing.add_item(alloc, text, item)?;
             add(text, ".Imp")
         }
-        Kind::Endpoint(Side::Exp, item) => {
+        ValueKind::Endpoint(Side::Exp, item) => {
             listing.add_item(alloc, text, item)?;
             add(text, ".Exp")
         }
-        Kind::Missing => add(text, "nothing"),
-        Kind::Unknown => add(text, "something unknown"),
+        ValueKind::Missing => add(text, "nothing"),
+        ValueKind::Unknown => add(text, "something unknown"),
     }
 }
 
@@ -53,7 +53,7 @@ pub(crate) fn add_demand(
     demand: Demand,
 ) -> Result<(), Memory>
     ensures { OnOk result (string_bytes text.new
-        ≡ string_bytes text.old ++ demand_words (program_seen listing.now) demand) }
+        ≡ string_bytes text.old ++ demand_words (program_model listing.now) demand) }
 {
     match demand {
         Demand::Kind(kind) => add_kind(alloc, text, listing, kind),

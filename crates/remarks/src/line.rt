@@ -2,7 +2,7 @@
 
 ghost use Rattle.std.specs.Prelude.{◌≡◌, ◌++◌, IfOk, OnOk, option_map, string_bytes};
 ghost use Rattle.std.specs.Fmt.{decimal};
-ghost use Rattle.remarks.specs.Remarks.{at, remark_seen};
+ghost use Rattle.remarks.specs.Remarks.{at, remark_model};
 
 use itoa::Buffer;
 use source::{Memory, Place};
@@ -17,14 +17,14 @@ pub struct Remark {
 
 /// A remark with this text. Returns `Memory` if an allocation is refused.
 pub(crate) fn plain(alloc: Global, place: Place, text: &str) -> Result<Option<Remark>, Memory>
-    ensures { IfOk result (λ said. option_map remark_seen said ≡ at place text.now) }
+    ensures { IfOk result (λ said. option_map remark_model said ≡ at place text.now) }
 {
     Ok(remark_at(place, String::from_str(alloc, text)?))
 }
 
 /// A remark with this text, which it takes.
 pub(crate) fn remark_at(place: Place, text: String) -> Option<Remark>
-    ensures { option_map remark_seen result ≡ at place (string_bytes text) }
+    ensures { option_map remark_model result ≡ at place (string_bytes text) }
 {
     Some(Remark {
         place,

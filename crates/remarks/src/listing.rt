@@ -3,7 +3,7 @@
 ghost use Rattle.std.specs.Prelude.{◌≡◌, ◌++◌, OnOk, string_bytes};
 ghost use Rattle.declarations.specs.Resolution.{printed};
 ghost use Rattle.remarks.specs.KindWords.{cut_name, item_name};
-ghost use Rattle.remarks.specs.Listings.{program_seen};
+ghost use Rattle.remarks.specs.Listings.{program_model};
 
 use source::{Memory, Span, texts};
 use std::alloc::Global;
@@ -39,7 +39,7 @@ impl Listing<'_> {
         text: &mut String,
         index: usize,
     ) -> Result<(), Memory>
-        ensures { OnOk result (string_bytes text.new ≡ string_bytes text.old ++ item_name (program_seen self.now) index) }
+        ensures { OnOk result (string_bytes text.new ≡ string_bytes text.old ++ item_name (program_model self.now) index) }
     {
         match self.items.get(index) {
             Some(item) => add_cut(alloc, text, item.definition.name().slice(self.text)),

@@ -4,7 +4,7 @@ ghost use Rattle.std.specs.Prelude.{◌≡◌, ◌++◌, OnOk, codes, drop, stri
 ghost use Rattle.std.specs.Str.Lossy.{utf8_lossy};
 ghost use Rattle.declarations.specs.Resolution.{printed};
 ghost use Rattle.remarks.specs.KindWords.{demand_words, kind_words};
-ghost use Rattle.remarks.specs.Listings.{program_seen};
+ghost use Rattle.remarks.specs.Listings.{program_model};
 ghost use Rattle.remarks.specs.Remarks.{mismatch_words, side_words};
 ghost use Rattle.tables.specs.Words.{word_at};
 
@@ -12,7 +12,7 @@ use crate::kinds::{add_demand, add_kind};
 use crate::line::add;
 use crate::listing::Listing;
 use crate::words::side_words;
-use declarations::{Demand, Kind, Mismatch};
+use declarations::{Demand, Mismatch, ValueKind};
 use program::Side;
 use source::{Memory, Span, texts};
 use std::alloc::Global;
@@ -28,7 +28,7 @@ pub(crate) fn add_mismatch(
     mismatch: Mismatch,
 ) -> Result<(), Memory>
     ensures { OnOk result (string_bytes text.new
-        ≡ string_bytes text.old ++ mismatch_words (program_seen listing.now) mismatch) }
+        ≡ string_bytes text.old ++ mismatch_words (program_model listing.now) mismatch) }
 {
     match mismatch {
         Mismatch::Given(asked, given) => add_given(alloc, text, listing, asked, given),
@@ -51,11 +51,11 @@ fn add_given(
     text: &mut String,
     listing: &Listing<'_>,
     asked: Demand,
-    given: Kind,
+    given: ValueKind,
 ) -> Result<(), Memory>
     ensures { OnOk result (string_bytes text.new ≡ string_bytes text.old
-        ++ (codes "asked for " ++ (demand_words (program_seen listing.now) asked
-        ++ (codes ", given " ++ kind_words (program_seen listing.now) given)))) }
+        ++ (codes "asked for " ++ (demand_words (program_model listing.now) asked
+        ++ (codes ", given " ++ kind_words (program_model listing.now) given)))) }
 {
     add(text, "asked for ")?;
     add_demand(alloc, text, listing, asked)?;

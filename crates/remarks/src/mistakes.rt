@@ -4,8 +4,8 @@ ghost use Rattle.std.specs.Prelude.{◌≡◌, ◌++◌, IfOk, codes, map, optio
 ghost use Rattle.std.specs.Fmt.{decimal};
 ghost use Rattle.declarations.specs.Mistakes.{most_of};
 ghost use Rattle.declarations.specs.Resolution.{printed};
-ghost use Rattle.remarks.specs.Listings.{program_seen};
-ghost use Rattle.remarks.specs.Remarks.{limit_back, limit_front, mismatch_words, remark_of, remark_seen};
+ghost use Rattle.remarks.specs.Listings.{program_model};
+ghost use Rattle.remarks.specs.Remarks.{limit_back, limit_front, mismatch_words, remark_of, remark_model};
 ghost use Rattle.tree.specs.Trees.{item_tree};
 
 use crate::line::{Remark, add, add_number, plain, remark_at};
@@ -27,7 +27,7 @@ pub fn remark(
     items: &[Item],
     mistake: Mistake,
 ) -> Result<Option<Remark>, Memory>
-    ensures { IfOk result (λ said. option_map remark_seen said
+    ensures { IfOk result (λ said. option_map remark_model said
         ≡ remark_of (record { text = text.now; items = map item_tree items.now }) mistake) }
 {
     let listing = Listing { text, items };
@@ -61,7 +61,7 @@ pub fn remark(
 
 /// Why a type is wrong. Returns `Memory` if an allocation is refused.
 fn mismatch_text(alloc: Global, listing: &Listing<'_>, why: Mismatch) -> Result<String, Memory>
-    ensures { IfOk result (λ text. string_bytes text ≡ mismatch_words (program_seen listing.now) why) }
+    ensures { IfOk result (λ text. string_bytes text ≡ mismatch_words (program_model listing.now) why) }
 {
     let mut text = String::new(alloc);
     add_mismatch(alloc, &mut text, listing, why)?;

@@ -2,8 +2,8 @@
 
 ghost use Rattle.std.specs.Prelude.{◌≡◌, ◌++◌, IfOk, codes, option_map, string_bytes};
 ghost use Rattle.remarks.specs.KindWords.{cut_name};
-ghost use Rattle.remarks.specs.Listings.{program_seen};
-ghost use Rattle.remarks.specs.Remarks.{front_words, near_remark, remark_seen, unknown_remark};
+ghost use Rattle.remarks.specs.Listings.{program_model};
+ghost use Rattle.remarks.specs.Remarks.{front_words, near_remark, remark_model, unknown_remark};
 ghost use Rattle.remarks.specs.Remarks.{word_sought};
 ghost use Rattle.tables.specs.Words.{word_at};
 
@@ -24,8 +24,8 @@ pub(crate) fn unknown_remark(
     name: Span,
     sort: NameSort,
 ) -> Result<Option<Remark>, Memory>
-    ensures { IfOk result (λ said. option_map remark_seen said
-        ≡ unknown_remark (program_seen listing.now) name sort) }
+    ensures { IfOk result (λ said. option_map remark_model said
+        ≡ unknown_remark (program_model listing.now) name sort) }
 {
     match sort {
         NameSort::Length => plain(alloc, name.place, "an array has only its Length"),
@@ -41,8 +41,8 @@ fn near_remark(
     name: Span,
     sort: NameSort,
 ) -> Result<Option<Remark>, Memory>
-    ensures { IfOk result (λ said. option_map remark_seen said
-        ≡ near_remark (program_seen listing.now) name sort) }
+    ensures { IfOk result (λ said. option_map remark_model said
+        ≡ near_remark (program_model listing.now) name sort) }
 {
     let names = listing.candidates(alloc, name.place, sort)?;
     match nearest(listing.text, word_sought(listing, name, sort), &names) {
@@ -53,7 +53,7 @@ fn near_remark(
 
 /// The word that is compared with the names of a sort.
 fn word_sought<'a>(listing: &Listing<'a>, name: Span, sort: NameSort) -> &'a [u8]
-    ensures { result.now ≡ word_sought (program_seen listing.now) name sort }
+    ensures { result.now ≡ word_sought (program_model listing.now) name sort }
 {
     let word = name.slice(listing.text);
     match sort {

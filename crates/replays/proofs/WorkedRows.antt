@@ -4,18 +4,18 @@ use Rattle.std.specs.Prelude.{codes, unwrap_or}
 use Rattle.std.specs.Fmt.{decimal}
 use Rattle.std.proofs.lemmas.Fmt.{decimal_digit, decimal_step}
 use Rattle.source.specs.declared.place.Place.{Place}
-use Rattle.program.specs.Methods.{MethodSeen, VariableSeen}
-use Rattle.program.specs.Parts.{ContractSeen, MessageParts, StateParts}
-use Rattle.program.specs.Programs.{ProgramSeen}
-use Rattle.program.specs.Statements.{CaseSeen, CasesSeen, StatementSeen, Simple, New, Start, Send, While, Switch, Braces, Test, Case, NoCase}
+use Rattle.program.specs.Methods.{MethodModel, VariableModel}
+use Rattle.program.specs.Parts.{ContractModel, MessageParts, StateParts}
+use Rattle.program.specs.Programs.{ProgramModel}
+use Rattle.program.specs.Statements.{CaseModel, CasesModel, StatementModel, Simple, New, Start, Send, While, Switch, Braces, Test, Case, NoCase}
 use Rattle.program.specs.Statements.{MoreCases, statement_row}
 use Rattle.program.specs.declared.contract.Direction.{Direction}
 use Rattle.program.specs.declared.contract.Direction.TheVariants.{In, Out}
 use Rattle.program.specs.declared.contract.Edge.{Edge}
 use Rattle.program.specs.declared.contract.Sign.{Sign}
 use Rattle.program.specs.declared.contract.Sign.TheVariants as sign
-use Rattle.program.specs.declared.kind.Kind.{Kind}
-use Rattle.program.specs.declared.kind.Kind.TheVariants.{Struct, Endpoint}
+use Rattle.program.specs.declared.kind.HeapKind.{HeapKind}
+use Rattle.program.specs.declared.kind.HeapKind.TheVariants.{Struct, Endpoint}
 use Rattle.program.specs.declared.kind.Side.TheVariants.{Imp, Exp}
 use Rattle.program.specs.declared.method.Role.{Role}
 use Rattle.program.specs.declared.method.Role.TheVariants.{Local, Claimed}
@@ -59,17 +59,17 @@ message n name direction = record { id = record { 0 = n }; name = name; directio
 abbrev edge : ℕ → ℕ → Sign → ℕ → Edge
 edge from m s to = record { from = record { 0 = from }; message = record { 0 = m }; sign = s; to = record { 0 = to }; place = at 1 1 }
 
-abbrev variable : Kind → Role → VariableSeen
+abbrev variable : HeapKind → Role → VariableModel
 variable k role = record { name = []; kind = k; role = role; outer = None }
 
-abbrev importing : Kind
+abbrev importing : HeapKind
 importing = Endpoint record { 0 = 0 } Imp record { 0 = 0 }
 
-abbrev exporting : Kind
+abbrev exporting : HeapKind
 exporting = Endpoint record { 0 = 0 } Exp record { 0 = 0 }
 
 -- a method without result at these places, whose variables are the two ends of a channel and a struct
-abbrev main : List StatementSeen → Place → MethodSeen
+abbrev main : List StatementModel → Place → MethodModel
 main statements close = record {
   name = at 1 1;
   takes = false;
@@ -81,30 +81,30 @@ main statements close = record {
   close = close;
 }
 
-abbrev opens : ℕ → StatementSeen
+abbrev opens : ℕ → StatementModel
 opens line = Simple [] (does.NewChannel record { place = at line 1; contract = record { 0 = 0 }; first = mention 0 line 1; second = mention 1 line 1 })
 
-abbrev acts : Action → StatementSeen
+abbrev acts : Action → StatementModel
 acts action = Simple [] action
 
-abbrev sends : (line col endpoint message : ℕ) → List Mention → StatementSeen
+abbrev sends : (line col endpoint message : ℕ) → List Mention → StatementModel
 sends line col e m payloads = Send record { reads = []; place = at line col; endpoint = mention e line 1; message = record { 0 = m }; payloads = payloads }
 
 -- a struct of what is given
-abbrev makes : (line col : ℕ) → List Mention → StatementSeen
+abbrev makes : (line col : ℕ) → List Mention → StatementModel
 makes line col arguments = New record { reads = []; target = mention 2 line col; arguments = arguments }
 
-abbrev deletes : ℕ → StatementSeen
+abbrev deletes : ℕ → StatementModel
 deletes v = acts (does.Delete (mention v 1 1))
 
 -- a case that does these, and then leaves its switch
-abbrev comes : ℕ → Awaited → List StatementSeen → CaseSeen
+abbrev comes : ℕ → Awaited → List StatementModel → CaseModel
 comes v what statements = Case (mention v 1 1) what [] (Braces (statement_row statements) None)
 
-abbrev leaves : StatementSeen
+abbrev leaves : StatementModel
 leaves = acts (does.Break None)
 
-abbrev cases : List CaseSeen → CasesSeen
+abbrev cases : List CaseModel → CasesModel
 cases [] = NoCase
 cases (c ∷ cs) = MoreCases c (cases cs)
 
@@ -124,26 +124,26 @@ abbrev stopped : ℕ → Halt → World → Ran
 stopped n why w = record { steps = n; why = Some why; world = w }
 
 -- an event comes to this, and behind a step the run goes on
-abbrev behind : ProgramSeen → World → Event → ℕ → Outcome → (World → Ran) → Ran
+abbrev behind : ProgramModel → World → Event → ℕ → Outcome → (World → Ran) → Ran
 behind p w e n (Moved v) more = more v
 behind p w e n (Faulty fault) more = stopped n (halts.Fault fault (unwrap_or (process_place p w e.process) (at 0 0))) w
 behind p w e n Waits more = stopped n halts.Waits w
 behind p w e n NoProcess more = stopped n halts.NoSuchProcess w
 behind p w e n NoChoice more = stopped n halts.NoSuchChoice w
 
-abbrev ran : ProgramSeen → List Event → ℕ → World → Ran
+abbrev ran : ProgramModel → List Event → ℕ → World → Ran
 ran p [] n w = record { steps = n; why = None; world = w }
 ran p (e ∷ events) n w = behind p w e n (event_outcome p bound w e) (ran p events (n + 1))
 
 -- what is printed of these events from the beginning of the first method; the one struct is D
-abbrev printed : ProgramSeen → List Event → List ℕ
+abbrev printed : ProgramModel → List Event → List ℕ
 printed p events = let r = ran p events 0 (start_of p 0) in replay_lines (record { program = p; structs = codes "D" ∷ [] }) events r.steps r.why r.world
 
-abbrev program : ContractSeen → List (List Kind) → List MethodSeen → ProgramSeen
+abbrev program : ContractModel → List (List HeapKind) → List MethodModel → ProgramModel
 program c messages methods = record { contracts = c ∷ []; messages = messages; structs = []; methods = methods }
 
 -- a block is read that was sent
-abbrev put : ContractSeen
+abbrev put : ContractModel
 put = record {
   name = codes "Put";
   parts = record {
@@ -154,7 +154,7 @@ put = record {
   };
 }
 
-abbrev reads_what_it_sent : ProgramSeen
+abbrev reads_what_it_sent : ProgramModel
 reads_what_it_sent = program put ((Struct record { 0 = 0 } ∷ []) ∷ []) (main
     (opens 6 ∷ makes 7 14 [] ∷ sends 8 3 1 0 (mention 2 8 9 ∷ []) ∷ Simple (mention 2 9 9 ∷ []) does.Nothing ∷ deletes 0 ∷ deletes 1 ∷ []) (at 11 1) ∷ [])
 
@@ -163,7 +163,7 @@ pub sent_then_read : printed reads_what_it_sent (replicate 5 (event 0))
 sent_then_read = simp (digit 0 (omega arith), digit 1 (omega arith), digit 2 (omega arith), digit 3 (omega arith), digit 9 (omega arith)) refl
 
 -- a process waits for a request
-abbrev ping : ContractSeen
+abbrev ping : ContractModel
 ping = record {
   name = codes "Ping";
   parts = record {
@@ -174,7 +174,7 @@ ping = record {
   };
 }
 
-abbrev serve : MethodSeen
+abbrev serve : MethodModel
 serve = record {
   name = at 14 13;
   takes = true;
@@ -190,7 +190,7 @@ serve = record {
   close = at 21 1;
 }
 
-abbrev waits_for_a_request : ProgramSeen
+abbrev waits_for_a_request : ProgramModel
 waits_for_a_request = program ping ([] ∷ [] ∷ []) (main
     (opens 5 ∷ Start record { reads = []; place = at 6 9; method = record { 0 = 1 }; arguments = record { mention = mention 1 6 15; claimed = true } ∷ []; target = None; behind = [] }
     ∷ sends 7 3 0 0 []
@@ -202,7 +202,7 @@ pub started_and_waits : printed waits_for_a_request (event 0 ∷ event 0 ∷ eve
 started_and_waits = simp (digit 0 (omega arith), digit 1 (omega arith), digit 3 (omega arith), digit 7 (omega arith), two_digits 16 (omega arith) (omega arith)) refl
 
 -- an endpoint is sent to itself
-abbrev itself : ContractSeen
+abbrev itself : ContractModel
 itself = record {
   name = codes "W";
   parts = record {
@@ -213,7 +213,7 @@ itself = record {
   };
 }
 
-abbrev sends_an_end : ProgramSeen
+abbrev sends_an_end : ProgramModel
 sends_an_end = program itself ((importing ∷ []) ∷ []) (main (opens 5 ∷ sends 6 3 1 0 (mention 0 6 9 ∷ []) ∷ deletes 1 ∷ []) (at 8 1) ∷ [])
 
 pub end_sent : printed sends_an_end (replicate 4 (event 0))
@@ -221,7 +221,7 @@ pub end_sent : printed sends_an_end (replicate 4 (event 0))
 end_sent = simp (digit 0 (omega arith), digit 1 (omega arith), digit 4 (omega arith)) refl
 
 -- A struct is made of an end, and then that end and the other one change places.
-abbrev exchanges_ends : ProgramSeen
+abbrev exchanges_ends : ProgramModel
 exchanges_ends = program itself ([] ∷ []) (main
     (opens 5 ∷ makes 6 10 (mention 0 6 20 ∷ [])
     ∷ acts (does.Exchange record { place = at 7 3; holder = mention 2 7 12; field = 0; given = mention 1 7 17 })

@@ -1,10 +1,10 @@
 -- How what a world has is named.
 use Rattle.std.specs.Prelude.{ℕ, ◌==◌, List, [], ◌++◌, Option, find, option_and_then, slice_get, codes}
 use Rattle.std.specs.Option.{option_map_or}
-use Rattle.program.specs.Parts.{ContractSeen, StateParts}
-use Rattle.program.specs.Programs.{ProgramSeen}
-use Rattle.program.specs.declared.kind.Kind.{Kind}
-use Rattle.program.specs.declared.kind.Kind.TheVariants.{Struct, Array, Endpoint}
+use Rattle.program.specs.Parts.{ContractModel, StateParts}
+use Rattle.program.specs.Programs.{ProgramModel}
+use Rattle.program.specs.declared.kind.HeapKind.{HeapKind}
+use Rattle.program.specs.declared.kind.HeapKind.TheVariants.{Struct, Array, Endpoint}
 use Rattle.program.specs.declared.kind.Scalar.{Scalar}
 use Rattle.program.specs.declared.kind.Scalar.TheVariants.{Int, Bool, Byte}
 use Rattle.program.specs.declared.kind.Side.{Side}
@@ -14,7 +14,7 @@ use Rattle.contracts.specs.Leaving.{name_among}
 -- What names come from. The names of contracts, states and messages are those of the program. It has structs as numbers alone, so
 -- their names are given, in order of the text.
 pub record Words : Type 0 where
-  pub program : ProgramSeen
+  pub program : ProgramModel
   pub structs : List (List ℕ)
 
 abbrev pub scalar_name : Scalar → List ℕ
@@ -27,7 +27,7 @@ side_name Imp = codes "Imp"
 side_name Exp = codes "Exp"
 
 -- the state of this number in a contract, if there is one
-abbrev pub state_of : List ContractSeen → ℕ → ℕ → Option StateParts
+abbrev pub state_of : List ContractModel → ℕ → ℕ → Option StateParts
 state_of contracts contract state = option_and_then (λ c. find (λ s. s.id.0 == state) c.parts.states) (slice_get contracts contract)
 
 module _ (w : Words) where
@@ -46,7 +46,7 @@ module _ (w : Words) where
   message_name contract message = option_map_or (λ c. name_among c.parts.messages message) (slice_get w.program.contracts contract) []
 
   -- a type: the name of a struct, `byte[]`, `C.Imp`
-  abbrev pub kind_name : Kind → List ℕ
+  abbrev pub kind_name : HeapKind → List ℕ
   kind_name (Struct n) = struct_name n.0
   kind_name (Array element) = scalar_name element ++ codes "[]"
   kind_name (Endpoint contract side state) = contract_name contract.0 ++ (codes "." ++ side_name side)

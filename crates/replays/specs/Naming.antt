@@ -1,8 +1,8 @@
 -- For proofs within the crate: the words that names come from, as the code has them.
 use Rattle.std.specs.Prelude.{map, string_bytes}
-use Rattle.rules.specs.Programs.{seen_of}
+use Rattle.rules.specs.Programs.{model_of}
 use Rattle.replays.specs.Names.{Words}
 use Rattle.replays.specs.declared.naming.Naming.{Naming}
 
 abbrev pub words_of : Naming → Words
-words_of n = record { program = seen_of n.program.now; structs = map string_bytes n.structs.now }
+words_of n = record { program = model_of n.program.now; structs = map string_bytes n.structs.now }

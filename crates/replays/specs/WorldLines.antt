@@ -3,9 +3,9 @@ use Rattle.std.specs.Prelude.{ℕ, List, [], ◌∷◌, ◌++◌, Option, Some, 
 use Rattle.std.specs.Fmt.{decimal}
 use Rattle.std.specs.List.{enumerate_from, flat_map, join_with_byte}
 use Rattle.source.specs.declared.place.Place.{Place}
-use Rattle.program.specs.Programs.{ProgramSeen}
-use Rattle.program.specs.declared.kind.Kind.{Kind}
-use Rattle.program.specs.declared.kind.Kind.TheVariants.{Endpoint}
+use Rattle.program.specs.Programs.{ProgramModel}
+use Rattle.program.specs.declared.kind.HeapKind.{HeapKind}
+use Rattle.program.specs.declared.kind.HeapKind.TheVariants.{Endpoint}
 use Rattle.machine.specs.Places.{stack_place}
 use Rattle.machine.specs.World.{Block, Frame, MessageHeld, World}
 use Rattle.machine.specs.declared.halts.Event.{Event}
@@ -58,7 +58,7 @@ standing frames None = codes " ended"
 standing frames (Some at) = codes " at " ++ (place_text at ++ (codes ", frames " ++ decimal frames))
 
 -- `process P at LINE:COL, frames N`, or `process P ended`
-abbrev pub process_line : ProgramSeen → ℕ → List Frame → List ℕ
+abbrev pub process_line : ProgramModel → ℕ → List Frame → List ℕ
 process_line p number stack = codes "process " ++ (decimal number ++ (standing (length stack) (stack_place p stack) ++ codes "\n"))
 
 abbrev pub owner_text : Owner → List ℕ
@@ -79,12 +79,12 @@ module _ (w : Words) where
   message_text contract m = message_name w contract m.message ++ (codes "(" ++ (join_with_byte 44 (map decimal m.payload) ++ codes ")"))
 
   -- the state of an endpoint
-  abbrev pub state_text : Kind → ℕ → List ℕ
+  abbrev pub state_text : HeapKind → ℕ → List ℕ
   state_text (Endpoint contract side declared) state = codes " " ++ state_name w contract.0 state
   state_text _ state = []
 
   -- its queue, front first
-  abbrev pub queue_text : Kind → List MessageHeld → List ℕ
+  abbrev pub queue_text : HeapKind → List MessageHeld → List ℕ
   queue_text (Endpoint contract side declared) queue =
       codes " queue [" ++ (join_with_byte 32 (map (message_text contract.0) queue) ++ codes "]")
   queue_text _ queue = []

@@ -3,14 +3,14 @@
 ghost use Rattle.std.specs.Prelude.{◌≡◌, ◌++◌, OnOk, map};
 ghost use Rattle.std.specs.Fmt.{decimal};
 ghost use Rattle.std.specs.List.{enumerate_from, flat_map, join_with_byte};
-ghost use Rattle.machine.specs.Views.{block_seen, blocks_seen, held_seen};
+ghost use Rattle.machine.specs.Views.{block_model, blocks_model, held_model};
 ghost use Rattle.replays.specs.Naming.{words_of};
 ghost use Rattle.replays.specs.WorldLines.{block_line, block_text, holds_text, message_text, owner_text, queue_text, state_text};
 
 use crate::naming::Naming;
 use crate::texts::{add, add_number, separate};
 use machine::{Block, Held, Owner};
-use program::{ContractId, Kind, StateId};
+use program::{ContractId, HeapKind, StateId};
 use source::Memory;
 use std::collections::VecDeque;
 
@@ -66,7 +66,7 @@ fn add_message(
     contract: ContractId,
     held: &Held,
 ) -> Result<(), Memory>
-    ensures { OnOk result (answer.new.items ≡ answer.old.items ++ message_text (words_of naming.now) contract.0 (held_seen held.now)) }
+    ensures { OnOk result (answer.new.items ≡ answer.old.items ++ message_text (words_of naming.now) contract.0 (held_model held.now)) }
 {
     add(answer, naming.message_name(contract, held.message))?;
     add(answer, b"(")?;
@@ -82,7 +82,7 @@ fn add_messages(
     queue: &VecDeque<Held>,
 ) -> Result<(), Memory>
     ensures { OnOk result (answer.new.items ≡ answer.old.items
-        ++ join_with_byte 32 (map (message_text (words_of naming.now) contract.0) (map held_seen queue.now.items))) }
+        ++ join_with_byte 32 (map (message_text (words_of naming.now) contract.0) (map held_model queue.now.items))) }
 {
     for place in 0..queue.len() {
         separate(answer, place, b' ')?;
@@ -95,39 +95,39 @@ fn add_messages(
 fn add_state(
     answer: &mut Vec<u8>,
     naming: &Naming<'_>,
-    kind: Kind,
+    kind: HeapKind,
     state: StateId,
 ) -> Result<(), Memory>
     ensures { OnOk result (answer.new.items ≡ answer.old.items ++ state_text (words_of naming.now) kind state.0) }
 {
     match kind {
-        Kind::Endpoint { contract, .. } => {
+        HeapKind::Endpoint { contract, .. } => {
             add(answer, b" ")?;
             add(answer, naming.state_name(contract, state))
         }
-        Kind::Struct(_) | Kind::Array(_) => Ok(()),
+        HeapKind::Struct(_) | HeapKind::Array(_) => Ok(()),
     }
 }
 
 /// Adds the queue of an endpoint.
 fn add_queue(answer: &mut Vec<u8>, naming: &Naming<'_>, block: &Block) -> Result<(), Memory>
     ensures { OnOk result (answer.new.items ≡ answer.old.items
-        ++ queue_text (words_of naming.now) block.now.kind (map held_seen block.now.queue.items)) }
+        ++ queue_text (words_of naming.now) block.now.kind (map held_model block.now.queue.items)) }
 {
     match block.kind {
-        Kind::Endpoint { contract, .. } => {
+        HeapKind::Endpoint { contract, .. } => {
             add(answer, b" queue [")?;
             add_messages(answer, naming, contract, &block.queue)?;
             add(answer, b"]")
         }
-        Kind::Struct(_) | Kind::Array(_) => Ok(()),
+        HeapKind::Struct(_) | HeapKind::Array(_) => Ok(()),
     }
 }
 
 /// Adds what the fields of a block hold, and the queue of an endpoint.
 fn add_held(answer: &mut Vec<u8>, naming: &Naming<'_>, block: &Block) -> Result<(), Memory>
     ensures { OnOk result (answer.new.items ≡ answer.old.items ++ (holds_text block.now.fields.items
-        ++ queue_text (words_of naming.now) block.now.kind (map held_seen block.now.queue.items))) }
+        ++ queue_text (words_of naming.now) block.now.kind (map held_model block.now.queue.items))) }
 {
     add_fields(answer, &block.fields)?;
     add_queue(answer, naming, block)
@@ -136,7 +136,7 @@ fn add_held(answer: &mut Vec<u8>, naming: &Naming<'_>, block: &Block) -> Result<
 /// Adds what is told of a block: that it is freed, or who owns it.
 fn add_told(answer: &mut Vec<u8>, naming: &Naming<'_>, block: &Block) -> Result<(), Memory>
     ensures { OnOk result (answer.new.items ≡ answer.old.items
-        ++ block_text (words_of naming.now) (block_seen block.now) block.now.owner) }
+        ++ block_text (words_of naming.now) (block_model block.now) block.now.owner) }
 {
     match block.owner {
         Owner::Freed => add(answer, b" freed"),
@@ -156,7 +156,7 @@ fn add_block(
     address: usize,
     block: &Block,
 ) -> Result<(), Memory>
-    ensures { OnOk result (answer.new.items ≡ answer.old.items ++ block_line (words_of naming.now) address (block_seen block.now)) }
+    ensures { OnOk result (answer.new.items ≡ answer.old.items ++ block_line (words_of naming.now) address (block_model block.now)) }
 {
     add(answer, b"block ")?;
     add_number(answer, address as u64)?;
@@ -173,7 +173,7 @@ pub(crate) fn add_blocks(
     blocks: &[Block],
 ) -> Result<(), Memory>
     ensures { OnOk result (answer.new.items ≡ answer.old.items
-        ++ flat_map (λ b. block_line (words_of naming.now) b.0 b.1) (enumerate_from 0 (blocks_seen blocks.now))) }
+        ++ flat_map (λ b. block_line (words_of naming.now) b.0 b.1) (enumerate_from 0 (blocks_model blocks.now))) }
 {
     for (address, block) in blocks.iter().enumerate() {
         add_block(answer, naming, address, block)?;

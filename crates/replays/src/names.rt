@@ -1,7 +1,7 @@
 //! How what a world has is named.
 
 ghost use Rattle.std.specs.Prelude.{◌≡◌, ◌++◌, IfOk, OnOk, map, option_map, string_bytes};
-ghost use Rattle.rules.specs.Programs.{seen_of};
+ghost use Rattle.rules.specs.Programs.{model_of};
 ghost use Rattle.replays.specs.Naming.{words_of};
 ghost use Rattle.replays.specs.Names as told;
 ghost use Rattle.replays.specs.Names.{Words, kind_name, scalar_name, side_name, state_of};
@@ -9,7 +9,7 @@ ghost use Rattle.replays.specs.Placed.{place_in};
 
 use crate::naming::{Naming, places_in};
 use crate::texts::add;
-use program::{ContractId, Kind, MessageId, Scalar, Side, StateId, StructId};
+use program::{ContractId, HeapKind, MessageId, Scalar, Side, StateId, StructId};
 use rules::Program;
 use source::Memory;
 use std::alloc::{AllocError, Global};
@@ -22,7 +22,7 @@ impl<'a> Naming<'a> {
         structs: &'a [String],
     ) -> Result<Naming<'a>, AllocError>
         ensures { IfOk result (λ naming. words_of naming
-            ≡ record { program = seen_of program.now; structs = map string_bytes structs.now }) }
+            ≡ record { program = model_of program.now; structs = map string_bytes structs.now }) }
     {
         let states = places_in(alloc, program.contracts())?;
         Ok(Naming {
@@ -34,7 +34,7 @@ impl<'a> Naming<'a> {
 
     /// Its program.
     pub(crate) fn program(&self) -> &'a Program
-        ensures { seen_of result.now ≡ (words_of self.now).program }
+        ensures { model_of result.now ≡ (words_of self.now).program }
     {
         self.program
     }
@@ -67,7 +67,7 @@ impl<'a> Naming<'a> {
     }
 
     /// How the state of this number in a contract is printed, if there is one.
-    fn printed(&self, contract: ContractId, state: StateId) -> Option<&[u8]>
+    fn find_state_name(&self, contract: ContractId, state: StateId) -> Option<&[u8]>
         ensures { option_map (λ bytes. bytes.now) result
             ≡ option_map (λ s. s.name) (state_of (words_of self.now).program.contracts contract.0 state.0) }
     {
@@ -81,7 +81,7 @@ impl<'a> Naming<'a> {
     pub(crate) fn state_name(&self, contract: ContractId, state: StateId) -> &[u8]
         ensures { result.now ≡ told.state_name (words_of self.now) contract.0 state.0 }
     {
-        self.printed(contract, state).unwrap_or(&[])
+        self.find_state_name(contract, state).unwrap_or(&[])
     }
 
     /// The name of a message of a contract.
@@ -95,16 +95,16 @@ impl<'a> Naming<'a> {
     }
 
     /// Adds a type: the name of a struct, `byte[]`, `C.Imp`.
-    pub(crate) fn add_kind(&self, answer: &mut Vec<u8>, kind: Kind) -> Result<(), Memory>
+    pub(crate) fn add_kind(&self, answer: &mut Vec<u8>, kind: HeapKind) -> Result<(), Memory>
         ensures { OnOk result (answer.new.items ≡ answer.old.items ++ kind_name (words_of self.now) kind) }
     {
         match kind {
-            Kind::Struct(id) => add(answer, self.struct_name(id)),
-            Kind::Array(element) => {
+            HeapKind::Struct(id) => add(answer, self.struct_name(id)),
+            HeapKind::Array(element) => {
                 add(answer, scalar_name(element))?;
                 add(answer, b"[]")
             }
-            Kind::Endpoint { contract, side, .. } => {
+            HeapKind::Endpoint { contract, side, .. } => {
                 add(answer, self.contract_name(contract))?;
                 add(answer, b".")?;
                 add(answer, side_name(side))

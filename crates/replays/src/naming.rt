@@ -4,8 +4,8 @@ ghost use Rattle.std.specs.Prelude.{◌≡◌, ℕ, IfOk, map};
 ghost use Rattle.std.specs.BTreeMap.{get};
 ghost use Rattle.std.specs.Ordering.{nat_cmp};
 ghost use Rattle.lemmas.specs.Places.{first_position};
-ghost use Rattle.program.specs.Parts.{contract_seen};
-ghost use Rattle.rules.specs.Programs.{seen_of};
+ghost use Rattle.program.specs.Parts.{contract_model};
+ghost use Rattle.rules.specs.Programs.{model_of};
 ghost use Rattle.replays.specs.Placed.{ArePlaced};
 
 use lemmas::first_positions;
@@ -21,7 +21,7 @@ pub(crate) struct Naming<'a> {
     pub(crate) program: &'a Program,
     pub(crate) structs: &'a [String],
     pub(crate) states: Vec<BTreeMap<u32, usize>>,
-    ghost placed: { ArePlaced (seen_of program.now).contracts states.items },
+    ghost placed: { ArePlaced (model_of program.now).contracts states.items },
 }
 
 /// The place of each of these states, by its number.
@@ -37,7 +37,7 @@ pub(crate) fn places_in(
     alloc: Global,
     contracts: &[Contract],
 ) -> Result<Vec<BTreeMap<u32, usize>>, AllocError>
-    ensures { IfOk result (λ tables. ArePlaced (map contract_seen contracts.now) tables.items) }
+    ensures { IfOk result (λ tables. ArePlaced (map contract_model contracts.now) tables.items) }
 {
     let mut places = Vec::new(alloc);
     for contract in contracts {

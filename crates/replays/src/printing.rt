@@ -1,8 +1,8 @@
 //! A replay as lines.
 
 ghost use Rattle.std.specs.Prelude.{◌≡◌, IfOk, map, string_bytes};
-ghost use Rattle.rules.specs.Programs.{seen_of};
-ghost use Rattle.machine.specs.Views.{world_seen};
+ghost use Rattle.rules.specs.Programs.{model_of};
+ghost use Rattle.machine.specs.Views.{world_model};
 ghost use Rattle.replays.specs.WorldLines.{replay_lines};
 
 use crate::blocks::add_blocks;
@@ -25,8 +25,8 @@ pub fn lines_of(
     replayed: &Replayed,
 ) -> Result<Vec<u8>, Memory>
     ensures { IfOk result (λ bytes. bytes.items
-        ≡ replay_lines (record { program = seen_of program.now; structs = map string_bytes structs.now }) events.now replayed.now.steps
-        replayed.now.halt (world_seen replayed.now.world)) }
+        ≡ replay_lines (record { program = model_of program.now; structs = map string_bytes structs.now }) events.now replayed.now.steps
+        replayed.now.halt (world_model replayed.now.world)) }
 {
     let naming = Naming::new(alloc, program, structs)?;
     let mut answer = Vec::new(alloc);

@@ -34,10 +34,10 @@ pub(crate) fn add_place(answer: &mut Vec<u8>, place: Place) -> Result<(), Memory
 }
 
 /// Adds a byte between two pieces: not before the first.
-pub(crate) fn separate(answer: &mut Vec<u8>, place: usize, between: u8) -> Result<(), Memory>
-    ensures { OnOk result (answer.new.items ≡ answer.old.items ++ separator place between) }
+pub(crate) fn separate(answer: &mut Vec<u8>, index: usize, between: u8) -> Result<(), Memory>
+    ensures { OnOk result (answer.new.items ≡ answer.old.items ++ separator index between) }
 {
-    if 0 < place {
+    if 0 < index {
         answer.push(between)?;
     }
     Ok(())

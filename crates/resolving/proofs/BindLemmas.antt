@@ -8,7 +8,7 @@ use Rattle.tree.specs.declared.contract.Param.{Param}
 use Rattle.declarations.specs.Program.{Program}
 use Rattle.program.specs.declared.number.VarId.{VarId}
 use Rattle.resolving.specs.Binds.{bind_declaration, bind_told, binds_told, one_number}
-use Rattle.resolving.specs.Frames.{IsFrame, number_seen}
+use Rattle.resolving.specs.Frames.{IsFrame, number_model}
 use Rattle.resolving.specs.Locals.{Frame, declared, next_number}
 use Rattle.resolving.specs.Pieces.{Told, follow}
 use Rattle.resolving.specs.Steps.{IsBound, IsTold}
@@ -17,7 +17,7 @@ use Rattle.resolving.specs.declared.locals.Locals.{Locals}
 
 -- a name that is declared, with its number, is bound
 pub declared_bound : {T E : Type 0} (p : Program) (param : Option Param) (b : Bind) (f : Frame) (d : Declaration) (number : Option VarId) (old new : List VarId) (l : Locals) (r : Result T E)
-    → d ≡ bind_declaration p param b → number_seen number ≡ next_number d.held f → new ≡ old ++ one_number (number_seen number) → OnOk r (IsFrame p.text (declared p.text d f) l) → OnOk r (IsBound p.text old new l (bind_told p param b f))
+    → d ≡ bind_declaration p param b → number_model number ≡ next_number d.held f → new ≡ old ++ one_number (number_model number) → OnOk r (IsFrame p.text (declared p.text d f) l) → OnOk r (IsBound p.text old new l (bind_told p param b f))
 declared_bound p param b f d number old new l r is next adds frame =
     subst (λ e. OnOk r (IsBound p.text old new l (record { what = one_number (next_number e.held f); frame = declared p.text e f }))) is
     (on_ok_weaker r (λ h. record { adds = adds ∙ ap (λ n. old ++ one_number n) next; frame = h }) frame)

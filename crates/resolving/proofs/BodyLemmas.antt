@@ -6,7 +6,7 @@ use Rattle.tree.specs.StatementTrees.{StatementTree}
 use Rattle.tree.specs.declared.class as made
 use Rattle.declarations.specs.Program.{Program}
 use Rattle.program.specs.Statements as seen
-use Rattle.program.specs.Statements.{StatementSeen}
+use Rattle.program.specs.Statements.{StatementModel}
 use Rattle.resolving.specs.Frames.{IsFrame}
 use Rattle.resolving.specs.Locals.{Frame, declared}
 use Rattle.resolving.specs.Methods.{parameter_declaration, parameters_frame}
@@ -43,7 +43,7 @@ row_walked p class stays [] f = refl
 row_walked p class stays (x ∷ xs) f = ap (remade (seen.MoreStatements (statement_told p class stays x f).what)) (row_walked p class stays xs (statement_told p class stays x f).frame)
 
 -- statements as a row
-pub row_told : (p : Program) (class : ℕ) (stays : Staying) (xs : List StatementTree) (f : Frame) (done : List StatementSeen) (l : Locals) → IsTold p.text (walked (statement_told p class stays) xs f) done l → IsTold p.text (statements_told p class stays (trees.statement_row xs) f) (seen.statement_row done) l
+pub row_told : (p : Program) (class : ℕ) (stays : Staying) (xs : List StatementTree) (f : Frame) (done : List StatementModel) (l : Locals) → IsTold p.text (walked (statement_told p class stays) xs f) done l → IsTold p.text (statements_told p class stays (trees.statement_row xs) f) (seen.statement_row done) l
 row_told p class stays xs f done l h = subst (λ t. IsTold p.text t (seen.statement_row done) l) (row_walked p class stays xs f) (record { is = ap seen.statement_row h.is; frame = h.frame })
 
 parameters_push : (p : Program) (params : List made.Parameter.Parameter) (x : made.Parameter.Parameter) (f : Frame) → parameters_frame p (params ++ x ∷ []) f ≡ declared p.text (parameter_declaration p x) (parameters_frame p params f)

@@ -22,7 +22,7 @@ use Rattle.tree.specs.declared.expression.Expression.{Expression}
 use Rattle.declarations.specs.Declarations.{first_among}
 use Rattle.declarations.specs.ItemMistakes.{methods_in}
 use Rattle.declarations.specs.Program.{Program, Numbered, as_class, item_at}
-use Rattle.program.specs.Statements.{CallSeen}
+use Rattle.program.specs.Statements.{CallModel}
 use Rattle.program.specs.declared.call.Argument.{Argument}
 use Rattle.program.specs.declared.number.MethodId.{MethodId}
 use Rattle.program.specs.declared.statement.Mention.{Mention}
@@ -123,7 +123,7 @@ pub given_all : (p : Program) (own : ℕ) (f : Frame) (list : List Argument) (s 
 given_all p own f list s t r is step = ended p own f list (iter_rest (zip_first s)) (iter_rest (zip_second s)) (either_empty_from_Zip s t r is step)
 
 -- the parts of a call
-abbrev pub call_with : List Mention → Place → MethodId → List Argument → Option Mention → List Mention → CallSeen
+abbrev pub call_with : List Mention → Place → MethodId → List Argument → Option Mention → List Mention → CallModel
 call_with reads place method arguments target behind = record { reads = reads; place = place; method = method; arguments = arguments; target = target; behind = behind }
 
 -- calls of the same parts

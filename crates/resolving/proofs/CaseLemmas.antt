@@ -11,7 +11,7 @@ use Rattle.tree.specs.StatementTrees.{CaseTree, CaseTrees, SwitchTree, case_tree
 use Rattle.tree.specs.declared.statement as stated
 use Rattle.declarations.specs.Program.{Program}
 use Rattle.program.specs.Statements as seen
-use Rattle.program.specs.Statements.{CaseSeen, CasesSeen, block_seen, case_seen}
+use Rattle.program.specs.Statements.{CaseModel, CasesModel, block_model, case_model}
 use Rattle.program.specs.declared.number.VarId.{VarId}
 use Rattle.program.specs.declared.statement.Awaited.{Awaited}
 use Rattle.program.specs.declared.statement.Block as found_block
@@ -33,38 +33,38 @@ bound_in p case f = binds_told p (awaited_params (awaited_message p f case.endpo
 -- a case, part by part
 pub case_ends : (p : Program) (class : ℕ) (stays : Staying) (behind : Place) (f : Frame) (case : stated.Case.Case) (endpoint : Mention) (awaited : Awaited) (bound : Vec VarId Global) (body : found_block.Block) (l : Locals)
     → (let m = awaited_message p f case.endpoint case.message in let t = statements_told p class stays (statement_row (map statement_tree case.statements.items)) (bound_in p case f).frame in
-    endpoint ≡ case_endpoint p f case.endpoint → awaited ≡ awaited_as case.message m → bound.items ≡ (bound_in p case f).what → IsTold p.text (ended behind f t) (block_seen body) l
-    → IsTold p.text (case_told p class stays behind (case_tree case) f) (case_seen (found_case.roll-Case (record { endpoint = endpoint; awaited = awaited; bound = bound; body = body }))) l)
+    endpoint ≡ case_endpoint p f case.endpoint → awaited ≡ awaited_as case.message m → bound.items ≡ (bound_in p case f).what → IsTold p.text (ended behind f t) (block_model body) l
+    → IsTold p.text (case_told p class stays behind (case_tree case) f) (case_model (found_case.roll-Case (record { endpoint = endpoint; awaited = awaited; targets = bound; body = body }))) l)
 case_ends p class stays behind f case endpoint awaited bound body l at waits binds told =
     let m = awaited_message p f case.endpoint case.message in
-    let whole = case_seen (found_case.roll-Case (record { endpoint = endpoint; awaited = awaited; bound = bound; body = body })) in
+    let whole = case_model (found_case.roll-Case (record { endpoint = endpoint; awaited = awaited; targets = bound; body = body })) in
     let first = (bound_in p case f).what in
     subst (λ k. IsTold p.text (case_told p class stays behind k f) whole l) (sym (case_is case)) (record {
-      is = case_made endpoint awaited bound body ∙ ap (λ e. seen.Case e awaited bound.items (block_seen body)) at ∙ ap (λ w. seen.Case (case_endpoint p f case.endpoint) w bound.items (block_seen body)) waits
-          ∙ ap (λ b. seen.Case (case_endpoint p f case.endpoint) (awaited_as case.message m) b (block_seen body)) binds ∙ ap (seen.Case (case_endpoint p f case.endpoint) (awaited_as case.message m) first) told.is;
+      is = case_made endpoint awaited bound body ∙ ap (λ e. seen.Case e awaited bound.items (block_model body)) at ∙ ap (λ w. seen.Case (case_endpoint p f case.endpoint) w bound.items (block_model body)) waits
+          ∙ ap (λ b. seen.Case (case_endpoint p f case.endpoint) (awaited_as case.message m) b (block_model body)) binds ∙ ap (seen.Case (case_endpoint p f case.endpoint) (awaited_as case.message m) first) told.is;
       frame = told.frame;
     })
 
 -- cases in front of others
-abbrev pub cases_before : List CaseSeen → CasesSeen → CasesSeen
+abbrev pub cases_before : List CaseModel → CasesModel → CasesModel
 cases_before [] rest = rest
 cases_before (c ∷ cs) rest = seen.MoreCases c (cases_before cs rest)
 
-before_more : (done : List CaseSeen) (c : CaseSeen) (rest : CasesSeen) → cases_before (done ++ c ∷ []) rest ≡ cases_before done (seen.MoreCases c rest)
+before_more : (done : List CaseModel) (c : CaseModel) (rest : CasesModel) → cases_before (done ++ c ∷ []) rest ≡ cases_before done (seen.MoreCases c rest)
 before_more [] c rest = refl
 before_more (d ∷ done) c rest = ap (seen.MoreCases d) (before_more done c rest)
 
-before_none : (done : List CaseSeen) → cases_before done seen.NoCase ≡ seen.case_row done
+before_none : (done : List CaseModel) → cases_before done seen.NoCase ≡ seen.case_row done
 before_none [] = refl
 before_none (d ∷ done) = ap (seen.MoreCases d) (before_none done)
 
 -- so many cases are told; this one is next, and then the rest
-pub record CasesGo (p : Program) (class : ℕ) (stays : Staying) (close : Place) (f : Frame) (all : CaseTrees) (done : List CaseSeen) (next : CaseTree) (rest : CaseTrees) (l : Locals) : Type 0 where
+pub record CasesGo (p : Program) (class : ℕ) (stays : Staying) (close : Place) (f : Frame) (all : CaseTrees) (done : List CaseModel) (next : CaseTree) (rest : CaseTrees) (l : Locals) : Type 0 where
   pub here : Frame
   pub stands : IsFrame p.text here l
   pub whole : cases_told p class stays all close f ≡ made (cases_before done) (cases_told p class stays (trees.MoreCases next rest) close here)
 
-case_then : (p : Program) (class : ℕ) (stays : Staying) (close : Place) (f : Frame) (all : CaseTrees) (done : List CaseSeen) (next : CaseTree) (after : CaseTree) (rest : CaseTrees) (l m : Locals) (x : CaseSeen)
+case_then : (p : Program) (class : ℕ) (stays : Staying) (close : Place) (f : Frame) (all : CaseTrees) (done : List CaseModel) (next : CaseTree) (after : CaseTree) (rest : CaseTrees) (l m : Locals) (x : CaseModel)
     → CasesGo p class stays close f all done next (trees.MoreCases after rest) l
     → ((g : Frame) → IsFrame p.text g l → IsTold p.text (case_told p class stays (behind_case (trees.MoreCases after rest) close) next g) x m)
     → CasesGo p class stays close f all (done ++ x ∷ []) after rest m
@@ -75,7 +75,7 @@ case_then p class stays close f all done next after rest l m x go tell =
     record {
       here = t.frame;
       stands = told.frame;
-      whole = go.whole ∙ ap (λ y. made (λ w. cases_before done (seen.MoreCases y w)) more) (sym told.is) ∙ ap (λ (w : CasesSeen). record { what = w; frame = more.frame }) (sym (before_more done x more.what));
+      whole = go.whole ∙ ap (λ y. made (λ w. cases_before done (seen.MoreCases y w)) more) (sym told.is) ∙ ap (λ (w : CasesModel). record { what = w; frame = more.frame }) (sym (before_more done x more.what));
     }
 
 token_behind : (case : stated.Case.Case) (rest : CaseTrees) (close : Place) → behind_case (trees.MoreCases (case_tree case) rest) close ≡ case.word.place
@@ -87,31 +87,31 @@ cases_start p class stays close f first rest l h = record { here = f; stands = h
 
 -- one more case is told, behind which the next one stands
 pub cases_more : (p : Program) (class : ℕ) (stays : Staying) (close : Place) (f : Frame) (all : CaseTrees) (done : List found_case.Case) (next : CaseTree) (others : List stated.Case.Case) (i : ℕ) (after : stated.Case.Case) (l m : Locals) (x : found_case.Case)
-    → i < length others → after ≡ get_or others i after → CasesGo p class stays close f all (map case_seen done) next (case_row (map case_tree (drop i others))) l
-    → ((g : Frame) → IsFrame p.text g l → IsTold p.text (case_told p class stays after.word.place next g) (case_seen x) m)
-    → CasesGo p class stays close f all (map case_seen (done ++ x ∷ [])) (case_tree after) (case_row (map case_tree (drop (i + 1) others))) m
+    → i < length others → after ≡ get_or others i after → CasesGo p class stays close f all (map case_model done) next (case_row (map case_tree (drop i others))) l
+    → ((g : Frame) → IsFrame p.text g l → IsTold p.text (case_told p class stays after.word.place next g) (case_model x) m)
+    → CasesGo p class stays close f all (map case_model (done ++ x ∷ [])) (case_tree after) (case_row (map case_tree (drop (i + 1) others))) m
 cases_more p class stays close f all done next others i after l m x lt is go tell =
-    let seen_so : List CaseSeen = map case_seen done in
+    let seen_so : List CaseModel = map case_model done in
     let rest : CaseTrees = case_row (map case_tree (drop (i + 1) others)) in
     let row : case_row (map case_tree (drop i others)) ≡ trees.MoreCases (case_tree after) rest
     = ap (λ cs. case_row (map case_tree cs)) (drop-cons others i after lt ∙ ap (λ k. k ∷ drop (suc i) others) (sym is) ∙ ap (λ k. after ∷ drop k others) (sym (add-one i))) in
-    subst (λ cs. CasesGo p class stays close f all cs (case_tree after) rest m) (sym (map-append case_seen done (x ∷ [])))
-    (case_then p class stays close f all seen_so next (case_tree after) rest l m (case_seen x) (subst (λ cs. CasesGo p class stays close f all seen_so next cs l) row go)
-    (λ g here. subst (λ k. IsTold p.text (case_told p class stays k next g) (case_seen x) m) (sym (token_behind after rest close)) (tell g here)))
+    subst (λ cs. CasesGo p class stays close f all cs (case_tree after) rest m) (sym (map-append case_model done (x ∷ [])))
+    (case_then p class stays close f all seen_so next (case_tree after) rest l m (case_model x) (subst (λ cs. CasesGo p class stays close f all seen_so next cs l) row go)
+    (λ g here. subst (λ k. IsTold p.text (case_told p class stays k next g) (case_model x) m) (sym (token_behind after rest close)) (tell g here)))
 
 -- the last case is told, behind which the switch ends
 pub cases_end : (p : Program) (class : ℕ) (stays : Staying) (close : Place) (f : Frame) (all : CaseTrees) (done : List found_case.Case) (next : CaseTree) (others : List stated.Case.Case) (i : ℕ) (l m : Locals) (x : found_case.Case)
-    → length others ≤ i → CasesGo p class stays close f all (map case_seen done) next (case_row (map case_tree (drop i others))) l
-    → ((g : Frame) → IsFrame p.text g l → IsTold p.text (case_told p class stays close next g) (case_seen x) m)
-    → IsTold p.text (cases_told p class stays all close f) (seen.case_row (map case_seen (done ++ x ∷ []))) m
+    → length others ≤ i → CasesGo p class stays close f all (map case_model done) next (case_row (map case_tree (drop i others))) l
+    → ((g : Frame) → IsFrame p.text g l → IsTold p.text (case_told p class stays close next g) (case_model x) m)
+    → IsTold p.text (cases_told p class stays all close f) (seen.case_row (map case_model (done ++ x ∷ []))) m
 cases_end p class stays close f all done next others i l m x le go tell =
-    let seen_so : List CaseSeen = map case_seen done in
+    let seen_so : List CaseModel = map case_model done in
     let none : case_row (map case_tree (drop i others)) ≡ trees.NoCase = ap (λ cs. case_row (map case_tree cs)) (drop_all i others le) in
     let last = subst (λ cs. CasesGo p class stays close f all seen_so next cs l) none go in
     let told = tell last.here last.stands in
     let t = case_told p class stays close next last.here in
-    subst (λ w. IsTold p.text w (seen.case_row (map case_seen (done ++ x ∷ []))) m) (sym last.whole) (record {
-      is = ap seen.case_row (map-append case_seen done (x ∷ [])) ∙ sym (before_none (seen_so ++ case_seen x ∷ [])) ∙ before_more seen_so (case_seen x) seen.NoCase ∙ ap (λ y. cases_before seen_so (seen.MoreCases y seen.NoCase)) told.is;
+    subst (λ w. IsTold p.text w (seen.case_row (map case_model (done ++ x ∷ []))) m) (sym last.whole) (record {
+      is = ap seen.case_row (map-append case_model done (x ∷ [])) ∙ sym (before_none (seen_so ++ case_model x ∷ [])) ∙ before_more seen_so (case_model x) seen.NoCase ∙ ap (λ y. cases_before seen_so (seen.MoreCases y seen.NoCase)) told.is;
       frame = told.frame;
     })
 

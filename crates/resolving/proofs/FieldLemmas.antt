@@ -18,7 +18,7 @@ use Rattle.tree.specs.declared.item.Definition.TheVariants as definition
 use Rattle.tree.specs.declared.item.Item.{Item}
 use Rattle.declarations.specs.Declarations.{first_among}
 use Rattle.declarations.specs.Program.{Program, Numbered, as_struct}
-use Rattle.program.specs.declared.kind.Kind.{Kind}
+use Rattle.program.specs.declared.kind.HeapKind.{HeapKind}
 use Rattle.resolving.specs.Around.{owning_places, place_listed, places_held, places_in}
 use Rattle.resolving.specs.Brought.{held_listed}
 use Rattle.resolving.specs.Counts.{struct_among, structs_of}
@@ -28,10 +28,10 @@ use Rattle.resolving.specs.Locals.{Local}
 
 -- the place of a field, where it owns
 abbrev owned : Program → ℕ × Field → List ℕ
-owned p x = place_listed x.0 (type_held p x.1.kind)
+owned p x = place_listed x.0 (type_held p x.1.ty)
 
 places_more : (p : Program) (fields : List Field) (i : ℕ) (d : Field) → i < length fields
-    → places_held p (take (i + 1) fields) ≡ places_held p (take i fields) ++ place_listed i (type_held p (get_or fields i d).kind)
+    → places_held p (take (i + 1) fields) ≡ places_held p (take i fields) ++ place_listed i (type_held p (get_or fields i d).ty)
 places_more p fields i d lt =
     let front = take i fields in
     let next = get_or fields i d in
@@ -42,24 +42,24 @@ places_more p fields i d lt =
     ∙ sym (flat_map_more (owned p) [] (enumerate_from 0 front) (i, next))
 
 -- one more field that owns
-pub place_some : (p : Program) (fields : List Field) (i : ℕ) (d : Field) (held : Kind) (done : List ℕ) → i < length fields
-    → done ≡ places_held p (take i fields) → Some held ≡ type_held p (get_or fields i d).kind → done ++ i ∷ [] ≡ places_held p (take (i + 1) fields)
+pub place_some : (p : Program) (fields : List Field) (i : ℕ) (d : Field) (held : HeapKind) (done : List ℕ) → i < length fields
+    → done ≡ places_held p (take i fields) → Some held ≡ type_held p (get_or fields i d).ty → done ++ i ∷ [] ≡ places_held p (take (i + 1) fields)
 place_some p fields i d held done lt before is =
     ap (λ l. l ++ i ∷ []) before ∙ ap (λ o. places_held p (take i fields) ++ place_listed i o) is ∙ sym (places_more p fields i d lt)
 
 -- one more that does not
 pub place_none : (p : Program) (fields : List Field) (i : ℕ) (d : Field) (done : List ℕ) → i < length fields
-    → done ≡ places_held p (take i fields) → None ≡ type_held p (get_or fields i d).kind → done ≡ places_held p (take (i + 1) fields)
+    → done ≡ places_held p (take i fields) → None ≡ type_held p (get_or fields i d).ty → done ≡ places_held p (take (i + 1) fields)
 place_none p fields i d done lt before is =
     let front = places_held p (take i fields) in
-    before ∙ sym (append-nil front) ∙ ap (λ (o : Option Kind). front ++ place_listed i o) is ∙ sym (places_more p fields i d lt)
+    before ∙ sym (append-nil front) ∙ ap (λ (o : Option HeapKind). front ++ place_listed i o) is ∙ sym (places_more p fields i d lt)
 
 -- what the structs among the first so many items have
-abbrev pub first_fields : Program → List Item → ℕ → List (List Kind)
+abbrev pub first_fields : Program → List Item → ℕ → List (List HeapKind)
 first_fields p xs i = map (λ s. fields_held p s.fields) (structs_of (map item_tree (take i xs)))
 
 -- what a definition has, if it is a struct
-abbrev pub fields_in : Program → DefinitionTree → List (List Kind)
+abbrev pub fields_in : Program → DefinitionTree → List (List HeapKind)
 fields_in p d = map (λ s. fields_held p s.fields) (struct_among d)
 
 -- those of one more item
@@ -90,11 +90,11 @@ before_both place xs ys =
     let test : ℕ → Bool = λ x. ltb x place in
     ap length (filter-append test xs ys) ∙ length-append (filter test xs) (filter test ys)
 
-not_before : (n place : ℕ) (o : Option Kind) → place ≤ n → before_place place (place_listed n o) ≡ 0
+not_before : (n place : ℕ) (o : Option HeapKind) → place ≤ n → before_place place (place_listed n o) ≡ 0
 not_before n place None le = refl
 not_before n place (Some held) le = ap (λ (b : Bool). length (cond b (n ∷ []) [])) (le-ltb n place le)
 
-one_before : (n place : ℕ) (o : Option Kind) → n < place → before_place place (place_listed n o) ≡ length (held_listed o)
+one_before : (n place : ℕ) (o : Option HeapKind) → n < place → before_place place (place_listed n o) ≡ length (held_listed o)
 one_before n place None lt = refl
 one_before n place (Some held) lt = ap (λ (b : Bool). length (cond b (n ∷ []) [])) (lt-ltb n place lt)
 
@@ -105,7 +105,7 @@ places_from p n fields = flat_map (owned p) (enumerate_from n fields)
 none_before : (p : Program) (n place : ℕ) (fields : List Field) → place ≤ n → before_place place (places_from p n fields) ≡ 0
 none_before p n place [] le = refl
 none_before p n place (f ∷ fields) le =
-    let o = type_held p f.kind in
+    let o = type_held p f.ty in
     let here = not_before n place o le in
     let rest = none_before p (n + 1) place fields (omega (arith, le)) in
     let both = before_both place (place_listed n o) (places_from p (n + 1) fields) in
@@ -116,7 +116,7 @@ so_many : (p : Program) (n k : ℕ) (fields : List Field) → before_place (n + 
 so_many p n k [] = sym (ap (λ (l : List Field). length (fields_held p l)) (take-nil k))
 so_many p n zero (f ∷ fields) = none_before p n (n + 0) (f ∷ fields) (omega arith)
 so_many p n (suc k) (f ∷ fields) =
-    let o = type_held p f.kind in
+    let o = type_held p f.ty in
     let behind = places_from p (n + 1) fields in
     let place : n + suc k ≡ (n + 1) + k = omega arith in
     let here = one_before n (n + suc k) o (omega arith) in

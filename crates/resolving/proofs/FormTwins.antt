@@ -13,7 +13,7 @@ use Rattle.tree.specs.declared.expression.Target as target_folds
 use Rattle.tree.specs.declared.expression.Atom.TheOpen as target_layer
 use Rattle.tree.specs.declared.expression.Target.TheVariants as target
 use Rattle.program.specs.Statements as seen
-use Rattle.program.specs.Statements.{StatementSeen, BlockSeen, CaseSeen, IfSeen, TestSeen, statement_seen, new_seen, call_seen, send_seen}
+use Rattle.program.specs.Statements.{StatementModel, BlockModel, CaseModel, IfModel, TestModel, statement_model, new_model, call_model, send_model}
 use Rattle.program.specs.declared.call.Call as resolved_call
 use Rattle.program.specs.declared.call.Send.{Send}
 use Rattle.program.specs.declared.statement as resolved
@@ -42,14 +42,14 @@ of_element e =
 
 -- the forms of a resolved statement
 
-pub new_is : (n : resolved.New.New) → statement_seen (seen_variants.New n) ≡ seen.New (new_seen n)
-new_is n = ap statement_seen (sym (seen_variants.rolls-New n)) ∙ seen_folds.fold-roll-Statement StatementSeen BlockSeen CaseSeen IfSeen TestSeen seen.statement_step seen.block_step seen.case_step seen.if_step seen.test_step (seen_layer.New n)
+pub new_is : (n : resolved.New.New) → statement_model (seen_variants.New n) ≡ seen.New (new_model n)
+new_is n = ap statement_model (sym (seen_variants.rolls-New n)) ∙ seen_folds.fold-roll-Statement StatementModel BlockModel CaseModel IfModel TestModel seen.statement_step seen.block_step seen.case_step seen.if_step seen.test_step (seen_layer.New n)
 
-pub called_is : (c : Box resolved_call.Call Global) → statement_seen (seen_variants.Call c) ≡ seen.Call (call_seen c.value)
-called_is c = ap statement_seen (sym (seen_variants.rolls-Call c)) ∙ seen_folds.fold-roll-Statement StatementSeen BlockSeen CaseSeen IfSeen TestSeen seen.statement_step seen.block_step seen.case_step seen.if_step seen.test_step (seen_layer.Call c)
+pub called_is : (c : Box resolved_call.Call Global) → statement_model (seen_variants.Call c) ≡ seen.Call (call_model c.value)
+called_is c = ap statement_model (sym (seen_variants.rolls-Call c)) ∙ seen_folds.fold-roll-Statement StatementModel BlockModel CaseModel IfModel TestModel seen.statement_step seen.block_step seen.case_step seen.if_step seen.test_step (seen_layer.Call c)
 
-pub started_is : (c : Box resolved_call.Call Global) → statement_seen (seen_variants.Start c) ≡ seen.Start (call_seen c.value)
-started_is c = ap statement_seen (sym (seen_variants.rolls-Start c)) ∙ seen_folds.fold-roll-Statement StatementSeen BlockSeen CaseSeen IfSeen TestSeen seen.statement_step seen.block_step seen.case_step seen.if_step seen.test_step (seen_layer.Start c)
+pub started_is : (c : Box resolved_call.Call Global) → statement_model (seen_variants.Start c) ≡ seen.Start (call_model c.value)
+started_is c = ap statement_model (sym (seen_variants.rolls-Start c)) ∙ seen_folds.fold-roll-Statement StatementModel BlockModel CaseModel IfModel TestModel seen.statement_step seen.block_step seen.case_step seen.if_step seen.test_step (seen_layer.Start c)
 
-pub sent_is : (s : Send) → statement_seen (seen_variants.Send s) ≡ seen.Send (send_seen s)
-sent_is s = ap statement_seen (sym (seen_variants.rolls-Send s)) ∙ seen_folds.fold-roll-Statement StatementSeen BlockSeen CaseSeen IfSeen TestSeen seen.statement_step seen.block_step seen.case_step seen.if_step seen.test_step (seen_layer.Send s)
+pub sent_is : (s : Send) → statement_model (seen_variants.Send s) ≡ seen.Send (send_model s)
+sent_is s = ap statement_model (sym (seen_variants.rolls-Send s)) ∙ seen_folds.fold-roll-Statement StatementModel BlockModel CaseModel IfModel TestModel seen.statement_step seen.block_step seen.case_step seen.if_step seen.test_step (seen_layer.Send s)

@@ -11,12 +11,12 @@ use Rattle.declarations.specs.Listed.{twice_among}
 use Rattle.declarations.specs.ItemMistakes.{items_mistakes, method_names, methods_in}
 use Rattle.declarations.specs.Program.{Program, item_names}
 use Rattle.program.specs.declared.limits.TheConstants.{MOST_METHODS}
-use Rattle.program.specs.Methods.{MethodSeen}
+use Rattle.program.specs.Methods.{MethodModel}
 use Rattle.resolving.specs.Callees.{all_methods}
 use Rattle.resolving.specs.Methods.{item_told, method_told}
 
 -- the methods of the first so many items
-abbrev pub first_told : Program → List Item → ℕ → List MethodSeen
+abbrev pub first_told : Program → List Item → ℕ → List MethodModel
 first_told p xs i = flat_map (item_told p) (enumerate_from 0 (map item_tree (take i xs)))
 
 -- those of one more item

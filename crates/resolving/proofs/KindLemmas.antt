@@ -7,14 +7,14 @@ use Rattle.std.proofs.lemmas.Option.{slice_get-map, slice_get_past, slice_get_re
 use Rattle.tree.specs.Trees.{contracts_of}
 use Rattle.declarations.specs.Declarations.{messages_of, states_of}
 use Rattle.declarations.specs.Program.{Program}
-use Rattle.program.specs.Parts.{contract_seen, message_parts, state_parts}
+use Rattle.program.specs.Parts.{contract_model, message_parts, state_parts}
 use Rattle.declarations.specs.Resolution.{each_behind, message_count, resolved_contract, resolved_contracts, state_count}
 use Rattle.program.specs.declared.contract.Contract.{Contract}
 use Rattle.program.specs.declared.contract.Message.{Message}
 use Rattle.program.specs.declared.contract.State.{State}
 use Rattle.program.specs.declared.number.ContractId.{ContractId}
-use Rattle.program.specs.declared.kind.Kind.{Kind}
-use Rattle.program.specs.declared.kind.Kind.TheVariants.{Struct}
+use Rattle.program.specs.declared.kind.HeapKind.{HeapKind}
+use Rattle.program.specs.declared.kind.HeapKind.TheVariants.{Struct}
 use Rattle.resolving.specs.Around.{IsTypes}
 use Rattle.resolving.specs.Counts.{contracts_before, structs_before}
 use Rattle.resolving.specs.Kinds.{contract_at, number_at}
@@ -33,7 +33,7 @@ seen_at seen xs k (Some x) found = sym (slice_get-map seen xs k ∙ ap (option_m
 
 -- the numbers of a state and of a message that are looked up in a contract
 pub state_found : (contract : Contract) (states : List State) (at : ℕ) (r : Option (Bor State)) → states ≡ contract.states.items → LooksUp states at r
-    → option_map (λ s. s.now.id) r ≡ option_map (λ s. s.id) (slice_get (contract_seen contract).parts.states at)
+    → option_map (λ s. s.now.id) r ≡ option_map (λ s. s.id) (slice_get (contract_model contract).parts.states at)
 state_found contract states at None same found =
     let parts = state_parts (string_bytes contract.state_names) in
     ap (option_map (λ s. s.id)) (seen_at parts states at None found ∙ ap (λ l. slice_get (map parts l) at) same)
@@ -42,7 +42,7 @@ state_found contract states at (Some s) same found =
     ap (option_map (λ s. s.id)) (seen_at parts states at (Some s) found ∙ ap (λ l. slice_get (map parts l) at) same)
 
 pub message_found : (contract : Contract) (messages : List Message) (at : ℕ) (r : Option (Bor Message)) → messages ≡ contract.messages.items → LooksUp messages at r
-    → option_map (λ m. m.now.id) r ≡ option_map (λ m. m.id) (slice_get (contract_seen contract).parts.messages at)
+    → option_map (λ m. m.now.id) r ≡ option_map (λ m. m.id) (slice_get (contract_model contract).parts.messages at)
 message_found contract messages at None same found = ap (option_map (λ m. m.id)) (seen_at message_parts messages at None found ∙ ap (λ l. slice_get (map message_parts l) at) same)
 message_found contract messages at (Some m) same found = ap (option_map (λ m. m.id)) (seen_at message_parts messages at (Some m) found ∙ ap (λ l. slice_get (map message_parts l) at) same)
 
@@ -61,10 +61,10 @@ contract_past p t place h past =
 
 -- the contract that is looked up by the number that is counted at an item
 pub contract_found : (p : Program) (t : Types) (place : ℕ) (b : Before) (contracts : List Contract) (r : Option (Bor Contract)) → IsTypes p t → place < length t.before.now → b ≡ get_or t.before.now place b
-    → contracts ≡ t.resolved.now.contracts.items → LooksUp contracts b.contracts r → option_map (λ c. contract_seen c.now) r ≡ contract_at p place
+    → contracts ≡ t.resolved.now.contracts.items → LooksUp contracts b.contracts r → option_map (λ c. contract_model c.now) r ≡ contract_at p place
 contract_found p t place b contracts r h lt is same found =
-    seen_at contract_seen contracts b.contracts r found
-    ∙ ap (λ l. slice_get (map contract_seen l) b.contracts) same
+    seen_at contract_model contracts b.contracts r found
+    ∙ ap (λ l. slice_get (map contract_model l) b.contracts) same
     ∙ ap (λ l. slice_get l b.contracts) h.contracts
     ∙ ap (λ (x : Before). slice_get (resolved_contracts p.text (contracts_of p.items)) x.contracts) (count_read p.items t.before.now place b h.before lt is)
 
@@ -81,7 +81,7 @@ there y [] n lt = absurd (omega (arith, lt))
 there y (x ∷ xs) zero lt = refl
 there y (x ∷ xs) (suc n) lt = there y xs n (omega (arith, lt))
 
-abbrev struct_of : ℕ → Kind
+abbrev struct_of : ℕ → HeapKind
 struct_of n = Struct (record { 0 = n })
 
 -- no struct stands behind the last item

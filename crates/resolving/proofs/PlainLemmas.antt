@@ -7,7 +7,7 @@ use Rattle.source.specs.declared.place.Place.{Place}
 use Rattle.source.specs.declared.token.Span.{Span}
 use Rattle.tree.specs.Values.{ValueTree}
 use Rattle.tree.specs.Expressions.{ExpressionTree}
-use Rattle.program.specs.Statements.{StatementSeen, CallSeen, statement_seen, call_seen}
+use Rattle.program.specs.Statements.{StatementModel, CallModel, statement_model, call_model}
 use Rattle.program.specs.declared.call.Call.{Call}
 use Rattle.program.specs.declared.number.VarId.{VarId}
 use Rattle.program.specs.declared.statement.Action.TheVariants.{Nothing, Return}
@@ -34,13 +34,13 @@ returned_told p own locals place e value scope before (Ok s) none is last h = re
 }
 
 -- a statement that comes to what another does
-pub told_as : (text : List ℕ) (locals : Locals) (r : Result Statement AllocError) (now want : Frame → StatementSeen) → ((f : Frame) → IsFrame text f locals → now f ≡ want f) → IfOk r (Tells text locals now) → IfOk r (Tells text locals want)
+pub told_as : (text : List ℕ) (locals : Locals) (r : Result Statement AllocError) (now want : Frame → StatementModel) → ((f : Frame) → IsFrame text f locals → now f ≡ want f) → IfOk r (Tells text locals now) → IfOk r (Tells text locals want)
 told_as text locals (Err e) now want same h = tt
 told_as text locals (Ok s) now want same h = record { all = λ f frame. h.all f frame ∙ same f frame }
 
 -- a statement that is a call, or nothing where there is none
-pub call_said : (text : List ℕ) (locals : Locals) (wrap : CallSeen → StatementSeen) (want : Frame → Option CallSeen) (o : Option Call) (s : Statement)
-    → statement_seen s ≡ option_map_or wrap (option_map call_seen o) (told [] Nothing) → TellsCall text locals want o → Tells text locals (λ f. option_map_or wrap (want f) (told [] Nothing)) s
+pub call_said : (text : List ℕ) (locals : Locals) (wrap : CallModel → StatementModel) (want : Frame → Option CallModel) (o : Option Call) (s : Statement)
+    → statement_model s ≡ option_map_or wrap (option_map call_model o) (told [] Nothing) → TellsCall text locals want o → Tells text locals (λ f. option_map_or wrap (want f) (told [] Nothing)) s
 call_said text locals wrap want o s is h = record { all = λ f frame. is ∙ ap (λ w. option_map_or wrap w (told [] Nothing)) (h.all f frame) }
 
 -- the value of a declaration is assigned

@@ -6,8 +6,8 @@ use Rattle.tables.proofs.FirstLemmas.{apart_more, last_lacked}
 use Rattle.tables.specs.Firsts.{IsApart, first_of}
 use Rattle.tables.specs.Tables.{IsTable}
 use Rattle.tables.specs.Words.{word_at, words_at}
-use Rattle.program.specs.Methods.{variable_seen}
-use Rattle.resolving.specs.Frames.{IsFrame, local_seen, number_seen, words_in}
+use Rattle.program.specs.Methods.{variable_model}
+use Rattle.resolving.specs.Frames.{IsFrame, local_model, number_model, words_in}
 use Rattle.resolving.specs.Locals as model
 use Rattle.resolving.specs.Locals.{Frame}
 use Rattle.resolving.specs.declared.locals.Local.{Local}
@@ -24,7 +24,7 @@ abbrev pub scoped : List model.Local → Option ℕ → Frame → Frame
 scoped locals last f = record { locals = locals; last = last; variables = f.variables }
 
 -- the last variable goes out of scope
-popped_to : (text : List ℕ) (f : Frame) (l m : Locals) (front : List model.Local) (x : model.Local) → IsFrame text f l → f.locals ≡ front ++ x ∷ [] → map local_seen m.list.items ≡ front → m.last ≡ l.last → m.variables.items ≡ l.variables.items
+popped_to : (text : List ℕ) (f : Frame) (l m : Locals) (front : List model.Local) (x : model.Local) → IsFrame text f l → f.locals ≡ front ++ x ∷ [] → map local_model m.list.items ≡ front → m.last ≡ l.last → m.variables.items ≡ l.variables.items
     → ((words : List (List ℕ)) → IsTable (words ++ word_at text x.name ∷ []) l.names → first_of words (word_at text x.name) ≡ None → IsTable words m.names)
     → IsFrame text (scoped front f.last f) m
 popped_to text f l m front x h is list last variables table =
@@ -35,8 +35,8 @@ popped_to text f l m front x h is list last variables table =
       list = list;
       names = table (words_in text front) (subst (λ w. IsTable w l.names) words h.names) lacked;
       apart = (apart_more (words_in text front) (word_at text x.name) lacked).1 apart;
-      last = ap number_seen last ∙ h.last;
-      variables = ap (map variable_seen) variables ∙ h.variables;
+      last = ap number_model last ∙ h.last;
+      variables = ap (map variable_model) variables ∙ h.variables;
     }
 
 -- the same, with the words as the code reads them
@@ -44,9 +44,9 @@ pub frame_popped : (text : List ℕ) (f : Frame) (l m : Locals) (items : List Lo
     → ((words : List (List ℕ)) → IsTable (words ++ word ∷ []) l.names → first_of words word ≡ None → IsTable words m.names)
     → IsFrame text (scoped (take (length f.locals - 1) f.locals) f.last f) m
 frame_popped text f l m items x word h is list last variables at table =
-    let split = sym h.list ∙ ap (map local_seen) is ∙ map-append local_seen items (x ∷ []) in
-    subst (λ k. IsFrame text (scoped k f.last f) m) (sym (front_of f.locals (map local_seen items) (local_seen x) split))
-    (popped_to text f l m (map local_seen items) (local_seen x) h split (ap (map local_seen) list) last variables
+    let split = sym h.list ∙ ap (map local_model) is ∙ map-append local_model items (x ∷ []) in
+    subst (λ k. IsFrame text (scoped k f.last f) m) (sym (front_of f.locals (map local_model items) (local_model x) split))
+    (popped_to text f l m (map local_model items) (local_model x) h split (ap (map local_model) list) last variables
     (subst (λ q. (words : List (List ℕ)) → IsTable (words ++ q ∷ []) l.names → first_of words q ≡ None → IsTable words m.names) at table))
 
 -- of the variables in scope when a scope is left, so many are still there
@@ -61,7 +61,7 @@ pub leaves_more : (text : List ℕ) (outer : ℕ) (f : Frame) (l m : Locals) →
     → Leaving text outer f m)
 leaves_more text outer f l m before fewer more h =
     let n = length l.list.items in
-    let many = ap length (sym before.frame.list) ∙ length-map l.list.items local_seen in
+    let many = ap length (sym before.frame.list) ∙ length-map l.list.items local_model in
     let last : length (take n f.locals) - 1 ≡ length m.list.items = omega (arith, many, fewer) in
     record {
       frame = subst (λ k. IsFrame text (scoped k f.last f) m) (ap (λ i. take i (take n f.locals)) last ∙ take-take (length m.list.items) n f.locals (omega (arith, fewer))) h;

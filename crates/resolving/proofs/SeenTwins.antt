@@ -4,7 +4,7 @@ use Rattle.std.specs.Global.{Global}
 use Rattle.std.specs.Option.{option_map}
 use Rattle.source.specs.declared.place.Place.{Place}
 use Rattle.program.specs.Statements as seen
-use Rattle.program.specs.Statements.{StatementSeen, BlockSeen, CaseSeen, IfSeen, TestSeen, statement_seen, block_seen, case_seen, if_seen, test_seen, statement_step, block_step, case_step, if_step, test_step, statement_row, case_row, other_row}
+use Rattle.program.specs.Statements.{StatementModel, BlockModel, CaseModel, IfModel, TestModel, statement_model, block_model, case_model, if_model, test_model, statement_step, block_step, case_step, if_step, test_step, statement_row, case_row, other_row}
 use Rattle.program.specs.declared.number.VarId.{VarId}
 use Rattle.program.specs.declared.statement as made
 use Rattle.program.specs.declared.statement.Awaited.{Awaited}
@@ -16,34 +16,34 @@ use Rattle.program.specs.declared.statement.Statement.TheOpen as layer
 use Rattle.program.specs.declared.statement.Statement.TheVariants as variants
 
 -- a block
-pub block_made : (statements : Vec made.Statement.Statement Global) (forget : Option Forget) → block_seen (made.Block.roll-Block (record { statements = statements; forget = forget })) ≡ seen.Braces (statement_row (map statement_seen statements.items)) forget
-block_made statements forget = folds.fold-roll-Block StatementSeen BlockSeen CaseSeen IfSeen TestSeen statement_step block_step case_step if_step test_step (record { statements = statements; forget = forget })
+pub block_made : (statements : Vec made.Statement.Statement Global) (forget : Option Forget) → block_model (made.Block.roll-Block (record { statements = statements; forget = forget })) ≡ seen.Braces (statement_row (map statement_model statements.items)) forget
+block_made statements forget = folds.fold-roll-Block StatementModel BlockModel CaseModel IfModel TestModel statement_step block_step case_step if_step test_step (record { statements = statements; forget = forget })
 
 -- an `if`
-pub if_made : (first : made.Test.Test) (others : Vec made.Test.Test Global) (o : Option made.Block.Block) → if_seen (made.If.roll-If (record { first = first; others = others; otherwise = o })) ≡ record { first = test_seen first; others = other_row (map test_seen others.items) (option_map block_seen o) }
-if_made first others None = folds.fold-roll-If StatementSeen BlockSeen CaseSeen IfSeen TestSeen statement_step block_step case_step if_step test_step (record { first = first; others = others; otherwise = None })
-if_made first others (Some b) = folds.fold-roll-If StatementSeen BlockSeen CaseSeen IfSeen TestSeen statement_step block_step case_step if_step test_step (record { first = first; others = others; otherwise = Some b })
+pub if_made : (first : made.Test.Test) (others : Vec made.Test.Test Global) (o : Option made.Block.Block) → if_model (made.If.roll-If (record { first = first; others = others; otherwise = o })) ≡ record { first = test_model first; others = other_row (map test_model others.items) (option_map block_model o) }
+if_made first others None = folds.fold-roll-If StatementModel BlockModel CaseModel IfModel TestModel statement_step block_step case_step if_step test_step (record { first = first; others = others; otherwise = None })
+if_made first others (Some b) = folds.fold-roll-If StatementModel BlockModel CaseModel IfModel TestModel statement_step block_step case_step if_step test_step (record { first = first; others = others; otherwise = Some b })
 
 -- a condition with its block
-pub test_made : (place : Place) (reads : Vec Mention Global) (ways : Ways) (body : made.Block.Block) → test_seen (made.Test.roll-Test (record { place = place; reads = reads; ways = ways; body = body })) ≡ seen.Test place reads.items ways (block_seen body)
-test_made place reads ways body = folds.fold-roll-Test StatementSeen BlockSeen CaseSeen IfSeen TestSeen statement_step block_step case_step if_step test_step (record { place = place; reads = reads; ways = ways; body = body })
+pub test_made : (place : Place) (reads : Vec Mention Global) (ways : Ways) (body : made.Block.Block) → test_model (made.Test.roll-Test (record { place = place; reads = reads; ways = ways; body = body })) ≡ seen.Test place reads.items ways (block_model body)
+test_made place reads ways body = folds.fold-roll-Test StatementModel BlockModel CaseModel IfModel TestModel statement_step block_step case_step if_step test_step (record { place = place; reads = reads; ways = ways; body = body })
 
 -- a case
-pub case_made : (endpoint : Mention) (awaited : Awaited) (bound : Vec VarId Global) (body : made.Block.Block) → case_seen (made.Case.roll-Case (record { endpoint = endpoint; awaited = awaited; bound = bound; body = body })) ≡ seen.Case endpoint awaited bound.items (block_seen body)
-case_made endpoint awaited bound body = folds.fold-roll-Case StatementSeen BlockSeen CaseSeen IfSeen TestSeen statement_step block_step case_step if_step test_step (record { endpoint = endpoint; awaited = awaited; bound = bound; body = body })
+pub case_made : (endpoint : Mention) (awaited : Awaited) (bound : Vec VarId Global) (body : made.Block.Block) → case_model (made.Case.roll-Case (record { endpoint = endpoint; awaited = awaited; targets = bound; body = body })) ≡ seen.Case endpoint awaited bound.items (block_model body)
+case_made endpoint awaited bound body = folds.fold-roll-Case StatementModel BlockModel CaseModel IfModel TestModel statement_step block_step case_step if_step test_step (record { endpoint = endpoint; awaited = awaited; targets = bound; body = body })
 
 -- a statement that is a block
-pub of_block : (b : made.Block.Block) → statement_seen (variants.Block b) ≡ seen.Block (block_seen b)
-of_block b = ap statement_seen (sym (variants.rolls-Block b)) ∙ folds.fold-roll-Statement StatementSeen BlockSeen CaseSeen IfSeen TestSeen statement_step block_step case_step if_step test_step (layer.Block b)
+pub of_block : (b : made.Block.Block) → statement_model (variants.Block b) ≡ seen.Block (block_model b)
+of_block b = ap statement_model (sym (variants.rolls-Block b)) ∙ folds.fold-roll-Statement StatementModel BlockModel CaseModel IfModel TestModel statement_step block_step case_step if_step test_step (layer.Block b)
 
 -- one that is an `if`
-pub of_if : (i : Box made.If.If Global) → statement_seen (variants.If i) ≡ seen.If (if_seen i.value).first (if_seen i.value).others
-of_if i = ap statement_seen (sym (variants.rolls-If i)) ∙ folds.fold-roll-Statement StatementSeen BlockSeen CaseSeen IfSeen TestSeen statement_step block_step case_step if_step test_step (layer.If i)
+pub of_if : (i : Box made.If.If Global) → statement_model (variants.If i) ≡ seen.If (if_model i.value).first (if_model i.value).others
+of_if i = ap statement_model (sym (variants.rolls-If i)) ∙ folds.fold-roll-Statement StatementModel BlockModel CaseModel IfModel TestModel statement_step block_step case_step if_step test_step (layer.If i)
 
 -- one that is a `while`
-pub of_while : (t : Box made.Test.Test Global) → statement_seen (variants.While t) ≡ seen.While (test_seen t.value)
-of_while t = ap statement_seen (sym (variants.rolls-While t)) ∙ folds.fold-roll-Statement StatementSeen BlockSeen CaseSeen IfSeen TestSeen statement_step block_step case_step if_step test_step (layer.While t)
+pub of_while : (t : Box made.Test.Test Global) → statement_model (variants.While t) ≡ seen.While (test_model t.value)
+of_while t = ap statement_model (sym (variants.rolls-While t)) ∙ folds.fold-roll-Statement StatementModel BlockModel CaseModel IfModel TestModel statement_step block_step case_step if_step test_step (layer.While t)
 
 -- one that is a switch
-pub of_switch : (place : Place) (cases : Vec made.Case.Case Global) → statement_seen (variants.Switch place cases) ≡ seen.Switch place (case_row (map case_seen cases.items))
-of_switch place cases = ap statement_seen (sym (variants.rolls-Switch place cases)) ∙ folds.fold-roll-Statement StatementSeen BlockSeen CaseSeen IfSeen TestSeen statement_step block_step case_step if_step test_step (layer.Switch place cases)
+pub of_switch : (place : Place) (cases : Vec made.Case.Case Global) → statement_model (variants.Switch place cases) ≡ seen.Switch place (case_row (map case_model cases.items))
+of_switch place cases = ap statement_model (sym (variants.rolls-Switch place cases)) ∙ folds.fold-roll-Statement StatementModel BlockModel CaseModel IfModel TestModel statement_step block_step case_step if_step test_step (layer.Switch place cases)

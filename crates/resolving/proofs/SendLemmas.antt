@@ -8,7 +8,7 @@ use Rattle.tree.specs.ExpressionTrees.{expression_tree}
 use Rattle.tree.specs.declared.expression.Expression.{Expression}
 use Rattle.declarations.specs.Program.{Program}
 use Rattle.program.specs.declared.number.MessageId.{MessageId}
-use Rattle.program.specs.Statements.{SendSeen}
+use Rattle.program.specs.Statements.{SendModel}
 use Rattle.program.specs.declared.statement.Mention.{Mention}
 use Rattle.resolving.specs.Locals.{Frame}
 use Rattle.resolving.specs.Reads.{listed}
@@ -26,7 +26,7 @@ payloads_more p own f es n e lt is =
     ∙ ap (λ l. so ++ l) (append-nil (sends (expression_tree e)))
 
 -- the parts of a send
-abbrev pub send_with : List Mention → Place → Mention → MessageId → List Mention → SendSeen
+abbrev pub send_with : List Mention → Place → Mention → MessageId → List Mention → SendModel
 send_with reads place endpoint message payloads = record { reads = reads; place = place; endpoint = endpoint; message = message; payloads = payloads }
 
 -- sends of the same parts

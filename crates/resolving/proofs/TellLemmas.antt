@@ -6,10 +6,10 @@ use Rattle.tree.specs.StatementTrees.{BlockTree, statement_tree, statement_row}
 use Rattle.tree.specs.Trees.{MethodTree, method_tree}
 use Rattle.tree.specs.declared.class as made
 use Rattle.declarations.specs.Program.{Program}
-use Rattle.program.specs.Methods.{MethodSeen, VariableSeen, method_seen, variable_seen}
+use Rattle.program.specs.Methods.{MethodModel, VariableModel, method_model, variable_model}
 use Rattle.program.specs.Statements as seen
-use Rattle.program.specs.Statements.{StatementsSeen, statement_seen}
-use Rattle.program.specs.declared.kind.Kind.{Kind}
+use Rattle.program.specs.Statements.{StatementsModel, statement_model}
+use Rattle.program.specs.declared.kind.HeapKind.{HeapKind}
 use Rattle.program.specs.declared.method.Method.{Method}
 use Rattle.program.specs.declared.number.VarId.{VarId}
 use Rattle.resolving.specs.Frames.{IsFrame}
@@ -21,7 +21,7 @@ use Rattle.resolving.specs.Told.{stays_here, statements_told}
 use Rattle.resolving.specs.declared.locals.Locals.{Locals}
 use Rattle.tree.proofs.StatementTwins.{block_is}
 
-method_of : Place → Bool → Bool → Option Kind → List VariableSeen → StatementsSeen → Option VarId → Place → MethodSeen
+method_of : Place → Bool → Bool → Option HeapKind → List VariableModel → StatementsModel → Option VarId → Place → MethodModel
 method_of name takes gives result variables statements scope close = record { name = name; takes = takes; gives = gives; result = result; variables = variables; statements = statements; scope = scope; close = close }
 
 with_body : made.Method.Method → BlockTree → MethodTree
@@ -29,14 +29,14 @@ with_body m b = record { access = m.access; result = m.result; name = m.name; op
 
 -- a method is what its parts come to
 pub method_is : (p : Program) (class : ℕ) (m : made.Method.Method) (r : Method) (l : Locals) → r.name ≡ m.name.place → r.takes ≡ takes_some m.params.items → r.gives ≡ is_some m.result → r.result ≡ result_held p m.result → r.close ≡ m.body.close.place
-    → IsTold p.text (statements_told p class (stays_here (parameters_frame p m.params.items no_variables)) (statement_row (map statement_tree m.body.statements.items)) (parameters_frame p m.params.items no_variables)) (seen.statement_row (map statement_seen r.statements.items)) l
-    → ((t : List ℕ) (f : Frame) → IsFrame t f l → map variable_seen r.variables.items ≡ f.variables) → ((t : List ℕ) (f : Frame) → IsFrame t f l → r.scope ≡ option_map number_of f.last)
-    → method_seen r ≡ method_told p class (method_tree m)
+    → IsTold p.text (statements_told p class (stays_here (parameters_frame p m.params.items no_variables)) (statement_row (map statement_tree m.body.statements.items)) (parameters_frame p m.params.items no_variables)) (seen.statement_row (map statement_model r.statements.items)) l
+    → ((t : List ℕ) (f : Frame) → IsFrame t f l → map variable_model r.variables.items ≡ f.variables) → ((t : List ℕ) (f : Frame) → IsFrame t f l → r.scope ≡ option_map number_of f.last)
+    → method_model r ≡ method_told p class (method_tree m)
 unfolding method_of with_body
 method_is p class m r l name takes gives result close body variables scope =
     let b = statements_told p class (stays_here (parameters_frame p m.params.items no_variables)) (statement_row (map statement_tree m.body.statements.items)) (parameters_frame p m.params.items no_variables) in
-    let statements = seen.statement_row (map statement_seen r.statements.items) in
-    let heap = map variable_seen r.variables.items in
+    let statements = seen.statement_row (map statement_model r.statements.items) in
+    let heap = map variable_model r.variables.items in
     let held = result_held p m.result in
     ap (λ n. method_of n r.takes r.gives r.result heap statements r.scope r.close) name
     ∙ ap (λ t. method_of m.name.place t r.gives r.result heap statements r.scope r.close) takes

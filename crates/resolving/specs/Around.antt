@@ -5,10 +5,10 @@ use Rattle.tree.specs.Trees.{ItemTree, Contract, Struct, Class, contracts_of, it
 use Rattle.tree.specs.Trees.{DefinitionTree}
 use Rattle.tree.specs.declared.class.Field.{Field}
 use Rattle.declarations.specs.Program.{Program}
-use Rattle.program.specs.Parts.{contract_seen}
+use Rattle.program.specs.Parts.{contract_model}
 use Rattle.declarations.specs.Resolution.{resolved_contracts}
 use Rattle.declarations.specs.Scopes.{IsScope}
-use Rattle.program.specs.declared.kind.Kind.{Kind}
+use Rattle.program.specs.declared.kind.HeapKind.{HeapKind}
 use Rattle.program.specs.declared.limits.TheConstants.{MOST_METHODS}
 use Rattle.resolving.specs.Callees as model
 use Rattle.resolving.specs.Callees.{all_methods}
@@ -25,13 +25,13 @@ abbrev pub program_in : List ℕ → List ItemTree → Program
 program_in text items = record { text = text; items = items }
 
 -- the place of a field that holds this
-abbrev pub place_listed : ℕ → Option Kind → List ℕ
+abbrev pub place_listed : ℕ → Option HeapKind → List ℕ
 place_listed k None = []
 place_listed k (Some held) = k ∷ []
 
 -- the places of the fields that own among these, in order
 abbrev pub places_held : Program → List Field → List ℕ
-places_held p fields = flat_map (λ x. place_listed x.0 (type_held p x.1.kind)) (enumerate_from 0 fields)
+places_held p fields = flat_map (λ x. place_listed x.0 (type_held p x.1.ty)) (enumerate_from 0 fields)
 
 -- those of a definition, if it is a struct
 abbrev pub places_in : Program → DefinitionTree → List ℕ
@@ -45,7 +45,7 @@ owning_places p i = places_in p i.definition
 -- these are the names of a program, its contracts with their names resolved, and what stands before each item
 pub record IsTypes (p : Program) (t : Types) : Type 0 where
   pub scope : IsScope p t.scope.now
-  pub contracts : map contract_seen t.resolved.now.contracts.items ≡ resolved_contracts p.text (contracts_of p.items)
+  pub contracts : map contract_model t.resolved.now.contracts.items ≡ resolved_contracts p.text (contracts_of p.items)
   pub before : t.before.now ≡ counts p.items
 
 -- these are the items of a program, what its types are looked up in, the places of the fields that own in each item, and the place
@@ -58,9 +58,9 @@ pub record IsAround (p : Program) (class : ℕ) (a : Around) : Type 0 where
   pub few : length (all_methods p.items) ≤ MOST_METHODS
 
 -- a method and its number, without where it lies in memory
-abbrev pub callee_seen : Callee → model.Callee
-callee_seen c = record { number = c.id.0; method = method_tree c.method.now }
+abbrev pub callee_model : Callee → model.Callee
+callee_model c = record { number = c.id.0; method = method_tree c.method.now }
 
 -- a message and its number, likewise
-abbrev pub meant_seen : Meant → messages.Meant
-meant_seen m = record { id = m.id; message = message_tree m.message.now }
+abbrev pub meant_model : Meant → messages.Meant
+meant_model m = record { id = m.id; message = message_tree m.message.now }

@@ -3,7 +3,7 @@ use Rattle.std.specs.Prelude.{◌≡◌, ℕ, List, map, Option, option_map}
 use Rattle.tables.specs.Firsts.{IsApart}
 use Rattle.tables.specs.Tables.{IsTable}
 use Rattle.tables.specs.Words.{words_at}
-use Rattle.program.specs.Methods.{variable_seen}
+use Rattle.program.specs.Methods.{variable_model}
 use Rattle.program.specs.declared.number.VarId.{VarId}
 use Rattle.resolving.specs.Locals as model
 use Rattle.resolving.specs.Locals.{Frame}
@@ -13,12 +13,12 @@ use Rattle.resolving.specs.declared.locals.Locals.{Locals}
 use Rattle.resolving.specs.declared.staying.Staying.{Staying}
 
 -- a number without its type
-abbrev pub number_seen : Option VarId → Option ℕ
-number_seen number = option_map (λ v. v.0) number
+abbrev pub number_model : Option VarId → Option ℕ
+number_model number = option_map (λ v. v.0) number
 
 -- a variable without its memory
-abbrev pub local_seen : Local → model.Local
-local_seen l = record { name = l.name; kind = l.kind; number = number_seen l.number }
+abbrev pub local_model : Local → model.Local
+local_model l = record { name = l.name; kind = l.kind; number = number_model l.number }
 
 -- the names of the variables in scope, as they are written
 abbrev pub words_in : List ℕ → List model.Local → List (List ℕ)
@@ -26,12 +26,12 @@ words_in text locals = words_at text (map (λ l. l.name) locals)
 
 -- These are the variables in scope, each findable by its name, no two of one name, the last one of the exchange heap, and all of those.
 pub record IsFrame (text : List ℕ) (f : Frame) (l : Locals) : Type 0 where
-  pub list : map local_seen l.list.items ≡ f.locals
+  pub list : map local_model l.list.items ≡ f.locals
   pub names : IsTable (words_in text f.locals) l.names
   pub apart : IsApart (words_in text f.locals)
-  pub last : number_seen l.last ≡ f.last
-  pub variables : map variable_seen l.variables.items ≡ f.variables
+  pub last : number_model l.last ≡ f.last
+  pub variables : map variable_model l.variables.items ≡ f.variables
 
 -- what stays in scope where a loop or a switch is left
-abbrev pub staying_seen : Staying → told.Staying
-staying_seen s = record { at_break = number_seen s.at_break; at_continue = number_seen s.at_continue }
+abbrev pub staying_model : Staying → told.Staying
+staying_model s = record { at_break = number_model s.at_break; at_continue = number_model s.at_continue }

@@ -16,8 +16,8 @@ use Rattle.declarations.specs.Kinds.{type_kind}
 use Rattle.declarations.specs.Program.{Program}
 use Rattle.program.specs.declared.number.ContractId.{ContractId}
 use Rattle.program.specs.Statements as seen
-use Rattle.program.specs.Statements.{CallSeen, NewSeen, SendSeen, StatementSeen, StatementsSeen}
-use Rattle.program.specs.Statements.{BlockSeen, TestSeen, OthersSeen, CaseSeen, CasesSeen}
+use Rattle.program.specs.Statements.{CallModel, NewModel, SendModel, StatementModel, StatementsModel}
+use Rattle.program.specs.Statements.{BlockModel, TestModel, OthersModel, CaseModel, CasesModel}
 use Rattle.program.specs.declared.call.Argument.{Argument}
 use Rattle.program.specs.declared.method.Role.TheVariants.{Local}
 use Rattle.program.specs.declared.statement.Action.{Action}
@@ -33,7 +33,7 @@ use Rattle.tree.specs.Alone.{lone_name}
 use Rattle.resolving.specs.declared.locals.Declaration.{Declaration}
 
 -- a simple statement: what it reads, and what it does then
-abbrev pub told : List Mention → Action → StatementSeen
+abbrev pub told : List Mention → Action → StatementModel
 told reads action = seen.Simple reads action
 
 -- the target takes what the source has
@@ -57,7 +57,7 @@ given x (Some m) = record { mention = m; claimed = x.claims } ∷ []
 
 -- a declaration; its variable is in scope behind it
 abbrev pub declaration_of : Program → DeclareTree → Declaration
-declaration_of p d = record { name = d.name; kind = type_kind p d.kind; held = type_held p d.kind; role = Local }
+declaration_of p d = record { name = d.name; kind = type_kind p d.ty; held = type_held p d.ty; role = Local }
 
 -- the message that a call by two names sends, where the first one means an endpoint
 abbrev pub meant_by : Program → Frame → CallTree → Span → Option Meant
@@ -79,7 +79,7 @@ module _ (p : Program) (class : ℕ) (f : Frame) where
   argument_reads es = flat_map (reads p.text f.locals) es
 
   -- a call of this method
-  abbrev pub call_of : CallTree → Option Mention → List Mention → Callee → CallSeen
+  abbrev pub call_of : CallTree → Option Mention → List Mention → Callee → CallModel
   call_of c target behind m = record {
     reads = argument_reads c.arguments;
     place = (called_name c.name c.member).place;
@@ -90,13 +90,13 @@ module _ (p : Program) (class : ℕ) (f : Frame) where
   }
 
   -- a call, what takes what it gives, and what is used behind it
-  abbrev pub call_told : CallTree → Option Mention → List Mention → Option CallSeen
+  abbrev pub call_told : CallTree → Option Mention → List Mention → Option CallModel
   call_told c target behind = option_map (call_of c target behind) (callee p class f.locals c)
 
-  abbrev pub called : CallTree → Option Mention → List Mention → StatementSeen
+  abbrev pub called : CallTree → Option Mention → List Mention → StatementModel
   called c target behind = option_map_or seen.Call (call_told c target behind) (told [] Nothing)
 
-  abbrev pub started : CallTree → StatementSeen
+  abbrev pub started : CallTree → StatementModel
   started c = option_map_or seen.Start (call_told c None []) (told [] Nothing)
 
   -- what is given for the parameters of a message that are of the exchange heap, in order
@@ -104,7 +104,7 @@ module _ (p : Program) (class : ℕ) (f : Frame) where
   payloads es = flat_map (λ e. listed (lone e)) es
 
   -- a send of this message on this endpoint
-  abbrev pub send_of : Span → CallTree → Mention → Meant → SendSeen
+  abbrev pub send_of : Span → CallTree → Mention → Meant → SendModel
   send_of word c endpoint m = record {
     reads = argument_reads c.arguments;
     place = word.place;
@@ -114,18 +114,18 @@ module _ (p : Program) (class : ℕ) (f : Frame) where
   }
 
   -- a call by two names that sends this message
-  abbrev pub sent : CallTree → Span → Meant → Option SendSeen
+  abbrev pub sent : CallTree → Span → Meant → Option SendModel
   sent c word m = option_map (λ e. send_of word c e m) (mention p.text f.locals c.name)
 
-  abbrev pub sent_by : CallTree → Span → Option SendSeen
+  abbrev pub sent_by : CallTree → Span → Option SendModel
   sent_by c word = option_and_then (sent c word) (meant_by p f c word)
 
   -- a call that stands alone, where it is a send
-  abbrev pub send_told : CallTree → Option SendSeen
+  abbrev pub send_told : CallTree → Option SendModel
   send_told c = option_and_then (sent_by c) c.member
 
   -- a call that stands alone
-  abbrev pub stated_call : CallTree → StatementSeen
+  abbrev pub stated_call : CallTree → StatementModel
   stated_call c = option_map_or seen.Send (send_told c) (called c None [])
 
   -- two variables take the ends of a new channel of the contract of this number
@@ -153,7 +153,7 @@ module _ (p : Program) (class : ℕ) (f : Frame) where
   made_arguments (values.Array element length) = []
 
   -- a variable takes a new block
-  abbrev pub new_of : Mention → MadeTree → NewSeen
+  abbrev pub new_of : Mention → MadeTree → NewModel
   new_of target m = record { reads = made_reads m; target = target; arguments = made_arguments m }
 
   -- a variable and the field of this number change places
@@ -172,47 +172,47 @@ module _ (p : Program) (class : ℕ) (f : Frame) where
   exchanged e = option_map_or (λ a. a) (exchange_found e) Nothing
 
   -- a variable of the exchange heap takes a value
-  abbrev pub taken : Mention → ValueTree → StatementSeen
+  abbrev pub taken : Mention → ValueTree → StatementModel
   taken target (values.Expression e) = told [] (moved target (lone e))
   taken target (values.Call c) = called c (Some target) []
   taken target (values.New n) = seen.New (new_of target n.made)
 
   -- a scalar takes a value
-  abbrev pub scalar_taken : ValueTree → StatementSeen
+  abbrev pub scalar_taken : ValueTree → StatementModel
   scalar_taken (values.Expression e) = told (reads p.text f.locals e) Nothing
   scalar_taken (values.Call c) = called c None []
   scalar_taken (values.New n) = told (made_reads n.made) Nothing
 
   -- a variable takes a value: one of the exchange heap, or a scalar
-  abbrev pub assigned : Option Mention → ValueTree → StatementSeen
+  abbrev pub assigned : Option Mention → ValueTree → StatementModel
   assigned None value = scalar_taken value
   assigned (Some target) value = taken target value
 
   -- A part of what a variable has takes a value. The index of an element is read before the value, and what is written into is
   -- used behind both; behind a call, both stand behind it.
-  abbrev pub part_taken : List Mention → Option Mention → ValueTree → StatementSeen
+  abbrev pub part_taken : List Mention → Option Mention → ValueTree → StatementModel
   part_taken index whole (values.Expression e) = told (index ++ reads p.text f.locals e) (used whole)
   part_taken index whole (values.Call c) = called c None (index ++ listed whole)
   part_taken index whole (values.New n) = told (index ++ made_reads n.made) (used whole)
 
-  abbrev pub written : TargetTree → ValueTree → StatementSeen
+  abbrev pub written : TargetTree → ValueTree → StatementModel
   written (trees.Variable name) value = assigned (mention p.text f.locals name) value
   written (trees.Field name field) value = part_taken [] (mention p.text f.locals name) value
   written (trees.Element name index) value = part_taken (reads p.text f.locals index) (mention p.text f.locals name) value
 
   -- a declaration with a value assigns it; the variable has the next number
-  abbrev pub first_value : Span → Option ℕ → Option ValueTree → StatementSeen
+  abbrev pub first_value : Span → Option ℕ → Option ValueTree → StatementModel
   first_value name number None = told [] Nothing
   first_value name number (Some value) = assigned (option_map (mention_of name) number) value
 
   -- what a method gives: a scalar is read, and a variable of the exchange heap stands alone
-  abbrev pub returned : Place → Option ExpressionTree → StatementSeen
+  abbrev pub returned : Place → Option ExpressionTree → StatementModel
   returned place None = told [] (Return place None (option_map number_of f.last))
   returned place (Some e) = told (reads p.text f.locals e) (Return place (lone e) (option_map number_of f.last))
 
   -- a statement that holds no others
-  abbrev pub plain_told : StatementTree → StatementSeen
-  plain_told (stated.Declare d) = first_value d.name (next_number (type_held p d.kind) f) d.value
+  abbrev pub plain_told : StatementTree → StatementModel
+  plain_told (stated.Declare d) = first_value d.name (next_number (type_held p d.ty) f) d.value
   plain_told (stated.Assign a) = written a.target a.value
   plain_told (stated.Call c) = stated_call c
   plain_told (stated.Start word c) = started c

@@ -1,6 +1,6 @@
 -- What a step of the walk adds, and what it makes, whatever variables are in scope.
 use Rattle.std.specs.Prelude.{◌≡◌, ℕ, List, [], ◌∷◌, ◌++◌, Option, option_map}
-use Rattle.program.specs.Statements.{CallSeen, SendSeen, StatementSeen, call_seen, send_seen, statement_seen}
+use Rattle.program.specs.Statements.{CallModel, SendModel, StatementModel, call_model, send_model, statement_model}
 use Rattle.program.specs.declared.statement.Mention.{Mention}
 use Rattle.program.specs.declared.statement.Statement.{Statement}
 use Rattle.program.specs.declared.call.Call.{Call}
@@ -16,16 +16,16 @@ pub record AddsReads (text : List ℕ) (locals : Locals) (read : Frame → List 
   pub all : (f : Frame) → IsFrame text f locals → new ≡ old ++ read f
 
 -- a statement is what this one comes to
-pub record Tells (text : List ℕ) (locals : Locals) (told : Frame → StatementSeen) (s : Statement) : Type 0 where
-  pub all : (f : Frame) → IsFrame text f locals → statement_seen s ≡ told f
+pub record Tells (text : List ℕ) (locals : Locals) (told : Frame → StatementModel) (s : Statement) : Type 0 where
+  pub all : (f : Frame) → IsFrame text f locals → statement_model s ≡ told f
 
 -- a call, if there is one, is what this one comes to
-pub record TellsCall (text : List ℕ) (locals : Locals) (told : Frame → Option CallSeen) (c : Option Call) : Type 0 where
-  pub all : (f : Frame) → IsFrame text f locals → option_map call_seen c ≡ told f
+pub record TellsCall (text : List ℕ) (locals : Locals) (told : Frame → Option CallModel) (c : Option Call) : Type 0 where
+  pub all : (f : Frame) → IsFrame text f locals → option_map call_model c ≡ told f
 
 -- a send, if there is one, is what this one comes to
-pub record TellsSend (text : List ℕ) (locals : Locals) (told : Frame → Option SendSeen) (s : Option Send) : Type 0 where
-  pub all : (f : Frame) → IsFrame text f locals → option_map send_seen s ≡ told f
+pub record TellsSend (text : List ℕ) (locals : Locals) (told : Frame → Option SendModel) (s : Option Send) : Type 0 where
+  pub all : (f : Frame) → IsFrame text f locals → option_map send_model s ≡ told f
 
 -- the numbers that a piece brings are added, and the frame behind it is the one that stands now
 pub record IsBound (text : List ℕ) (old new : List VarId) (locals : Locals) (t : Told (List VarId)) : Type 0 where

@@ -11,7 +11,7 @@ ghost use Rattle.program.specs.Programs.{rows};
 
 use crate::around::Types;
 use crate::kinds::type_held;
-use program::Kind;
+use program::HeapKind;
 use std::alloc::{AllocError, Global};
 use tree::{Definition, Member, Message, Param};
 
@@ -20,12 +20,12 @@ fn params_held(
     alloc: Global,
     types: &Types<'_, '_>,
     params: &[Param],
-) -> Result<Vec<Kind>, AllocError>
+) -> Result<Vec<HeapKind>, AllocError>
     ensures { (p : Program) → IsTypes p types.now → IfOk result (λ kinds. kinds.items ≡ params_held p params.now) }
 {
     let mut kinds = Vec::new(alloc);
     for param in params {
-        if let Some(kind) = type_held(types, param.kind) {
+        if let Some(kind) = type_held(types, param.ty) {
             kinds.push(kind)?;
         }
     }
@@ -37,7 +37,7 @@ fn add_messages(
     alloc: Global,
     types: &Types<'_, '_>,
     messages: &[Message],
-    told: &mut Vec<Vec<Kind>>,
+    told: &mut Vec<Vec<HeapKind>>,
 ) -> Result<(), AllocError>
     ensures { (p : Program) → IsTypes p types.now
         → OnOk result (rows told.new.items ≡ rows told.old.items ++ map (brought p) (map message_tree messages.now)) }
@@ -53,7 +53,7 @@ fn add_members(
     alloc: Global,
     types: &Types<'_, '_>,
     members: &[Member],
-    told: &mut Vec<Vec<Kind>>,
+    told: &mut Vec<Vec<HeapKind>>,
 ) -> Result<(), AllocError>
     ensures { (p : Program) → IsTypes p types.now → OnOk result (rows told.new.items
         ≡ rows told.old.items ++ map (brought p) (flat_map message_among (map member_tree members.now))) }
@@ -71,7 +71,7 @@ pub(crate) fn add_brought(
     alloc: Global,
     types: &Types<'_, '_>,
     definition: &Definition,
-    told: &mut Vec<Vec<Kind>>,
+    told: &mut Vec<Vec<HeapKind>>,
 ) -> Result<(), AllocError>
     ensures { (p : Program) → IsTypes p types.now → OnOk result (rows told.new.items
         ≡ rows told.old.items ++ map (brought p) (flat_map messages_of (contract_of (definition_tree definition.now)))) }

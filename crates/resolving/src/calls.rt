@@ -4,8 +4,8 @@ ghost use Rattle.std.specs.Prelude.{◌≡◌, ◌++◌, ℕ, List, None, IfOk, 
 ghost use Rattle.tree.specs.ExpressionTrees.{expression_tree};
 ghost use Rattle.tree.specs.Trees.{ItemTree};
 ghost use Rattle.tree.specs.Values.{call_tree};
-ghost use Rattle.program.specs.Statements.{call_seen};
-ghost use Rattle.resolving.specs.Around.{IsAround, callee_seen, program_in};
+ghost use Rattle.program.specs.Statements.{call_model};
+ghost use Rattle.resolving.specs.Around.{IsAround, callee_model, program_in};
 ghost use Rattle.resolving.specs.Callees as model;
 ghost use Rattle.resolving.specs.Callees.{method_at, method_of, member_callee, called_name};
 ghost use Rattle.resolving.specs.Frames.{IsFrame};
@@ -41,7 +41,7 @@ fn method_at<'a>(
     name: Span,
 ) -> Option<Callee<'a>>
     ensures { (items : List ItemTree) (own : ℕ) → IsAround (program_in text.now items) own around.now
-        → option_map callee_seen result ≡ method_at (program_in text.now items) class name }
+        → option_map callee_model result ≡ method_at (program_in text.now items) class name }
 {
     let place = around.types.scope.method_place(class, name)?;
     let item = around.items.get(class)?;
@@ -61,7 +61,7 @@ fn method_of<'a>(
     name: Span,
 ) -> Option<Callee<'a>>
     ensures { (items : List ItemTree) (own : ℕ) → IsAround (program_in text.now items) own around.now
-        → option_map callee_seen result ≡ method_of (program_in text.now items) class name }
+        → option_map callee_model result ≡ method_of (program_in text.now items) class name }
 {
     let class = around.types.scope.class_place(class)?;
     method_at(text, around, class, name)
@@ -76,7 +76,7 @@ fn member_callee<'a>(
     name: Span,
 ) -> Option<Callee<'a>>
     ensures { (items : List ItemTree) (own : ℕ) (f : Frame) → IsAround (program_in text.now items) own around.now
-        → IsFrame text.now f locals.now → option_map callee_seen result
+        → IsFrame text.now f locals.now → option_map callee_model result
         ≡ member_callee (program_in text.now items) (local_named text.now f.locals class) class name }
 {
     if locals.is_in_scope(text, class) {
@@ -94,7 +94,7 @@ fn callee_of<'a>(
 ) -> Option<Callee<'a>>
     ensures { (items : List ItemTree) (own : ℕ) (f : Frame)
         → IsAround (program_in text.now items) own around.now → IsFrame text.now f locals.now
-        → option_map callee_seen result ≡ model.callee (program_in text.now items) own f.locals (call_tree call.now) }
+        → option_map callee_model result ≡ model.callee (program_in text.now items) own f.locals (call_tree call.now) }
 {
     match call.member {
         Some(name) => member_callee(text, around, locals, call.name, name),
@@ -179,8 +179,8 @@ fn call_of(
     after: ResultUse,
 ) -> Result<Call, AllocError>
     ensures { (items : List ItemTree) (own : ℕ) (f : Frame) → IsFrame text.now f locals.now
-        → IfOk result (λ c. call_seen c ≡ told.call_of (program_in text.now items) own f
-        (call_tree call.now) after.target after.behind.items (callee_seen callee.entry)) }
+        → IfOk result (λ c. call_model c ≡ told.call_of (program_in text.now items) own f
+        (call_tree call.now) after.target after.behind.items (callee_model callee.entry)) }
 {
     let mut reads = Vec::new(alloc);
     add_argument_reads(text, locals, &call.arguments, &mut reads)?;

@@ -4,9 +4,9 @@ ghost use Rattle.std.specs.Prelude.{◌≡◌, ◌++◌, ℕ, List, IfOk, OnOk, 
 ghost use Rattle.tree.specs.Trees.{ItemTree};
 ghost use Rattle.declarations.specs.Kinds.{brought_kind};
 ghost use Rattle.declarations.specs.Program.{Program};
-ghost use Rattle.resolving.specs.Around.{IsAround, meant_seen, program_in};
+ghost use Rattle.resolving.specs.Around.{IsAround, meant_model, program_in};
 ghost use Rattle.resolving.specs.Binds as model;
-ghost use Rattle.resolving.specs.Frames.{IsFrame, number_seen};
+ghost use Rattle.resolving.specs.Frames.{IsFrame, number_model};
 ghost use Rattle.resolving.specs.Locals.{Frame};
 ghost use Rattle.resolving.specs.Steps.{IsBound, IsTold};
 ghost use Rattle.resolving.specs.Told as told;
@@ -44,7 +44,7 @@ pub(crate) fn awaited_message<'a>(
 ) -> Option<Meant<'a>>
     ensures { (items : List ItemTree) (own : ℕ) (f : Frame)
         → IsAround (program_in text.now items) own around.now → IsFrame text.now f locals.now
-        → option_map meant_seen result ≡ told.awaited_message (program_in text.now items) f name awaited }
+        → option_map meant_model result ≡ told.awaited_message (program_in text.now items) f name awaited }
 {
     let tree::Awaited::Message(word) = awaited else {
         return None;
@@ -55,7 +55,7 @@ pub(crate) fn awaited_message<'a>(
 
 /// What a case waits for, with the number of its message.
 pub(crate) fn awaited_as(awaited: tree::Awaited, meant: Option<Meant<'_>>) -> Awaited
-    ensures { result ≡ told.awaited_as awaited (option_map meant_seen meant.entry) }
+    ensures { result ≡ told.awaited_as awaited (option_map meant_model meant.entry) }
 {
     match awaited {
         tree::Awaited::Message(_) => Awaited::Message(number_of(meant)),
@@ -65,7 +65,7 @@ pub(crate) fn awaited_as(awaited: tree::Awaited, meant: Option<Meant<'_>>) -> Aw
 
 /// The number of a message, and 0 where there is none.
 fn number_of(meant: Option<Meant<'_>>) -> MessageId
-    ensures { result ≡ told.meant_number (option_map meant_seen meant.entry) }
+    ensures { result ≡ told.meant_number (option_map meant_model meant.entry) }
 {
     match meant {
         Some(meant) => meant.id,
@@ -75,7 +75,7 @@ fn number_of(meant: Option<Meant<'_>>) -> MessageId
 
 /// The parameters whose values a case binds.
 pub(crate) fn awaited_params<'a>(meant: Option<Meant<'a>>) -> &'a [Param]
-    ensures { result.now ≡ told.awaited_params (option_map meant_seen meant.entry) }
+    ensures { result.now ≡ told.awaited_params (option_map meant_model meant.entry) }
 {
     match meant {
         Some(meant) => &meant.message.params,
@@ -84,12 +84,12 @@ pub(crate) fn awaited_params<'a>(meant: Option<Meant<'a>>) -> &'a [Param]
 }
 
 /// The kind of a name that a case binds without a type, for this parameter, if there is one.
-fn brought_kind(around: &Around<'_, '_>, param: Option<&Param>) -> declarations::Kind
+fn brought_kind(around: &Around<'_, '_>, param: Option<&Param>) -> declarations::ValueKind
     ensures { (p : Program) (own : ℕ) → IsAround p own around.now → result ≡ brought_kind p (option_map (λ x. x.now) param.entry) }
 {
     match param {
-        Some(param) => around.types.scope.kind(param.kind),
-        None => declarations::Kind::Unknown,
+        Some(param) => around.types.scope.kind(param.ty),
+        None => declarations::ValueKind::Unknown,
     }
 }
 
@@ -100,7 +100,7 @@ fn bind_declaration(around: &Around<'_, '_>, param: Option<&Param>, bind: Bind) 
 {
     let name = bind.name;
     let role = Role::Local;
-    match bind.kind {
+    match bind.ty {
         Some(written) => Declaration {
             name,
             kind: around.types.scope.kind(written),
@@ -121,11 +121,11 @@ fn bind_declaration(around: &Around<'_, '_>, param: Option<&Param>, bind: Bind) 
 }
 
 /// Adds the number of a variable, if it is of the exchange heap.
-fn add_number(number: Option<VarId>, bound: &mut Vec<VarId>) -> Result<(), AllocError>
-    ensures { OnOk result (bound.new.items ≡ bound.old.items ++ model.one_number (number_seen number)) }
+fn add_number(number: Option<VarId>, targets: &mut Vec<VarId>) -> Result<(), AllocError>
+    ensures { OnOk result (targets.new.items ≡ targets.old.items ++ model.one_number (number_model number)) }
 {
     if let Some(number) = number {
-        bound.push(number)?;
+        targets.push(number)?;
     }
     Ok(())
 }
@@ -138,23 +138,23 @@ fn declare_bind<'a>(
     locals: &mut Locals<'a>,
     param: Option<&Param>,
     bind: Bind,
-    bound: &mut Vec<VarId>,
+    targets: &mut Vec<VarId>,
 ) -> Result<(), AllocError>
     ensures { (items : List ItemTree) (own : ℕ) (f : Frame) → IsAround (program_in text.now items) own around.now
-        → IsFrame text.now f locals.old → OnOk result (IsBound text.now bound.old.items bound.new.items
+        → IsFrame text.now f locals.old → OnOk result (IsBound text.now targets.old.items targets.new.items
         locals.new (model.bind_told (program_in text.now items) (option_map (λ x. x.now) param.entry) bind f)) }
 {
     let declaration = bind_declaration(around, param, bind);
     let number = locals.next_number(declaration.held);
-    add_number(number, bound)?;
+    add_number(number, targets)?;
     locals.declare(around.alloc, text, declaration)
 }
 
-/// The parameter at this place, if there is one.
-fn param_at(params: &[Param], place: usize) -> Option<&Param>
-    ensures { option_map (λ x. x.now) result ≡ slice_get params.now place }
+/// The parameter at this index, if there is one.
+fn param_at(params: &[Param], index: usize) -> Option<&Param>
+    ensures { option_map (λ x. x.now) result ≡ slice_get params.now index }
 {
-    params.get(place)
+    params.get(index)
 }
 
 /// Brings what a case binds into scope, for these parameters as far as they reach. The answer is the numbers of those of the

@@ -11,7 +11,7 @@ ghost use Rattle.resolving.specs.Fields.{fields_held, structs_told};
 
 use crate::around::{Around, Types};
 use crate::kinds::type_held;
-use program::Kind;
+use program::HeapKind;
 use source::Span;
 use std::alloc::{AllocError, Global};
 use tree::{Definition, Field, Item};
@@ -19,7 +19,7 @@ use tree::{Definition, Field, Item};
 /// The fields of a struct that own, in order: what each holds, and how many fields stand before it.
 #[derive(Drop)]
 struct Owning {
-    kinds: Vec<Kind>,
+    kinds: Vec<HeapKind>,
     places: Vec<usize>,
 }
 
@@ -35,7 +35,7 @@ fn owning_among(
     let mut kinds = Vec::new(alloc);
     let mut places = Vec::new(alloc);
     for (place, field) in fields.iter().enumerate() {
-        if let Some(kind) = type_held(types, field.kind) {
+        if let Some(kind) = type_held(types, field.ty) {
             kinds.push(kind)?;
             places.push(place)?;
         }
@@ -46,7 +46,7 @@ fn owning_among(
 /// The fields that own of a program: what each struct has in them, in order of the text, and their places in each item.
 #[derive(Drop)]
 pub(crate) struct Fields {
-    pub(crate) structs: Vec<Vec<Kind>>,
+    pub(crate) structs: Vec<Vec<HeapKind>>,
     pub(crate) places: Vec<Vec<usize>>,
 }
 
@@ -75,23 +75,23 @@ pub(crate) fn fields_of(
     Ok(Fields { structs, places })
 }
 
-/// How many of these places stand before this one.
-fn count_before(places: &[usize], place: usize) -> usize
-    ensures { result ≡ length (filter (λ x. ltb x place) places.now) }
+/// How many of these are less than this one.
+fn count_before(places: &[usize], index: usize) -> usize
+    ensures { result ≡ length (filter (λ x. ltb x index) places.now) }
 {
-    places.iter().filter(|before| **before < place).count()
+    places.iter().filter(|before| **before < index).count()
 }
 
 /// The number of a field of what a variable of this kind holds, among the fields that own.
 pub(crate) fn field_number(
     around: &Around<'_, '_>,
-    kind: declarations::Kind,
+    kind: declarations::ValueKind,
     field: Span,
 ) -> Option<usize>
     ensures { (p : Program) (own : ℕ) → IsAround p own around.now
         → result ≡ model.field_number p kind field }
 {
-    let declarations::Kind::Pointer(item) = kind else {
+    let declarations::ValueKind::Pointer(item) = kind else {
         return None;
     };
     let place = around.types.scope.field_place(item, field)?;

@@ -2,14 +2,14 @@
 
 ghost use Rattle.std.specs.Prelude.{◌≡◌, ◌-◌, ℕ, List, length, map, take, OnOk, is_some, option_map};
 ghost use Rattle.tree.specs.Trees.{ItemTree};
-ghost use Rattle.program.specs.Methods.{variable_seen};
+ghost use Rattle.program.specs.Methods.{variable_model};
 ghost use Rattle.resolving.specs.Around.{program_in};
-ghost use Rattle.resolving.specs.Frames.{IsFrame, local_seen, number_seen};
+ghost use Rattle.resolving.specs.Frames.{IsFrame, local_model, number_model};
 ghost use Rattle.resolving.specs.Messages.{contract_of, end_contract};
 ghost use Rattle.resolving.specs.Methods.{no_variables};
 ghost use Rattle.resolving.specs.Locals.{Frame, local_named, mention, next_number, number_of, entered, counted, declared, declared_heap};
 
-use program::{Kind, Mention, Role, VarId, Variable};
+use program::{HeapKind, Mention, Role, VarId, Variable};
 use source::Span;
 use std::alloc::{AllocError, Global};
 use tables::Table;
@@ -19,8 +19,8 @@ use tables::Table;
 #[derive(Clone, Copy)]
 pub(crate) struct Declaration {
     pub(crate) name: Span,
-    pub(crate) kind: declarations::Kind,
-    pub(crate) held: Option<Kind>,
+    pub(crate) kind: declarations::ValueKind,
+    pub(crate) held: Option<HeapKind>,
     pub(crate) role: Role,
 }
 
@@ -28,7 +28,7 @@ pub(crate) struct Declaration {
 #[derive(Clone, Copy)]
 pub(crate) struct Local {
     name: Span,
-    kind: declarations::Kind,
+    kind: declarations::ValueKind,
     number: Option<VarId>,
 }
 
@@ -71,7 +71,7 @@ impl<'a> Locals<'a> {
 
     /// Those of the exchange heap, in order of declaration.
     pub(crate) fn into_variables(self) -> Vec<Variable>
-        ensures { (text : List ℕ) (f : Frame) → IsFrame text f self.entry → map variable_seen result.items ≡ f.variables }
+        ensures { (text : List ℕ) (f : Frame) → IsFrame text f self.entry → map variable_model result.items ≡ f.variables }
     {
         self.variables
     }
@@ -79,7 +79,7 @@ impl<'a> Locals<'a> {
     /// The variable of this name.
     fn find(&self, text: &[u8], name: Span) -> Option<Local>
         ensures { (f : Frame) → IsFrame text.now f self.now
-            → option_map local_seen result ≡ local_named text.now f.locals name }
+            → option_map local_model result ≡ local_named text.now f.locals name }
     {
         let place = self.names.find(name.slice(text))?;
         let local = self.list.get(place)?;
@@ -106,7 +106,7 @@ impl<'a> Locals<'a> {
     }
 
     /// The kind of the variable that a name means.
-    pub(crate) fn kind(&self, text: &[u8], name: Span) -> Option<declarations::Kind>
+    pub(crate) fn kind(&self, text: &[u8], name: Span) -> Option<declarations::ValueKind>
         ensures { (f : Frame) → IsFrame text.now f self.now
             → result ≡ option_map (λ v. v.kind) (local_named text.now f.locals name) }
     {
@@ -123,8 +123,8 @@ impl<'a> Locals<'a> {
     }
 
     /// The number of a variable that is declared next, where it is one of the exchange heap and holds this.
-    pub(crate) fn next_number(&self, held: Option<Kind>) -> Option<VarId>
-        ensures { (text : List ℕ) (f : Frame) → IsFrame text f self.now → number_seen result ≡ next_number held f }
+    pub(crate) fn next_number(&self, held: Option<HeapKind>) -> Option<VarId>
+        ensures { (text : List ℕ) (f : Frame) → IsFrame text f self.now → number_model result ≡ next_number held f }
     {
         match held {
             Some(_) => Some(VarId(self.variables.len())),
@@ -154,7 +154,7 @@ impl<'a> Locals<'a> {
         alloc: Global,
         text: &'a [u8],
         declaration: Declaration,
-        held: Kind,
+        held: HeapKind,
     ) -> Result<(), AllocError>
         ensures { (f : Frame) → IsFrame text.now f self.old
             → OnOk result (IsFrame text.now (declared_heap text.now declaration held f) self.new) }
@@ -177,7 +177,7 @@ impl<'a> Locals<'a> {
         ensures { (f : Frame) → IsFrame text.now f self.old
             → OnOk result (IsFrame text.now (record {
               locals = entered text.now declaration
-                  (number_seen number) f.locals;
+                  (number_model number) f.locals;
               last = f.last;
               variables = f.variables;
             }) self.new) }
@@ -199,7 +199,7 @@ impl<'a> Locals<'a> {
         alloc: Global,
         text: &[u8],
         declaration: Declaration,
-        kind: Kind,
+        kind: HeapKind,
     ) -> Result<(), AllocError>
         ensures { (f : Frame) → IsFrame text.now f self.old
             → OnOk result (IsFrame text.now (record {
@@ -222,7 +222,7 @@ impl<'a> Locals<'a> {
     /// Leaves a scope: the first so many stay, and the last of the exchange heap among them is this.
     pub(crate) fn leave(&mut self, text: &[u8], outer: usize, last: Option<VarId>)
         ensures { (f : Frame) → IsFrame text.now f self.old → IsFrame text.now
-            (record { locals = take outer f.locals; last = number_seen last; variables = f.variables }) self.new }
+            (record { locals = take outer f.locals; last = number_model last; variables = f.variables }) self.new }
     {
         while self.list.len() > outer {
             self.drop_last(text);
@@ -244,11 +244,11 @@ impl<'a> Locals<'a> {
 }
 
 /// The place of the contract of a kind that is an endpoint's.
-fn contract_of(kind: declarations::Kind) -> Option<usize>
+fn contract_of(kind: declarations::ValueKind) -> Option<usize>
     ensures { result ≡ contract_of kind }
 {
     match kind {
-        declarations::Kind::Endpoint(_, place) => Some(place),
+        declarations::ValueKind::Endpoint(_, place) => Some(place),
         _ => None,
     }
 }

@@ -2,7 +2,7 @@
 
 ghost use Rattle.std.specs.Prelude.{◌≡◌, ℕ, option_map};
 ghost use Rattle.declarations.specs.Program.{Program};
-ghost use Rattle.resolving.specs.Around.{IsTypes, meant_seen};
+ghost use Rattle.resolving.specs.Around.{IsTypes, meant_model};
 ghost use Rattle.resolving.specs.Messages as model;
 
 use crate::around::Types;
@@ -18,20 +18,20 @@ pub(crate) struct Meant<'a> {
     pub(crate) message: &'a Message,
 }
 
-/// The number of the message at this place in the contract that is the item at the first one.
-fn message_number(types: &Types<'_, '_>, contract: usize, place: usize) -> Option<MessageId>
-    ensures { (p : Program) → IsTypes p types.now → result ≡ model.message_number p contract place }
+/// The number of the message at this index in the contract that is the item at the first one.
+fn message_number(types: &Types<'_, '_>, contract: usize, index: usize) -> Option<MessageId>
+    ensures { (p : Program) → IsTypes p types.now → result ≡ model.message_number p contract index }
 {
-    let numbered = contract_at(types, contract)?.messages.get(place)?;
+    let numbered = contract_at(types, contract)?.messages.get(index)?;
     Some(numbered.id)
 }
 
 /// The message there.
-fn message_there<'a>(types: &Types<'_, 'a>, contract: usize, place: usize) -> Option<Meant<'a>>
-    ensures { (p : Program) → IsTypes p types.now → option_map meant_seen result ≡ model.message_there p contract place }
+fn message_there<'a>(types: &Types<'_, 'a>, contract: usize, index: usize) -> Option<Meant<'a>>
+    ensures { (p : Program) → IsTypes p types.now → option_map meant_model result ≡ model.message_there p contract index }
 {
-    let message = types.scope.message_at(contract, place)?;
-    let id = message_number(types, contract, place)?;
+    let message = types.scope.message_at(contract, index)?;
+    let id = message_number(types, contract, index)?;
     Some(Meant { id, message })
 }
 
@@ -41,7 +41,7 @@ pub(crate) fn message_named<'a>(
     contract: usize,
     name: Span,
 ) -> Option<Meant<'a>>
-    ensures { (p : Program) → IsTypes p types.now → option_map meant_seen result ≡ model.message_named p contract name }
+    ensures { (p : Program) → IsTypes p types.now → option_map meant_model result ≡ model.message_named p contract name }
 {
     let place = types.scope.message_place(contract, name)?;
     message_there(types, contract, place)
@@ -53,7 +53,7 @@ pub(crate) fn message_sent<'a>(
     contract: usize,
     word: Span,
 ) -> Option<Meant<'a>>
-    ensures { (p : Program) → IsTypes p types.now → option_map meant_seen result ≡ model.message_sent p contract word }
+    ensures { (p : Program) → IsTypes p types.now → option_map meant_model result ≡ model.message_sent p contract word }
 {
     let place = types.scope.sent_place(contract, word)?;
     message_there(types, contract, place)

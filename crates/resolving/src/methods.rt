@@ -5,10 +5,10 @@ ghost use Rattle.tree.specs.Trees.{ItemTree, contracts_of, program_tree, item_tr
 ghost use Rattle.declarations.specs.ItemMistakes.{items_mistakes, methods_in};
 ghost use Rattle.declarations.specs.Program as model;
 ghost use Rattle.declarations.specs.Program.{program_of};
-ghost use Rattle.program.specs.Parts.{contract_seen};
+ghost use Rattle.program.specs.Parts.{contract_model};
 ghost use Rattle.declarations.specs.Resolution.{resolved_contracts};
 ghost use Rattle.program.specs.declared.limits.TheConstants.{MOST_METHODS};
-ghost use Rattle.program.specs.Methods.{method_seen};
+ghost use Rattle.program.specs.Methods.{method_model};
 ghost use Rattle.declarations.specs.Scopes.{IsScope};
 ghost use Rattle.resolving.specs.Around.{IsAround, program_in};
 ghost use Rattle.resolving.specs.Brought.{brought, messages_told};
@@ -28,7 +28,7 @@ use crate::locals::{Declaration, Locals};
 use crate::statements::tell_statements;
 use crate::staying::Staying;
 use declarations::Scope;
-use program::{Kind, Method, Resolved, Role};
+use program::{HeapKind, Method, Resolved, Role};
 use source::Memory;
 use std::alloc::{AllocError, Global};
 use tree::{Definition, Item, Parameter, Tree};
@@ -50,8 +50,8 @@ fn parameter_declaration(around: &Around<'_, '_>, parameter: Parameter) -> Decla
 {
     Declaration {
         name: parameter.name,
-        kind: around.types.scope.kind(parameter.kind),
-        held: type_held(&around.types, parameter.kind),
+        kind: around.types.scope.kind(parameter.ty),
+        held: type_held(&around.types, parameter.ty),
         role: role_of(parameter),
     }
 }
@@ -94,7 +94,7 @@ fn resolve_method(
     method: &tree::Method,
 ) -> Result<Method, AllocError>
     ensures { (items : List ItemTree) (own : ℕ) → IsAround (program_in text.now items) own around.now
-        → IfOk result (λ m. method_seen m ≡ method_told (program_in text.now items) own (method_tree method.now)) }
+        → IfOk result (λ m. method_model m ≡ method_told (program_in text.now items) own (method_tree method.now)) }
 {
     let mut locals = Locals::new(around.alloc);
     declare_parameters(text, around, &mut locals, &method.params)?;
@@ -132,7 +132,7 @@ fn add_methods(
     resolved: &mut Vec<Method>,
 ) -> Result<(), AllocError>
     ensures { (items : List ItemTree) (own : ℕ) → IsAround (program_in text.now items) own around.now
-        → OnOk result (map method_seen resolved.new.items ≡ map method_seen resolved.old.items
+        → OnOk result (map method_model resolved.new.items ≡ map method_model resolved.old.items
         ++ map (method_told (program_in text.now items) own) (map method_tree methods.now)) }
 {
     for method in methods {
@@ -145,8 +145,8 @@ fn add_methods(
 /// exchange heap, what a struct has in its fields that own, and the method with its names resolved.
 #[derive(Drop)]
 pub struct Program {
-    pub messages: Vec<Vec<Kind>>,
-    pub structs: Vec<Vec<Kind>>,
+    pub messages: Vec<Vec<HeapKind>>,
+    pub structs: Vec<Vec<HeapKind>>,
     pub methods: Vec<Method>,
 }
 
@@ -158,7 +158,7 @@ fn resolve_items<'a>(
     contracts: &Resolved,
     items: &'a [Item],
 ) -> Result<Program, AllocError>
-    requires contracts { map contract_seen contracts.now.contracts.items
+    requires contracts { map contract_model contracts.now.contracts.items
         ≡ resolved_contracts text.now (contracts_of (map item_tree items.now)) }
     requires room { length contracts.now.contracts.items < 2 ^ 32 }
     requires scope { IsScope (program_in text.now (map item_tree items.now)) scope.now }
@@ -167,7 +167,7 @@ fn resolve_items<'a>(
         ≡ messages_told (program_in text.now (map item_tree items.now))) }
     ensures structs { IfOk result (λ program. rows program.structs.items
         ≡ structs_told (program_in text.now (map item_tree items.now))) }
-    ensures methods { IfOk result (λ program. map method_seen program.methods.items
+    ensures methods { IfOk result (λ program. map method_model program.methods.items
         ≡ methods_told (program_in text.now (map item_tree items.now))) }
 {
     let before = count_items(alloc, items)?;
@@ -209,13 +209,13 @@ pub fn resolve_methods(
     text: &[u8],
     contracts: &Resolved,
 ) -> Result<Program, Memory>
-    requires contracts { map contract_seen contracts.now.contracts.items
+    requires contracts { map contract_model contracts.now.contracts.items
         ≡ resolved_contracts text.now (contracts_of (program_tree tree.now)) }
     requires room { length contracts.now.contracts.items < 2 ^ 32 }
     requires clean { items_mistakes (program_of text.now tree.now) ≡ [] }
     ensures messages { IfOk result (λ program. rows program.messages.items ≡ messages_told (program_of text.now tree.now)) }
     ensures structs { IfOk result (λ program. rows program.structs.items ≡ structs_told (program_of text.now tree.now)) }
-    ensures resolved { IfOk result (λ program. map method_seen program.methods.items
+    ensures resolved { IfOk result (λ program. map method_model program.methods.items
         ≡ methods_told (program_of text.now tree.now)) }
     ensures few { IfOk result (λ program. length program.methods.items ≤ MOST_METHODS) }
 {

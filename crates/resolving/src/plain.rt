@@ -77,9 +77,9 @@ fn declared_mention(
 ) -> Option<Mention>
     ensures { (items : List ItemTree) (own : ℕ) (f : Frame) → IsAround (program_in text.now items) own around.now
         → IsFrame text.now f locals.now → result ≡ option_map (mention_of declare.now.name)
-        (next_number (type_held (program_in text.now items) declare.now.kind) f) }
+        (next_number (type_held (program_in text.now items) declare.now.ty) f) }
 {
-    let variable = locals.next_number(type_held(&around.types, declare.kind))?;
+    let variable = locals.next_number(type_held(&around.types, declare.ty))?;
     Some(Mention {
         variable,
         place: declare.name.place,
@@ -95,7 +95,7 @@ fn tell_declare(
 ) -> Result<Statement, AllocError>
     ensures { (items : List ItemTree) (own : ℕ) → IsAround (program_in text.now items) own around.now → IfOk result (Tells
         text.now locals.now (λ f. first_value (program_in text.now items) own f declare.now.name (next_number
-        (type_held (program_in text.now items) declare.now.kind) f) (option_map value_tree declare.now.value))) }
+        (type_held (program_in text.now items) declare.now.ty) f) (option_map value_tree declare.now.value))) }
 {
     match &declare.value {
         Some(value) => {
@@ -187,8 +187,8 @@ fn declaration_of(around: &Around<'_, '_>, declare: &Declare) -> Declaration
 {
     Declaration {
         name: declare.name,
-        kind: around.types.scope.kind(declare.kind),
-        held: type_held(&around.types, declare.kind),
+        kind: around.types.scope.kind(declare.ty),
+        held: type_held(&around.types, declare.ty),
         role: Role::Local,
     }
 }

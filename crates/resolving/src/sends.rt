@@ -4,8 +4,8 @@ ghost use Rattle.std.specs.Prelude.{◌≡◌, ℕ, List, IfOk, map, option_map}
 ghost use Rattle.tree.specs.ExpressionTrees.{expression_tree};
 ghost use Rattle.tree.specs.Trees.{ItemTree};
 ghost use Rattle.tree.specs.Values.{call_tree};
-ghost use Rattle.program.specs.Statements.{send_seen};
-ghost use Rattle.resolving.specs.Around.{IsAround, meant_seen, program_in};
+ghost use Rattle.program.specs.Statements.{send_model};
+ghost use Rattle.resolving.specs.Around.{IsAround, meant_model, program_in};
 ghost use Rattle.resolving.specs.Frames.{IsFrame};
 ghost use Rattle.resolving.specs.Locals.{Frame};
 ghost use Rattle.resolving.specs.Steps.{Tells, TellsSend};
@@ -38,9 +38,9 @@ fn send_of(
     call: &Call,
     sending: Sending<'_>,
 ) -> Result<Send, AllocError>
-    ensures { (items : List ItemTree) (own : ℕ) (f : Frame) → IsFrame text.now f locals.now → IfOk result (λ s. send_seen s
+    ensures { (items : List ItemTree) (own : ℕ) (f : Frame) → IsFrame text.now f locals.now → IfOk result (λ s. send_model s
         ≡ told.send_of (program_in text.now items) own f
-        sending.entry.word (call_tree call.now) sending.entry.endpoint (meant_seen sending.entry.meant)) }
+        sending.entry.word (call_tree call.now) sending.entry.endpoint (meant_model sending.entry.meant)) }
 {
     let mut reads = Vec::new(alloc);
     add_argument_reads(text, locals, &call.arguments, &mut reads)?;
@@ -63,7 +63,7 @@ fn sent_by<'a>(
 ) -> Option<Meant<'a>>
     ensures { (items : List ItemTree) (own : ℕ) (f : Frame)
         → IsAround (program_in text.now items) own around.now → IsFrame text.now f locals.now
-        → option_map meant_seen result ≡ told.meant_by (program_in text.now items) f (call_tree call.now) word }
+        → option_map meant_model result ≡ told.meant_by (program_in text.now items) f (call_tree call.now) word }
 {
     let contract = locals.contract(text, call.name)?;
     message_sent(&around.types, contract, word)

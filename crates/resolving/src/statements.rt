@@ -2,9 +2,9 @@
 
 ghost use Rattle.std.specs.Prelude.{◌≡◌, ℕ, List, map, IfOk, option_map};
 ghost use Rattle.program.specs.Statements as seen;
-ghost use Rattle.program.specs.Statements.{statement_seen, block_seen, test_seen, if_seen, case_seen};
+ghost use Rattle.program.specs.Statements.{statement_model, block_model, test_model, if_model, case_model};
 ghost use Rattle.resolving.specs.Around.{IsAround, program_in};
-ghost use Rattle.resolving.specs.Frames.{IsFrame, staying_seen};
+ghost use Rattle.resolving.specs.Frames.{IsFrame, staying_model};
 ghost use Rattle.resolving.specs.Locals.{Frame};
 ghost use Rattle.resolving.specs.Steps.{IsTold, walked};
 ghost use Rattle.resolving.specs.Plain.{plain_told, frame_behind};
@@ -38,7 +38,7 @@ fn tell_alone<'a>(
           what = plain_told (program_in text.now items) own f (statement_tree statement.now);
           frame = frame_behind
               (program_in text.now items) own f (statement_tree statement.now);
-        }) (statement_seen s) locals.new) }
+        }) (statement_model s) locals.new) }
 {
     let told = tell_plain(text, around, locals, statement)?;
     declare_in(text, around, locals, statement)?;
@@ -56,7 +56,7 @@ fn tell_statement<'a>(
 ) -> Result<Statement, AllocError>
     ensures { (items : List ItemTree) (own : ℕ) (f : Frame) → IsAround (program_in text.now items) own around.now
         → IsFrame text.now f locals.old → IfOk result (λ s. IsTold text.now (statement_told (program_in
-        text.now items) own (staying_seen stays) (statement_tree statement.now) f) (statement_seen s) locals.new) }
+        text.now items) own (staying_model stays) (statement_tree statement.now) f) (statement_model s) locals.new) }
 {
     match statement {
         tree::Statement::Block(block) => {
@@ -90,14 +90,14 @@ fn tell_statement<'a>(
 
 /// An `if` as a statement.
 fn if_of(alloc: Global, branches: If) -> Result<Statement, AllocError>
-    ensures { IfOk result (λ s. statement_seen s ≡ seen.If (if_seen branches).first (if_seen branches).others) }
+    ensures { IfOk result (λ s. statement_model s ≡ seen.If (if_model branches).first (if_model branches).others) }
 {
     Ok(Statement::If(Box::new(alloc, branches)?))
 }
 
 /// A `while` as a statement.
 fn while_of(alloc: Global, test: Test) -> Result<Statement, AllocError>
-    ensures { IfOk result (λ s. statement_seen s ≡ seen.While (test_seen test)) }
+    ensures { IfOk result (λ s. statement_model s ≡ seen.While (test_model test)) }
 {
     Ok(Statement::While(Box::new(alloc, test)?))
 }
@@ -113,8 +113,8 @@ pub(crate) fn tell_statements<'a>(
 ) -> Result<Vec<Statement>, AllocError>
     ensures { (items : List ItemTree) (own : ℕ) (f : Frame) → IsAround (program_in text.now items) own around.now
         → IsFrame text.now f locals.old → IfOk result
-        (λ list. IsTold text.now (statements_told (program_in text.now items) own (staying_seen stays)
-        (statement_row (map statement_tree statements.now)) f) (seen.statement_row (map statement_seen list.items)) locals.new) }
+        (λ list. IsTold text.now (statements_told (program_in text.now items) own (staying_model stays)
+        (statement_row (map statement_tree statements.now)) f) (seen.statement_row (map statement_model list.items)) locals.new) }
 {
     let mut told = Vec::with_capacity(around.alloc, statements.len())?;
     for statement in statements {
@@ -134,7 +134,7 @@ fn tell_block<'a>(
 ) -> Result<Block, AllocError>
     ensures { (items : List ItemTree) (own : ℕ) (f : Frame) → IsAround (program_in text.now items) own around.now
         → IsFrame text.now f locals.old → IfOk result (λ b. IsTold text.now (block_told
-        (program_in text.now items) own (staying_seen stays) (block_tree block.now) f) (block_seen b) locals.new) }
+        (program_in text.now items) own (staying_model stays) (block_tree block.now) f) (block_model b) locals.new) }
 {
     let outer = locals.len();
     let last = locals.last();
@@ -155,7 +155,7 @@ fn tell_test<'a>(
 ) -> Result<Test, AllocError>
     ensures { (items : List ItemTree) (own : ℕ) (f : Frame) → IsAround (program_in text.now items) own around.now
         → IsFrame text.now f locals.old → IfOk result (λ t. IsTold text.now
-        (test_told (program_in text.now items) own (staying_seen stays) (test_tree test.now) f) (test_seen t) locals.new) }
+        (test_told (program_in text.now items) own (staying_model stays) (test_tree test.now) f) (test_model t) locals.new) }
 {
     let mut reads = Vec::new(around.alloc);
     add_reads(text, locals, &test.test, &mut reads)?;
@@ -179,7 +179,7 @@ fn tell_tests<'a>(
 ) -> Result<Vec<Test>, AllocError>
     ensures { (items : List ItemTree) (own : ℕ) (f : Frame) → IsAround (program_in text.now items) own around.now
         → IsFrame text.now f locals.old → IfOk result (λ list. IsTold text.now (walked (test_told (program_in
-        text.now items) own (staying_seen stays)) (map test_tree tests.now) f) (map test_seen list.items) locals.new) }
+        text.now items) own (staying_model stays)) (map test_tree tests.now) f) (map test_model list.items) locals.new) }
 {
     let mut told = Vec::with_capacity(around.alloc, tests.len())?;
     for test in tests {
@@ -199,8 +199,8 @@ fn tell_otherwise<'a>(
 ) -> Result<Option<Block>, AllocError>
     ensures { (items : List ItemTree) (own : ℕ) (f : Frame)
         → IsAround (program_in text.now items) own around.now → IsFrame text.now f locals.old
-        → IfOk result (λ b. IsTold text.now (others_told (program_in text.now items) own (staying_seen stays)
-        (last_other (option_map block_tree otherwise.now)) f) (seen.last_other (option_map block_seen b)) locals.new) }
+        → IfOk result (λ b. IsTold text.now (others_told (program_in text.now items) own (staying_model stays)
+        (last_other (option_map block_tree otherwise.now)) f) (seen.last_other (option_map block_model b)) locals.new) }
 {
     match otherwise {
         Some(block) => {
@@ -222,9 +222,9 @@ fn tell_if<'a>(
 ) -> Result<If, AllocError>
     ensures { (items : List ItemTree) (own : ℕ) (f : Frame) → IsAround (program_in text.now items) own around.now
         → IsFrame text.now f locals.old → IfOk result (λ i. IsTold text.now
-        (follow seen.If (test_told (program_in text.now items) own (staying_seen stays) (if_tree branches.now).first f)
-        (others_told (program_in text.now items) own (staying_seen stays) (if_tree branches.now).others))
-        (seen.If (if_seen i).first (if_seen i).others) locals.new) }
+        (follow seen.If (test_told (program_in text.now items) own (staying_model stays) (if_tree branches.now).first f)
+        (others_told (program_in text.now items) own (staying_model stays) (if_tree branches.now).others))
+        (seen.If (if_model i).first (if_model i).others) locals.new) }
 {
     let first = tell_test(text, around, locals, stays, &branches.first)?;
     let others = tell_tests(text, around, locals, stays, &branches.others)?;
@@ -248,8 +248,8 @@ fn tell_cases<'a>(
     ensures { (items : List ItemTree) (own : ℕ) (f : Frame)
         → IsAround (program_in text.now items) own around.now → IsFrame text.now f locals.old
         → IfOk result (λ list. IsTold text.now (cases_told (program_in text.now items) own
-        (staying_seen stays) (MoreCases (switch_tree switch.now).first (case_row (switch_tree switch.now).others))
-        (switch_tree switch.now).close.place f) (seen.case_row (map case_seen list.items)) locals.new) }
+        (staying_model stays) (MoreCases (switch_tree switch.now).first (case_row (switch_tree switch.now).others))
+        (switch_tree switch.now).close.place f) (seen.case_row (map case_model list.items)) locals.new) }
 {
     let mut told = Vec::new(around.alloc);
     let mut case = &switch.first;
@@ -274,21 +274,21 @@ fn tell_case<'a>(
 ) -> Result<Case, AllocError>
     ensures { (items : List ItemTree) (own : ℕ) (f : Frame) → IsAround (program_in text.now items) own around.now
         → IsFrame text.now f locals.old → IfOk result (λ c. IsTold text.now (case_told
-        (program_in text.now items) own (staying_seen stays) behind (case_tree case.now) f) (case_seen c) locals.new) }
+        (program_in text.now items) own (staying_model stays) behind (case_tree case.now) f) (case_model c) locals.new) }
 {
     let kept = locals.len();
     let last = locals.last();
     let endpoint = case_endpoint(text, locals, case.endpoint);
     let meant = awaited_message(text, around, locals, case.endpoint, case.message);
     let params = awaited_params(meant);
-    let bound = declare_binds(text, around, locals, params, &case.binds)?;
+    let targets = declare_binds(text, around, locals, params, &case.binds)?;
     let statements = tell_statements(text, around, locals, stays, &case.statements)?;
     let forget = forget_past(behind, last, locals.last());
     locals.leave(text, kept, last);
     Ok(Case {
         endpoint,
         awaited: awaited_as(case.message, meant),
-        bound,
+        targets,
         body: Block { statements, forget },
     })
 }

@@ -6,7 +6,7 @@ ghost use Rattle.tree.specs.Trees.{ItemTree};
 ghost use Rattle.tree.specs.Values as values;
 ghost use Rattle.tree.specs.Values.{call_tree, value_tree, made_tree};
 ghost use Rattle.program.specs.Statements as seen;
-ghost use Rattle.program.specs.Statements.{statement_seen};
+ghost use Rattle.program.specs.Statements.{statement_model};
 ghost use Rattle.resolving.specs.Around.{IsAround, program_in};
 ghost use Rattle.resolving.specs.Steps.{AddsReads, Tells};
 ghost use Rattle.resolving.specs.Frames.{IsFrame};
@@ -25,14 +25,14 @@ use tree::{Expression, Made, Value};
 
 /// The statement that reads these, and then does this.
 fn simple_statement(reads: Vec<Mention>, action: Action) -> Statement
-    ensures { statement_seen result ≡ told reads.items action }
+    ensures { statement_model result ≡ told reads.items action }
 {
     Statement::Simple(Simple { reads, action })
 }
 
 /// A statement that reads nothing.
 pub(crate) fn unread(alloc: Global, action: Action) -> Statement
-    ensures { statement_seen result ≡ told [] action }
+    ensures { statement_model result ≡ told [] action }
 {
     simple_statement(Vec::new(alloc), action)
 }

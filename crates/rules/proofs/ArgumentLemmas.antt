@@ -9,10 +9,10 @@ use Rattle.std.proofs.lemmas.Bool.Decides.{nat_tests}
 use Rattle.std.proofs.lemmas.List.{at_drop_all, at_drop_more, drop_all}
 use Rattle.source.specs.Findings.{FindingParts}
 use Rattle.program.specs.Lists.{is_among}
-use Rattle.program.specs.Methods.{MethodSeen}
+use Rattle.program.specs.Methods.{MethodModel}
 use Rattle.program.specs.declared.call.Argument.{Argument}
 use Rattle.program.specs.declared.statement.Mention.{Mention}
-use Rattle.rules.specs.Checks.{AreIn, StandsFor, check_seen}
+use Rattle.rules.specs.Checks.{AreIn, StandsFor, check_model}
 use Rattle.rules.specs.Arguments.{claimed, given_before}
 use Rattle.rules.specs.Mentions.{name_of}
 use Rattle.rules.specs.Outcomes.{Check, Pair, checked, refused}
@@ -79,20 +79,20 @@ none_in set empty = λ q. ap (list_any (is_at (nat_cmp q))) empty
 pub looked_first : (set : BTreeSet ℕ) (arguments : List Argument) → IsEmpty set → Looked set arguments 0
 looked_first set arguments empty = record { same = ([], none_in set empty, refl) }
 
-one : (m : MethodSeen) (b : Bool) (x : Mention) (checks more : List Check) (again : Option Mention) (after : List Pair) → checked (checks ++ more) after ≡ checked (told_again m again ∷ more) after
+one : (m : MethodModel) (b : Bool) (x : Mention) (checks more : List Check) (again : Option Mention) (after : List Pair) → checked (checks ++ more) after ≡ checked (told_again m again ∷ more) after
     → checked (refused b (twice (name_of m x.variable.0) x.place) ∷ (checks ++ more)) after ≡ checked (told_again m (if b then Some x else again) ∷ more) after
 one m true x checks more again after h = refl
 one m false x checks more again after h = h
 
 -- the first one that was given before is the finding
-pub again_is : (m : MethodSeen) (earlier : List ℕ) (arguments : List Argument) (more : List Check) (after : List Pair) → checked (given_before m earlier arguments ++ more) after ≡ checked (told_again m (first_again earlier arguments) ∷ more) after
+pub again_is : (m : MethodModel) (earlier : List ℕ) (arguments : List Argument) (more : List Check) (after : List Pair) → checked (given_before m earlier arguments ++ more) after ≡ checked (told_again m (first_again earlier arguments) ∷ more) after
 again_is m earlier [] more after = refl
 again_is m earlier (a ∷ arguments) more after =
     let x = a.mention in
     one m (is_among earlier x.variable.0) x (given_before m (x.variable.0 ∷ earlier) arguments) more (first_again (x.variable.0 ∷ earlier) arguments) after (again_is m (x.variable.0 ∷ earlier) arguments more after)
 
 -- what was found stands for the checks that none was given before
-pub again_stands : (m : MethodSeen) (earlier : List ℕ) (arguments : List Argument) (again : Option Mention) (says : Breach → FindingParts) (found : Option Breach) → again ≡ first_again earlier arguments → check_seen says found ≡ told_again m again → StandsFor says found (given_before m earlier arguments)
+pub again_stands : (m : MethodModel) (earlier : List ℕ) (arguments : List Argument) (again : Option Mention) (says : Breach → FindingParts) (found : Option Breach) → again ≡ first_again earlier arguments → check_model says found ≡ told_again m again → StandsFor says found (given_before m earlier arguments)
 again_stands m earlier arguments again says found is told =
     record { all = λ more after. again_is m earlier arguments more after ∙ ap (λ a. checked (told_again m a ∷ more) after) (sym is) ∙ ap (λ f. checked (f ∷ more) after) (sym told) }
 
@@ -106,19 +106,19 @@ left_all checks = record { all = λ more after. refl }
 
 module _ (says : Breach → FindingParts) where
   left_behind : (checks before left rest : List Check) (found : Option Breach) → left ≡ before ++ rest → StandsFor says found before → Left checks left
-      → (more : List Check) (after : List Pair) → checked (checks ++ more) after ≡ checked (check_seen says found ∷ (rest ++ more)) after
+      → (more : List Check) (after : List Pair) → checked (checks ++ more) after ≡ checked (check_model says found ∷ (rest ++ more)) after
   left_behind checks before left rest found is stands h more after =
       h.all more after ∙ ap (λ l. checked (l ++ more) after) is ∙ ap (λ l. checked l after) (append_assoc before rest more) ∙ stands.all (rest ++ more) after
 
   -- the first of those that are left went well
   pub left_less : (checks before left rest : List Check) (found : Option Breach) → left ≡ before ++ rest → found ≡ None → StandsFor says found before → Left checks left → Left checks rest
   left_less checks before left rest found is none stands h =
-      record { all = λ more after. left_behind checks before left rest found is stands h more after ∙ ap (λ f. checked (check_seen says f ∷ (rest ++ more)) after) none }
+      record { all = λ more after. left_behind checks before left rest found is stands h more after ∙ ap (λ f. checked (check_model says f ∷ (rest ++ more)) after) none }
 
   -- the first of those that are left failed
   pub left_found : (checks before left rest : List Check) (found : Option Breach) (breach : Breach) → left ≡ before ++ rest → found ≡ Some breach → StandsFor says found before → Left checks left → StandsFor says (Some breach) checks
   left_found checks before left rest found breach is some stands h =
-      record { all = λ more after. left_behind checks before left rest found is stands h more after ∙ ap (λ f. checked (check_seen says f ∷ (rest ++ more)) after) some }
+      record { all = λ more after. left_behind checks before left rest found is stands h more after ∙ ap (λ f. checked (check_model says f ∷ (rest ++ more)) after) some }
 
   -- none is left
   pub left_none : (checks left : List Check) → left ≡ [] → Left checks left → StandsFor says None checks

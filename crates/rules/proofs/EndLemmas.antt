@@ -10,15 +10,15 @@ use Rattle.std.proofs.lemmas.Option.{get_or_from_slice_get, slice_get-map, slice
 use Rattle.contracts.specs.Sounds.{sound_parts}
 use Rattle.contracts.specs.declared.sound.Sound.{Sound}
 use Rattle.program.specs.Lists.{Each}
-use Rattle.program.specs.Methods.{VariableSeen, variable_seen}
+use Rattle.program.specs.Methods.{VariableModel, variable_model}
 use Rattle.program.specs.declared.method.Variable.{Variable}
-use Rattle.program.specs.Parts.{ContractSeen, IsWhole, Parts, StateParts, state_ids}
+use Rattle.program.specs.Parts.{ContractModel, IsWhole, Parts, StateParts, state_ids}
 use Rattle.program.specs.WellFormed.{IsKind, IsStateOf}
-use Rattle.program.specs.declared.kind.Kind.{Kind}
-use Rattle.program.specs.declared.kind.Kind.TheVariants.{Struct, Array, Endpoint}
+use Rattle.program.specs.declared.kind.HeapKind.{HeapKind}
+use Rattle.program.specs.declared.kind.HeapKind.TheVariants.{Struct, Array, Endpoint}
 use Rattle.program.specs.declared.limits.TheConstants.{MOST_STATES}
 use Rattle.program.specs.declared.number.StateId.{StateId}
-use Rattle.program.specs.Programs.{ProgramSeen}
+use Rattle.program.specs.Programs.{ProgramModel}
 use Rattle.program.specs.declared.kind.Side.{Side}
 use Rattle.program.specs.declared.number.ContractId.{ContractId}
 use Rattle.contracts.specs.Bounds.{sign_to}
@@ -28,18 +28,18 @@ use Rattle.rules.specs.Endpoints.{declared_leaf}
 use Rattle.rules.specs.Leaves.{IsNumbered}
 
 -- a sound contract is whole
-whole_at : (sounds : List Sound) (contracts : List ContractSeen) (n : ℕ) (c : ContractSeen) → map sound_parts sounds ≡ map (λ (x : ContractSeen). x.parts) contracts → slice_get contracts n ≡ Some c → ∥ IsWhole c.parts ∥₁
+whole_at : (sounds : List Sound) (contracts : List ContractModel) (n : ℕ) (c : ContractModel) → map sound_parts sounds ≡ map (λ (x : ContractModel). x.parts) contracts → slice_get contracts n ≡ Some c → ∥ IsWhole c.parts ∥₁
 whole_at [] [] n c same there = absurd (cc)
 whole_at [] (d ∷ contracts) n c same there = absurd (cc)
 whole_at (s ∷ sounds) [] n c same there = absurd (cc)
 whole_at (s ∷ sounds) (d ∷ contracts) zero c same there =
     let head : sound_parts s ≡ d.parts = cc in
     let here : d ≡ c = cc in
-    subst (λ parts. ∥ IsWhole parts ∥₁) (head ∙ ap (λ (x : ContractSeen). x.parts) here) s.whole
+    subst (λ parts. ∥ IsWhole parts ∥₁) (head ∙ ap (λ (x : ContractModel). x.parts) here) s.whole
 whole_at (s ∷ sounds) (d ∷ contracts) (suc n) c same there = whole_at sounds contracts n c (cc) there
 
 -- the number of a state of a contract is one that a state may have
-state_numbered : (c : ContractSeen) (state : StateId) → ∥ IsWhole c.parts ∥₁ → IsStateOf c state → state.0 < MOST_STATES
+state_numbered : (c : ContractModel) (state : StateId) → ∥ IsWhole c.parts ∥₁ → IsStateOf c state → state.0 < MOST_STATES
 state_numbered c state whole is =
     ∥∥₁_elim whole le_prop (λ w.
     let within = slice_get_within c.parts.states is.place is.state is.there in
@@ -49,55 +49,55 @@ state_numbered c state whole is =
     subst (λ (q : StateId). q.0 < MOST_STATES) (get_or_from_slice_get (state_ids c.parts) is.place is.state.id state read ∙ is.is) at)
 
 -- and so is that of a leaf that a kind declares
-pub kind_numbered : (sounds : List Sound) (contracts : List ContractSeen) (kind : Kind) → map sound_parts sounds ≡ map (λ (x : ContractSeen). x.parts) contracts → IsKind contracts kind → IsNumbered (declared_leaf kind)
+pub kind_numbered : (sounds : List Sound) (contracts : List ContractModel) (kind : HeapKind) → map sound_parts sounds ≡ map (λ (x : ContractModel). x.parts) contracts → IsKind contracts kind → IsNumbered (declared_leaf kind)
 kind_numbered sounds contracts (Struct n) same is = tt
 kind_numbered sounds contracts (Array element) same is = tt
 kind_numbered sounds contracts (Endpoint contract side state) same is = endpoint (slice_get contracts contract.0) refl is
   where
-    endpoint : (o : Option ContractSeen) → slice_get contracts contract.0 ≡ o → IsSomeAnd o (λ c. IsStateOf c state) → state.0 < MOST_STATES
+    endpoint : (o : Option ContractModel) → slice_get contracts contract.0 ≡ o → IsSomeAnd o (λ c. IsStateOf c state) → state.0 < MOST_STATES
     endpoint None there h = absurd h
     endpoint (Some c) there h = state_numbered c state (whole_at sounds contracts contract.0 c same there) h
 
-pub option_numbered : (sounds : List Sound) (contracts : List ContractSeen) (kind : Option Kind) → map sound_parts sounds ≡ map (λ (x : ContractSeen). x.parts) contracts → IfSome kind (IsKind contracts) → IfSome kind (λ k. IsNumbered (declared_leaf k))
+pub option_numbered : (sounds : List Sound) (contracts : List ContractModel) (kind : Option HeapKind) → map sound_parts sounds ≡ map (λ (x : ContractModel). x.parts) contracts → IfSome kind (IsKind contracts) → IfSome kind (λ k. IsNumbered (declared_leaf k))
 option_numbered sounds contracts None same is = tt
 option_numbered sounds contracts (Some kind) same is = kind_numbered sounds contracts kind same is
 
 -- what each of these declares
-pub kinds_numbered : (sounds : List Sound) (contracts : List ContractSeen) (kinds : List Kind) → map sound_parts sounds ≡ map (λ (x : ContractSeen). x.parts) contracts → Each (IsKind contracts) kinds → All (λ kind. IsNumbered (declared_leaf kind)) kinds
+pub kinds_numbered : (sounds : List Sound) (contracts : List ContractModel) (kinds : List HeapKind) → map sound_parts sounds ≡ map (λ (x : ContractModel). x.parts) contracts → Each (IsKind contracts) kinds → All (λ kind. IsNumbered (declared_leaf kind)) kinds
 kinds_numbered sounds contracts [] same are = All-nil (λ kind. IsNumbered (declared_leaf kind))
 kinds_numbered sounds contracts (kind ∷ kinds) same are =
     All-cons (λ k. IsNumbered (declared_leaf k)) kind kinds (kind_numbered sounds contracts kind same are.0) (kinds_numbered sounds contracts kinds same are.1)
 
 -- and what each of these variables holds
-pub variables_numbered : (sounds : List Sound) (contracts : List ContractSeen) (variables : List Variable) → map sound_parts sounds ≡ map (λ (x : ContractSeen). x.parts) contracts → Each (λ (v : VariableSeen). IsKind contracts v.kind) (map variable_seen variables)
+pub variables_numbered : (sounds : List Sound) (contracts : List ContractModel) (variables : List Variable) → map sound_parts sounds ≡ map (λ (x : ContractModel). x.parts) contracts → Each (λ (v : VariableModel). IsKind contracts v.kind) (map variable_model variables)
     → All (λ (v : Variable). IsNumbered (declared_leaf v.kind)) variables
 variables_numbered sounds contracts [] same are = All-nil (λ (v : Variable). IsNumbered (declared_leaf v.kind))
 variables_numbered sounds contracts (v ∷ variables) same are =
     All-cons (λ (x : Variable). IsNumbered (declared_leaf x.kind)) v variables (kind_numbered sounds contracts v.kind same are.0) (variables_numbered sounds contracts variables same are.1)
 
 -- the parts of a contract of the program
-pub parts_there : (sounds : List Sound) (contracts : List ContractSeen) (n : ℕ) (s : Sound) → map sound_parts sounds ≡ map (λ (x : ContractSeen). x.parts) contracts → slice_get sounds n ≡ Some s
-    → option_map (λ (c : ContractSeen). c.parts) (slice_get contracts n) ≡ Some (sound_parts s)
+pub parts_there : (sounds : List Sound) (contracts : List ContractModel) (n : ℕ) (s : Sound) → map sound_parts sounds ≡ map (λ (x : ContractModel). x.parts) contracts → slice_get sounds n ≡ Some s
+    → option_map (λ (c : ContractModel). c.parts) (slice_get contracts n) ≡ Some (sound_parts s)
 parts_there sounds contracts n s same there =
-    sym (slice_get-map (λ (c : ContractSeen). c.parts) contracts n) ∙ ap (λ l. slice_get l n) (sym same) ∙ slice_get-map sound_parts sounds n ∙ ap (option_map sound_parts) there
+    sym (slice_get-map (λ (c : ContractModel). c.parts) contracts n) ∙ ap (λ l. slice_get l n) (sym same) ∙ slice_get-map sound_parts sounds n ∙ ap (option_map sound_parts) there
 
-none_there : (o : Option ContractSeen) → option_map (λ (c : ContractSeen). c.parts) o ≡ None → o ≡ None
+none_there : (o : Option ContractModel) → option_map (λ (c : ContractModel). c.parts) o ≡ None → o ≡ None
 none_there None none = refl
 none_there (Some c) none = absurd (cc)
 
 -- and none past the last
-pub parts_past : (sounds : List Sound) (contracts : List ContractSeen) (n : ℕ) → map sound_parts sounds ≡ map (λ (x : ContractSeen). x.parts) contracts → slice_get sounds n ≡ None → slice_get contracts n ≡ None
+pub parts_past : (sounds : List Sound) (contracts : List ContractModel) (n : ℕ) → map sound_parts sounds ≡ map (λ (x : ContractModel). x.parts) contracts → slice_get sounds n ≡ None → slice_get contracts n ≡ None
 parts_past sounds contracts n same none =
     none_there (slice_get contracts n)
-    (sym (slice_get-map (λ (c : ContractSeen). c.parts) contracts n) ∙ ap (λ l. slice_get l n) (sym same) ∙ slice_get-map sound_parts sounds n ∙ ap (option_map sound_parts) none)
+    (sym (slice_get-map (λ (c : ContractModel). c.parts) contracts n) ∙ ap (λ l. slice_get l n) (sym same) ∙ slice_get-map sound_parts sounds n ∙ ap (option_map sound_parts) none)
 
 -- what is read off the parts
-pub read_parts : {X : Type 0} (f : Parts → X) (other : X) (o : Option ContractSeen) (parts : Parts) → option_map (λ (c : ContractSeen). c.parts) o ≡ Some parts → option_map_or (λ (c : ContractSeen). f c.parts) o other ≡ f parts
+pub read_parts : {X : Type 0} (f : Parts → X) (other : X) (o : Option ContractModel) (parts : Parts) → option_map (λ (c : ContractModel). c.parts) o ≡ Some parts → option_map_or (λ (c : ContractModel). f c.parts) o other ≡ f parts
 read_parts f other None parts is = absurd (cc)
 read_parts f other (Some c) parts is = let same : c.parts ≡ parts = cc in ap f same
 
 -- an endpoint of a kind is a side of its contract
-pub end_there : (p : ProgramSeen) (contract : ContractId) (side : Side) (state : StateId) (parts : Parts) → option_map (λ (c : ContractSeen). c.parts) (slice_get p.contracts contract.0) ≡ Some parts
+pub end_there : (p : ProgramModel) (contract : ContractId) (side : Side) (state : StateId) (parts : Parts) → option_map (λ (c : ContractModel). c.parts) (slice_get p.contracts contract.0) ≡ Some parts
     → IsEndOf p (Some (Endpoint contract side state)) parts side
 end_there p contract side state parts is =
     let edges = read_parts (λ (x : Parts). x.edges) [] (slice_get p.contracts contract.0) parts is in
@@ -108,13 +108,13 @@ end_there p contract side state parts is =
     }
 
 -- it is none where there is no such contract
-pub end_nowhere : (p : ProgramSeen) (contract : ContractId) (side : Side) (state : StateId) → slice_get p.contracts contract.0 ≡ None → IsNoEnd p (Some (Endpoint contract side state))
+pub end_nowhere : (p : ProgramModel) (contract : ContractId) (side : Side) (state : StateId) → slice_get p.contracts contract.0 ≡ None → IsNoEnd p (Some (Endpoint contract side state))
 end_nowhere p contract side state none =
-    let edges = ap (λ o. option_map_or (λ (c : ContractSeen). c.parts.edges) o []) none in
+    let edges = ap (λ o. option_map_or (λ (c : ContractModel). c.parts.edges) o []) none in
     record {
       sends = λ q. ap (λ l. edges_from l (sign_from side) q) edges;
       receives = λ q. ap (λ l. edges_from l (sign_to side) q) edges;
-      says = λ message. ap (λ o. option_map_or (λ (c : ContractSeen). name_among c.parts.messages message) o []) none;
+      says = λ message. ap (λ o. option_map_or (λ (c : ContractModel). name_among c.parts.messages message) o []) none;
     }
 
 -- what holds of each stands for the one at a place

@@ -2,7 +2,7 @@
 use Rattle.std.proofs.Common.{◌≡◌, ℕ, ◌<◌, ◌≤◌, Bool, true, false, not, ◌&&◌, List, [], ◌∷◌, length, Option, None, Some, if◌then◌else◌, refl, sym, ap, ◌∙◌, arith, ⊎_elim, slice_get, slice_index_or}
 use Rattle.std.proofs.lemmas.Bool.{cases_lt}
 use Rattle.std.proofs.lemmas.Option.{slice_get-get_or, slice_get_past}
-use Rattle.program.specs.Methods.{MethodSeen}
+use Rattle.program.specs.Methods.{MethodModel}
 use Rattle.program.specs.declared.statement.Mention.{Mention}
 use Rattle.rules.specs.Checks.{first_kept}
 use Rattle.rules.specs.Leaves.{is_something}
@@ -15,7 +15,7 @@ none_of true true = refl
 none_of true false = refl
 none_of false b = refl
 
-module _ (m : MethodSeen) (row : List Leaf) (spared : Option Mention) where
+module _ (m : MethodModel) (row : List Leaf) (spared : Option Mention) where
   -- a variable that has nothing is not kept
   empty : (v : ℕ) → is_owned row v ≡ false → is_kept m row spared v ≡ false
   empty v none = ap (λ b. not (is_named spared v) && (not (is_lent m v) && b)) none ∙ none_of (not (is_named spared v)) (not (is_lent m v))

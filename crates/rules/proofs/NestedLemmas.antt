@@ -1,7 +1,7 @@
 -- Variables that are plainly in scope.
 use Rattle.std.proofs.Common.{◌≡◌, ◌<◌, ◌≤◌, ℕ, zero, suc, Bool, true, false, List, Option, None, Some, IfSome, length, if◌then◌else◌, refl, sym, ap, ◌∙◌, arith, ⊎_elim}
 use Rattle.std.proofs.lemmas.Bool.{cases_lt, ne_eqb}
-use Rattle.program.specs.Methods.{MethodSeen}
+use Rattle.program.specs.Methods.{MethodModel}
 use Rattle.program.specs.Scopes.{outer_of}
 use Rattle.program.specs.declared.number.VarId.{VarId}
 use Rattle.program.specs.declared.statement.Mention.{Mention}
@@ -15,7 +15,7 @@ is_another : (v : VarId) (outer : Option VarId) (first : ℕ) → first ≤ v.0 
 is_another v None first le out = refl
 is_another v (Some o) first le out = ne_eqb v.0 o.0 (λ e. omega (arith, le, out, e))
 
-module _ (m : MethodSeen) (row : List Leaf) (given : Option Mention) (outer : Option VarId) (first : ℕ) (is : IsFirst m row given first) where
+module _ (m : MethodModel) (row : List Leaf) (given : Option Mention) (outer : Option VarId) (first : ℕ) (is : IsFirst m row given first) where
   -- the first kept of the variables in scope where this one is the last
   abbrev kept_from : ℕ → Option VarId → Option ℕ
   kept_from most at = first_kept m row given (between m.variables most outer at)

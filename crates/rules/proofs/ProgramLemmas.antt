@@ -5,15 +5,15 @@ use Rattle.std.proofs.lemmas.Option.{slice_get-map}
 use Rattle.std.proofs.lemmas.Simd.{map-map}
 use Rattle.flow.specs.declared.graph.Graph.{Graph}
 use Rattle.flow.specs.declared.graph.Instr.{Instr}
-use Rattle.flow.specs.Graphs.{GraphSeen, Instruction, graph_seen, instruction_seen}
+use Rattle.flow.specs.Graphs.{GraphModel, Instruction, graph_model, instruction_model}
 use Rattle.flow.specs.Graphs.{Use, New, Move, Delete, Exchange, NewChannel, Send, Switch, Branch, Forget, Call, Start, Return, Stop}
 use Rattle.flow.specs.declared.graph.Branches.{Branches}
 use Rattle.flow.specs.Lowering.{graph_of}
 use Rattle.program.specs.declared.method.Method.{Method}
-use Rattle.program.specs.Methods.{MethodSeen, method_seen, variable_seen}
-use Rattle.program.specs.Programs.{ProgramSeen}
+use Rattle.program.specs.Methods.{MethodModel, method_model, variable_model}
+use Rattle.program.specs.Programs.{ProgramModel}
 use Rattle.rules.specs.declared.row.Leaf.{Leaf}
-use Rattle.rules.specs.Breaches.{breach_in, breach_seen}
+use Rattle.rules.specs.Breaches.{breach_in, breach_model}
 use Rattle.rules.specs.Onwards.{condition_at}
 use Rattle.rules.specs.Outcomes.{Goes, Pair}
 use Rattle.rules.specs.RuleTable.{ways}
@@ -28,42 +28,42 @@ same_at f g (a ∷ xs) [] n x e h is = absurd (omega arith)
 same_at f g (a ∷ xs) (y ∷ ys) zero x e h is = let head : f a ≡ g y = cc in ap f is ∙ head
 same_at f g (a ∷ xs) (y ∷ ys) (suc n) x e h is = same_at f g xs ys n x (cc) (omega arith) is
 
-pub one_method : (a b : MethodSeen) → Path (Option MethodSeen) (Some a) (Some b) → a ≡ b
+pub one_method : (a b : MethodModel) → Path (Option MethodModel) (Some a) (Some b) → a ≡ b
 one_method a b e = cc
 
 -- what breaches say in the method of a number
-pub said_in : (p : ProgramSeen) (n : ℕ) (m : MethodSeen) → slice_get p.methods n ≡ Some m → breach_in p n ≡ breach_seen p m
-said_in p n m is = ap (λ o breach. option_map_or (λ m. breach_seen p m breach) o (no_result breach.place)) is
+pub said_in : (p : ProgramModel) (n : ℕ) (m : MethodModel) → slice_get p.methods n ≡ Some m → breach_in p n ≡ breach_model p m
+said_in p n m is = ap (λ o breach. option_map_or (λ m. breach_model p m breach) o (no_result breach.place)) is
 
 -- the pair with which a method begins
-pub entry_is : (o : Option MethodSeen) (m : Method) (g : Graph) (leaves : List Leaf) → o ≡ Some (method_seen m) → IsSomeAnd o (λ s. graph_seen g ≡ graph_of s) → leaves ≡ map (λ v. entry_leaf v.role v.kind) m.variables.items → (g.first, leaves) ≡ method_entry o
+pub entry_is : (o : Option MethodModel) (m : Method) (g : Graph) (leaves : List Leaf) → o ≡ Some (method_model m) → IsSomeAnd o (λ s. graph_model g ≡ graph_of s) → leaves ≡ map (λ v. entry_leaf v.role v.kind) m.variables.items → (g.first, leaves) ≡ method_entry o
 entry_is None m g leaves its graph is = absurd graph
 entry_is (Some s) m g leaves its graph is =
-    let first : g.first ≡ (graph_of s).first = ap (λ (h : GraphSeen). h.first) graph in
-    let row : leaves ≡ map (λ v. entry_leaf v.role v.kind) s.variables = is ∙ sym (map-map (λ v. entry_leaf v.role v.kind) variable_seen m.variables.items) ∙ ap (λ (t : MethodSeen). map (λ v. entry_leaf v.role v.kind) t.variables) (sym (one_method s (method_seen m) its)) in
+    let first : g.first ≡ (graph_of s).first = ap (λ (h : GraphModel). h.first) graph in
+    let row : leaves ≡ map (λ v. entry_leaf v.role v.kind) s.variables = is ∙ sym (map-map (λ v. entry_leaf v.role v.kind) variable_model m.variables.items) ∙ ap (λ (t : MethodModel). map (λ v. entry_leaf v.role v.kind) t.variables) (sym (one_method s (method_model m) its)) in
     λ i. (first i, row i)
 
 -- what stands at a point of a method
-pub at_point : (s : MethodSeen) (g : Graph) (point : ℕ) (i : Option Instr) → graph_seen g ≡ graph_of s → slice_get g.instructions.items point ≡ i → slice_get (graph_of s).instructions point ≡ option_map instruction_seen i
-at_point s g point i graph is = ap (λ (h : GraphSeen). slice_get h.instructions point) (sym graph) ∙ slice_get-map instruction_seen g.instructions.items point ∙ ap (option_map instruction_seen) is
+pub at_point : (s : MethodModel) (g : Graph) (point : ℕ) (i : Option Instr) → graph_model g ≡ graph_of s → slice_get g.instructions.items point ≡ i → slice_get (graph_of s).instructions point ≡ option_map instruction_model i
+at_point s g point i graph is = ap (λ (h : GraphModel). slice_get h.instructions point) (sym graph) ∙ slice_get-map instruction_model g.instructions.items point ∙ ap (option_map instruction_model) is
 
 -- the step at a point
-pub outcome_at : (p : ProgramSeen) (o : Option MethodSeen) (m : Method) (g : Graph) (point : ℕ) (row : List Leaf) (i : Option Instr) → o ≡ Some (method_seen m) → IsSomeAnd o (λ s. graph_seen g ≡ graph_of s) → slice_get g.instructions.items point ≡ i → method_outcome p o (point, row) ≡ point_outcome p (method_seen m) row (option_map instruction_seen i)
+pub outcome_at : (p : ProgramModel) (o : Option MethodModel) (m : Method) (g : Graph) (point : ℕ) (row : List Leaf) (i : Option Instr) → o ≡ Some (method_model m) → IsSomeAnd o (λ s. graph_model g ≡ graph_of s) → slice_get g.instructions.items point ≡ i → method_outcome p o (point, row) ≡ point_outcome p (method_model m) row (option_map instruction_model i)
 outcome_at p None m g point row i its graph is = absurd graph
-outcome_at p (Some s) m g point row i its graph is = λ j. point_outcome p (one_method s (method_seen m) its j) row (at_point s g point i graph is j)
+outcome_at p (Some s) m g point row i its graph is = λ j. point_outcome p (one_method s (method_model m) its j) row (at_point s g point i graph is j)
 
 -- no instruction is there
-pub outcome_past : (p : ProgramSeen) (o : Option MethodSeen) (g : Graph) (point : ℕ) (row : List Leaf) → IsSomeAnd o (λ s. graph_seen g ≡ graph_of s) → slice_get g.instructions.items point ≡ None → method_outcome p o (point, row) ≡ Goes []
+pub outcome_past : (p : ProgramModel) (o : Option MethodModel) (g : Graph) (point : ℕ) (row : List Leaf) → IsSomeAnd o (λ s. graph_model g ≡ graph_of s) → slice_get g.instructions.items point ≡ None → method_outcome p o (point, row) ≡ Goes []
 outcome_past p None g point row graph is = absurd graph
 outcome_past p (Some s) g point row graph is = λ j. point_outcome p s row (at_point s g point None graph is j)
 
 -- the step of a method
-pub outcome_is : (p : ProgramSeen) (n : ℕ) (pair : Pair) → outcome p n pair ≡ method_outcome p (slice_get p.methods n) pair
+pub outcome_is : (p : ProgramModel) (n : ℕ) (pair : Pair) → outcome p n pair ≡ method_outcome p (slice_get p.methods n) pair
 unfolding outcome
 outcome_is p n pair = refl
 
 -- a condition goes on with whatever row comes to it
-condition_goes : (p : ProgramSeen) (m : MethodSeen) (row : List Leaf) (branches : Branches) (i : Option Instruction) → Path (Option Branches) (Some branches) (condition_at i) → point_outcome p m row i ≡ Goes (ways branches row)
+condition_goes : (p : ProgramModel) (m : MethodModel) (row : List Leaf) (branches : Branches) (i : Option Instruction) → Path (Option Branches) (Some branches) (condition_at i) → point_outcome p m row i ≡ Goes (ways branches row)
 condition_goes p m row branches None e = cc
 condition_goes p m row branches (Some (Use at next)) e = cc
 condition_goes p m row branches (Some (New target arguments next)) e = cc
@@ -80,16 +80,16 @@ condition_goes p m row branches (Some (Start place method arguments next)) e = c
 condition_goes p m row branches (Some (Return place value scope)) e = cc
 condition_goes p m row branches (Some (Stop place)) e = cc
 
-pub condition_on : (p : ProgramSeen) (n point : ℕ) (found : Option Branches) → IsSomeAnd (slice_get p.methods n) (λ m. found ≡ condition_at (slice_get (graph_of m).instructions point))
+pub condition_on : (p : ProgramModel) (n point : ℕ) (found : Option Branches) → IsSomeAnd (slice_get p.methods n) (λ m. found ≡ condition_at (slice_get (graph_of m).instructions point))
     → IfSome found (λ branches. (row : List Leaf) → outcome p n (point, row) ≡ Goes (ways branches row))
 condition_on p n point None h = tt
 condition_on p n point (Some branches) h = λ row. outcome_is p n (point, row) ∙ go (slice_get p.methods n) row h
   where
-    go : (o : Option MethodSeen) (row : List Leaf) → IsSomeAnd o (λ m. Path (Option Branches) (Some branches) (condition_at (slice_get (graph_of m).instructions point))) → method_outcome p o (point, row) ≡ Goes (ways branches row)
+    go : (o : Option MethodModel) (row : List Leaf) → IsSomeAnd o (λ m. Path (Option Branches) (Some branches) (condition_at (slice_get (graph_of m).instructions point))) → method_outcome p o (point, row) ≡ Goes (ways branches row)
     go None row h = absurd h
     go (Some m) row h = condition_goes p m row branches (slice_get (graph_of m).instructions point) h
 
-pub condition_is : (o : Option MethodSeen) (g : Graph) (point : ℕ) (i : Option Instr) (found : Option Branches) → IsSomeAnd o (λ m. graph_seen g ≡ graph_of m) → slice_get g.instructions.items point ≡ i
-    → found ≡ condition_at (option_map instruction_seen i) → IsSomeAnd o (λ m. found ≡ condition_at (slice_get (graph_of m).instructions point))
+pub condition_is : (o : Option MethodModel) (g : Graph) (point : ℕ) (i : Option Instr) (found : Option Branches) → IsSomeAnd o (λ m. graph_model g ≡ graph_of m) → slice_get g.instructions.items point ≡ i
+    → found ≡ condition_at (option_map instruction_model i) → IsSomeAnd o (λ m. found ≡ condition_at (slice_get (graph_of m).instructions point))
 condition_is None g point i found graph is e = absurd graph
 condition_is (Some m) g point i found graph is e = e ∙ ap condition_at (sym (at_point m g point i graph is))

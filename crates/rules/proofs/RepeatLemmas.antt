@@ -5,11 +5,11 @@ use Rattle.std.proofs.lemmas.Bool.Decides.{nat_tests}
 use Rattle.std.proofs.lemmas.List.{length-take-le, take_all, take_more}
 use Rattle.std.proofs.lemmas.Option.{slice_get-map}
 use Rattle.std.proofs.lemmas.Simd.{map-map}
-use Rattle.flow.specs.Graphs.{graph_seen, instruction_seen}
+use Rattle.flow.specs.Graphs.{graph_model, instruction_model}
 use Rattle.flow.specs.Lowering.{graph_of}
 use Rattle.flow.specs.declared.graph.Graph.{Graph}
 use Rattle.flow.specs.declared.graph.Instr.{Instr}
-use Rattle.program.specs.Methods.{MethodSeen}
+use Rattle.program.specs.Methods.{MethodModel}
 use Rattle.program.specs.declared.statement.Mention.{Mention}
 use Rattle.rules.specs.Repeats.{again_in, given_again, repeated_in}
 use Rattle.rules.specs.declared.repeats.Repeats.{Repeats}
@@ -17,7 +17,7 @@ use Rattle.rules.proofs.ProgramLemmas.{at_point}
 
 -- so many instructions were looked at, and what those give again is there
 abbrev pub Kept : Repeats → List Instr → (done : ℕ) → Type 0
-Kept repeats instructions done = (q : ℕ) → repeated_in repeats q ≡ option_and_then (λ i. given_again (instruction_seen i)) (slice_get (take done instructions) q)
+Kept repeats instructions done = (q : ℕ) → repeated_in repeats q ≡ option_and_then (λ i. given_again (instruction_model i)) (slice_get (take done instructions) q)
 
 zero_suc : (n : ℕ) → (0 == suc n) ≡ false
 zero_suc n = grind (arith, nat_tests)
@@ -46,10 +46,10 @@ choose f true x o = refl
 choose f false x o = refl
 
 -- one instruction more was looked at
-pub kept_more : (repeats more : Repeats) (instructions : List Instr) (done : ℕ) (d : Instr) (again : Option Mention) → done < length instructions → again ≡ given_again (instruction_seen (slice_index_or instructions done d))
+pub kept_more : (repeats more : Repeats) (instructions : List Instr) (done : ℕ) (d : Instr) (again : Option Mention) → done < length instructions → again ≡ given_again (instruction_model (slice_index_or instructions done d))
     → ((q : ℕ) → repeated_in more q ≡ (if done == q then again else repeated_in repeats q)) → Kept repeats instructions done → Kept more instructions (done + 1)
 kept_more repeats more instructions done d again lt is new h = λ q.
-    let told = λ (i : Instr). given_again (instruction_seen i) in
+    let told = λ (i : Instr). given_again (instruction_model i) in
     let x = slice_index_or instructions done d in
     let before = option_and_then told (slice_get (take done instructions) q) in
     new q ∙ ap (λ o. if done == q then again else o) (h q) ∙ ap (λ a. if done == q then a else before) is
@@ -60,22 +60,22 @@ seen f g None = refl
 seen f g (Some x) = refl
 
 -- all were looked at
-pub kept_all : (repeats : Repeats) (graph : Graph) (done : ℕ) → length graph.instructions.items ≤ done → Kept repeats graph.instructions.items done → repeated_in repeats ≡ again_in (graph_seen graph)
+pub kept_all : (repeats : Repeats) (graph : Graph) (done : ℕ) → length graph.instructions.items ≤ done → Kept repeats graph.instructions.items done → repeated_in repeats ≡ again_in (graph_model graph)
 kept_all repeats graph done le h = λ j q. at q j
   where
-    at : (q : ℕ) → repeated_in repeats q ≡ again_in (graph_seen graph) q
+    at : (q : ℕ) → repeated_in repeats q ≡ again_in (graph_model graph) q
     at q =
-        h q ∙ ap (λ l. option_and_then (λ i. given_again (instruction_seen i)) (slice_get l q)) (take_all done graph.instructions.items le)
-        ∙ seen given_again instruction_seen (slice_get graph.instructions.items q)
-        ∙ ap (option_and_then given_again) (sym (slice_get-map instruction_seen graph.instructions.items q))
+        h q ∙ ap (λ l. option_and_then (λ i. given_again (instruction_model i)) (slice_get l q)) (take_all done graph.instructions.items le)
+        ∙ seen given_again instruction_model (slice_get graph.instructions.items q)
+        ∙ ap (option_and_then given_again) (sym (slice_get-map instruction_model graph.instructions.items q))
 
 -- what the graphs of methods give again
-pub told_of : (repeats : List (Repeats)) (graphs : List Graph) (methods : List MethodSeen) → map repeated_in repeats ≡ map (λ g. again_in (graph_seen g)) graphs → map graph_seen graphs ≡ map graph_of methods
+pub told_of : (repeats : List (Repeats)) (graphs : List Graph) (methods : List MethodModel) → map repeated_in repeats ≡ map (λ g. again_in (graph_model g)) graphs → map graph_model graphs ≡ map graph_of methods
     → map repeated_in repeats ≡ map (λ m. again_in (graph_of m)) methods
-told_of repeats graphs methods told lowered = told ∙ sym (map-map again_in graph_seen graphs) ∙ ap (map again_in) lowered ∙ map-map again_in graph_of methods
+told_of repeats graphs methods told lowered = told ∙ sym (map-map again_in graph_model graphs) ∙ ap (map again_in) lowered ∙ map-map again_in graph_of methods
 
 -- what is given again where an instruction stands
-pub told_at : (o : Option MethodSeen) (g : Graph) (repeats : Repeats) (point : ℕ) (i : Instr) → IsSomeAnd o (λ m. graph_seen g ≡ graph_of m) → IsSomeAnd o (λ m. repeated_in repeats ≡ again_in (graph_of m))
-    → slice_get g.instructions.items point ≡ Some i → repeated_in repeats point ≡ given_again (instruction_seen i)
+pub told_at : (o : Option MethodModel) (g : Graph) (repeats : Repeats) (point : ℕ) (i : Instr) → IsSomeAnd o (λ m. graph_model g ≡ graph_of m) → IsSomeAnd o (λ m. repeated_in repeats ≡ again_in (graph_of m))
+    → slice_get g.instructions.items point ≡ Some i → repeated_in repeats point ≡ given_again (instruction_model i)
 told_at None g repeats point i graph told is = absurd graph
 told_at (Some m) g repeats point i graph told is = ap (λ f. f point) told ∙ ap (option_and_then given_again) (at_point m g point (Some i) graph is)

@@ -9,11 +9,11 @@ use Rattle.flow.specs.Graphs.{Instruction, Use, New, Move, Delete, Exchange, New
 use Rattle.flow.specs.Lowering.{graph_of}
 use Rattle.flow.specs.declared.graph.Branches.{Branches}
 use Rattle.flow.specs.declared.graph.Branches.TheVariants.{Either, Only}
-use Rattle.flow.specs.Cases.{EntranceSeen, case_for, first_mentions}
-use Rattle.program.specs.Methods.{MethodSeen}
-use Rattle.program.specs.Programs.{ProgramSeen}
+use Rattle.flow.specs.Cases.{EntranceModel, case_for, first_mentions}
+use Rattle.program.specs.Methods.{MethodModel}
+use Rattle.program.specs.Programs.{ProgramModel}
 use Rattle.program.specs.declared.contract.Edge.{Edge}
-use Rattle.program.specs.declared.kind.Kind.{Kind}
+use Rattle.program.specs.declared.kind.HeapKind.{HeapKind}
 use Rattle.program.specs.declared.number.VarId.{VarId}
 use Rattle.rules.specs.Endpoints.{brought, declared_leaf, field_of, fields_of, first_state, kind_of, message_name, parameter_kinds, result_of}
 use Rattle.rules.specs.Switches.{awaited_edges, bound_leaves, closed, comes_at, pair_at, received, switch_checks, switch_pairs}
@@ -40,13 +40,13 @@ claimed_size row (a ∷ arguments) =
     one true = length-set row a.mention.variable.0 Nothing
     one false = refl
 
-given_size : (row : List Leaf) (kind : Option Kind) (target : Option Mention) → length (given_leaf row kind target) ≡ length row
+given_size : (row : List Leaf) (kind : Option HeapKind) (target : Option Mention) → length (given_leaf row kind target) ≡ length row
 given_size row None None = refl
 given_size row None (Some v) = refl
 given_size row (Some kind) None = refl
 given_size row (Some kind) (Some v) = length-set row v.variable.0 (declared_leaf kind)
 
-bound_size : (row : List Leaf) (bound : List VarId) (kinds : List Kind) → length (bound_leaves row bound kinds) ≡ length row
+bound_size : (row : List Leaf) (bound : List VarId) (kinds : List HeapKind) → length (bound_leaves row bound kinds) ≡ length row
 bound_size row [] kinds = refl
 bound_size row (v ∷ bound) [] = refl
 bound_size row (v ∷ bound) (kind ∷ kinds) = bound_size (set row v.0 (declared_leaf kind)) bound kinds ∙ length-set row v.0 (declared_leaf kind)
@@ -63,7 +63,7 @@ goes_on (Some finding ∷ checks) after to e = absurd (no_step finding e)
     no_step : (f : FindingParts) → Path (Step Pair FindingParts) (Fails f) (Goes to) → ⊥
     no_step f k = cc
 
-module _ (p : ProgramSeen) (m : MethodSeen) where
+module _ (p : ProgramModel) (m : MethodModel) where
   abbrev AreRows : List Pair → Type 0
   AreRows to = All (λ x. IsRowOf m x.1) to
 
@@ -88,19 +88,19 @@ module _ (p : ProgramSeen) (m : MethodSeen) where
   each_row f [] all = no_rows
   each_row f (x ∷ xs) all = both_rows (f x) (flat_map f xs) (all x) (each_row f xs all)
 
-  case_row : (o : Option EntranceSeen) (after : EntranceSeen → List Leaf) → ((c : EntranceSeen) → IsRowOf m (after c)) → AreRows (pair_at o after)
+  case_row : (o : Option EntranceModel) (after : EntranceModel → List Leaf) → ((c : EntranceModel) → IsRowOf m (after c)) → AreRows (pair_at o after)
   case_row None after is = no_rows
   case_row (Some c) after is = one_row c.next (after c) [] (is c) no_rows
 
-  received_on : (row : List Leaf) (cases : List EntranceSeen) (e : ℕ) (d : Edge) → IsRowOf m row → AreRows (received p m row cases e d)
+  received_on : (row : List Leaf) (cases : List EntranceModel) (e : ℕ) (d : Edge) → IsRowOf m row → AreRows (received p m row cases e d)
   received_on row cases e d is =
-      case_row (case_for cases e (Some d.message.0)) (λ c. bound_leaves (set row e (State d.to.0)) c.bound (brought p d.message.0))
-      (λ c. bound_size (set row e (State d.to.0)) c.bound (brought p d.message.0) ∙ length-set row e (State d.to.0) ∙ is)
+      case_row (case_for cases e (Some d.message.0)) (λ c. bound_leaves (set row e (State d.to.0)) c.targets (brought p d.message.0))
+      (λ c. bound_size (set row e (State d.to.0)) c.targets (brought p d.message.0) ∙ length-set row e (State d.to.0) ∙ is)
 
-  closed_on : (row : List Leaf) (cases : List EntranceSeen) (e : ℕ) → IsRowOf m row → AreRows (closed p m row cases e)
+  closed_on : (row : List Leaf) (cases : List EntranceModel) (e : ℕ) → IsRowOf m row → AreRows (closed p m row cases e)
   closed_on row cases e is = case_row (case_for cases e None) (λ c. set row e CutOff) (λ c. length-set row e CutOff ∙ is)
 
-  switch_on : (row : List Leaf) (cases : List EntranceSeen) → IsRowOf m row → AreRows (switch_pairs p m row cases)
+  switch_on : (row : List Leaf) (cases : List EntranceModel) → IsRowOf m row → AreRows (switch_pairs p m row cases)
   switch_on row cases is =
       each_row (comes_at p m row cases) (first_mentions [] cases)
       (λ e. both_rows (flat_map (received p m row cases e.variable.0) (awaited_edges p m row e)) (closed p m row cases e.variable.0)
@@ -166,13 +166,13 @@ module _ (p : ProgramSeen) (m : MethodSeen) where
   point_on (Some i) row to is e = instruction_on i row to is e
 
 -- a step from a row with a leaf for each variable leads to such rows
-pub step_on : (p : ProgramSeen) (n : ℕ) (m : MethodSeen) (pair : Pair) (to : List Pair)
+pub step_on : (p : ProgramModel) (n : ℕ) (m : MethodModel) (pair : Pair) (to : List Pair)
     → slice_get p.methods n ≡ Some m → IsRowOf m pair.1 → outcome p n pair ≡ Goes to → All (λ x. IsRowOf m x.1) to
 step_on p n m pair to there is e =
     let here = ap (λ o. method_outcome p o pair) (sym there) ∙ sym (outcome_is p n pair) ∙ e in
     point_on p m (slice_get (graph_of m).instructions pair.0) pair.1 to is here
 
 -- a method begins with such a row
-pub entry_on : (p : ProgramSeen) (n : ℕ) (m : MethodSeen)
+pub entry_on : (p : ProgramModel) (n : ℕ) (m : MethodModel)
     → slice_get p.methods n ≡ Some m → IsRowOf m (method_entry (slice_get p.methods n)).1
 entry_on p n m there = subst (λ o. IsRowOf m (method_entry o).1) (sym there) (length-map m.variables (λ v. entry_leaf v.role v.kind))

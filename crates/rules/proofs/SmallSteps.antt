@@ -2,11 +2,11 @@
 use Rattle.std.proofs.Common.{◌≡◌, ℕ, false, true, List, [], ◌∷◌, None, Some, refl}
 use Rattle.std.specs.Prelude.{codes}
 use Rattle.source.specs.declared.place.Place.{Place}
-use Rattle.program.specs.Methods.{MethodSeen, VariableSeen}
-use Rattle.program.specs.Programs.{ProgramSeen}
+use Rattle.program.specs.Methods.{MethodModel, VariableModel}
+use Rattle.program.specs.Programs.{ProgramModel}
 use Rattle.program.specs.Statements.{NoStatement}
-use Rattle.program.specs.declared.kind.Kind.{Kind}
-use Rattle.program.specs.declared.kind.Kind.TheVariants.{Struct, Endpoint}
+use Rattle.program.specs.declared.kind.HeapKind.{HeapKind}
+use Rattle.program.specs.declared.kind.HeapKind.TheVariants.{Struct, Endpoint}
 use Rattle.program.specs.declared.kind.Side.TheVariants.{Imp}
 use Rattle.program.specs.declared.method.Role.{Role}
 use Rattle.program.specs.declared.method.Role.TheVariants.{Claimed, Lent, Local}
@@ -23,19 +23,19 @@ at col = record { line = 1; col = col }
 abbrev mention : ℕ → ℕ → Mention
 mention v col = record { variable = record { 0 = v }; place = at col }
 
-abbrev variable : List ℕ → Kind → Role → VariableSeen
+abbrev variable : List ℕ → HeapKind → Role → VariableModel
 variable name k role = record { name = name; kind = k; role = role; outer = None }
 
 -- an importing endpoint in a state
-abbrev end : ℕ → Kind
+abbrev end : ℕ → HeapKind
 end state = Endpoint record { 0 = 0 } Imp record { 0 = state }
 
 -- struct 0 has no fields that own, struct 1 one for a struct 0, struct 2 one for an endpoint in state 0
-abbrev of_struct : ℕ → Kind
+abbrev of_struct : ℕ → HeapKind
 of_struct n = Struct record { 0 = n }
 
 -- an own block x, a lent block y, a block h with a field for a block, an endpoint i, and a block e with a field for an endpoint
-abbrev method : MethodSeen
+abbrev method : MethodModel
 method = record {
   name = at 1;
   takes = true;
@@ -48,7 +48,7 @@ method = record {
   close = at 1;
 }
 
-abbrev program : ProgramSeen
+abbrev program : ProgramModel
 program = record { contracts = []; messages = []; structs = [] ∷ (of_struct 0 ∷ []) ∷ (end 0 ∷ []) ∷ []; methods = method ∷ [] }
 
 abbrev exchange : ℕ → ℕ → Instruction

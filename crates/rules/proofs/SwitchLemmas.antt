@@ -2,9 +2,9 @@
 use Rattle.std.proofs.Common.{◌≡◌, ℕ, ◌+◌, ◌<◌, ◌≤◌, List, [], ◌∷◌, ◌++◌, length, drop, map, flat_map, slice_index_or, Some, sym, ap, ◌∙◌, append-nil, append_assoc, refl, set, ◌⊎◌, inl, inr}
 use Rattle.std.specs.Prelude.{is_none}
 use Rattle.std.proofs.lemmas.List.{at_drop_all, at_drop_more}
-use Rattle.flow.specs.Cases.{EntranceSeen, case_for}
-use Rattle.program.specs.Methods.{MethodSeen}
-use Rattle.program.specs.Programs.{ProgramSeen}
+use Rattle.flow.specs.Cases.{EntranceModel, case_for}
+use Rattle.program.specs.Methods.{MethodModel}
+use Rattle.program.specs.Programs.{ProgramModel}
 use Rattle.program.specs.declared.contract.Edge.{Edge}
 use Rattle.program.specs.declared.statement.Mention.{Mention}
 use Rattle.rules.specs.Endpoints.{kind_of, message_name}
@@ -14,11 +14,11 @@ use Rattle.rules.specs.Switches.{bound_leaves}
 use Rattle.rules.specs.Texts.{not_covered}
 use Rattle.rules.specs.declared.row.Leaf.{Leaf}
 use Rattle.rules.specs.Endpoints.{declared_leaf}
-use Rattle.program.specs.declared.kind.Kind.{Kind}
+use Rattle.program.specs.declared.kind.HeapKind.{HeapKind}
 use Rattle.program.specs.declared.number.VarId.{VarId}
 
 -- that the messages of these edges have a case at an endpoint
-abbrev pub edge_checks : ProgramSeen → MethodSeen → List EntranceSeen → Mention → List Edge → List Check
+abbrev pub edge_checks : ProgramModel → MethodModel → List EntranceModel → Mention → List Edge → List Check
 edge_checks p m cases e edges =
     map
     (λ d. refused (is_none (case_for cases e.variable.0 (Some d.message.0)))
@@ -42,10 +42,10 @@ pub adds_all : {X Y : Type 0} (one : X → List Y) (old now : List Y) (xs : List
 adds_all one old now xs done le h = sym (ap (λ l. now ++ l) (at_drop_all (flat_map one) xs done le) ∙ append-nil now) ∙ h.all
 
 -- nothing more is bound
-pub bound_none : (row : List Leaf) (bound : List VarId) (kinds : List Kind) (n : ℕ) → (length bound ≤ n) ⊎ (length kinds ≤ n) → bound_leaves row (drop n bound) (drop n kinds) ≡ row
+pub bound_none : (row : List Leaf) (bound : List VarId) (kinds : List HeapKind) (n : ℕ) → (length bound ≤ n) ⊎ (length kinds ≤ n) → bound_leaves row (drop n bound) (drop n kinds) ≡ row
 bound_none row bound kinds n (inl le) = at_drop_all (λ l. bound_leaves row l (drop n kinds)) bound n le ∙ no_bound (drop n kinds)
   where
-    no_bound : (ks : List Kind) → bound_leaves row [] ks ≡ row
+    no_bound : (ks : List HeapKind) → bound_leaves row [] ks ≡ row
     no_bound [] = refl
     no_bound (k ∷ ks) = refl
 bound_none row bound kinds n (inr le) = at_drop_all (bound_leaves row (drop n bound)) kinds n le ∙ no_kind (drop n bound)
@@ -55,7 +55,7 @@ bound_none row bound kinds n (inr le) = at_drop_all (bound_leaves row (drop n bo
     no_kind (v ∷ vs) = refl
 
 -- one more is bound
-pub bound_more : (row less : List Leaf) (bound : List VarId) (kinds : List Kind) (n : ℕ) (d : VarId) (e : Kind) → n < length bound → n < length kinds → less ≡ set row (slice_index_or bound n d).0 (declared_leaf (slice_index_or kinds n e))
+pub bound_more : (row less : List Leaf) (bound : List VarId) (kinds : List HeapKind) (n : ℕ) (d : VarId) (e : HeapKind) → n < length bound → n < length kinds → less ≡ set row (slice_index_or bound n d).0 (declared_leaf (slice_index_or kinds n e))
     → bound_leaves less (drop (n + 1) bound) (drop (n + 1) kinds) ≡ bound_leaves row (drop n bound) (drop n kinds)
 bound_more row less bound kinds n d e first second is =
     sym (at_drop_more (λ l. bound_leaves row l (drop n kinds)) bound n d first

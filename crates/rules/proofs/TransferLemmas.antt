@@ -4,14 +4,14 @@ use Rattle.std.specs.Option.{option_map}
 use Rattle.source.specs.Findings.{FindingParts}
 use Rattle.flow.specs.declared.graph.Graph.{Graph}
 use Rattle.flow.specs.declared.graph.Instr.{Instr}
-use Rattle.flow.specs.Graphs.{Instruction, graph_seen, instruction_seen}
+use Rattle.flow.specs.Graphs.{Instruction, graph_model, instruction_model}
 use Rattle.flow.specs.Graphs as graphs
 use Rattle.flow.specs.Lowering.{graph_of}
-use Rattle.program.specs.declared.kind.Kind.{Kind}
+use Rattle.program.specs.declared.kind.HeapKind.{HeapKind}
 use Rattle.program.specs.declared.method.Method.{Method}
 use Rattle.program.specs.declared.statement.Mention.{Mention}
-use Rattle.program.specs.Methods.{MethodSeen, method_seen}
-use Rattle.program.specs.Programs.{ProgramSeen}
+use Rattle.program.specs.Methods.{MethodModel, method_model}
+use Rattle.program.specs.Programs.{ProgramModel}
 use Rattle.rules.specs.Arguments.{all_fields, field_checks}
 use Rattle.rules.specs.Endpoints.{fields_of}
 use Rattle.rules.specs.Mentions.{is_lent, name_of}
@@ -52,7 +52,7 @@ pass : (b : Bool) (f : FindingParts) (checks : List Check) (after : List Pair) �
     → checked (refused b f ∷ checks) after ≡ checked checks after
 pass b f checks after e = ap (λ c. checked (refused c f ∷ checks) after) e
 
-module _ (p : ProgramSeen) (m : MethodSeen) (row : List Leaf) where
+module _ (p : ProgramModel) (m : MethodModel) (row : List Leaf) where
   -- where the transfer fits and is allowed, that is what comes of the instruction
   abbrev Comes : Instruction → Transfer × ℕ → Type 0
   Comes i u = fits m u.0 ≡ true → allows u.0 row ≡ true → instruction_outcome p m i row ≡ Goes ((u.1, transferred u.0 row) ∷ [])
@@ -71,7 +71,7 @@ module _ (p : ProgramSeen) (m : MethodSeen) (row : List Leaf) where
   use_comes v next fit allowed = pass (not (is_owned row v.variable.0)) (lacking v) [] ((next, row) ∷ []) (ap not allowed)
 
   -- nothing is given for fields
-  no_fields : (kinds : List Kind) → all_fields m row kinds [] ≡ []
+  no_fields : (kinds : List HeapKind) → all_fields m row kinds [] ≡ []
   no_fields kinds = ap (flat_map (λ x. field_checks m row x.0 x.1)) (zip_nil kinds [] refl)
 
   new_comes : (v : Mention) (next : ℕ) → Comes (graphs.New v [] next) (New v.variable, next)
@@ -137,22 +137,22 @@ module _ (p : ProgramSeen) (m : MethodSeen) (row : List Leaf) where
   transfer_goes None t e allowed = absurd (none_some t (sym e))
   transfer_goes (Some i) t e allowed = fitting_comes i (transfer_in i) t refl e allowed
 
-pub transfer_on : (p : ProgramSeen) (n point : ℕ) (found : Option (Transfer × ℕ))
+pub transfer_on : (p : ProgramModel) (n point : ℕ) (found : Option (Transfer × ℕ))
     → IsSomeAnd (slice_get p.methods n) (λ m. found ≡ transfer_at m (slice_get (graph_of m).instructions point))
     → IfSome found (λ t. (row : List Leaf) → allows t.0 row ≡ true → outcome p n (point, row) ≡ Goes ((t.1, transferred t.0 row) ∷ []))
 transfer_on p n point None h = tt
 transfer_on p n point (Some t) h = λ row allowed. outcome_is p n (point, row) ∙ go (slice_get p.methods n) row h allowed
   where
-    go : (o : Option MethodSeen) (row : List Leaf)
+    go : (o : Option MethodModel) (row : List Leaf)
         → IsSomeAnd o (λ m. Path (Option (Transfer × ℕ)) (Some t) (transfer_at m (slice_get (graph_of m).instructions point)))
         → allows t.0 row ≡ true → method_outcome p o (point, row) ≡ Goes ((t.1, transferred t.0 row) ∷ [])
     go None row h allowed = absurd h
     go (Some m) row h allowed = transfer_goes p m row (slice_get (graph_of m).instructions point) t h allowed
 
-pub transfer_is : (o : Option MethodSeen) (m : Method) (g : Graph) (point : ℕ) (i : Option Instr) (found : Option (Transfer × ℕ))
-    → o ≡ Some (method_seen m) → IsSomeAnd o (λ s. graph_seen g ≡ graph_of s) → slice_get g.instructions.items point ≡ i
-    → found ≡ transfer_at (method_seen m) (option_map instruction_seen i)
+pub transfer_is : (o : Option MethodModel) (m : Method) (g : Graph) (point : ℕ) (i : Option Instr) (found : Option (Transfer × ℕ))
+    → o ≡ Some (method_model m) → IsSomeAnd o (λ s. graph_model g ≡ graph_of s) → slice_get g.instructions.items point ≡ i
+    → found ≡ transfer_at (method_model m) (option_map instruction_model i)
     → IsSomeAnd o (λ s. found ≡ transfer_at s (slice_get (graph_of s).instructions point))
 transfer_is None m g point i found its graph is e = absurd graph
 transfer_is (Some s) m g point i found its graph is e =
-    e ∙ sym (λ j. transfer_at (one_method s (method_seen m) its j) (at_point s g point i graph is j))
+    e ∙ sym (λ j. transfer_at (one_method s (method_model m) its j) (at_point s g point i graph is j))

@@ -3,8 +3,8 @@ use Rattle.std.specs.Prelude.{ℕ, List, slice_get}
 use Rattle.std.specs.Option.{option_map_or}
 use Rattle.source.specs.Findings.{FindingParts}
 use Rattle.source.specs.declared.place.Place.{Place}
-use Rattle.program.specs.Methods.{MethodSeen}
-use Rattle.program.specs.Programs.{ProgramSeen}
+use Rattle.program.specs.Methods.{MethodModel}
+use Rattle.program.specs.Programs.{ProgramModel}
 use Rattle.program.specs.declared.number.MessageId.{MessageId}
 use Rattle.program.specs.declared.number.VarId.{VarId}
 use Rattle.rules.specs.Endpoints.{kind_of, message_name}
@@ -17,7 +17,7 @@ use Rattle.rules.specs.declared.breach.Reason.TheVariants.{NotOwned, NotSent, Wr
 use Rattle.rules.specs.declared.breach.Reason.TheVariants.{Overwritten, StillOwned, NotBack, Lent, Twice, WrongForResult, NoResult}
 use Rattle.rules.specs.declared.breach.Reason.TheVariants.{WrongForField}
 
-module _ (p : ProgramSeen) (m : MethodSeen) where
+module _ (p : ProgramModel) (m : MethodModel) where
   -- the name of a message of the contract of an endpoint
   abbrev pub name_along : VarId → MessageId → List ℕ
   name_along endpoint message = message_name p (kind_of m endpoint.0) message.0
@@ -40,9 +40,9 @@ module _ (p : ProgramSeen) (m : MethodSeen) where
   told place (WrongForField variable) = wrong_for_field (name_of m variable.0) place
 
   -- the finding of a breach
-  abbrev pub breach_seen : Breach → FindingParts
-  breach_seen breach = told breach.place breach.reason
+  abbrev pub breach_model : Breach → FindingParts
+  breach_model breach = told breach.place breach.reason
 
 -- the finding of a breach in the method of a number; calls ask for methods of the program alone
-abbrev pub breach_in : ProgramSeen → ℕ → Breach → FindingParts
-breach_in p method breach = option_map_or (λ m. breach_seen p m breach) (slice_get p.methods method) (no_result breach.place)
+abbrev pub breach_in : ProgramModel → ℕ → Breach → FindingParts
+breach_in p method breach = option_map_or (λ m. breach_model p m breach) (slice_get p.methods method) (no_result breach.place)

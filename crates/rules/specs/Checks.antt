@@ -5,7 +5,7 @@ use Rattle.std.specs.Option.{option_map}
 use Rattle.std.specs.Ordering.{nat_cmp}
 use Rattle.source.specs.Findings.{FindingParts}
 use Rattle.program.specs.Lists.{is_among}
-use Rattle.program.specs.Methods.{MethodSeen, VariableSeen}
+use Rattle.program.specs.Methods.{MethodModel, VariableModel}
 use Rattle.program.specs.Scopes.{outer_of}
 use Rattle.program.specs.declared.number.VarId.{VarId}
 use Rattle.program.specs.declared.statement.Mention.{Mention}
@@ -15,16 +15,16 @@ use Rattle.rules.specs.declared.breach.Breach.{Breach}
 use Rattle.rules.specs.declared.row.Leaf.{Leaf}
 
 -- the check that found this, by what breaches say
-abbrev pub check_seen : (Breach → FindingParts) → Option Breach → Check
-check_seen says found = option_map says found
+abbrev pub check_model : (Breach → FindingParts) → Option Breach → Check
+check_model says found = option_map says found
 
 -- the first of these variables that still has something, but for the one that is given
-abbrev pub first_kept : MethodSeen → List Leaf → Option Mention → List ℕ → Option ℕ
+abbrev pub first_kept : MethodModel → List Leaf → Option Mention → List ℕ → Option ℕ
 first_kept m row given [] = None
 first_kept m row given (v ∷ variables) = if is_kept m row given v then Some v else first_kept m row given variables
 
 -- this one, if it still has something
-abbrev pub if_kept : MethodSeen → List Leaf → Option Mention → ℕ → Option ℕ
+abbrev pub if_kept : MethodModel → List Leaf → Option Mention → ℕ → Option ℕ
 if_kept m row given v = if is_kept m row given v then Some v else None
 
 -- the first of them, and else the other
@@ -33,7 +33,7 @@ kept_or None other = other
 kept_or (Some v) other = Some v
 
 -- the first variable of a method that still has something, but for the one that is given
-pub record IsFirst (m : MethodSeen) (row : List Leaf) (given : Option Mention) (first : ℕ) : Type 0 where
+pub record IsFirst (m : MethodModel) (row : List Leaf) (given : Option Mention) (first : ℕ) : Type 0 where
   pub kept : is_kept m row given first ≡ true
   pub none : (v : ℕ) → v < first → is_kept m row given v ≡ false
 
@@ -43,12 +43,12 @@ LeadsTo first variable None = variable ≤ first
 LeadsTo first variable (Some outer) = (outer.0 < variable) × (first < variable → first ≤ outer.0)
 
 -- so it is with all variables up to the last one
-pub record AllLeadTo (variables : List VariableSeen) (first last : ℕ) : Type 0 where
+pub record AllLeadTo (variables : List VariableModel) (first last : ℕ) : Type 0 where
   pub there : last < length variables
   pub each : (v : ℕ) → v ≤ last → LeadsTo first v (outer_of variables (record { 0 = v }))
 
 -- the first one is plainly in scope where the last one is, and not where the outer one is
-abbrev pub IsPlain : List VariableSeen → ℕ → (outer last : Option VarId) → Type 0
+abbrev pub IsPlain : List VariableModel → ℕ → (outer last : Option VarId) → Type 0
 IsPlain variables first outer None = ⊥
 IsPlain variables first outer (Some last) =
     IfSome outer (λ o. o.0 < first) × ((first ≤ last.0) × AllLeadTo variables first last.0)
@@ -59,4 +59,4 @@ AreIn listed set = (q : ℕ) → contains nat_cmp set q ≡ is_among listed q
 
 -- What was found stands for these checks, whatever checks come behind them.
 pub record StandsFor (says : Breach → FindingParts) (found : Option Breach) (checks : List Check) : Type 0 where
-  pub all : (more : List Check) (after : List Pair) → checked (checks ++ more) after ≡ checked (check_seen says found ∷ more) after
+  pub all : (more : List Check) (after : List Pair) → checked (checks ++ more) after ≡ checked (check_model says found ∷ more) after

@@ -1,21 +1,21 @@
 -- An end of a channel as the code finds it: a contract and a side, which answer what the rule table asks of an endpoint.
 use Rattle.std.specs.Prelude.{◌≡◌, ℕ, [], Option}
 use Rattle.program.specs.Parts.{Parts}
-use Rattle.program.specs.Programs.{ProgramSeen}
-use Rattle.program.specs.declared.kind.Kind.{Kind}
+use Rattle.program.specs.Programs.{ProgramModel}
+use Rattle.program.specs.declared.kind.HeapKind.{HeapKind}
 use Rattle.program.specs.declared.kind.Side.{Side}
 use Rattle.contracts.specs.Bounds.{sign_to}
 use Rattle.contracts.specs.Leaving.{edges_from, name_among, sign_from}
 use Rattle.rules.specs.Endpoints.{edges_in, edges_out, message_name}
 
 -- an endpoint of this kind is this side of this contract
-pub record IsEndOf (p : ProgramSeen) (kind : Option Kind) (parts : Parts) (side : Side) : Type 0 where
+pub record IsEndOf (p : ProgramModel) (kind : Option HeapKind) (parts : Parts) (side : Side) : Type 0 where
   pub sends : (q : ℕ) → edges_out p kind q ≡ edges_from parts.edges (sign_from side) q
   pub receives : (q : ℕ) → edges_in p kind q ≡ edges_from parts.edges (sign_to side) q
   pub says : (message : ℕ) → message_name p kind message ≡ name_among parts.messages message
 
 -- nothing of this kind is an endpoint
-pub record IsNoEnd (p : ProgramSeen) (kind : Option Kind) : Type 0 where
+pub record IsNoEnd (p : ProgramModel) (kind : Option HeapKind) : Type 0 where
   pub sends : (q : ℕ) → edges_out p kind q ≡ []
   pub receives : (q : ℕ) → edges_in p kind q ≡ []
   pub says : (message : ℕ) → message_name p kind message ≡ []

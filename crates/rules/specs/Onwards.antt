@@ -4,20 +4,20 @@ use Rattle.flow.specs.Graphs.{Instruction, Branch}
 use Rattle.flow.specs.declared.graph.Branches.{Branches}
 use Rattle.source.specs.Findings.{FindingParts}
 use Rattle.rules.specs.Outcomes.{Step, Goes, Fails, Pair}
-use Rattle.rules.specs.Steps.{pair_seen}
+use Rattle.rules.specs.Steps.{pair_model}
 use Rattle.rules.specs.declared.breach.Breach.{Breach}
 use Rattle.rules.specs.declared.onward.Onward.{Onward}
 use Rattle.rules.specs.declared.onward.Onward.TheVariants.{Ends, Same, Both, Changed, Ways, Found}
 use Rattle.rules.specs.declared.row.Leaf.{Leaf}
 
 -- what this answer means where that row stands in place, by what breaches say
-abbrev pub onward_seen : (Breach → FindingParts) → Onward → List Leaf → Step Pair FindingParts
-onward_seen says Ends row = Goes []
-onward_seen says (Same point) row = Goes ((point, row) ∷ [])
-onward_seen says (Both first second) row = Goes ((first, row) ∷ (second, row) ∷ [])
-onward_seen says (Changed point) row = Goes ((point, row) ∷ [])
-onward_seen says (Ways pairs) row = Goes (map pair_seen pairs.items)
-onward_seen says (Found breach) row = Fails (says breach)
+abbrev pub onward_model : (Breach → FindingParts) → Onward → List Leaf → Step Pair FindingParts
+onward_model says Ends row = Goes []
+onward_model says (Same point) row = Goes ((point, row) ∷ [])
+onward_model says (Both first second) row = Goes ((first, row) ∷ (second, row) ∷ [])
+onward_model says (Changed point) row = Goes ((point, row) ∷ [])
+onward_model says (Ways pairs) row = Goes (map pair_model pairs.items)
+onward_model says (Found breach) row = Fails (says breach)
 
 -- the row is as it was, where the answer says so
 abbrev pub IsKept : Onward → (before after : List Leaf) → Type 0

@@ -3,9 +3,9 @@ use Rattle.std.specs.Prelude.{ℕ, List, [], ◌∷◌, Option, None, Some, if�
 use Rattle.std.specs.BTreeMap.{get}
 use Rattle.std.specs.Option.{option_and_then, option_map}
 use Rattle.std.specs.Ordering.{nat_cmp}
-use Rattle.flow.specs.Graphs.{GraphSeen, Instruction, Call, Start}
+use Rattle.flow.specs.Graphs.{GraphModel, Instruction, Call, Start}
 use Rattle.program.specs.Lists.{is_among}
-use Rattle.program.specs.Methods.{MethodSeen}
+use Rattle.program.specs.Methods.{MethodModel}
 use Rattle.program.specs.declared.call.Argument.{Argument}
 use Rattle.program.specs.declared.statement.Mention.{Mention}
 use Rattle.rules.specs.Mentions.{name_of}
@@ -26,7 +26,7 @@ given_again (Start place method arguments next) = first_again [] arguments
 given_again _ = None
 
 -- what is given again first at a point of a graph
-abbrev pub again_in : GraphSeen → ℕ → Option Mention
+abbrev pub again_in : GraphModel → ℕ → Option Mention
 again_in graph point = option_and_then given_again (slice_get graph.instructions point)
 
 -- the same as the code has it
@@ -34,5 +34,5 @@ abbrev pub repeated_in : Repeats → ℕ → Option Mention
 repeated_in repeats point = get nat_cmp repeats.firsts point
 
 -- what is said of what is given again
-abbrev pub told_again : MethodSeen → Option Mention → Check
+abbrev pub told_again : MethodModel → Option Mention → Check
 told_again m again = option_map (λ x. twice (name_of m x.variable.0) x.place) again

@@ -5,9 +5,9 @@ use Rattle.std.specs.List.{range_with_len}
 use Rattle.std.specs.Option.{option_map_or}
 use Rattle.source.specs.Findings.{FindingParts}
 use Rattle.source.specs.declared.place.Place.{Place}
-use Rattle.program.specs.Methods.{MethodSeen}
-use Rattle.program.specs.Programs.{ProgramSeen}
-use Rattle.program.specs.declared.kind.Kind.{Kind}
+use Rattle.program.specs.Methods.{MethodModel}
+use Rattle.program.specs.Programs.{ProgramModel}
+use Rattle.program.specs.declared.kind.HeapKind.{HeapKind}
 use Rattle.program.specs.declared.statement as stated
 use Rattle.program.specs.declared.statement.Mention.{Mention}
 use Rattle.flow.specs.Graphs.{Instruction, Use, New, Move, Delete, Exchange, NewChannel, Send, Switch, Branch, Forget, Call, Start}
@@ -32,7 +32,7 @@ abbrev pub ways : Branches → List Leaf → List Pair
 ways (Either inside past) row = (inside, row) ∷ (past, row) ∷ []
 ways (Only point) row = (point, row) ∷ []
 
-module _ (p : ProgramSeen) (m : MethodSeen) where
+module _ (p : ProgramModel) (m : MethodModel) where
   -- the checks of what a method gives: it is not lent, there, and in the state of the result
   abbrev pub value_checks : List Leaf → Option Mention → List Check
   value_checks row None = []
@@ -52,7 +52,7 @@ module _ (p : ProgramSeen) (m : MethodSeen) where
   back_checks row place = map (λ v. refused (is_not_back row v) (not_back (name_of m v) place)) (range_with_len 0 (length m.variables))
 
   -- An exchange with a field of this kind. What the field held is in the state that the field asks.
-  abbrev pub exchanged : List Leaf → stated.Exchange.Exchange → ℕ → Option Kind → Step Pair FindingParts
+  abbrev pub exchanged : List Leaf → stated.Exchange.Exchange → ℕ → Option HeapKind → Step Pair FindingParts
   exchanged row e next kind =
       checked
       (is_another m e.holder e.given

@@ -2,8 +2,8 @@
 use Rattle.std.specs.Prelude.{ℕ, List, [], ◌∷◌}
 use Rattle.source.specs.Findings.{FindingParts}
 use Rattle.source.specs.declared.place.Place.{Place}
-use Rattle.program.specs.Methods.{MethodSeen}
-use Rattle.program.specs.Programs.{ProgramSeen}
+use Rattle.program.specs.Methods.{MethodModel}
+use Rattle.program.specs.Programs.{ProgramModel}
 use Rattle.rules.specs.Breaches.{name_along}
 use Rattle.rules.specs.Texts.{wrong_for, wrong_for_field}
 use Rattle.rules.specs.declared.payloads.Taker.{Taker}
@@ -15,6 +15,6 @@ besides (Message endpoint message) = endpoint.variable.0 ∷ []
 besides Field = []
 
 -- what is said of an endpoint that goes there in a wrong state
-abbrev pub wrong_in : ProgramSeen → MethodSeen → Taker → (name : List ℕ) → Place → FindingParts
+abbrev pub wrong_in : ProgramModel → MethodModel → Taker → (name : List ℕ) → Place → FindingParts
 wrong_in p m (Message endpoint message) name place = wrong_for name (name_along p m endpoint.variable message) place
 wrong_in p m Field name place = wrong_for_field name place

@@ -1,6 +1,6 @@
 -- Transfers: what an instruction does to a row, where that depends on nothing but the leaves of a variable or two.
 use Rattle.std.specs.Prelude.{ℕ, ◌==◌, Bool, true, not, ◌&&◌, List, [], Option, Some, None, set, if◌then◌else◌}
-use Rattle.program.specs.Methods.{MethodSeen}
+use Rattle.program.specs.Methods.{MethodModel}
 use Rattle.flow.specs.Graphs as graphs
 use Rattle.flow.specs.Graphs.{Instruction}
 use Rattle.rules.specs.Mentions.{is_lent}
@@ -25,7 +25,7 @@ transferred (Move target source) row = set (set row target.0 (leaf_at row source
 transferred (Delete v) row = set row v.0 Nothing
 
 -- whether the checks pass that ask no row: nothing is given to itself, and nothing that is lent is taken or given
-abbrev pub fits : MethodSeen → Transfer → Bool
+abbrev pub fits : MethodModel → Transfer → Bool
 fits m (Use v) = true
 fits m (New v) = not (is_lent m v.0)
 fits m (Move target source) = not (target.0 == source.0) && (not (is_lent m source.0) && not (is_lent m target.0))
@@ -40,11 +40,11 @@ transfer_in (graphs.Delete at next) = Some (Delete at.variable, next)
 transfer_in _ = None
 
 -- that transfer, where it fits
-abbrev pub fitting : MethodSeen → Option (Transfer × ℕ) → Option (Transfer × ℕ)
+abbrev pub fitting : MethodModel → Option (Transfer × ℕ) → Option (Transfer × ℕ)
 fitting m None = None
 fitting m (Some t) = if fits m t.0 then Some t else None
 
 -- the transfer that fits, if an instruction is there and has one
-abbrev pub transfer_at : MethodSeen → Option Instruction → Option (Transfer × ℕ)
+abbrev pub transfer_at : MethodModel → Option Instruction → Option (Transfer × ℕ)
 transfer_at m None = None
 transfer_at m (Some instruction) = fitting m (transfer_in instruction)

@@ -1,14 +1,14 @@
 //! The checks of calls and starts, and what their arguments leave behind.
 
 ghost use Rattle.std.specs.Prelude.{◌≡◌, ◌&&◌, [], ◌∷◌, IfSome};
-ghost use Rattle.program.specs.Methods.{method_seen};
+ghost use Rattle.program.specs.Methods.{method_model};
 ghost use Rattle.rules.specs.Arguments.{all_arguments, argument_checks, claimed, given_leaf, target_checks};
-ghost use Rattle.rules.specs.Breaches.{breach_seen};
-ghost use Rattle.rules.specs.Checks.{StandsFor, check_seen};
+ghost use Rattle.rules.specs.Breaches.{breach_model};
+ghost use Rattle.rules.specs.Checks.{StandsFor, check_model};
 ghost use Rattle.rules.specs.Endpoints.{declared_leaf, is_wrong};
 ghost use Rattle.rules.specs.Mentions.{is_lent, name_of};
 ghost use Rattle.rules.specs.Outcomes.{refused};
-ghost use Rattle.rules.specs.Programs.{seen_of};
+ghost use Rattle.rules.specs.Programs.{model_of};
 ghost use Rattle.rules.specs.Repeats.{first_again};
 ghost use Rattle.rules.specs.Texts.{lent, wrong_for_call};
 ghost use Rattle.rules.specs.Leaves.{IsNumbered};
@@ -19,13 +19,13 @@ use crate::checks::{gives_none_again, has_nothing, has_something, is_not_lent};
 use crate::endpoints::{declared_leaf, is_wrong};
 use crate::here::Here;
 use crate::row::{Leaf, Row};
-use program::{Argument, Kind, Mention};
+use program::{Argument, HeapKind, Mention};
 
 /// That what is claimed of an argument is not lent.
 fn can_be_claimed(here: &Here<'_>, argument: Argument) -> Option<Breach>
-    ensures { check_seen (breach_seen (seen_of here.now.program.now) (method_seen here.now.method.now)) result ≡ refused
-        (argument.claimed && is_lent (method_seen here.now.method.now) argument.mention.variable.0)
-        (lent (name_of (method_seen here.now.method.now) argument.mention.variable.0) argument.mention.place) }
+    ensures { check_model (breach_model (model_of here.now.program.now) (method_model here.now.method.now)) result ≡ refused
+        (argument.claimed && is_lent (method_model here.now.method.now) argument.mention.variable.0)
+        (lent (name_of (method_model here.now.method.now) argument.mention.variable.0) argument.mention.place) }
 {
     if !argument.claimed {
         return None;
@@ -34,10 +34,10 @@ fn can_be_claimed(here: &Here<'_>, argument: Argument) -> Option<Breach>
 }
 
 /// That what is given for a parameter of this kind is in its state.
-fn is_in_state(here: &Here<'_>, kind: Kind, mention: Mention) -> Option<Breach>
-    ensures { check_seen (breach_seen (seen_of here.now.program.now) (method_seen here.now.method.now)) result ≡ refused
+fn is_in_state(here: &Here<'_>, kind: HeapKind, mention: Mention) -> Option<Breach>
+    ensures { check_model (breach_model (model_of here.now.program.now) (method_model here.now.method.now)) result ≡ refused
         (is_wrong kind (leaf_at (leaves_of here.now.row.now) mention.variable.0))
-        (wrong_for_call (name_of (method_seen here.now.method.now) mention.variable.0) mention.place) }
+        (wrong_for_call (name_of (method_model here.now.method.now) mention.variable.0) mention.place) }
 {
     if !is_wrong(kind, here.row.leaf(mention.variable)) {
         return None;
@@ -46,9 +46,9 @@ fn is_in_state(here: &Here<'_>, kind: Kind, mention: Mention) -> Option<Breach>
 }
 
 /// That what an argument gives is there, not lent where it is claimed, and in the state that the parameter asks.
-fn can_give(here: &Here<'_>, kind: Kind, argument: Argument) -> Option<Breach>
-    ensures { StandsFor (breach_seen (seen_of here.now.program.now) (method_seen here.now.method.now)) result
-        (argument_checks (method_seen here.now.method.now) (leaves_of here.now.row.now) kind argument) }
+fn can_give(here: &Here<'_>, kind: HeapKind, argument: Argument) -> Option<Breach>
+    ensures { StandsFor (breach_model (model_of here.now.program.now) (method_model here.now.method.now)) result
+        (argument_checks (method_model here.now.method.now) (leaves_of here.now.row.now) kind argument) }
 {
     if let Some(breach) = has_something(here, argument.mention) {
         return Some(breach);
@@ -63,12 +63,12 @@ fn can_give(here: &Here<'_>, kind: Kind, argument: Argument) -> Option<Breach>
 pub(crate) fn can_give_all(
     here: &Here<'_>,
     again: Option<Mention>,
-    kinds: &[Kind],
+    kinds: &[HeapKind],
     arguments: &[Argument],
 ) -> Option<Breach>
     requires { again ≡ first_again [] arguments.now }
-    ensures { StandsFor (breach_seen (seen_of here.now.program.now) (method_seen here.now.method.now)) result
-        (all_arguments (method_seen here.now.method.now) (leaves_of here.now.row.now) kinds.now arguments.now) }
+    ensures { StandsFor (breach_model (model_of here.now.program.now) (method_model here.now.method.now)) result
+        (all_arguments (method_model here.now.method.now) (leaves_of here.now.row.now) kinds.now arguments.now) }
 {
     if let Some(breach) = gives_none_again(here, again) {
         return Some(breach);
@@ -83,8 +83,8 @@ pub(crate) fn can_give_all(
 
 /// That what takes a block, if something does, is not lent and has nothing.
 pub(crate) fn can_take(here: &Here<'_>, target: Option<Mention>) -> Option<Breach>
-    ensures { StandsFor (breach_seen (seen_of here.now.program.now) (method_seen here.now.method.now)) result
-        (target_checks (method_seen here.now.method.now) (leaves_of here.now.row.now) target) }
+    ensures { StandsFor (breach_model (model_of here.now.program.now) (method_model here.now.method.now)) result
+        (target_checks (method_model here.now.method.now) (leaves_of here.now.row.now) target) }
 {
     let target = target?;
     if let Some(breach) = is_not_lent(here, target) {
@@ -112,7 +112,7 @@ pub(crate) fn claim_all(row: &mut Row, arguments: &[Argument])
 }
 
 /// Gives what a method gives to the variable that takes it, if one does.
-pub(crate) fn give(row: &mut Row, kind: Option<Kind>, target: Option<Mention>)
+pub(crate) fn give(row: &mut Row, kind: Option<HeapKind>, target: Option<Mention>)
     requires numbered { IfSome kind (λ kind. IsNumbered (declared_leaf kind)) }
     ensures { leaves_of row.new ≡ given_leaf (leaves_of row.old) kind target }
 {

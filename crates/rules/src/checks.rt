@@ -1,10 +1,10 @@
 //! The checks of a variable where it is named: each answers what is wrong where it fails.
 
 ghost use Rattle.std.specs.Prelude.{◌≡◌};
-ghost use Rattle.program.specs.Methods.{method_seen};
-ghost use Rattle.rules.specs.Breaches.{breach_seen};
-ghost use Rattle.rules.specs.Checks.{check_seen};
-ghost use Rattle.rules.specs.Programs.{seen_of};
+ghost use Rattle.program.specs.Methods.{method_model};
+ghost use Rattle.rules.specs.Breaches.{breach_model};
+ghost use Rattle.rules.specs.Checks.{check_model};
+ghost use Rattle.rules.specs.Programs.{model_of};
 ghost use Rattle.rules.specs.Rows.{leaves_of};
 ghost use Rattle.rules.specs.Mentions as table;
 ghost use Rattle.rules.specs.Repeats.{told_again};
@@ -15,7 +15,7 @@ use program::{Mention, Method, Role, VarId};
 
 /// The name of a variable: none, where there is no such variable.
 pub(crate) fn name_of(method: &Method, variable: VarId) -> &[u8]
-    ensures { result.now ≡ table.name_of (method_seen method.now) variable.0 }
+    ensures { result.now ≡ table.name_of (method_model method.now) variable.0 }
 {
     match method.variables.get(variable.0) {
         Some(variable) => &variable.name,
@@ -35,7 +35,7 @@ pub(crate) fn is_lent_role(role: Role) -> bool
 
 /// Whether a variable is lent: not, where there is no such variable.
 pub(crate) fn lends(method: &Method, variable: VarId) -> bool
-    ensures { result ≡ table.is_lent (method_seen method.now) variable.0 }
+    ensures { result ≡ table.is_lent (method_model method.now) variable.0 }
 {
     match method.variables.get(variable.0) {
         Some(variable) => is_lent_role(variable.role),
@@ -45,8 +45,8 @@ pub(crate) fn lends(method: &Method, variable: VarId) -> bool
 
 /// That the variable has something.
 pub(crate) fn has_something(here: &Here<'_>, mention: Mention) -> Option<Breach>
-    ensures { check_seen (breach_seen (seen_of here.now.program.now) (method_seen here.now.method.now)) result
-        ≡ table.has_something (method_seen here.now.method.now) (leaves_of here.now.row.now) mention }
+    ensures { check_model (breach_model (model_of here.now.program.now) (method_model here.now.method.now)) result
+        ≡ table.has_something (method_model here.now.method.now) (leaves_of here.now.row.now) mention }
 {
     if here.row.owns(mention.variable) {
         return None;
@@ -56,8 +56,8 @@ pub(crate) fn has_something(here: &Here<'_>, mention: Mention) -> Option<Breach>
 
 /// That the variable has nothing.
 pub(crate) fn has_nothing(here: &Here<'_>, mention: Mention) -> Option<Breach>
-    ensures { check_seen (breach_seen (seen_of here.now.program.now) (method_seen here.now.method.now)) result
-        ≡ table.has_nothing (method_seen here.now.method.now) (leaves_of here.now.row.now) mention }
+    ensures { check_model (breach_model (model_of here.now.program.now) (method_model here.now.method.now)) result
+        ≡ table.has_nothing (method_model here.now.method.now) (leaves_of here.now.row.now) mention }
 {
     if !here.row.owns(mention.variable) {
         return None;
@@ -67,8 +67,8 @@ pub(crate) fn has_nothing(here: &Here<'_>, mention: Mention) -> Option<Breach>
 
 /// That the variable is not lent.
 pub(crate) fn is_not_lent(here: &Here<'_>, mention: Mention) -> Option<Breach>
-    ensures { check_seen (breach_seen (seen_of here.now.program.now) (method_seen here.now.method.now)) result
-        ≡ table.is_not_lent (method_seen here.now.method.now) mention }
+    ensures { check_model (breach_model (model_of here.now.program.now) (method_model here.now.method.now)) result
+        ≡ table.is_not_lent (method_model here.now.method.now) mention }
 {
     if !lends(here.method, mention.variable) {
         return None;
@@ -78,8 +78,8 @@ pub(crate) fn is_not_lent(here: &Here<'_>, mention: Mention) -> Option<Breach>
 
 /// That nothing is given a second time. This is the first mention that gives something again, if one does.
 pub(crate) fn gives_none_again(here: &Here<'_>, again: Option<Mention>) -> Option<Breach>
-    ensures { check_seen (breach_seen (seen_of here.now.program.now) (method_seen here.now.method.now)) result
-        ≡ told_again (method_seen here.now.method.now) again }
+    ensures { check_model (breach_model (model_of here.now.program.now) (method_model here.now.method.now)) result
+        ≡ told_again (method_model here.now.method.now) again }
 {
     let again = again?;
     Some(Breach::at(again.place, Reason::Twice(again.variable)))
@@ -87,8 +87,8 @@ pub(crate) fn gives_none_again(here: &Here<'_>, again: Option<Mention>) -> Optio
 
 /// That the source is another variable than the target.
 pub(crate) fn is_another(here: &Here<'_>, target: Mention, source: Mention) -> Option<Breach>
-    ensures { check_seen (breach_seen (seen_of here.now.program.now) (method_seen here.now.method.now)) result
-        ≡ table.is_another (method_seen here.now.method.now) target source }
+    ensures { check_model (breach_model (model_of here.now.program.now) (method_model here.now.method.now)) result
+        ≡ table.is_another (method_model here.now.method.now) target source }
 {
     if target.variable.0 != source.variable.0 {
         return None;

@@ -3,7 +3,7 @@
 ghost use Rattle.std.specs.Prelude.{◌≡◌, ◌<◌, All, IfSome, MatchOption, option_map};
 ghost use Rattle.contracts.specs.Leaving.{end_on};
 ghost use Rattle.contracts.specs.Sounds.{sound_parts};
-ghost use Rattle.program.specs.Methods.{method_seen};
+ghost use Rattle.program.specs.Methods.{method_model};
 ghost use Rattle.program.specs.WellFormed.{field_kinds};
 ghost use Rattle.program.specs.declared.limits.TheConstants.{MOST_STATES};
 ghost use Rattle.rules.specs.Endpoints as table;
@@ -14,31 +14,31 @@ ghost use Rattle.rules.specs.Leaves.{IsNumbered};
 use crate::lowered::Program;
 use crate::row::Leaf;
 use contracts::Sound;
-use program::{ContractId, Edge, Kind, MessageId, Method, MethodId, Side, StateId, VarId};
+use program::{ContractId, Edge, HeapKind, MessageId, Method, MethodId, Side, StateId, VarId};
 
 /// What is had of this kind where it is given.
-pub(crate) fn declared_leaf(kind: Kind) -> Leaf
+pub(crate) fn declared_leaf(kind: HeapKind) -> Leaf
     ensures { result ≡ declared_leaf kind }
 {
     match kind {
-        Kind::Struct(_) | Kind::Array(_) => Leaf::Block,
-        Kind::Endpoint { state, .. } => Leaf::State(state.0),
+        HeapKind::Struct(_) | HeapKind::Array(_) => Leaf::Block,
+        HeapKind::Endpoint { state, .. } => Leaf::State(state.0),
     }
 }
 
 /// Whether this is an endpoint neither cut off nor in the state that its kind declares.
-pub(crate) fn is_wrong(kind: Kind, leaf: Leaf) -> bool
+pub(crate) fn is_wrong(kind: HeapKind, leaf: Leaf) -> bool
     ensures { result ≡ table.is_wrong kind leaf }
 {
     match (kind, leaf) {
-        (Kind::Endpoint { state, .. }, Leaf::State(number)) => number != state.0,
+        (HeapKind::Endpoint { state, .. }, Leaf::State(number)) => number != state.0,
         _ => false,
     }
 }
 
 /// What a variable of a method holds, if there is such a variable.
-pub(crate) fn kind_of(method: &Method, variable: VarId) -> Option<Kind>
-    ensures { result ≡ table.kind_of (method_seen method.now) variable.0 }
+pub(crate) fn kind_of(method: &Method, variable: VarId) -> Option<HeapKind>
+    ensures { result ≡ table.kind_of (method_model method.now) variable.0 }
 {
     match method.variables.get(variable.0) {
         Some(variable) => Some(variable.kind),
@@ -47,11 +47,11 @@ pub(crate) fn kind_of(method: &Method, variable: VarId) -> Option<Kind>
 }
 
 impl Program {
-    ghost use Rattle.rules.specs.Programs.{seen_of};
+    ghost use Rattle.rules.specs.Programs.{model_of};
 
     /// What a message brings for its parameters of the exchange heap.
-    pub(crate) fn brought(&self, message: MessageId) -> &[Kind]
-        ensures kinds { result.now ≡ table.brought (seen_of self.now) message.0 }
+    pub(crate) fn brought(&self, message: MessageId) -> &[HeapKind]
+        ensures kinds { result.now ≡ table.brought (model_of self.now) message.0 }
         ensures numbered { All (λ kind. IsNumbered (declared_leaf kind)) result.now }
     {
         match self.methods.messages().get(message.0 as usize) {
@@ -61,22 +61,22 @@ impl Program {
     }
 
     /// What a block of this kind has in its fields that own.
-    fn field_kinds(&self, kind: Kind) -> &[Kind]
-        ensures kinds { result.now ≡ field_kinds (seen_of self.now).structs kind }
+    fn field_kinds(&self, kind: HeapKind) -> &[HeapKind]
+        ensures kinds { result.now ≡ field_kinds (model_of self.now).structs kind }
         ensures numbered { All (λ kind. IsNumbered (declared_leaf kind)) result.now }
     {
         match kind {
-            Kind::Struct(number) => match self.methods.structs().get(number.0 as usize) {
+            HeapKind::Struct(number) => match self.methods.structs().get(number.0 as usize) {
                 Some(kinds) => kinds.as_slice(),
                 None => &[],
             },
-            Kind::Array(_) | Kind::Endpoint { .. } => &[],
+            HeapKind::Array(_) | HeapKind::Endpoint { .. } => &[],
         }
     }
 
     /// What the block of a variable has in its fields that own.
-    pub(crate) fn fields_of(&self, method: &Method, variable: VarId) -> &[Kind]
-        ensures kinds { result.now ≡ table.fields_of (seen_of self.now) (method_seen method.now) variable.0 }
+    pub(crate) fn fields_of(&self, method: &Method, variable: VarId) -> &[HeapKind]
+        ensures kinds { result.now ≡ table.fields_of (model_of self.now) (method_model method.now) variable.0 }
         ensures numbered { All (λ kind. IsNumbered (declared_leaf kind)) result.now }
     {
         match kind_of(method, variable) {
@@ -86,16 +86,21 @@ impl Program {
     }
 
     /// What one of these fields holds, if there is such a field.
-    pub(crate) fn field_of(&self, method: &Method, variable: VarId, field: usize) -> Option<Kind>
-        ensures kind { result ≡ table.field_of (seen_of self.now) (method_seen method.now) variable.0 field }
+    pub(crate) fn field_of(
+        &self,
+        method: &Method,
+        variable: VarId,
+        field: usize,
+    ) -> Option<HeapKind>
+        ensures kind { result ≡ table.field_of (model_of self.now) (method_model method.now) variable.0 field }
         ensures numbered { IfSome result (λ kind. IsNumbered (declared_leaf kind)) }
     {
         self.fields_of(method, variable).get(field).copied()
     }
 
     /// What a method takes for its parameters of the exchange heap.
-    pub(crate) fn parameter_kinds(&self, method: MethodId) -> &[Kind]
-        ensures { result.now ≡ table.parameter_kinds (seen_of self.now) method.0 }
+    pub(crate) fn parameter_kinds(&self, method: MethodId) -> &[HeapKind]
+        ensures { result.now ≡ table.parameter_kinds (model_of self.now) method.0 }
     {
         match self.parameters.get(method.0 as usize) {
             Some(kinds) => kinds.as_slice(),
@@ -104,8 +109,8 @@ impl Program {
     }
 
     /// What a method gives, where that is of the exchange heap.
-    pub(crate) fn result_of(&self, method: MethodId) -> Option<Kind>
-        ensures kind { result ≡ table.result_of (seen_of self.now) method.0 }
+    pub(crate) fn result_of(&self, method: MethodId) -> Option<HeapKind>
+        ensures kind { result ≡ table.result_of (model_of self.now) method.0 }
         ensures numbered { IfSome result (λ kind. IsNumbered (declared_leaf kind)) }
     {
         self.methods.list().get(method.0 as usize)?.result
@@ -113,7 +118,7 @@ impl Program {
 
     /// The state in which a channel of the contract begins.
     pub fn first_state(&self, contract: ContractId) -> StateId
-        ensures state { result.0 ≡ table.first_state (seen_of self.now) contract.0 }
+        ensures state { result.0 ≡ table.first_state (model_of self.now) contract.0 }
         ensures numbered { result.0 < MOST_STATES }
     {
         match self.sounds.get(contract.0 as usize) {
@@ -123,8 +128,8 @@ impl Program {
     }
 
     /// Whether an endpoint of this kind sends in a state.
-    pub(crate) fn sends(&self, kind: Option<Kind>, state: u32) -> bool
-        ensures { result ≡ table.sends (seen_of self.now) kind state }
+    pub(crate) fn sends(&self, kind: Option<HeapKind>, state: u32) -> bool
+        ensures { result ≡ table.sends (model_of self.now) kind state }
     {
         match self.end_of(kind) {
             Some(end) => !end.sound.edges_out(end.side, StateId(state)).is_empty(),
@@ -133,19 +138,26 @@ impl Program {
     }
 
     /// Where an endpoint of this kind is behind a send of the message, if it sends it in that state.
-    pub fn sent(&self, kind: Option<Kind>, state: u32, message: MessageId) -> Option<StateId>
-        ensures end { option_map (λ q. q.0) result ≡ end_on (table.edges_out (seen_of self.now) kind state) message.0 }
+    pub fn state_after_send(
+        &self,
+        kind: Option<HeapKind>,
+        state: u32,
+        message: MessageId,
+    ) -> Option<StateId>
+        ensures end { option_map (λ q. q.0) result ≡ end_on (table.edges_out (model_of self.now) kind state) message.0 }
         ensures numbered { IfSome result (λ q. q.0 < MOST_STATES) }
     {
         match self.end_of(kind) {
-            Some(end) => end.sound.sent(end.side, StateId(state), message),
+            Some(end) => end
+                .sound
+                .state_after_send(end.side, StateId(state), message),
             None => None,
         }
     }
 
     /// The edges along which an endpoint of this kind receives in a state, in order of the contract.
-    pub(crate) fn edges_in(&self, kind: Option<Kind>, state: u32) -> &[Edge]
-        ensures edges { result.now ≡ table.edges_in (seen_of self.now) kind state }
+    pub(crate) fn edges_in(&self, kind: Option<HeapKind>, state: u32) -> &[Edge]
+        ensures edges { result.now ≡ table.edges_in (model_of self.now) kind state }
         ensures numbered { All (λ e. e.to.0 < MOST_STATES) result.now }
     {
         match self.end_of(kind) {
@@ -155,8 +167,8 @@ impl Program {
     }
 
     /// The name of a message of the contract of an endpoint of this kind.
-    pub(crate) fn message_name(&self, kind: Option<Kind>, message: MessageId) -> &[u8]
-        ensures { result.now ≡ table.message_name (seen_of self.now) kind message.0 }
+    pub(crate) fn message_name(&self, kind: Option<HeapKind>, message: MessageId) -> &[u8]
+        ensures { result.now ≡ table.message_name (model_of self.now) kind message.0 }
     {
         match self.end_of(kind) {
             Some(end) => end.sound.message_name(message),
@@ -165,16 +177,16 @@ impl Program {
     }
 
     /// The contract and the side of an endpoint of this kind.
-    fn end_of(&self, kind: Option<Kind>) -> Option<End<'_>>
-        ensures { MatchOption result (IsNoEnd (seen_of self.now) kind)
-            (λ end. IsEndOf (seen_of self.now) kind (sound_parts end.sound.now) end.side) }
+    fn end_of(&self, kind: Option<HeapKind>) -> Option<End<'_>>
+        ensures { MatchOption result (IsNoEnd (model_of self.now) kind)
+            (λ end. IsEndOf (model_of self.now) kind (sound_parts end.sound.now) end.side) }
     {
         match kind? {
-            Kind::Endpoint { contract, side, .. } => {
+            HeapKind::Endpoint { contract, side, .. } => {
                 let sound = self.sounds.get(contract.0 as usize)?;
                 Some(End { sound, side })
             }
-            Kind::Struct(_) | Kind::Array(_) => None,
+            HeapKind::Struct(_) | HeapKind::Array(_) => None,
         }
     }
 }

@@ -4,14 +4,14 @@ ghost use Rattle.std.specs.Prelude.{◌≡◌, [], IfSome};
 ghost use Rattle.std.specs.Option.{option_map_or};
 ghost use Rattle.flow.specs.Graphs as graphs;
 ghost use Rattle.flow.specs.Graphs.{New};
-ghost use Rattle.program.specs.Methods.{method_seen};
+ghost use Rattle.program.specs.Methods.{method_model};
 ghost use Rattle.rules.specs.Arguments.{field_checks, payload};
-ghost use Rattle.rules.specs.Breaches.{breach_seen};
+ghost use Rattle.rules.specs.Breaches.{breach_model};
 ghost use Rattle.rules.specs.Checks.{StandsFor};
 ghost use Rattle.rules.specs.Endpoints as table;
 ghost use Rattle.rules.specs.Leaves.{IsNumbered};
-ghost use Rattle.rules.specs.Onwards.{IsKept, onward_seen};
-ghost use Rattle.rules.specs.Programs.{seen_of};
+ghost use Rattle.rules.specs.Onwards.{IsKept, onward_model};
+ghost use Rattle.rules.specs.Programs.{model_of};
 ghost use Rattle.rules.specs.Rows.{leaves_of};
 ghost use Rattle.rules.specs.RuleTable.{instruction_outcome};
 ghost use Rattle.rules.specs.declared.row.Leaf.TheVariants.{Nothing};
@@ -24,7 +24,7 @@ use crate::here::{Here, Site};
 use crate::onward::Onward;
 use crate::payloads::{Taker, can_all_be_taken, can_be_taken, claim_payloads};
 use crate::row::{Leaf, Row};
-use program::{Exchange, Kind, Mention};
+use program::{Exchange, HeapKind, Mention};
 
 /// The variable takes a new block, and what is given for the fields of that is gone.
 pub(crate) fn new(
@@ -34,8 +34,9 @@ pub(crate) fn new(
     arguments: &[Mention],
     next: usize,
 ) -> Onward
-    ensures outcome { onward_seen (breach_seen (seen_of site.now.program.now) (method_seen site.now.method.now)) result (leaves_of row.new)
-        ≡ instruction_outcome (seen_of site.now.program.now) (method_seen site.now.method.now) (New target arguments.now next)
+    ensures outcome { onward_model (breach_model (model_of site.now.program.now) (method_model site.now.method.now)) result
+        (leaves_of row.new)
+        ≡ instruction_outcome (model_of site.now.program.now) (method_model site.now.method.now) (New target arguments.now next)
         (leaves_of row.old) }
     ensures kept { IsKept result (leaves_of row.old) (leaves_of row.new) }
 {
@@ -62,9 +63,9 @@ pub(crate) fn new(
 }
 
 /// That what is given for a field, if there is such a field, is not lent, there, and in the state that the field asks.
-fn can_be_inside(here: &Here<'_>, field: Option<Kind>, given: Mention) -> Option<Breach>
-    ensures { StandsFor (breach_seen (seen_of here.now.program.now) (method_seen here.now.method.now)) result
-        (option_map_or (λ kind. field_checks (method_seen here.now.method.now) (leaves_of here.now.row.now) kind (payload given))
+fn can_be_inside(here: &Here<'_>, field: Option<HeapKind>, given: Mention) -> Option<Breach>
+    ensures { StandsFor (breach_model (model_of here.now.program.now) (method_model here.now.method.now)) result
+        (option_map_or (λ kind. field_checks (method_model here.now.method.now) (leaves_of here.now.row.now) kind (payload given))
         field []) }
 {
     let kind = field?;
@@ -72,7 +73,7 @@ fn can_be_inside(here: &Here<'_>, field: Option<Kind>, given: Mention) -> Option
 }
 
 /// What comes out of a field, if there is such a field.
-fn leaf_out_of(field: Option<Kind>) -> Leaf
+fn leaf_out_of(field: Option<HeapKind>) -> Leaf
     requires numbered { IfSome field (λ kind. IsNumbered (table.declared_leaf kind)) }
     ensures leaf { result ≡ option_map_or table.declared_leaf field Nothing }
     ensures numbered { IsNumbered result }
@@ -85,8 +86,9 @@ fn leaf_out_of(field: Option<Kind>) -> Leaf
 
 /// What a field holds and what a variable has change places.
 pub(crate) fn exchange(site: &Site<'_>, row: &mut Row, exchange: Exchange, next: usize) -> Onward
-    ensures outcome { onward_seen (breach_seen (seen_of site.now.program.now) (method_seen site.now.method.now)) result (leaves_of row.new)
-        ≡ instruction_outcome (seen_of site.now.program.now) (method_seen site.now.method.now) (graphs.Exchange exchange next)
+    ensures outcome { onward_model (breach_model (model_of site.now.program.now) (method_model site.now.method.now)) result
+        (leaves_of row.new)
+        ≡ instruction_outcome (model_of site.now.program.now) (method_model site.now.method.now) (graphs.Exchange exchange next)
         (leaves_of row.old) }
     ensures kept { IsKept result (leaves_of row.old) (leaves_of row.new) }
 {

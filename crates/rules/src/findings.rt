@@ -2,10 +2,10 @@
 
 ghost use Rattle.std.specs.Prelude.{◌≡◌, ◌<◌, IfOk, length};
 ghost use Rattle.source.specs.Findings.{finding_parts};
-ghost use Rattle.program.specs.Methods.{method_seen};
+ghost use Rattle.program.specs.Methods.{method_model};
 ghost use Rattle.rules.specs.Breaches as table;
-ghost use Rattle.rules.specs.Breaches.{breach_in, breach_seen};
-ghost use Rattle.rules.specs.Programs.{seen_of};
+ghost use Rattle.rules.specs.Breaches.{breach_in, breach_model};
+ghost use Rattle.rules.specs.Programs.{model_of};
 
 use crate::breach::{Breach, Reason};
 use crate::checks::name_of;
@@ -25,15 +25,15 @@ impl Program {
         method: MethodId,
         breach: Breach,
     ) -> Result<Finding, Memory>
-        requires there { method.0 < length (seen_of self.now).methods }
-        ensures { IfOk result (λ finding. finding_parts finding ≡ breach_in (seen_of self.now) method.0 breach) }
+        requires there { method.0 < length (model_of self.now).methods }
+        ensures { IfOk result (λ finding. finding_parts finding ≡ breach_in (model_of self.now) method.0 breach) }
     {
-        self.told(alloc, self.method(method), breach)
+        self.finding_in(alloc, self.method(method), breach)
     }
 
     /// The same, of a method.
-    fn told(&self, alloc: Global, method: &Method, breach: Breach) -> Result<Finding, Memory>
-        ensures { IfOk result (λ finding. finding_parts finding ≡ breach_seen (seen_of self.now) (method_seen method.now) breach) }
+    fn finding_in(&self, alloc: Global, method: &Method, breach: Breach) -> Result<Finding, Memory>
+        ensures { IfOk result (λ finding. finding_parts finding ≡ breach_model (model_of self.now) (method_model method.now) breach) }
     {
         let place = breach.place;
         match breach.reason {
@@ -75,7 +75,7 @@ impl Program {
 
     /// The name of a message of the contract of an endpoint.
     fn name_along<'a>(&'a self, method: &Method, endpoint: VarId, message: MessageId) -> &'a [u8]
-        ensures { result.now ≡ table.name_along (seen_of self.now) (method_seen method.now) endpoint message }
+        ensures { result.now ≡ table.name_along (model_of self.now) (method_model method.now) endpoint message }
     {
         self.message_name(kind_of(method, endpoint), message)
     }

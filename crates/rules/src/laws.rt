@@ -3,14 +3,14 @@
 ghost use Rattle.std.specs.Prelude.{◌≡◌, ◌↔◌, ℕ, List, All, Some, slice_get};
 ghost use Rattle.std.specs.Thread.{IsSync};
 ghost use Rattle.std.specs.declared.cmp.Ordering.TheVariants.{Equal};
-ghost use Rattle.program.specs.Methods.{MethodSeen};
-ghost use Rattle.program.specs.Programs.{ProgramSeen};
+ghost use Rattle.program.specs.Methods.{MethodModel};
+ghost use Rattle.program.specs.Programs.{ProgramModel};
 ghost use Rattle.rules.specs.Outcomes.{Goes, Pair};
 ghost use Rattle.rules.specs.Rows.{IsRowOf};
 ghost use Rattle.rules.specs.Steps.{entry_of, outcome};
 ghost use Rattle.rules.specs.contracts.lowered.Program as program;
 ghost use Rattle.rules.specs.contracts.repeats.Repeats as repeats;
-ghost use Rattle.rules.specs.declared.breach.Breach.{Breach as BreachSeen};
+ghost use Rattle.rules.specs.declared.breach.Breach.{Breach as BreachModel};
 
 use crate::breach::Breach;
 use crate::repeats::Repeats;
@@ -20,15 +20,15 @@ use program::laws::threads_share_methods;
 
 /// The row with which a method begins has a leaf for each of its variables, and a step leads from such a row to such rows alone.
 pub fn a_leaf_for_each_variable()
-    ensures entry { (p : ProgramSeen) (n : ℕ) (m : MethodSeen)
+    ensures entry { (p : ProgramModel) (n : ℕ) (m : MethodModel)
         → slice_get p.methods n ≡ Some m → IsRowOf m (entry_of p n).1 }
-    ensures step { (p : ProgramSeen) (n : ℕ) (m : MethodSeen) (pair : Pair) (to : List Pair)
+    ensures step { (p : ProgramModel) (n : ℕ) (m : MethodModel) (pair : Pair) (to : List Pair)
         → slice_get p.methods n ≡ Some m → IsRowOf m pair.1 → outcome p n pair ≡ Goes to → All (λ to. IsRowOf m to.1) to }
 {}
 
 /// Two breaches compare as equal exactly if they are the same.
 pub fn equal_breaches_are_one()
-    ensures { (a b : BreachSeen) → (⟦<Breach as Ord>⟧.cmp a b ≡ Equal) ↔ (a ≡ b) }
+    ensures { (a b : BreachModel) → (⟦<Breach as Ord>⟧.cmp a b ≡ Equal) ↔ (a ≡ b) }
 {}
 
 /// Threads may share a program by reference.

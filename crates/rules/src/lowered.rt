@@ -3,11 +3,11 @@
 ghost use Rattle.std.specs.Prelude.{◌≡◌, ◌<◌, ◌≤◌, IfOk, IsSomeAnd, Some, length, map, slice_get};
 ghost use Rattle.std.proofs.Props.{props};
 ghost use Rattle.contracts.specs.Sounds.{sound_parts};
-ghost use Rattle.flow.specs.Graphs.{graph_seen};
+ghost use Rattle.flow.specs.Graphs.{graph_model};
 ghost use Rattle.flow.specs.Lowering.{graph_of};
-ghost use Rattle.program.specs.Methods.{method_seen, variable_seen};
-ghost use Rattle.program.specs.Parts.{contract_seen};
-ghost use Rattle.program.specs.Programs.{contracts_seen, methods_seen, program_seen, rows};
+ghost use Rattle.program.specs.Methods.{method_model, variable_model};
+ghost use Rattle.program.specs.Parts.{contract_model};
+ghost use Rattle.program.specs.Programs.{contracts_model, methods_model, program_model, rows};
 ghost use Rattle.program.specs.WellFormed as formed;
 ghost use Rattle.program.specs.WellFormed.{IsWellFormed, parameters};
 ghost use Rattle.program.specs.declared.limits.TheConstants.{MOST_VARIABLES};
@@ -16,7 +16,7 @@ ghost use Rattle.rules.specs.Repeats.{again_in, repeated_in};
 use crate::repeats::{Repeats, repeats_of};
 use contracts::Sound;
 use flow::{Graph, lower};
-use program::{Contract, ContractId, Kind, Method, MethodId, Methods, Role};
+use program::{Contract, ContractId, HeapKind, Method, MethodId, Methods, Role};
 use source::Memory;
 use std::alloc::Global;
 
@@ -28,22 +28,22 @@ pub struct Program {
     pub(crate) sounds: Vec<Sound>,
     graphs: Vec<Graph>,
     repeats: Vec<Repeats>,
-    pub(crate) parameters: Vec<Vec<Kind>>,
-    ghost sound: { map sound_parts sounds.items ≡ map (λ c. c.parts) (contracts_seen methods) },
-    ghost lowered: { map graph_seen graphs.items ≡ map graph_of (methods_seen methods) },
-    ghost told: { map repeated_in repeats.items ≡ map (λ m. again_in (graph_of m)) (methods_seen methods) } by { Prim.hlevel props },
-    ghost asked: { rows parameters.items ≡ map (λ m. map (λ v. v.kind) (formed.parameters m)) (methods_seen methods) },
+    pub(crate) parameters: Vec<Vec<HeapKind>>,
+    ghost sound: { map sound_parts sounds.items ≡ map (λ c. c.parts) (contracts_model methods) },
+    ghost lowered: { map graph_model graphs.items ≡ map graph_of (methods_model methods) },
+    ghost told: { map repeated_in repeats.items ≡ map (λ m. again_in (graph_of m)) (methods_model methods) } by { Prim.hlevel props },
+    ghost asked: { rows parameters.items ≡ map (λ m. map (λ v. v.kind) (formed.parameters m)) (methods_model methods) },
 }
 
 impl Program {
-    ghost use Rattle.rules.specs.Programs.{is_entry, seen_of};
+    ghost use Rattle.rules.specs.Programs.{is_entry, model_of};
 
     /// The program of these methods, with a sound contract for each of theirs, in order.
     ///
     /// `Memory` is answered where a growth was refused.
     pub fn new(alloc: Global, methods: Methods, sounds: Vec<Sound>) -> Result<Program, Memory>
-        requires sound { map sound_parts sounds.items ≡ map (λ c. c.parts) (contracts_seen methods) }
-        ensures { IfOk result (λ p. seen_of p ≡ program_seen methods) }
+        requires sound { map sound_parts sounds.items ≡ map (λ c. c.parts) (contracts_model methods) }
+        ensures { IfOk result (λ p. model_of p ≡ program_model methods) }
     {
         let graphs = graphs_of(alloc, methods.list())?;
         let repeats = repeats_of(alloc, &graphs)?;
@@ -59,53 +59,53 @@ impl Program {
 
     /// Its methods, in order of the text.
     pub fn methods(&self) -> &[Method]
-        ensures { map method_seen result.now ≡ (seen_of self.now).methods }
+        ensures { map method_model result.now ≡ (model_of self.now).methods }
     {
         self.methods.list()
     }
 
     /// Its contracts with their names, in order of the text.
     pub fn contracts(&self) -> &[Contract]
-        ensures { map contract_seen result.now ≡ (seen_of self.now).contracts }
+        ensures { map contract_model result.now ≡ (model_of self.now).contracts }
     {
         self.methods.contracts().contracts.as_slice()
     }
 
     /// Its contracts, in order of the text. Each meets the four conditions.
     pub fn sounds(&self) -> &[Sound]
-        ensures { map sound_parts result.now ≡ map (λ c. c.parts) (seen_of self.now).contracts }
+        ensures { map sound_parts result.now ≡ map (λ c. c.parts) (model_of self.now).contracts }
     {
         self.sounds.as_slice()
     }
 
     /// A contract of it.
     pub fn sound(&self, contract: ContractId) -> &Sound
-        requires there { contract.0 < length (seen_of self.now).contracts }
-        ensures { IsSomeAnd (slice_get (seen_of self.now).contracts contract.0) (λ c. sound_parts result.now ≡ c.parts) }
+        requires there { contract.0 < length (model_of self.now).contracts }
+        ensures { IsSomeAnd (slice_get (model_of self.now).contracts contract.0) (λ c. sound_parts result.now ≡ c.parts) }
     {
         &self.sounds[contract.0 as usize]
     }
 
     /// The graph of a method.
     pub fn graph(&self, method: MethodId) -> &Graph
-        requires there { method.0 < length (seen_of self.now).methods }
-        ensures { IsSomeAnd (slice_get (seen_of self.now).methods method.0) (λ m. graph_seen result.now ≡ graph_of m) }
+        requires there { method.0 < length (model_of self.now).methods }
+        ensures { IsSomeAnd (slice_get (model_of self.now).methods method.0) (λ m. graph_model result.now ≡ graph_of m) }
     {
         &self.graphs[method.0 as usize]
     }
 
     /// What the calls and starts of a method give again.
     pub(crate) fn repeats(&self, method: MethodId) -> &Repeats
-        requires there { method.0 < length (seen_of self.now).methods }
-        ensures { IsSomeAnd (slice_get (seen_of self.now).methods method.0) (λ m. repeated_in result.now ≡ again_in (graph_of m)) }
+        requires there { method.0 < length (model_of self.now).methods }
+        ensures { IsSomeAnd (slice_get (model_of self.now).methods method.0) (λ m. repeated_in result.now ≡ again_in (graph_of m)) }
     {
         &self.repeats[method.0 as usize]
     }
 
     /// Whether a run may begin with a method: whether it gives nothing and has no parameter of any kind, numbers included.
     pub fn is_entry(&self, method: MethodId) -> bool
-        requires there { method.0 < length (seen_of self.now).methods }
-        ensures { IsSomeAnd (slice_get (seen_of self.now).methods method.0) (λ m. result ≡ is_entry m) }
+        requires there { method.0 < length (model_of self.now).methods }
+        ensures { IsSomeAnd (slice_get (model_of self.now).methods method.0) (λ m. result ≡ is_entry m) }
     {
         let method = self.method(method);
         !method.gives && !method.takes
@@ -113,11 +113,11 @@ impl Program {
 
     /// A method of it.
     pub(crate) fn method(&self, method: MethodId) -> &Method
-        requires there { method.0 < length (seen_of self.now).methods }
-        ensures method { slice_get (seen_of self.now).methods method.0 ≡ Some (method_seen result.now) }
+        requires there { method.0 < length (model_of self.now).methods }
+        ensures method { slice_get (model_of self.now).methods method.0 ≡ Some (method_model result.now) }
         ensures few { length result.now.variables.items ≤ MOST_VARIABLES }
-        ensures well_formed { IsWellFormed (seen_of self.now).contracts (seen_of self.now).messages (seen_of self.now).structs
-            (seen_of self.now).methods (method_seen result.now) }
+        ensures well_formed { IsWellFormed (model_of self.now).contracts (model_of self.now).messages (model_of self.now).structs
+            (model_of self.now).methods (method_model result.now) }
     {
         self.methods.method(method)
     }
@@ -125,7 +125,7 @@ impl Program {
 
 /// The graph of each of these methods.
 fn graphs_of(alloc: Global, methods: &[Method]) -> Result<Vec<Graph>, Memory>
-    ensures { IfOk result (λ graphs. map graph_seen graphs.items ≡ map graph_of (map method_seen methods.now)) }
+    ensures { IfOk result (λ graphs. map graph_model graphs.items ≡ map graph_of (map method_model methods.now)) }
 {
     let mut graphs = Vec::new(alloc);
     for method in methods {
@@ -145,8 +145,8 @@ fn is_parameter(role: Role) -> bool
 }
 
 /// What a method takes for its parameters of the exchange heap.
-fn kinds_of(alloc: Global, method: &Method) -> Result<Vec<Kind>, Memory>
-    ensures { IfOk result (λ kinds. kinds.items ≡ map (λ v. v.kind) (parameters (method_seen method.now))) }
+fn kinds_of(alloc: Global, method: &Method) -> Result<Vec<HeapKind>, Memory>
+    ensures { IfOk result (λ kinds. kinds.items ≡ map (λ v. v.kind) (parameters (method_model method.now))) }
 {
     let mut kinds = Vec::new(alloc);
     for variable in &method.variables {
@@ -158,8 +158,8 @@ fn kinds_of(alloc: Global, method: &Method) -> Result<Vec<Kind>, Memory>
 }
 
 /// What each of these methods takes for its parameters of the exchange heap.
-fn parameters_of(alloc: Global, methods: &[Method]) -> Result<Vec<Vec<Kind>>, Memory>
-    ensures { IfOk result (λ kinds. rows kinds.items ≡ map (λ m. map (λ v. v.kind) (parameters m)) (map method_seen methods.now)) }
+fn parameters_of(alloc: Global, methods: &[Method]) -> Result<Vec<Vec<HeapKind>>, Memory>
+    ensures { IfOk result (λ kinds. rows kinds.items ≡ map (λ m. map (λ v. v.kind) (parameters m)) (map method_model methods.now)) }
 {
     let mut parameters = Vec::new(alloc);
     for method in methods {

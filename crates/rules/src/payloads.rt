@@ -4,16 +4,16 @@
 ghost use Rattle.std.specs.Prelude.{◌≡◌, ◌==◌, ◌||◌, ℕ, map};
 ghost use Rattle.std.specs.List.{list_any};
 ghost use Rattle.program.specs.Lists.{is_among};
-ghost use Rattle.program.specs.Methods.{MethodSeen, method_seen};
-ghost use Rattle.program.specs.Programs.{ProgramSeen};
+ghost use Rattle.program.specs.Methods.{MethodModel, method_model};
+ghost use Rattle.program.specs.Programs.{ProgramModel};
 ghost use Rattle.source.specs.declared.place.Place.{Place};
 ghost use Rattle.rules.specs.Arguments.{all_taken, claimed, payload, taken_checks};
-ghost use Rattle.rules.specs.Breaches.{breach_seen};
-ghost use Rattle.rules.specs.Checks.{StandsFor, check_seen};
+ghost use Rattle.rules.specs.Breaches.{breach_model};
+ghost use Rattle.rules.specs.Checks.{StandsFor, check_model};
 ghost use Rattle.rules.specs.Endpoints.{is_wrong};
 ghost use Rattle.rules.specs.Mentions.{name_of};
 ghost use Rattle.rules.specs.Outcomes.{refused};
-ghost use Rattle.rules.specs.Programs.{seen_of};
+ghost use Rattle.rules.specs.Programs.{model_of};
 ghost use Rattle.rules.specs.Repeats.{first_again};
 ghost use Rattle.rules.specs.Rows.{leaf_at, leaves_of};
 ghost use Rattle.rules.specs.Takers.{besides, wrong_in};
@@ -23,7 +23,7 @@ use crate::checks::{gives_none_again, has_something, is_not_lent};
 use crate::endpoints::is_wrong;
 use crate::here::Here;
 use crate::row::{Leaf, Row};
-use program::{Kind, Mention, MessageId, VarId};
+use program::{HeapKind, Mention, MessageId, VarId};
 
 /// Where something goes for good.
 #[derive(Clone, Copy)]
@@ -50,8 +50,8 @@ impl Taker {
 
     /// What is found where this variable goes there in a wrong state.
     fn wrong_state(self, variable: VarId) -> Reason
-        ensures { (p : ProgramSeen) (m : MethodSeen) (place : Place) →
-            breach_seen p m (record { place = place; reason = result }) ≡ wrong_in p m self (name_of m variable.0) place }
+        ensures { (p : ProgramModel) (m : MethodModel) (place : Place) →
+            breach_model p m (record { place = place; reason = result }) ≡ wrong_in p m self (name_of m variable.0) place }
     {
         match self {
             Taker::Message { endpoint, message } => {
@@ -94,11 +94,11 @@ fn first_again(taker: Taker, payloads: &[Mention]) -> Option<Mention>
 }
 
 /// That what goes there, where this kind is asked, is in its state.
-fn is_in_state(here: &Here<'_>, taker: Taker, kind: Kind, mention: Mention) -> Option<Breach>
-    ensures { check_seen (breach_seen (seen_of here.now.program.now) (method_seen here.now.method.now)) result ≡ refused
+fn is_in_state(here: &Here<'_>, taker: Taker, kind: HeapKind, mention: Mention) -> Option<Breach>
+    ensures { check_model (breach_model (model_of here.now.program.now) (method_model here.now.method.now)) result ≡ refused
         (is_wrong kind (leaf_at (leaves_of here.now.row.now) mention.variable.0))
-        (wrong_in (seen_of here.now.program.now) (method_seen here.now.method.now) taker
-        (name_of (method_seen here.now.method.now) mention.variable.0) mention.place) }
+        (wrong_in (model_of here.now.program.now) (method_model here.now.method.now) taker
+        (name_of (method_model here.now.method.now) mention.variable.0) mention.place) }
 {
     if !is_wrong(kind, here.row.leaf(mention.variable)) {
         return None;
@@ -111,12 +111,12 @@ fn is_in_state(here: &Here<'_>, taker: Taker, kind: Kind, mention: Mention) -> O
 pub(crate) fn can_be_taken(
     here: &Here<'_>,
     taker: Taker,
-    kind: Kind,
+    kind: HeapKind,
     mention: Mention,
 ) -> Option<Breach>
-    ensures { StandsFor (breach_seen (seen_of here.now.program.now) (method_seen here.now.method.now)) result
-        (taken_checks (method_seen here.now.method.now) (leaves_of here.now.row.now)
-        (wrong_in (seen_of here.now.program.now) (method_seen here.now.method.now) taker) kind (payload mention)) }
+    ensures { StandsFor (breach_model (model_of here.now.program.now) (method_model here.now.method.now)) result
+        (taken_checks (method_model here.now.method.now) (leaves_of here.now.row.now)
+        (wrong_in (model_of here.now.program.now) (method_model here.now.method.now) taker) kind (payload mention)) }
 {
     if let Some(breach) = is_not_lent(here, mention) {
         return Some(breach);
@@ -131,12 +131,12 @@ pub(crate) fn can_be_taken(
 pub(crate) fn can_all_be_taken(
     here: &Here<'_>,
     taker: Taker,
-    kinds: &[Kind],
+    kinds: &[HeapKind],
     payloads: &[Mention],
 ) -> Option<Breach>
-    ensures { StandsFor (breach_seen (seen_of here.now.program.now) (method_seen here.now.method.now)) result
-        (all_taken (method_seen here.now.method.now) (besides taker) (leaves_of here.now.row.now)
-        (wrong_in (seen_of here.now.program.now) (method_seen here.now.method.now) taker) kinds.now (map payload payloads.now)) }
+    ensures { StandsFor (breach_model (model_of here.now.program.now) (method_model here.now.method.now)) result
+        (all_taken (method_model here.now.method.now) (besides taker) (leaves_of here.now.row.now)
+        (wrong_in (model_of here.now.program.now) (method_model here.now.method.now) taker) kinds.now (map payload payloads.now)) }
 {
     let again = first_again(taker, payloads);
     if let Some(breach) = gives_none_again(here, again) {

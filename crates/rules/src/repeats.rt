@@ -1,7 +1,7 @@
 //! What calls and starts give a second time. It asks no row, so it is found once, when a program is made.
 
 ghost use Rattle.std.specs.Prelude.{◌≡◌, ◌==◌, ℕ, IfOk, None, OnOk, [], if◌then◌else◌, map};
-ghost use Rattle.flow.specs.Graphs.{graph_seen, instruction_seen};
+ghost use Rattle.flow.specs.Graphs.{graph_model, instruction_model};
 ghost use Rattle.rules.specs.Repeats.{again_in, first_again, given_again, repeated_in};
 
 use flow::{Graph, Instr};
@@ -25,7 +25,7 @@ fn first_again(alloc: Global, arguments: &[Argument]) -> Result<Option<Mention>,
 
 /// What a call or a start gives again first, if this is one and gives something again.
 fn given_again(alloc: Global, instruction: &Instr) -> Result<Option<Mention>, Memory>
-    ensures { IfOk result (λ again. again ≡ given_again (instruction_seen instruction.now)) }
+    ensures { IfOk result (λ again. again ≡ given_again (instruction_model instruction.now)) }
 {
     match instruction {
         Instr::Call(calling) => first_again(alloc, &calling.arguments),
@@ -46,7 +46,7 @@ pub(crate) struct Repeats {
 impl Repeats {
     /// Those of a graph.
     fn of(alloc: Global, graph: &Graph) -> Result<Repeats, Memory>
-        ensures { IfOk result (λ repeats. repeated_in repeats ≡ again_in (graph_seen graph.now)) }
+        ensures { IfOk result (λ repeats. repeated_in repeats ≡ again_in (graph_model graph.now)) }
     {
         let mut repeats = Repeats {
             firsts: BTreeMap::new(alloc),
@@ -79,7 +79,7 @@ impl Repeats {
 
 /// What the calls and starts of each of these graphs give again first.
 pub(crate) fn repeats_of(alloc: Global, graphs: &[Graph]) -> Result<Vec<Repeats>, Memory>
-    ensures { IfOk result (λ repeats. map repeated_in repeats.items ≡ map (λ g. again_in (graph_seen g)) graphs.now) }
+    ensures { IfOk result (λ repeats. map repeated_in repeats.items ≡ map (λ g. again_in (graph_model g)) graphs.now) }
 {
     let mut repeats = Vec::new(alloc);
     for graph in graphs {

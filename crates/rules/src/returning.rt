@@ -3,15 +3,15 @@
 ghost use Rattle.std.specs.Prelude.{◌≡◌, ◌&&◌, false};
 ghost use Rattle.std.specs.Option.{option_map_or};
 ghost use Rattle.flow.specs.Graphs as graphs;
-ghost use Rattle.program.specs.Methods.{method_seen};
-ghost use Rattle.rules.specs.Breaches.{breach_seen};
-ghost use Rattle.rules.specs.Checks.{StandsFor, check_seen};
+ghost use Rattle.program.specs.Methods.{method_model};
+ghost use Rattle.rules.specs.Breaches.{breach_model};
+ghost use Rattle.rules.specs.Checks.{StandsFor, check_model};
 ghost use Rattle.rules.specs.Endpoints as endpoints;
 ghost use Rattle.rules.specs.Mentions as mentions;
-ghost use Rattle.rules.specs.Onwards.{onward_seen};
+ghost use Rattle.rules.specs.Onwards.{onward_model};
 ghost use Rattle.rules.specs.Outcomes.{refused};
 ghost use Rattle.rules.specs.Texts.{wrong_for_result};
-ghost use Rattle.rules.specs.Programs.{seen_of};
+ghost use Rattle.rules.specs.Programs.{model_of};
 ghost use Rattle.rules.specs.Rows.{leaf_at, leaves_of};
 ghost use Rattle.rules.specs.RuleTable as table;
 ghost use Rattle.rules.specs.RuleTable.{back_checks, instruction_outcome, value_checks};
@@ -30,8 +30,9 @@ use source::Place;
 /// The method ends. What it gives is its own and in the state of the result, of the other variables in scope those that are not lent
 /// have nothing, and each endpoint that is lent is back in its state.
 pub(crate) fn return_(here: &Here<'_>, returning: Returning) -> Onward
-    ensures { onward_seen (breach_seen (seen_of here.now.program.now) (method_seen here.now.method.now)) result (leaves_of here.now.row.now)
-        ≡ instruction_outcome (seen_of here.now.program.now) (method_seen here.now.method.now)
+    ensures { onward_model (breach_model (model_of here.now.program.now) (method_model here.now.method.now)) result
+        (leaves_of here.now.row.now)
+        ≡ instruction_outcome (model_of here.now.program.now) (method_model here.now.method.now)
         (graphs.Return returning.place returning.value returning.scope) (leaves_of here.now.row.now) }
 {
     let Returning {
@@ -53,10 +54,10 @@ pub(crate) fn return_(here: &Here<'_>, returning: Returning) -> Onward
 
 /// That what a method gives is in the state of its result.
 fn is_in_state(here: &Here<'_>, value: Mention) -> Option<Breach>
-    ensures { check_seen (breach_seen (seen_of here.now.program.now) (method_seen here.now.method.now)) result ≡ refused
+    ensures { check_model (breach_model (model_of here.now.program.now) (method_model here.now.method.now)) result ≡ refused
         (option_map_or (λ kind. endpoints.is_wrong kind (leaf_at (leaves_of here.now.row.now) value.variable.0))
-        (method_seen here.now.method.now).result false)
-        (wrong_for_result (mentions.name_of (method_seen here.now.method.now) value.variable.0) value.place) }
+        (method_model here.now.method.now).result false)
+        (wrong_for_result (mentions.name_of (method_model here.now.method.now) value.variable.0) value.place) }
 {
     let kind = here.method.result?;
     if !is_wrong(kind, here.row.leaf(value.variable)) {
@@ -67,8 +68,8 @@ fn is_in_state(here: &Here<'_>, value: Mention) -> Option<Breach>
 
 /// That what a method gives, if it is of the exchange heap, is not lent, there, and in the state of the result.
 fn can_return(here: &Here<'_>, value: Option<Mention>) -> Option<Breach>
-    ensures { StandsFor (breach_seen (seen_of here.now.program.now) (method_seen here.now.method.now)) result
-        (value_checks (seen_of here.now.program.now) (method_seen here.now.method.now) (leaves_of here.now.row.now) value) }
+    ensures { StandsFor (breach_model (model_of here.now.program.now) (method_model here.now.method.now)) result
+        (value_checks (model_of here.now.program.now) (method_model here.now.method.now) (leaves_of here.now.row.now) value) }
 {
     let value = value?;
     if let Some(breach) = is_not_lent(here, value) {
@@ -83,7 +84,7 @@ fn can_return(here: &Here<'_>, value: Option<Mention>) -> Option<Breach>
 /// Whether an endpoint was lent, and is neither cut off nor in its declared state. The variable is looked up only where it has an
 /// endpoint in some state.
 fn is_not_back(here: &Here<'_>, variable: VarId) -> bool
-    ensures { result ≡ table.is_not_back (seen_of here.now.program.now) (method_seen here.now.method.now) (leaves_of here.now.row.now)
+    ensures { result ≡ table.is_not_back (model_of here.now.program.now) (method_model here.now.method.now) (leaves_of here.now.row.now)
         variable.0 }
 {
     match here.row.leaf(variable) {
@@ -94,8 +95,8 @@ fn is_not_back(here: &Here<'_>, variable: VarId) -> bool
 
 /// Whether a variable is a lent endpoint whose declared state is another than this.
 fn is_lent_elsewhere(method: &Method, variable: VarId, state: u32) -> bool
-    ensures { result ≡ (mentions.is_lent (method_seen method.now) variable.0
-        && option_map_or (λ kind. endpoints.is_wrong kind (Leaf.State state)) (endpoints.kind_of (method_seen method.now) variable.0)
+    ensures { result ≡ (mentions.is_lent (method_model method.now) variable.0
+        && option_map_or (λ kind. endpoints.is_wrong kind (Leaf.State state)) (endpoints.kind_of (method_model method.now) variable.0)
         false) }
 {
     match method.variables.get(variable.0) {
@@ -106,8 +107,8 @@ fn is_lent_elsewhere(method: &Method, variable: VarId, state: u32) -> bool
 
 /// That each endpoint which was lent is cut off, or back in its state.
 fn are_back(here: &Here<'_>, place: Place) -> Option<Breach>
-    ensures { StandsFor (breach_seen (seen_of here.now.program.now) (method_seen here.now.method.now)) result
-        (back_checks (seen_of here.now.program.now) (method_seen here.now.method.now) (leaves_of here.now.row.now) place) }
+    ensures { StandsFor (breach_model (model_of here.now.program.now) (method_model here.now.method.now)) result
+        (back_checks (model_of here.now.program.now) (method_model here.now.method.now) (leaves_of here.now.row.now) place) }
 {
     for variable in 0..here.method.variables.len() {
         if is_not_back(here, VarId(variable)) {

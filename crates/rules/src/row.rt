@@ -145,7 +145,7 @@ impl Row {
     }
 
     /// A row of the same leaves.
-    pub(crate) fn copied(&self, alloc: Global) -> Result<Row, Memory>
+    pub(crate) fn copy(&self, alloc: Global) -> Result<Row, Memory>
         ensures { IfOk result (λ row. leaves_of row ≡ leaves_of self.now) }
     {
         let leaves = Vec::from_slice(alloc, &self.leaves)?;

@@ -1,14 +1,14 @@
 //! The check of variables that go out of scope: they have nothing, but for the one that is given.
 
 ghost use Rattle.std.specs.Prelude.{◌≡◌, ◌<◌, ℕ, IfSome, None, false, option_map, true};
-ghost use Rattle.program.specs.Methods.{method_seen};
+ghost use Rattle.program.specs.Methods.{method_model};
 ghost use Rattle.program.specs.Scopes.{outer_of};
-ghost use Rattle.rules.specs.Breaches.{breach_seen};
+ghost use Rattle.rules.specs.Breaches.{breach_model};
 ghost use Rattle.rules.specs.Checks as checks;
 ghost use Rattle.rules.specs.Checks.{AllLeadTo, IsFirst, IsPlain, LeadsTo, StandsFor};
 ghost use Rattle.rules.specs.Mentions as table;
 ghost use Rattle.rules.specs.Mentions.{given_back};
-ghost use Rattle.rules.specs.Programs.{seen_of};
+ghost use Rattle.rules.specs.Programs.{model_of};
 ghost use Rattle.rules.specs.Rows.{leaves_of};
 ghost use Rattle.rules.specs.Scopes.{declared_between, is_this};
 
@@ -30,14 +30,14 @@ fn is_named(mention: Option<Mention>, variable: VarId) -> bool
 
 /// Whether a variable still has something that is not lent, but for the one that is given.
 fn is_kept(here: &Here<'_>, given: Option<Mention>, variable: VarId) -> bool
-    ensures { result ≡ table.is_kept (method_seen here.now.method.now) (leaves_of here.now.row.now) given variable.0 }
+    ensures { result ≡ table.is_kept (method_model here.now.method.now) (leaves_of here.now.row.now) given variable.0 }
 {
     !is_named(given, variable) && !lends(here.method, variable) && here.row.owns(variable)
 }
 
 /// The variable of the exchange heap before this one in scope.
 fn outer_of(method: &Method, variable: VarId) -> Option<VarId>
-    ensures { result ≡ outer_of (method_seen method.now).variables variable }
+    ensures { result ≡ outer_of (method_model method.now).variables variable }
 {
     method.variables.get(variable.0)?.outer
 }
@@ -60,7 +60,7 @@ fn kept_or(
     before: Option<VarId>,
 ) -> Option<VarId>
     ensures { option_map (λ v. v.0) result
-        ≡ checks.kept_or (checks.if_kept (method_seen here.now.method.now) (leaves_of here.now.row.now) given variable.0)
+        ≡ checks.kept_or (checks.if_kept (method_model here.now.method.now) (leaves_of here.now.row.now) given variable.0)
         (option_map (λ v. v.0) before) }
 {
     if is_kept(here, given, variable) {
@@ -74,8 +74,8 @@ fn kept_or(
 /// It goes over the row, which is short, and looks up only the variables that have something.
 fn first_of_all(here: &Here<'_>, given: Option<Mention>) -> Option<VarId>
     ensures none { result ≡ None
-        → (v : ℕ) → table.is_kept (method_seen here.now.method.now) (leaves_of here.now.row.now) given v ≡ false }
-    ensures some { IfSome result (λ first. IsFirst (method_seen here.now.method.now) (leaves_of here.now.row.now) given first.0) }
+        → (v : ℕ) → table.is_kept (method_model here.now.method.now) (leaves_of here.now.row.now) given v ≡ false }
+    ensures some { IfSome result (λ first. IsFirst (method_model here.now.method.now) (leaves_of here.now.row.now) given first.0) }
 {
     for (number, leaf) in here.row.leaves().iter().enumerate() {
         if leaf.is_something() && is_kept(here, given, VarId(number)) {
@@ -87,7 +87,7 @@ fn first_of_all(here: &Here<'_>, given: Option<Mention>) -> Option<VarId>
 
 /// Whether the variable before this one in scope was declared before it, and not before the first one if this was declared behind that.
 fn leads_to(method: &Method, first: VarId, variable: VarId) -> bool
-    ensures { result ≡ true → LeadsTo first.0 variable.0 (outer_of (method_seen method.now).variables variable) }
+    ensures { result ≡ true → LeadsTo first.0 variable.0 (outer_of (method_model method.now).variables variable) }
 {
     match outer_of(method, variable) {
         Some(outer) => outer.0 < variable.0 && (variable.0 <= first.0 || first.0 <= outer.0),
@@ -97,7 +97,7 @@ fn leads_to(method: &Method, first: VarId, variable: VarId) -> bool
 
 /// Whether all variables up to the last one lead to the first one.
 fn all_lead_to(method: &Method, first: VarId, last: VarId) -> bool
-    ensures { result ≡ true → AllLeadTo (method_seen method.now).variables first.0 last.0 }
+    ensures { result ≡ true → AllLeadTo (method_model method.now).variables first.0 last.0 }
 {
     for number in 0..method.variables.len() {
         if number > last.0 {
@@ -123,7 +123,7 @@ fn is_behind(variable: VarId, outer: Option<VarId>) -> bool
 /// Whether the first one is plainly in scope where `last` is the last one, and not where `outer` is. To look at each variable up to the
 /// last takes less than half as long as to go from each to the one before it in scope, since none waits for another.
 fn is_in_scope(method: &Method, first: VarId, outer: Option<VarId>, last: Option<VarId>) -> bool
-    ensures { result ≡ true → IsPlain (method_seen method.now).variables first.0 outer last }
+    ensures { result ≡ true → IsPlain (method_model method.now).variables first.0 outer last }
 {
     let Some(last) = last else {
         return false;
@@ -140,8 +140,8 @@ fn first_kept(
     last: Option<VarId>,
 ) -> Option<VarId>
     ensures { option_map (λ v. v.0) result
-        ≡ checks.first_kept (method_seen here.now.method.now) (leaves_of here.now.row.now) given
-        (declared_between (method_seen here.now.method.now) outer last) }
+        ≡ checks.first_kept (method_model here.now.method.now) (leaves_of here.now.row.now) given
+        (declared_between (method_model here.now.method.now) outer last) }
 {
     let Some(first) = first_of_all(here, given) else {
         return None;
@@ -160,8 +160,8 @@ fn first_outwards(
     last: Option<VarId>,
 ) -> Option<VarId>
     ensures { option_map (λ v. v.0) result
-        ≡ checks.first_kept (method_seen here.now.method.now) (leaves_of here.now.row.now) given
-        (declared_between (method_seen here.now.method.now) outer last) }
+        ≡ checks.first_kept (method_model here.now.method.now) (leaves_of here.now.row.now) given
+        (declared_between (method_model here.now.method.now) outer last) }
 {
     let mut first = None;
     let mut at = last;
@@ -187,9 +187,9 @@ pub(crate) fn is_given_back(
     outer: Option<VarId>,
     last: Option<VarId>,
 ) -> Option<Breach>
-    ensures { StandsFor (breach_seen (seen_of here.now.program.now) (method_seen here.now.method.now)) result
-        (given_back (method_seen here.now.method.now) (leaves_of here.now.row.now) place given
-        (declared_between (method_seen here.now.method.now) outer last)) }
+    ensures { StandsFor (breach_model (model_of here.now.program.now) (method_model here.now.method.now)) result
+        (given_back (method_model here.now.method.now) (leaves_of here.now.row.now) place given
+        (declared_between (method_model here.now.method.now) outer last)) }
 {
     let variable = first_kept(here, given, outer, last)?;
     Some(Breach::at(place, Reason::StillOwned(variable)))

@@ -1,15 +1,15 @@
 //! The rule table's line of a send.
 
 ghost use Rattle.std.specs.Prelude.{◌≡◌, IfSome, MatchOption, true, false};
-ghost use Rattle.flow.specs.Graphs.{instruction_seen};
+ghost use Rattle.flow.specs.Graphs.{instruction_model};
 ghost use Rattle.flow.specs.declared.graph.Instr.{Instr};
-ghost use Rattle.program.specs.Methods.{method_seen};
+ghost use Rattle.program.specs.Methods.{method_model};
 ghost use Rattle.rules.specs.Arguments as table;
 ghost use Rattle.rules.specs.Arguments.{lacks_edge};
-ghost use Rattle.rules.specs.Breaches.{breach_seen};
+ghost use Rattle.rules.specs.Breaches.{breach_model};
 ghost use Rattle.rules.specs.Leaves.{IsNumbered};
-ghost use Rattle.rules.specs.Onwards.{IsKept, onward_seen};
-ghost use Rattle.rules.specs.Programs.{seen_of};
+ghost use Rattle.rules.specs.Onwards.{IsKept, onward_model};
+ghost use Rattle.rules.specs.Programs.{model_of};
 ghost use Rattle.rules.specs.Rows.{leaves_of};
 ghost use Rattle.rules.specs.RuleTable.{instruction_outcome};
 
@@ -22,12 +22,14 @@ use crate::onward::Onward;
 use crate::payloads::{Taker, can_all_be_taken, claim_payloads};
 use crate::row::{Leaf, Row};
 use flow::Sending;
-use program::{Kind, MessageId};
+use program::{HeapKind, MessageId};
 
 /// A message is sent. What it takes with it is gone, and its endpoint is in the next state, or still cut off.
 pub(crate) fn send(site: &Site<'_>, row: &mut Row, sending: &Sending) -> Onward
-    ensures outcome { onward_seen (breach_seen (seen_of site.now.program.now) (method_seen site.now.method.now)) result (leaves_of row.new)
-        ≡ instruction_outcome (seen_of site.now.program.now) (method_seen site.now.method.now) (instruction_seen (Instr.Send sending.now))
+    ensures outcome { onward_model (breach_model (model_of site.now.program.now) (method_model site.now.method.now)) result
+        (leaves_of row.new)
+        ≡ instruction_outcome (model_of site.now.program.now) (method_model site.now.method.now)
+        (instruction_model (Instr.Send sending.now))
         (leaves_of row.old) }
     ensures kept { IsKept result (leaves_of row.old) (leaves_of row.new) }
 {
@@ -60,17 +62,22 @@ pub(crate) fn send(site: &Site<'_>, row: &mut Row, sending: &Sending) -> Onward
 }
 
 /// What an endpoint has behind a send of the message: nothing is answered where it is in a state that does not send it.
-fn sent_leaf(program: &Program, kind: Option<Kind>, message: MessageId, leaf: Leaf) -> Option<Leaf>
+fn sent_leaf(
+    program: &Program,
+    kind: Option<HeapKind>,
+    message: MessageId,
+    leaf: Leaf,
+) -> Option<Leaf>
     requires numbered { IsNumbered leaf }
     ensures sent { MatchOption result
-        (table.lacks_edge (seen_of program.now) kind message.0 leaf ≡ true)
-        (λ after. (table.lacks_edge (seen_of program.now) kind message.0 leaf ≡ false)
-        × (after ≡ table.sent_leaf (seen_of program.now) kind message.0 leaf)) }
+        (table.lacks_edge (model_of program.now) kind message.0 leaf ≡ true)
+        (λ after. (table.lacks_edge (model_of program.now) kind message.0 leaf ≡ false)
+        × (after ≡ table.sent_leaf (model_of program.now) kind message.0 leaf)) }
     ensures numbered { IfSome result IsNumbered }
 {
     match leaf {
         Leaf::State(state) => {
-            let next = program.sent(kind, state, message)?;
+            let next = program.state_after_send(kind, state, message)?;
             Some(Leaf::State(next.0))
         }
         Leaf::Nothing | Leaf::Block | Leaf::CutOff => Some(leaf),

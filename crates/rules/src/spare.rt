@@ -50,7 +50,7 @@ impl Spare {
                 copy.copy_from(row)?;
                 Ok(copy)
             }
-            None => row.copied(self.alloc),
+            None => row.copy(self.alloc),
         }
     }
 

@@ -2,20 +2,20 @@
 
 ghost use Rattle.std.specs.Prelude.{◌≡◌, ◌<◌, ◌≤◌, ◌∷◌, [], All, IfOk, IfSome, IsSomeAnd, List, length, map, slice_get};
 ghost use Rattle.source.specs.Findings.{FindingParts};
-ghost use Rattle.flow.specs.Graphs.{instruction_seen};
+ghost use Rattle.flow.specs.Graphs.{instruction_model};
 ghost use Rattle.flow.specs.Lowering.{graph_of};
 ghost use Rattle.program.specs.declared.limits.TheConstants.{MOST_VARIABLES};
 ghost use Rattle.rules.specs.Breaches.{breach_in};
 ghost use Rattle.rules.specs.Endpoints.{declared_leaf};
 ghost use Rattle.rules.specs.Leaves.{IsNumbered};
-ghost use Rattle.rules.specs.Onwards.{IsKept, condition_at, onward_seen};
+ghost use Rattle.rules.specs.Onwards.{IsKept, condition_at, onward_model};
 ghost use Rattle.rules.specs.Outcomes.{Goes};
-ghost use Rattle.rules.specs.Programs.{seen_of};
+ghost use Rattle.rules.specs.Programs.{model_of};
 ghost use Rattle.rules.specs.Rows.{leaves_of};
 ghost use Rattle.rules.specs.RuleTable.{ways};
-ghost use Rattle.rules.specs.Steps.{entry_leaf, entry_of, outcome, outcome_seen, pair_seen};
-ghost use Rattle.rules.specs.declared.breach.Breach.{Breach as BreachSeen};
-ghost use Rattle.rules.specs.declared.row.Leaf.{Leaf as LeafSeen};
+ghost use Rattle.rules.specs.Steps.{entry_leaf, entry_of, outcome, outcome_model, pair_model};
+ghost use Rattle.rules.specs.declared.breach.Breach.{Breach as BreachModel};
+ghost use Rattle.rules.specs.declared.row.Leaf.{Leaf as LeafModel};
 
 use crate::endpoints::declared_leaf;
 use crate::here::Site;
@@ -24,14 +24,14 @@ use crate::onward::Onward;
 use crate::outcome::Outcome;
 use crate::row::{Leaf, Row};
 use crate::spare::Spare;
-use crate::table::applied;
+use crate::table::apply;
 use flow::{Branches, Instr};
-use program::{Kind, MethodId, Role, Variable};
+use program::{HeapKind, MethodId, Role, Variable};
 use source::Memory;
 use std::alloc::Global;
 
 /// What a variable has where its method begins.
-fn first_leaf(role: Role, kind: Kind) -> Leaf
+fn first_leaf(role: Role, kind: HeapKind) -> Leaf
     ensures { result ≡ entry_leaf role kind }
 {
     match role {
@@ -58,8 +58,8 @@ fn first_row(alloc: Global, variables: &[Variable]) -> Result<Row, Memory>
 ///
 /// `Memory` is answered where a growth was refused.
 pub fn entry(alloc: Global, program: &Program, method: MethodId) -> Result<(usize, Row), Memory>
-    requires there { method.0 < length (seen_of program.now).methods }
-    ensures { IfOk result (λ pair. pair_seen pair ≡ entry_of (seen_of program.now) method.0) }
+    requires there { method.0 < length (model_of program.now).methods }
+    ensures { IfOk result (λ pair. pair_model pair ≡ entry_of (model_of program.now) method.0) }
 {
     let row = first_row(alloc, &program.method(method).variables)?;
     Ok((program.graph(method).first, row))
@@ -76,11 +76,11 @@ pub fn step(
     point: usize,
     row: &Row,
 ) -> Result<Outcome, Memory>
-    requires there { method.0 < length (seen_of program.now).methods }
-    ensures { IfOk result (λ o. outcome_seen (breach_in (seen_of program.now) method.0) o
-        ≡ outcome (seen_of program.now) method.0 (point, leaves_of row.now)) }
+    requires there { method.0 < length (model_of program.now).methods }
+    ensures { IfOk result (λ o. outcome_model (breach_in (model_of program.now) method.0) o
+        ≡ outcome (model_of program.now) method.0 (point, leaves_of row.now)) }
 {
-    let mut after = row.copied(alloc)?;
+    let mut after = row.copy(alloc)?;
     let mut spare = Spare::new(alloc);
     let onward = step_in_place(program, method, point, &mut after, &mut spare)?;
     apart(alloc, onward, after)
@@ -98,9 +98,9 @@ pub fn step_in_place(
     row: &mut Row,
     spare: &mut Spare,
 ) -> Result<Onward, Memory>
-    requires there { method.0 < length (seen_of program.now).methods }
-    ensures outcome { IfOk result (λ o. onward_seen (breach_in (seen_of program.now) method.0) o (leaves_of row.new)
-        ≡ outcome (seen_of program.now) method.0 (point, leaves_of row.old)) }
+    requires there { method.0 < length (model_of program.now).methods }
+    ensures outcome { IfOk result (λ o. onward_model (breach_in (model_of program.now) method.0) o (leaves_of row.new)
+        ≡ outcome (model_of program.now) method.0 (point, leaves_of row.old)) }
     ensures kept { IfOk result (λ o. IsKept o (leaves_of row.old) (leaves_of row.new)) }
 {
     let site = Site {
@@ -110,17 +110,17 @@ pub fn step_in_place(
         repeats: program.repeats(method),
     };
     match program.graph(method).instructions.get(point) {
-        Some(instruction) => applied(&site, row, instruction, spare),
+        Some(instruction) => apply(&site, row, instruction, spare),
         None => Ok(Onward::Ends),
     }
 }
 
 /// Where a method goes on from a point, whatever row comes there, if a condition stands there.
 pub fn condition(program: &Program, method: MethodId, point: usize) -> Option<Branches>
-    requires there { method.0 < length (seen_of program.now).methods }
-    ensures goes { IfSome result (λ branches. (row : List LeafSeen)
-        → outcome (seen_of program.now) method.0 (point, row) ≡ Goes (ways branches row)) }
-    ensures which { IsSomeAnd (slice_get (seen_of program.now).methods method.0)
+    requires there { method.0 < length (model_of program.now).methods }
+    ensures goes { IfSome result (λ branches. (row : List LeafModel)
+        → outcome (model_of program.now) method.0 (point, row) ≡ Goes (ways branches row)) }
+    ensures which { IsSomeAnd (slice_get (model_of program.now).methods method.0)
         (λ m. result ≡ condition_at (slice_get (graph_of m).instructions point)) }
 {
     match program.graph(method).instructions.get(point) {
@@ -131,7 +131,7 @@ pub fn condition(program: &Program, method: MethodId, point: usize) -> Option<Br
 
 /// Where a condition goes on, if this is one.
 fn branches_of(instruction: &Instr) -> Option<Branches>
-    ensures { result ≡ condition_at (Some (instruction_seen instruction.now)) }
+    ensures { result ≡ condition_at (Some (instruction_model instruction.now)) }
 {
     match instruction {
         Instr::Branch { branches, .. } => Some(*branches),
@@ -148,7 +148,7 @@ fn branches_of(instruction: &Instr) -> Option<Branches>
 
 /// An answer of a step in place as an outcome with rows of its own.
 fn apart(alloc: Global, onward: Onward, row: Row) -> Result<Outcome, Memory>
-    ensures { IfOk result (λ o. (says : BreachSeen → FindingParts) → outcome_seen says o ≡ onward_seen says onward (leaves_of row)) }
+    ensures { IfOk result (λ o. (says : BreachModel → FindingParts) → outcome_model says o ≡ onward_model says onward (leaves_of row)) }
 {
     match onward {
         Onward::Ends => Ok(Outcome::Next(Vec::new(alloc))),
@@ -161,7 +161,7 @@ fn apart(alloc: Global, onward: Onward, row: Row) -> Result<Outcome, Memory>
 
 /// The method goes on at one point, with this row.
 fn goes(alloc: Global, point: usize, row: Row) -> Result<Outcome, Memory>
-    ensures { IfOk result (λ o. (says : BreachSeen → FindingParts) → outcome_seen says o ≡ Goes ((point, leaves_of row) ∷ [])) }
+    ensures { IfOk result (λ o. (says : BreachModel → FindingParts) → outcome_model says o ≡ Goes ((point, leaves_of row) ∷ [])) }
 {
     let mut pairs = Vec::new(alloc);
     pairs.push((point, row))?;
@@ -170,11 +170,11 @@ fn goes(alloc: Global, point: usize, row: Row) -> Result<Outcome, Memory>
 
 /// The method goes on at one of two points, with this row.
 fn goes_both(alloc: Global, first: usize, second: usize, row: Row) -> Result<Outcome, Memory>
-    ensures { IfOk result (λ o. (says : BreachSeen → FindingParts)
-        → outcome_seen says o ≡ Goes ((first, leaves_of row) ∷ (second, leaves_of row) ∷ [])) }
+    ensures { IfOk result (λ o. (says : BreachModel → FindingParts)
+        → outcome_model says o ≡ Goes ((first, leaves_of row) ∷ (second, leaves_of row) ∷ [])) }
 {
     let mut pairs = Vec::new(alloc);
-    pairs.push((first, row.copied(alloc)?))?;
+    pairs.push((first, row.copy(alloc)?))?;
     pairs.push((second, row))?;
     Ok(Outcome::Next(pairs))
 }

@@ -4,19 +4,19 @@ ghost use Rattle.std.specs.Prelude.{◌≡◌, [], ◌++◌, ◌<◌, All, IfOk,
 ghost use Rattle.std.specs.List.{list_all};
 ghost use Rattle.flow.specs.Cases.{first_mentions};
 ghost use Rattle.flow.specs.Graphs as graphs;
-ghost use Rattle.flow.specs.Graphs.{cases_seen};
-ghost use Rattle.program.specs.Methods.{method_seen};
+ghost use Rattle.flow.specs.Graphs.{cases_model};
+ghost use Rattle.program.specs.Methods.{method_model};
 ghost use Rattle.program.specs.declared.limits.TheConstants.{MOST_STATES};
-ghost use Rattle.rules.specs.Breaches.{breach_seen};
+ghost use Rattle.rules.specs.Breaches.{breach_model};
 ghost use Rattle.rules.specs.Checks.{StandsFor};
 ghost use Rattle.rules.specs.Endpoints.{declared_leaf};
 ghost use Rattle.rules.specs.Leaves.{IsNumbered};
 ghost use Rattle.rules.specs.Mentions.{has_something};
-ghost use Rattle.rules.specs.Onwards.{onward_seen};
-ghost use Rattle.rules.specs.Programs.{seen_of};
+ghost use Rattle.rules.specs.Onwards.{onward_model};
+ghost use Rattle.rules.specs.Programs.{model_of};
 ghost use Rattle.rules.specs.Rows.{leaves_of};
 ghost use Rattle.rules.specs.RuleTable.{instruction_outcome};
-ghost use Rattle.rules.specs.Steps.{pair_seen};
+ghost use Rattle.rules.specs.Steps.{pair_model};
 ghost use Rattle.rules.specs.Switches as table;
 ghost use Rattle.rules.specs.Switches.{bound_leaves};
 
@@ -28,7 +28,7 @@ use crate::onward::Onward;
 use crate::row::{Leaf, Row};
 use crate::spare::Spare;
 use flow::Cases;
-use program::{Edge, Kind, Mention, VarId};
+use program::{Edge, HeapKind, Mention, VarId};
 use source::{Memory, Place};
 
 /// A switch waits. It goes on at a case for each message that may come at one of its endpoints, and for the close of each.
@@ -40,10 +40,10 @@ pub(crate) fn switch(
     cases: &Cases,
     spare: &mut Spare,
 ) -> Result<Onward, Memory>
-    ensures { IfOk result (λ o. onward_seen (breach_seen (seen_of here.now.program.now) (method_seen here.now.method.now))
+    ensures { IfOk result (λ o. onward_model (breach_model (model_of here.now.program.now) (method_model here.now.method.now))
         o (leaves_of here.now.row.now)
-        ≡ instruction_outcome (seen_of here.now.program.now) (method_seen here.now.method.now)
-        (graphs.Switch place (cases_seen cases.now)) (leaves_of here.now.row.now)) }
+        ≡ instruction_outcome (model_of here.now.program.now) (method_model here.now.method.now)
+        (graphs.Switch place (cases_model cases.now)) (leaves_of here.now.row.now)) }
 {
     if let Some(breach) = are_there(here, cases.endpoints()) {
         return Ok(Onward::Found(breach));
@@ -64,8 +64,8 @@ pub(crate) fn switch(
 
 /// That each endpoint has something.
 fn are_there(here: &Here<'_>, endpoints: &[Mention]) -> Option<Breach>
-    ensures { StandsFor (breach_seen (seen_of here.now.program.now) (method_seen here.now.method.now)) result
-        (map (has_something (method_seen here.now.method.now) (leaves_of here.now.row.now)) endpoints.now) }
+    ensures { StandsFor (breach_model (model_of here.now.program.now) (method_model here.now.method.now)) result
+        (map (has_something (method_model here.now.method.now) (leaves_of here.now.row.now)) endpoints.now) }
 {
     for endpoint in endpoints {
         if let Some(breach) = has_something(here, *endpoint) {
@@ -77,7 +77,7 @@ fn are_there(here: &Here<'_>, endpoints: &[Mention]) -> Option<Breach>
 
 /// Whether an endpoint is in a state in which it sends.
 fn is_to_send(here: &Here<'_>, endpoint: Mention) -> bool
-    ensures { result ≡ table.is_to_send (seen_of here.now.program.now) (method_seen here.now.method.now) (leaves_of here.now.row.now)
+    ensures { result ≡ table.is_to_send (model_of here.now.program.now) (method_model here.now.method.now) (leaves_of here.now.row.now)
         endpoint }
 {
     match here.row.leaf(endpoint.variable) {
@@ -92,7 +92,7 @@ fn is_to_send(here: &Here<'_>, endpoint: Mention) -> bool
 /// Whether all endpoints are to send.
 fn are_to_send(here: &Here<'_>, endpoints: &[Mention]) -> bool
     ensures { result ≡ list_all
-        (table.is_to_send (seen_of here.now.program.now) (method_seen here.now.method.now) (leaves_of here.now.row.now)) endpoints.now }
+        (table.is_to_send (model_of here.now.program.now) (method_model here.now.method.now) (leaves_of here.now.row.now)) endpoints.now }
 {
     endpoints.iter().all(|endpoint| is_to_send(here, *endpoint))
 }
@@ -100,7 +100,7 @@ fn are_to_send(here: &Here<'_>, endpoints: &[Mention]) -> bool
 /// The edges on which an endpoint may receive in its state, in order of the contract.
 fn awaited_edges<'a>(here: &Here<'a>, endpoint: Mention) -> &'a [Edge]
     ensures edges { result.now
-        ≡ table.awaited_edges (seen_of here.now.program.now) (method_seen here.now.method.now) (leaves_of here.now.row.now) endpoint }
+        ≡ table.awaited_edges (model_of here.now.program.now) (method_model here.now.method.now) (leaves_of here.now.row.now) endpoint }
     ensures numbered { All (λ e. e.to.0 < MOST_STATES) result.now }
 {
     match here.row.leaf(endpoint.variable) {
@@ -114,8 +114,9 @@ fn awaited_edges<'a>(here: &Here<'a>, endpoint: Mention) -> &'a [Edge]
 
 /// That each message which may come at an endpoint has a case.
 fn is_covered(here: &Here<'_>, cases: &Cases, endpoint: Mention) -> Option<Breach>
-    ensures { StandsFor (breach_seen (seen_of here.now.program.now) (method_seen here.now.method.now)) result
-        (table.covered (seen_of here.now.program.now) (method_seen here.now.method.now) (leaves_of here.now.row.now) (cases_seen cases.now)
+    ensures { StandsFor (breach_model (model_of here.now.program.now) (method_model here.now.method.now)) result
+        (table.covered (model_of here.now.program.now) (method_model here.now.method.now) (leaves_of here.now.row.now)
+        (cases_model cases.now)
         endpoint) }
 {
     let Mention { variable, place } = endpoint;
@@ -131,9 +132,9 @@ fn is_covered(here: &Here<'_>, cases: &Cases, endpoint: Mention) -> Option<Breac
 
 /// That each message which may come at one of the endpoints has a case.
 fn are_covered(here: &Here<'_>, cases: &Cases) -> Option<Breach>
-    ensures { StandsFor (breach_seen (seen_of here.now.program.now) (method_seen here.now.method.now)) result
-        (flat_map (table.covered (seen_of here.now.program.now) (method_seen here.now.method.now) (leaves_of here.now.row.now)
-        (cases_seen cases.now)) (first_mentions [] (cases_seen cases.now))) }
+    ensures { StandsFor (breach_model (model_of here.now.program.now) (method_model here.now.method.now)) result
+        (flat_map (table.covered (model_of here.now.program.now) (method_model here.now.method.now) (leaves_of here.now.row.now)
+        (cases_model cases.now)) (first_mentions [] (cases_model cases.now))) }
 {
     let endpoints = cases.endpoints();
     for endpoint in endpoints {
@@ -145,12 +146,12 @@ fn are_covered(here: &Here<'_>, cases: &Cases) -> Option<Breach>
 }
 
 /// What the variables take that a case binds.
-fn bind(row: &mut Row, bound: &[VarId], kinds: &[Kind])
+fn bind(row: &mut Row, targets: &[VarId], kinds: &[HeapKind])
     requires numbered { All (λ kind. IsNumbered (declared_leaf kind)) kinds.now }
-    ensures { leaves_of row.new ≡ bound_leaves (leaves_of row.old) bound.now kinds.now }
+    ensures { leaves_of row.new ≡ bound_leaves (leaves_of row.old) targets.now kinds.now }
 {
-    for number in 0..bound.len().min(kinds.len()) {
-        row.set(bound[number], declared_leaf(kinds[number]));
+    for number in 0..targets.len().min(kinds.len()) {
+        row.set(targets[number], declared_leaf(kinds[number]));
     }
 }
 
@@ -164,14 +165,14 @@ fn receive(
     pairs: &mut Vec<(usize, Row)>,
 ) -> Result<(), Memory>
     requires numbered { edge.to.0 < MOST_STATES }
-    ensures { OnOk result (map pair_seen pairs.new.items ≡ map pair_seen pairs.old.items
-        ++ table.received (seen_of here.now.program.now) (method_seen here.now.method.now) (leaves_of here.now.row.now)
-        (cases_seen cases.now) endpoint.0 edge) }
+    ensures { OnOk result (map pair_model pairs.new.items ≡ map pair_model pairs.old.items
+        ++ table.received (model_of here.now.program.now) (method_model here.now.method.now) (leaves_of here.now.row.now)
+        (cases_model cases.now) endpoint.0 edge) }
 {
     if let Some(case) = cases.find(endpoint, Some(edge.message)) {
         let mut row = spare.copy_of(here.row)?;
         row.set(endpoint, Leaf::State(edge.to.0));
-        bind(&mut row, &case.bound, here.program.brought(edge.message));
+        bind(&mut row, &case.targets, here.program.brought(edge.message));
         pairs.push((case.next, row))?;
     }
     Ok(())
@@ -185,9 +186,9 @@ fn close(
     spare: &mut Spare,
     pairs: &mut Vec<(usize, Row)>,
 ) -> Result<(), Memory>
-    ensures { OnOk result (map pair_seen pairs.new.items ≡ map pair_seen pairs.old.items
-        ++ table.closed (seen_of here.now.program.now) (method_seen here.now.method.now) (leaves_of here.now.row.now)
-        (cases_seen cases.now) endpoint.0) }
+    ensures { OnOk result (map pair_model pairs.new.items ≡ map pair_model pairs.old.items
+        ++ table.closed (model_of here.now.program.now) (method_model here.now.method.now) (leaves_of here.now.row.now)
+        (cases_model cases.now) endpoint.0) }
 {
     if let Some(case) = cases.find(endpoint, None) {
         let mut row = spare.copy_of(here.row)?;
@@ -205,9 +206,9 @@ fn come_at(
     spare: &mut Spare,
     pairs: &mut Vec<(usize, Row)>,
 ) -> Result<(), Memory>
-    ensures { OnOk result (map pair_seen pairs.new.items ≡ map pair_seen pairs.old.items
-        ++ table.comes_at (seen_of here.now.program.now) (method_seen here.now.method.now) (leaves_of here.now.row.now)
-        (cases_seen cases.now) endpoint) }
+    ensures { OnOk result (map pair_model pairs.new.items ≡ map pair_model pairs.old.items
+        ++ table.comes_at (model_of here.now.program.now) (method_model here.now.method.now) (leaves_of here.now.row.now)
+        (cases_model cases.now) endpoint) }
 {
     let edges = awaited_edges(here, endpoint);
     for edge in edges {

@@ -3,20 +3,20 @@
 
 ghost use Rattle.std.specs.Prelude.{◌≡◌, IfOk, List, []};
 ghost use Rattle.flow.specs.Graphs as graphs;
-ghost use Rattle.flow.specs.Graphs.{Use, Move, Delete, instruction_seen};
+ghost use Rattle.flow.specs.Graphs.{Use, Move, Delete, instruction_model};
 ghost use Rattle.flow.specs.declared.graph.Instr.{Instr};
 ghost use Rattle.source.specs.Findings.{FindingParts};
-ghost use Rattle.program.specs.Methods.{method_seen};
-ghost use Rattle.rules.specs.Breaches.{breach_seen};
-ghost use Rattle.rules.specs.Onwards.{IsKept, onward_seen};
+ghost use Rattle.program.specs.Methods.{method_model};
+ghost use Rattle.rules.specs.Breaches.{breach_model};
+ghost use Rattle.rules.specs.Onwards.{IsKept, onward_model};
 ghost use Rattle.rules.specs.Outcomes.{Goes, Fails};
-ghost use Rattle.rules.specs.Programs.{seen_of};
+ghost use Rattle.rules.specs.Programs.{model_of};
 ghost use Rattle.rules.specs.Repeats.{first_again, given_again, repeated_in};
 ghost use Rattle.rules.specs.Rows.{leaves_of};
 ghost use Rattle.rules.specs.RuleTable.{ways, instruction_outcome};
-ghost use Rattle.rules.specs.declared.breach.Breach.{Breach as BreachSeen};
+ghost use Rattle.rules.specs.declared.breach.Breach.{Breach as BreachModel};
 ghost use Rattle.rules.specs.declared.breach.Reason.TheVariants as reasons;
-ghost use Rattle.rules.specs.declared.row.Leaf.{Leaf as LeafSeen};
+ghost use Rattle.rules.specs.declared.row.Leaf.{Leaf as LeafModel};
 
 use crate::arguments::{can_give_all, can_take, claim_all, give};
 use crate::breach::{Breach, Reason};
@@ -37,16 +37,16 @@ use source::{Memory, Place};
 /// What an instruction does to a row, in place. A switch makes its rows of what there is to spare.
 ///
 /// `Memory` is returned if a growth for the rows of a switch was refused.
-pub(crate) fn applied(
+pub(crate) fn apply(
     site: &Site<'_>,
     row: &mut Row,
     instruction: &Instr,
     spare: &mut Spare,
 ) -> Result<Onward, Memory>
-    requires { repeated_in site.now.repeats.now site.now.point ≡ given_again (instruction_seen instruction.now) }
-    ensures outcome { IfOk result (λ o. onward_seen (breach_seen (seen_of site.now.program.now) (method_seen site.now.method.now))
+    requires { repeated_in site.now.repeats.now site.now.point ≡ given_again (instruction_model instruction.now) }
+    ensures outcome { IfOk result (λ o. onward_model (breach_model (model_of site.now.program.now) (method_model site.now.method.now))
         o (leaves_of row.new)
-        ≡ instruction_outcome (seen_of site.now.program.now) (method_seen site.now.method.now) (instruction_seen instruction.now)
+        ≡ instruction_outcome (model_of site.now.program.now) (method_model site.now.method.now) (instruction_model instruction.now)
         (leaves_of row.old)) }
     ensures kept { IfOk result (λ o. IsKept o (leaves_of row.old) (leaves_of row.new)) }
 {
@@ -83,8 +83,10 @@ pub(crate) fn applied(
 
 /// A read or a write of the block that a variable has. The row stays as it is.
 fn use_(here: &Here<'_>, at: Mention, next: usize) -> Onward
-    ensures { onward_seen (breach_seen (seen_of here.now.program.now) (method_seen here.now.method.now)) result (leaves_of here.now.row.now)
-        ≡ instruction_outcome (seen_of here.now.program.now) (method_seen here.now.method.now) (Use at next) (leaves_of here.now.row.now) }
+    ensures { onward_model (breach_model (model_of here.now.program.now) (method_model here.now.method.now)) result
+        (leaves_of here.now.row.now)
+        ≡ instruction_outcome (model_of here.now.program.now) (method_model here.now.method.now) (Use at next)
+        (leaves_of here.now.row.now) }
 {
     match has_something(here, at) {
         Some(breach) => Onward::Found(breach),
@@ -94,8 +96,9 @@ fn use_(here: &Here<'_>, at: Mention, next: usize) -> Onward
 
 /// Two variables take the two ends of a new channel, each in the first state of its contract.
 fn new_channel(site: &Site<'_>, row: &mut Row, channel: Channel, next: usize) -> Onward
-    ensures outcome { onward_seen (breach_seen (seen_of site.now.program.now) (method_seen site.now.method.now)) result (leaves_of row.new)
-        ≡ instruction_outcome (seen_of site.now.program.now) (method_seen site.now.method.now) (graphs.NewChannel channel next)
+    ensures outcome { onward_model (breach_model (model_of site.now.program.now) (method_model site.now.method.now)) result
+        (leaves_of row.new)
+        ≡ instruction_outcome (model_of site.now.program.now) (method_model site.now.method.now) (graphs.NewChannel channel next)
         (leaves_of row.old) }
     ensures kept { IsKept result (leaves_of row.old) (leaves_of row.new) }
 {
@@ -124,8 +127,9 @@ fn new_channel(site: &Site<'_>, row: &mut Row, channel: Channel, next: usize) ->
 
 /// The target takes what the source has, which then has nothing.
 fn move_(site: &Site<'_>, row: &mut Row, target: Mention, source: Mention, next: usize) -> Onward
-    ensures outcome { onward_seen (breach_seen (seen_of site.now.program.now) (method_seen site.now.method.now)) result (leaves_of row.new)
-        ≡ instruction_outcome (seen_of site.now.program.now) (method_seen site.now.method.now) (Move target source next)
+    ensures outcome { onward_model (breach_model (model_of site.now.program.now) (method_model site.now.method.now)) result
+        (leaves_of row.new)
+        ≡ instruction_outcome (model_of site.now.program.now) (method_model site.now.method.now) (Move target source next)
         (leaves_of row.old) }
     ensures kept { IsKept result (leaves_of row.old) (leaves_of row.new) }
 {
@@ -157,8 +161,9 @@ fn move_(site: &Site<'_>, row: &mut Row, target: Mention, source: Mention, next:
 
 /// Frees what a variable has.
 fn delete(site: &Site<'_>, row: &mut Row, freed: Mention, next: usize) -> Onward
-    ensures outcome { onward_seen (breach_seen (seen_of site.now.program.now) (method_seen site.now.method.now)) result (leaves_of row.new)
-        ≡ instruction_outcome (seen_of site.now.program.now) (method_seen site.now.method.now) (Delete freed next)
+    ensures outcome { onward_model (breach_model (model_of site.now.program.now) (method_model site.now.method.now)) result
+        (leaves_of row.new)
+        ≡ instruction_outcome (model_of site.now.program.now) (method_model site.now.method.now) (Delete freed next)
         (leaves_of row.old) }
     ensures kept { IsKept result (leaves_of row.old) (leaves_of row.new) }
 {
@@ -180,8 +185,10 @@ fn delete(site: &Site<'_>, row: &mut Row, freed: Mention, next: usize) -> Onward
 /// A call. What is claimed is gone, what is lent comes back as it was, and what takes something has it.
 fn call(site: &Site<'_>, row: &mut Row, calling: &Calling) -> Onward
     requires { repeated_in site.now.repeats.now site.now.point ≡ first_again [] calling.now.arguments.items }
-    ensures outcome { onward_seen (breach_seen (seen_of site.now.program.now) (method_seen site.now.method.now)) result (leaves_of row.new)
-        ≡ instruction_outcome (seen_of site.now.program.now) (method_seen site.now.method.now) (instruction_seen (Instr.Call calling.now))
+    ensures outcome { onward_model (breach_model (model_of site.now.program.now) (method_model site.now.method.now)) result
+        (leaves_of row.new)
+        ≡ instruction_outcome (model_of site.now.program.now) (method_model site.now.method.now)
+        (instruction_model (Instr.Call calling.now))
         (leaves_of row.old) }
     ensures kept { IsKept result (leaves_of row.old) (leaves_of row.new) }
 {
@@ -212,9 +219,10 @@ fn call(site: &Site<'_>, row: &mut Row, calling: &Calling) -> Onward
 /// The start of a method. What it claims is gone.
 fn start(site: &Site<'_>, row: &mut Row, starting: &Starting) -> Onward
     requires { repeated_in site.now.repeats.now site.now.point ≡ first_again [] starting.now.arguments.items }
-    ensures outcome { onward_seen (breach_seen (seen_of site.now.program.now) (method_seen site.now.method.now)) result (leaves_of row.new)
-        ≡ instruction_outcome (seen_of site.now.program.now) (method_seen site.now.method.now)
-        (instruction_seen (Instr.Start starting.now)) (leaves_of row.old) }
+    ensures outcome { onward_model (breach_model (model_of site.now.program.now) (method_model site.now.method.now)) result
+        (leaves_of row.new)
+        ≡ instruction_outcome (model_of site.now.program.now) (method_model site.now.method.now)
+        (instruction_model (Instr.Start starting.now)) (leaves_of row.old) }
     ensures kept { IsKept result (leaves_of row.old) (leaves_of row.new) }
 {
     let here = Here {
@@ -233,8 +241,8 @@ fn start(site: &Site<'_>, row: &mut Row, starting: &Starting) -> Onward
 
 /// A condition. The row stays as it is, each way that it can go.
 fn branch(branches: Branches) -> Onward
-    ensures outcome { (says : BreachSeen → FindingParts) (row : List LeafSeen) → onward_seen says result row ≡ Goes (ways branches row) }
-    ensures kept { (row : List LeafSeen) → IsKept result row row }
+    ensures outcome { (says : BreachModel → FindingParts) (row : List LeafModel) → onward_model says result row ≡ Goes (ways branches row) }
+    ensures kept { (row : List LeafModel) → IsKept result row row }
 {
     match branches {
         Branches::Either { inside, past } => Onward::Both(inside, past),
@@ -244,8 +252,9 @@ fn branch(branches: Branches) -> Onward
 
 /// Variables go out of scope; they have nothing.
 fn forget_(here: &Here<'_>, forget: Forget, next: usize) -> Onward
-    ensures { onward_seen (breach_seen (seen_of here.now.program.now) (method_seen here.now.method.now)) result (leaves_of here.now.row.now)
-        ≡ instruction_outcome (seen_of here.now.program.now) (method_seen here.now.method.now) (graphs.Forget forget next)
+    ensures { onward_model (breach_model (model_of here.now.program.now) (method_model here.now.method.now)) result
+        (leaves_of here.now.row.now)
+        ≡ instruction_outcome (model_of here.now.program.now) (method_model here.now.method.now) (graphs.Forget forget next)
         (leaves_of here.now.row.now) }
 {
     let last = Some(forget.last);
@@ -257,8 +266,8 @@ fn forget_(here: &Here<'_>, forget: Forget, next: usize) -> Onward
 
 /// The end of a method that ought to have given something.
 fn stop(place: Place) -> Onward
-    ensures { (says : BreachSeen → FindingParts) (row : List LeafSeen)
-        → onward_seen says result row ≡ Fails (says (record { place = place; reason = reasons.NoResult })) }
+    ensures { (says : BreachModel → FindingParts) (row : List LeafModel)
+        → onward_model says result row ≡ Fails (says (record { place = place; reason = reasons.NoResult })) }
 {
     Onward::Found(Breach::at(place, Reason::NoResult))
 }

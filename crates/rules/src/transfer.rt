@@ -1,16 +1,16 @@
 //! Transfers: what an instruction does to a row by itself.
 
 ghost use Rattle.std.specs.Prelude.{◌≡◌, ◌<◌, ◌∷◌, [], IfSome, IsSomeAnd, List, Some, length, slice_get, true};
-ghost use Rattle.flow.specs.Graphs.{instruction_seen};
+ghost use Rattle.flow.specs.Graphs.{instruction_model};
 ghost use Rattle.flow.specs.Lowering.{graph_of};
-ghost use Rattle.program.specs.Methods.{method_seen};
+ghost use Rattle.program.specs.Methods.{method_model};
 ghost use Rattle.rules.specs.Outcomes.{Goes};
-ghost use Rattle.rules.specs.Programs.{seen_of};
+ghost use Rattle.rules.specs.Programs.{model_of};
 ghost use Rattle.rules.specs.Rows.{leaves_of};
 ghost use Rattle.rules.specs.Steps.{outcome};
 ghost use Rattle.rules.specs.Transfers as table;
 ghost use Rattle.rules.specs.Transfers.{allows, transferred};
-ghost use Rattle.rules.specs.declared.row.Leaf.{Leaf as LeafSeen};
+ghost use Rattle.rules.specs.declared.row.Leaf.{Leaf as LeafModel};
 
 use crate::checks::lends;
 use crate::lowered::Program;
@@ -62,7 +62,7 @@ impl Transfer {
 
     /// Whether its checks pass that ask no row.
     fn fits(self, method: &Method) -> bool
-        ensures { result ≡ table.fits (method_seen method.now) self }
+        ensures { result ≡ table.fits (method_model method.now) self }
     {
         match self {
             Transfer::Use(_) => true,
@@ -76,7 +76,7 @@ impl Transfer {
 
 /// The transfer of an instruction and the point behind it, if it has one.
 fn transfer_in(instruction: &Instr) -> Option<(Transfer, usize)>
-    ensures { result ≡ table.transfer_in (instruction_seen instruction.now) }
+    ensures { result ≡ table.transfer_in (instruction_model instruction.now) }
 {
     match instruction {
         Instr::Use { at, next } => Some((Transfer::Use(at.variable), *next)),
@@ -107,8 +107,8 @@ fn transfer_in(instruction: &Instr) -> Option<(Transfer, usize)>
 }
 
 /// That transfer, where it fits.
-fn fitting(method: &Method, instruction: &Instr) -> Option<(Transfer, usize)>
-    ensures { result ≡ table.transfer_at (method_seen method.now) (Some (instruction_seen instruction.now)) }
+fn transfer_for(method: &Method, instruction: &Instr) -> Option<(Transfer, usize)>
+    ensures { result ≡ table.transfer_at (method_model method.now) (Some (instruction_model instruction.now)) }
 {
     let (transfer, next) = transfer_in(instruction)?;
     if transfer.fits(method) {
@@ -120,15 +120,15 @@ fn fitting(method: &Method, instruction: &Instr) -> Option<(Transfer, usize)>
 /// The transfer at a point of a method and the point behind it, where an instruction stands there that has one, and its checks pass
 /// that ask no row. Of a row that the transfer allows that is all that comes there.
 pub fn transfer_at(program: &Program, method: MethodId, point: usize) -> Option<(Transfer, usize)>
-    requires there { method.0 < length (seen_of program.now).methods }
-    ensures goes { IfSome result (λ t. (row : List LeafSeen) → allows t.0 row ≡ true
-        → outcome (seen_of program.now) method.0 (point, row) ≡ Goes ((t.1, transferred t.0 row) ∷ [])) }
-    ensures which { IsSomeAnd (slice_get (seen_of program.now).methods method.0)
+    requires there { method.0 < length (model_of program.now).methods }
+    ensures goes { IfSome result (λ t. (row : List LeafModel) → allows t.0 row ≡ true
+        → outcome (model_of program.now) method.0 (point, row) ≡ Goes ((t.1, transferred t.0 row) ∷ [])) }
+    ensures which { IsSomeAnd (slice_get (model_of program.now).methods method.0)
         (λ m. result ≡ table.transfer_at m (slice_get (graph_of m).instructions point)) }
 {
     let owner = program.method(method);
     match program.graph(method).instructions.get(point) {
-        Some(instruction) => fitting(owner, instruction),
+        Some(instruction) => transfer_for(owner, instruction),
         None => None,
     }
 }

@@ -6,12 +6,12 @@ use Rattle.source.specs.declared.finding.Finding.{Finding}
 use Rattle.source.specs.declared.fault.Memory.{Memory}
 use Rattle.tree.specs.Trees.{ItemTree}
 use Rattle.contracts.specs.Conditions.{AreExactly, IsSound}
-use Rattle.program.specs.Parts.{ContractSeen}
-use Rattle.program.specs.Programs.{ProgramSeen}
+use Rattle.program.specs.Parts.{ContractModel}
+use Rattle.program.specs.Programs.{ProgramModel}
 use Rattle.singcheck.specs.Answers.{AreFindings}
 use Rattle.singcheck.specs.Checks.{AreCheckFindings, OfMethods, Checks, HasProgram, IsWrong}
 use Rattle.singcheck.specs.Lines.{clear_line}
-use Rattle.rules.specs.Programs.{seen_of}
+use Rattle.rules.specs.Programs.{model_of}
 use Rattle.singcheck.specs.Named.{AreBrokenOf, AreNamed, HasNames, IsBuilt, IsBuiltOf}
 use Rattle.singcheck.specs.declared.programs.Built.{Built}
 use Rattle.singcheck.specs.declared.programs.Built.TheVariants as built
@@ -34,15 +34,15 @@ reported_ok text found are (Ok r) told is = reported_is text r.bytes.items r.sta
 reported_ok text found are (Err fault) told is = tt
 
 -- what is wrong with the contracts of a text
-pub unsound_named : (text : List ℕ) (items : List ItemTree) (p : ProgramSeen) (found : List FindingParts) → HasNames text items p → AreBroken p.contracts found → AreFindings text found
+pub unsound_named : (text : List ℕ) (items : List ItemTree) (p : ProgramModel) (found : List FindingParts) → HasNames text items p → AreBroken p.contracts found → AreFindings text found
 unsound_named text items p found names broken = unsound text p.contracts found (record { items = items; parsed = names.parsed; clean = names.clean; are = names.contracts }) broken
 
 -- what is wrong with the contracts of a text
-pub broken_findings : (text : List ℕ) (contracts : List ContractSeen) (found : List FindingParts) → AreBrokenOf text contracts found → AreFindings text found
+pub broken_findings : (text : List ℕ) (contracts : List ContractModel) (found : List FindingParts) → AreBrokenOf text contracts found → AreFindings text found
 broken_findings text contracts found are = unsound text contracts found are.resolved are.broken
 
 -- where they are sound, this is the program of the text
-abbrev pub has_program : (text : List ℕ) (items : List ItemTree) (p : ProgramSeen) → HasNames text items p → All (λ c. IsSound c.parts) p.contracts → HasProgram text p
+abbrev pub has_program : (text : List ℕ) (items : List ItemTree) (p : ProgramModel) → HasNames text items p → All (λ c. IsSound c.parts) p.contracts → HasProgram text p
 has_program text items p names sound = record {
   items = items;
   program = record { parsed = names.parsed; clean = names.clean; are = names.contracts; sound = sound };
@@ -52,7 +52,7 @@ has_program text items p names sound = record {
 }
 
 -- what is found in its methods
-pub misowned : (text : List ℕ) (p : ProgramSeen) (found : List Finding) → HasProgram text p → found ≢ [] → AreExactly (IsWrong p) (map finding_parts found) → AreCheckFindings text (map finding_parts found)
+pub misowned : (text : List ℕ) (p : ProgramModel) (found : List Finding) → HasProgram text p → found ≢ [] → AreExactly (IsWrong p) (map finding_parts found) → AreCheckFindings text (map finding_parts found)
 misowned text p found has some are = OfMethods (record { program = p; has = has; some = none_mapped found some; are = are })
   where
     none_mapped : (found : List Finding) → found ≢ [] → map finding_parts found ≢ []
@@ -60,13 +60,13 @@ misowned text p found has some are = OfMethods (record { program = p; has = has;
     none_mapped (x ∷ xs) h = λ e. absurd (cc)
 
 -- the report of what is found in the methods is that of each text that comes to them
-pub reported_methods : (p : ProgramSeen) (found : List Finding) → found ≢ [] → AreExactly (IsWrong p) (map finding_parts found) → (result : Result Report Memory) → IfOk result (λ r. IsReport (map finding_parts found) r.bytes.items)
+pub reported_methods : (p : ProgramModel) (found : List Finding) → found ≢ [] → AreExactly (IsWrong p) (map finding_parts found) → (result : Result Report Memory) → IfOk result (λ r. IsReport (map finding_parts found) r.bytes.items)
     → IfOk result (λ r. r.status ≡ Found) → IfOk result (λ r. (text : List ℕ) → HasProgram text p → Checks text r.bytes.items r.status)
 reported_methods p found some are (Ok r) told is = λ text has. reported_is text r.bytes.items r.status (map finding_parts found) (misowned text p found has some are) told is
 reported_methods p found some are (Err fault) told is = tt
 
 -- nothing is found in its methods
-pub clear_is : (text bytes : List ℕ) (p : ProgramSeen) (found : List Finding) → HasProgram text p → found ≡ [] → AreExactly (IsWrong p) (map finding_parts found) → bytes ≡ clear_line (length p.contracts) (length p.methods) → Checks text bytes Empty
+pub clear_is : (text bytes : List ℕ) (p : ProgramModel) (found : List Finding) → HasProgram text p → found ≡ [] → AreExactly (IsWrong p) (map finding_parts found) → bytes ≡ clear_line (length p.contracts) (length p.methods) → Checks text bytes Empty
 clear_is text bytes p found has none are is = record {
   program = p;
   has = has;
@@ -75,13 +75,13 @@ clear_is text bytes p found has none are is = record {
 }
 
 -- what `clear` answers for such a program
-pub clear_ok : (p : ProgramSeen) (found : List Finding) → found ≡ [] → AreExactly (IsWrong p) (map finding_parts found) → (result : Result Report Memory) → IfOk result (λ r. r.bytes.items ≡ clear_line (length p.contracts) (length p.methods)) → IfOk result (λ r. r.status ≡ Empty)
+pub clear_ok : (p : ProgramModel) (found : List Finding) → found ≡ [] → AreExactly (IsWrong p) (map finding_parts found) → (result : Result Report Memory) → IfOk result (λ r. r.bytes.items ≡ clear_line (length p.contracts) (length p.methods)) → IfOk result (λ r. r.status ≡ Empty)
     → IfOk result (λ r. (text : List ℕ) → HasProgram text p → Checks text r.bytes.items r.status)
 clear_ok p found none are (Ok r) bytes is = λ text has. subst (Checks text r.bytes.items) (sym is) (clear_is text r.bytes.items p found has none are bytes)
 clear_ok p found none are (Err fault) bytes is = tt
 
 -- what a text comes to, from what its names and its contracts come to
-pub built_of : (text : List ℕ) (items : List ItemTree) (p : ProgramSeen) → AreNamed text items p → (b : Built) → IsBuilt p b → IsBuiltOf text b
+pub built_of : (text : List ℕ) (items : List ItemTree) (p : ProgramModel) → AreNamed text items p → (b : Built) → IsBuilt p b → IsBuiltOf text b
 built_of text items p named (built.Found findings) none = absurd none
 built_of text items p named (built.Broken methods findings) is = subst (λ l. AreBrokenOf text l (map finding_parts findings.items)) (sym is.0) (record {
   resolved = record { items = items; parsed = named.names.parsed; clean = named.names.clean; are = named.names.contracts };
@@ -91,4 +91,4 @@ built_of text items p named (built.Broken methods findings) is = subst (λ l. Ar
 })
 built_of text items p named (built.Program program) one =
     let same = subst (AreNamed text items) (sym one.same) named in
-    record { has = has_program text items (seen_of program) same.names one.sound; few = same.few; safe = one.safe }
+    record { has = has_program text items (model_of program) same.names one.sound; few = same.few; safe = one.safe }

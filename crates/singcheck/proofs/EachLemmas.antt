@@ -12,8 +12,8 @@ use Rattle.tree.specs.Spelled.{Spells}
 use Rattle.tree.specs.Programs.{program}
 use Rattle.tree.specs.Trees.{ItemTree, contracts_of}
 use Rattle.syntax.specs.Parsing.{IsFirstWrong}
-use Rattle.program.specs.Parts.{ContractSeen, IsWhole, Parts}
-use Rattle.program.specs.Programs.{ProgramSeen}
+use Rattle.program.specs.Parts.{ContractModel, IsWhole, Parts}
+use Rattle.program.specs.Programs.{ProgramModel}
 use Rattle.program.specs.declared.kind.Side.{Side}
 use Rattle.program.specs.declared.kind.Side.TheVariants.{Exp, Imp}
 use Rattle.declarations.specs.Mistakes.{finding_in}
@@ -42,11 +42,11 @@ pub record Answered : Type 0 where
   pub parsed : (tokens : List Token)
       → ((items : List ItemTree) → Spells program items tokens → ⊥) → ((k : ℕ) → IsFirstWrong program tokens k → ⊥) → ⊥
   pub whole : (p : Program) → program_mistakes p ≡ []
-      → All (λ (c : ContractSeen). IsWhole c.parts) (resolved_contracts p.text (contracts_of p.items))
+      → All (λ (c : ContractModel). IsWhole c.parts) (resolved_contracts p.text (contracts_of p.items))
   pub judged : (parts : Parts) → ((found : List FindingParts) → AreExactly (conditions.IsFault parts) found → ⊥) → ⊥
   pub bounded : (parts : Parts) → IsWhole parts → IsSound parts → (side : Side)
       → ((n : ℕ) → IsBound parts.edges parts.first (sign_to side) n → ⊥) → ⊥
-  pub verdicts : (p : ProgramSeen) (n : ℕ) → ((found : List FindingParts) → IsMethodVerdict p n found → ⊥) → ⊥
+  pub verdicts : (p : ProgramModel) (n : ℕ) → ((found : List FindingParts) → IsMethodVerdict p n found → ⊥) → ⊥
 
 -- where no stage before the methods finds something
 module _ (laws : Answered) (text : List ℕ) (clean : (found : List FindingParts) → AreFindings text found → ⊥) where
@@ -76,13 +76,13 @@ module _ (laws : Answered) (text : List ℕ) (clean : (found : List FindingParts
       (empty_or_not found)
 
   -- nor with its contracts
-  contracts_sound : (contracts : List ContractSeen) → IsResolved text contracts → (All (λ c. IsSound c.parts) contracts → ⊥) → ⊥
+  contracts_sound : (contracts : List ContractModel) → IsResolved text contracts → (All (λ c. IsSound c.parts) contracts → ⊥) → ⊥
   contracts_sound contracts resolved none = broken_some laws.judged contracts (λ found are. ⊎_elim
       (λ empty. none (all_sound contracts (nothing_so (IsBroken contracts) found are empty)))
       (λ some. clean found (OfContracts (record { contracts = contracts; resolved = resolved; some = some; are = are })))
       (empty_or_not found))
 
-  pub sound_some : ((items : List ItemTree) (contracts : List ContractSeen) → IsSoundProgram text items contracts → ⊥) → ⊥
+  pub sound_some : ((items : List ItemTree) (contracts : List ContractModel) → IsSoundProgram text items contracts → ⊥) → ⊥
   sound_some none = program_some (λ items parsed.
       let contracts = resolved_contracts text (contracts_of items) in
       let names = names_clean items parsed in
@@ -90,17 +90,17 @@ module _ (laws : Answered) (text : List ℕ) (clean : (found : List FindingParts
       (λ sound. none items contracts (record { parsed = parsed; clean = names; are = refl; sound = sound })))
 
 -- each contract has its line
-line_some : Answered → (c : ContractSeen) → IsWhole c.parts → IsSound c.parts → ((line : List ℕ) → IsBoundsLine c line → ⊥) → ⊥
+line_some : Answered → (c : ContractModel) → IsWhole c.parts → IsSound c.parts → ((line : List ℕ) → IsBoundsLine c line → ⊥) → ⊥
 line_some laws c whole sound none =
     laws.bounded c.parts whole sound Exp (λ to_exp exp. laws.bounded c.parts whole sound Imp (λ to_imp imp.
     none (bounds_line c.name to_exp to_imp) (record { to_exp = to_exp; to_imp = to_imp; exp = ∣ exp ∣₁; imp = ∣ imp ∣₁; is = refl })))
 
-lines_some : Answered → (contracts : List ContractSeen) → All (λ c. IsWhole c.parts) contracts → All (λ c. IsSound c.parts) contracts
+lines_some : Answered → (contracts : List ContractModel) → All (λ c. IsWhole c.parts) contracts → All (λ c. IsSound c.parts) contracts
     → ((lines : List (List ℕ)) → AllZip IsBoundsLine contracts lines → ⊥) → ⊥
 lines_some laws [] whole sound none = none [] tt
 lines_some laws (c ∷ cs) whole sound none =
-    let are_whole = λ (x : ContractSeen). IsWhole x.parts in
-    let are_sound = λ (x : ContractSeen). IsSound x.parts in
+    let are_whole = λ (x : ContractModel). IsWhole x.parts in
+    let are_sound = λ (x : ContractModel). IsSound x.parts in
     line_some laws c (All-head are_whole c cs whole) (All-head are_sound c cs sound) (λ line its.
     lines_some laws cs (All-tail are_whole c cs whole) (All-tail are_sound c cs sound) (λ lines each. none (line ∷ lines) (its, each)))
 
@@ -115,7 +115,7 @@ bounds_some laws text none = sound_some laws text
     (record { contracts = contracts; resolved = resolved; sound = p.sound; lines = lines; each = each; are = refl })))
 
 -- a program is clear, or something is wrong in its methods
-methods_some : Answered → (text : List ℕ) (p : ProgramSeen) → HasProgram text p → ((bytes : List ℕ) (status : Status) → Checks text bytes status → ⊥) → ⊥
+methods_some : Answered → (text : List ℕ) (p : ProgramModel) → HasProgram text p → ((bytes : List ℕ) (status : Status) → Checks text bytes status → ⊥) → ⊥
 methods_some laws text p has none = wrong_some laws.verdicts p (λ found are. ⊎_elim
     (λ empty.
     let clear = nothing_so (IsWrong p) found are empty in

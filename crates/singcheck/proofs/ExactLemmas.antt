@@ -4,8 +4,8 @@ use Rattle.std.specs.Prelude.{◌≢◌, All, Contains, length}
 use Rattle.std.proofs.Math.Nat.{eq-or-lt_of_le}
 use Rattle.std.proofs.lemmas.List.Elements.{Contains-append_left, Contains-append_right, Contains-append_cases, Contains-get_or}
 use Rattle.source.specs.Findings.{FindingParts}
-use Rattle.program.specs.Programs.{ProgramSeen}
-use Rattle.program.specs.Parts.{Parts, ContractSeen}
+use Rattle.program.specs.Programs.{ProgramModel}
+use Rattle.program.specs.Parts.{Parts, ContractModel}
 use Rattle.contracts.specs.Conditions as conditions
 use Rattle.contracts.specs.Conditions.{AreExactly, IsSound}
 use Rattle.analyse.specs.Verdicts.{IsFoundIn, IsMethodVerdict}
@@ -30,7 +30,7 @@ both P Q R xs ys one other so why = record {
 }
 
 pub broken_some : ((parts : Parts) → ((found : List FindingParts) → AreExactly (conditions.IsFault parts) found → ⊥) → ⊥)
-    → (contracts : List ContractSeen) → ((found : List FindingParts) → AreExactly (IsBroken contracts) found → ⊥) → ⊥
+    → (contracts : List ContractModel) → ((found : List FindingParts) → AreExactly (IsBroken contracts) found → ⊥) → ⊥
 broken_some judged [] none = none [] (record { right = λ f h. absurd (nothing_in f h); all = λ f b. absurd (nothing_in b.0 b.1) })
 broken_some judged (c ∷ cs) none =
     judged c.parts (λ here one. broken_some judged cs (λ later others.
@@ -47,15 +47,15 @@ broken_some judged (c ∷ cs) none =
         (front_or_behind c b.0 cs b.1)
 
 -- where nothing is broken, each contract is sound
-pub all_sound : (contracts : List ContractSeen) → ((f : FindingParts) → IsBroken contracts f → ⊥) → All (λ c. IsSound c.parts) contracts
+pub all_sound : (contracts : List ContractModel) → ((f : FindingParts) → IsBroken contracts f → ⊥) → All (λ c. IsSound c.parts) contracts
 all_sound contracts none = λ k d lt f fault. none f (_, Contains-get_or contracts k d lt, fault)
 
 -- what is found in the first methods, so many
-abbrev IsWrongBelow : ProgramSeen → ℕ → FindingParts → Type 0
+abbrev IsWrongBelow : ProgramModel → ℕ → FindingParts → Type 0
 IsWrongBelow p most f = (n : ℕ) × (n < most) × IsFoundIn p n f
 
-wrong_below : ((p : ProgramSeen) (n : ℕ) → ((found : List FindingParts) → IsMethodVerdict p n found → ⊥) → ⊥)
-    → (p : ProgramSeen) (most : ℕ) → ((found : List FindingParts) → AreExactly (IsWrongBelow p most) found → ⊥) → ⊥
+wrong_below : ((p : ProgramModel) (n : ℕ) → ((found : List FindingParts) → IsMethodVerdict p n found → ⊥) → ⊥)
+    → (p : ProgramModel) (most : ℕ) → ((found : List FindingParts) → AreExactly (IsWrongBelow p most) found → ⊥) → ⊥
 wrong_below verdicts p zero none =
     none [] (record { right = λ f h. absurd (nothing_in f h); all = λ f w. let below = w.1 in absurd (omega (arith, below)) })
 wrong_below verdicts p (suc n) none =
@@ -74,6 +74,6 @@ wrong_below verdicts p (suc n) none =
         (λ less. inl (w.0, less, w.2))
         (eq-or-lt_of_le (let below = w.1 in omega (arith, below)))
 
-pub wrong_some : ((p : ProgramSeen) (n : ℕ) → ((found : List FindingParts) → IsMethodVerdict p n found → ⊥) → ⊥)
-    → (p : ProgramSeen) → ((found : List FindingParts) → AreExactly (IsWrong p) found → ⊥) → ⊥
+pub wrong_some : ((p : ProgramModel) (n : ℕ) → ((found : List FindingParts) → IsMethodVerdict p n found → ⊥) → ⊥)
+    → (p : ProgramModel) → ((found : List FindingParts) → AreExactly (IsWrong p) found → ⊥) → ⊥
 wrong_some verdicts p = wrong_below verdicts p (length p.methods)

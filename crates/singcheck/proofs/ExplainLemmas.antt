@@ -12,13 +12,13 @@ use Rattle.source.specs.Findings.{FindingParts, finding_parts}
 use Rattle.source.specs.declared.fault.Memory.{Memory}
 use Rattle.source.specs.declared.place.Place.{Place}
 use Rattle.contracts.specs.Conditions.{AreExactly}
-use Rattle.program.specs.Programs.{ProgramSeen}
+use Rattle.program.specs.Programs.{ProgramModel}
 use Rattle.reports.specs.Orders.{report_cmp}
-use Rattle.traces.specs.Explained.{ExplainedSeen, explained_seen}
-use Rattle.traces.specs.Lines.{line_seen}
+use Rattle.traces.specs.Explained.{ExplainedModel, explained_model}
+use Rattle.traces.specs.Lines.{line_model}
 use Rattle.traces.specs.declared.line.Explained.{Explained}
 use Rattle.traces.specs.declared.line.Line.{Line}
-use Rattle.program.specs.Parts.{ContractSeen}
+use Rattle.program.specs.Parts.{ContractModel}
 use Rattle.singcheck.specs.Answers.{AreFindings, IsBroken, IsProgram, OfNames, OfSyntax, OfText}
 use Rattle.names.specs.Findings.{program_findings}
 use Rattle.tree.specs.Trees.{ItemTree}
@@ -35,15 +35,15 @@ use Rattle.contracts.proofs.PartLemmas.{contains_map}
 use Rattle.singcheck.proofs.JudgeLemmas.{none_of}
 use Rattle.singcheck.proofs.StageLemmas.{unsound}
 
-explained_view : (xs : List Explained) → map (λ (e : ExplainedSeen). e.finding) (map explained_seen xs) ≡ map (λ (e : Explained). finding_parts e.finding) xs
+explained_view : (xs : List Explained) → map (λ (e : ExplainedModel). e.finding) (map explained_model xs) ≡ map (λ (e : Explained). finding_parts e.finding) xs
 explained_view [] = refl
 explained_view (x ∷ xs) = ap (λ l. finding_parts x.finding ∷ l) (explained_view xs)
 
 -- a finding without lines
-abbrev bare : FindingParts → ExplainedSeen
+abbrev bare : FindingParts → ExplainedModel
 bare f = record { finding = f; lines = [] }
 
-bare_view : (fs : List FindingParts) → map (λ (e : ExplainedSeen). e.finding) (map bare fs) ≡ fs
+bare_view : (fs : List FindingParts) → map (λ (e : ExplainedModel). e.finding) (map bare fs) ≡ fs
 bare_view [] = refl
 bare_view (f ∷ fs) = ap (λ l. f ∷ l) (bare_view fs)
 
@@ -65,39 +65,39 @@ explains_before named text found are (Ok r) told is = subst (Explains named text
 explains_before named text found are (Err fault) told is = tt
 
 -- all that the first stage with findings finds, in order
-pub explains_noted : (named : Option Place) (text bytes : List ℕ) (found listed : List Explained) → AreExplained named text (map explained_seen found)
+pub explains_noted : (named : Option Place) (text bytes : List ℕ) (found listed : List Explained) → AreExplained named text (map explained_model found)
     → ((f : FindingParts) → Contains (map (λ e. finding_parts e.finding) listed) f ↔ Contains (map (λ e. finding_parts e.finding) found) f) → ((e : Explained) → Contains listed e → Contains found e) → IsStrictlySortedBy report_cmp (map (λ e. finding_parts e.finding) listed)
-    → bytes ≡ explained_bytes (map explained_seen listed) → Explains named text bytes Found
+    → bytes ≡ explained_bytes (map explained_model listed) → Explains named text bytes Found
 explains_noted named text bytes found listed all same among ordered bytes_are = inl (record {
   found = map (λ e. finding_parts e.finding) found;
   are = subst (AreFindings text) (explained_view found) all.are;
-  listed = map explained_seen listed;
+  listed = map explained_model listed;
   same = subst (AreExactly (Contains (map (λ (e : Explained). finding_parts e.finding) found))) (sym (explained_view listed)) (record { right = λ f h. (same f).0 h; all = λ f h. (same f).1 h });
-  each = All-map (IsNoted named text) explained_seen listed
-      (All-weaker (Contains listed) (λ (e : Explained). IsNoted named text (explained_seen e)) (λ e h. All-contains (λ (x : ExplainedSeen). IsNoted named text x) (map explained_seen found) (explained_seen e) all.each (contains_map explained_seen found e (among e h))) listed (All-contains_itself listed));
+  each = All-map (IsNoted named text) explained_model listed
+      (All-weaker (Contains listed) (λ (e : Explained). IsNoted named text (explained_model e)) (λ e h. All-contains (λ (x : ExplainedModel). IsNoted named text x) (map explained_model found) (explained_model e) all.each (contains_map explained_model found e (among e h))) listed (All-contains_itself listed));
   ordered = subst (IsStrictlySortedBy report_cmp) (sym (explained_view listed)) ordered;
   is = bytes_are;
 })
 
 -- a token that is not expected
-pub syntax_explained : (named : Option Place) (text : List ℕ) (e : Explained) → IsAskedUnexpected named text (explained_seen e) → AreExplained named text (explained_seen e ∷ [])
+pub syntax_explained : (named : Option Place) (text : List ℕ) (e : Explained) → IsAskedUnexpected named text (explained_model e) → AreExplained named text (explained_model e ∷ [])
 syntax_explained named text e is =
     let u = is.unexpected in
     record {
       are = OfSyntax (record { tokens = u.tokens; lexed = u.lexed; number = u.number; wrong = u.wrong; are = ap (λ f. f ∷ []) u.finding });
-      each = All-cons (IsNoted named text) (explained_seen e) [] (ByTokens is) (All-nil (IsNoted named text));
+      each = All-cons (IsNoted named text) (explained_model e) [] (ByTokens is) (All-nil (IsNoted named text));
     }
 
 -- a fault of the text
-pub fault_explained : (named : Option Place) (text : List ℕ) (e : Explained) → HasFault named text (explained_seen e) → AreExplained named text (explained_seen e ∷ [])
+pub fault_explained : (named : Option Place) (text : List ℕ) (e : Explained) → HasFault named text (explained_model e) → AreExplained named text (explained_model e ∷ [])
 fault_explained named text e is = record {
   are = OfText (record { fault = is.fault; first = is.first; are = is.finding });
-  each = All-cons (IsNoted named text) (explained_seen e) [] (ByFault is) (All-nil (IsNoted named text));
+  each = All-cons (IsNoted named text) (explained_model e) [] (ByFault is) (All-nil (IsNoted named text));
 }
 
 -- all mistakes in the names of the text
 pub names_explained : (named : Option Place) (text : List ℕ) (items : List ItemTree) (found : List Explained) → IsProgram text items → map (λ e. finding_parts e.finding) found ≡ program_findings (record { text = text; items = items })
-    → All (λ e. IsMistake named (record { text = text; items = items }) (explained_seen e)) found → IsExplainedText named text (map explained_seen found)
+    → All (λ e. IsMistake named (record { text = text; items = items }) (explained_model e)) found → IsExplainedText named text (map explained_model found)
 names_explained named text items found parsed all each = λ some. record {
   are = OfNames (record {
     items = items;
@@ -105,19 +105,19 @@ names_explained named text items found parsed all each = λ some. record {
     some = λ none. some (no_view found (sym (explained_view found) ∙ none));
     are = subst (AreExactly (Contains (program_findings (record { text = text; items = items })))) (sym (explained_view found ∙ all)) (record { right = λ f h. h; all = λ f h. h });
   });
-  each = All-map (IsNoted named text) explained_seen found (All-weaker (λ (e : Explained). IsMistake named (record { text = text; items = items }) (explained_seen e)) (λ (e : Explained). IsNoted named text (explained_seen e)) (λ e h. ByMistake (record { items = items; parsed = parsed; is = h })) found each);
+  each = All-map (IsNoted named text) explained_model found (All-weaker (λ (e : Explained). IsMistake named (record { text = text; items = items }) (explained_model e)) (λ (e : Explained). IsNoted named text (explained_model e)) (λ e h. ByMistake (record { items = items; parsed = parsed; is = h })) found each);
 }
   where
-    no_view : (xs : List Explained) → map (λ (e : Explained). finding_parts e.finding) xs ≡ [] → map explained_seen xs ≡ []
+    no_view : (xs : List Explained) → map (λ (e : Explained). finding_parts e.finding) xs ≡ [] → map explained_model xs ≡ []
     no_view [] none = refl
     no_view (x ∷ xs) none = cc
 
 -- what is wrong with contracts, with the edges that show it
-pub contracts_explained : (named : Option Place) (text : List ℕ) (contracts : List ContractSeen) (some : List FindingParts) (found : List Explained) → AreBrokenOf text contracts some → AreExactly (IsBroken contracts) (map (λ e. finding_parts e.finding) found)
-    → All (λ e. IsShownIn named contracts (explained_seen e)) found → AreExplained named text (map explained_seen found)
+pub contracts_explained : (named : Option Place) (text : List ℕ) (contracts : List ContractModel) (some : List FindingParts) (found : List Explained) → AreBrokenOf text contracts some → AreExactly (IsBroken contracts) (map (λ e. finding_parts e.finding) found)
+    → All (λ e. IsShownIn named contracts (explained_model e)) found → AreExplained named text (map explained_model found)
 contracts_explained named text contracts some found is are each = record {
   are = subst (AreFindings text) (sym (explained_view found)) (unsound text contracts (map (λ e. finding_parts e.finding) found) is.resolved (record { some = some_found some found is.broken.some is.broken.are are; are = are }));
-  each = All-map (IsNoted named text) explained_seen found (All-weaker (λ (e : Explained). IsShownIn named contracts (explained_seen e)) (λ (e : Explained). IsNoted named text (explained_seen e)) (λ e h. ByContract contracts is.resolved h) found each);
+  each = All-map (IsNoted named text) explained_model found (All-weaker (λ (e : Explained). IsShownIn named contracts (explained_model e)) (λ (e : Explained). IsNoted named text (explained_model e)) (λ e h. ByContract contracts is.resolved h) found each);
 }
   where
     some_found : (fs : List FindingParts) (es : List Explained) → fs ≢ [] → AreExactly (IsBroken contracts) fs → AreExactly (IsBroken contracts) (map (λ (e : Explained). finding_parts e.finding) es) → map (λ (e : Explained). finding_parts e.finding) es ≢ []
@@ -125,7 +125,7 @@ contracts_explained named text contracts some found is are each = record {
     some_found (f ∷ fs) es none left right = λ e. none_of f (subst (λ l. Contains l f) e (right.all f (left.right f (Contains-append_left (f ∷ []) fs f (Contains-push [] f)))))
 
 -- nothing is found
-pub explains_clear : (named : Option Place) (p : ProgramSeen) (found : List Explained) → found ≡ [] → AreExactly (IsWrong p) (map (λ e. finding_parts e.finding) found) → (result : Result Report Memory) → IfOk result (λ r. r.bytes.items ≡ clear_line (length p.contracts) (length p.methods)) → IfOk result (λ r. r.status ≡ Empty)
+pub explains_clear : (named : Option Place) (p : ProgramModel) (found : List Explained) → found ≡ [] → AreExactly (IsWrong p) (map (λ e. finding_parts e.finding) found) → (result : Result Report Memory) → IfOk result (λ r. r.bytes.items ≡ clear_line (length p.contracts) (length p.methods)) → IfOk result (λ r. r.status ≡ Empty)
     → IfOk result (λ r. (text : List ℕ) → HasProgram text p → Explains named text r.bytes.items r.status)
 explains_clear named p found none are (Ok r) bytes is = λ text has. subst (Explains named text r.bytes.items) (sym is) (record {
   program = p;
@@ -136,22 +136,22 @@ explains_clear named p found none are (Ok r) bytes is = λ text has. subst (Expl
 explains_clear named p found none are (Err fault) bytes is = tt
 
 -- something is: all of it, in order, each with its trace
-pub explains_reasons : (named : Option Place) (text bytes : List ℕ) (p : ProgramSeen) (found listed : List Explained) → HasProgram text p → found ≢ [] → AreExactly (IsWrong p) (map (λ e. finding_parts e.finding) found) → All (λ e. IsExplainedIn named p (explained_seen e)) found
+pub explains_reasons : (named : Option Place) (text bytes : List ℕ) (p : ProgramModel) (found listed : List Explained) → HasProgram text p → found ≢ [] → AreExactly (IsWrong p) (map (λ e. finding_parts e.finding) found) → All (λ e. IsExplainedIn named p (explained_model e)) found
     → ((f : FindingParts) → Contains (map (λ e. finding_parts e.finding) listed) f ↔ Contains (map (λ e. finding_parts e.finding) found) f) → ((e : Explained) → Contains listed e → Contains found e) → IsStrictlySortedBy report_cmp (map (λ e. finding_parts e.finding) listed)
-    → bytes ≡ explained_bytes (map explained_seen listed) → Explains named text bytes Found
+    → bytes ≡ explained_bytes (map explained_model listed) → Explains named text bytes Found
 explains_reasons named text bytes p found listed has some are each same among ordered is = inr (record {
   program = p;
   has = has;
-  listed = map explained_seen listed;
+  listed = map explained_model listed;
   some = λ none. absurd (some (all_gone found listed (no_mapped listed none) same));
   are = subst (AreExactly (IsWrong p)) (sym (explained_view listed)) (record { right = λ f h. are.right f ((same f).0 h); all = λ f w. (same f).1 (are.all f w) });
-  each = All-map (IsExplainedIn named p) explained_seen listed
-      (All-weaker (Contains listed) (λ (e : Explained). IsExplainedIn named p (explained_seen e)) (λ e h. All-contains (λ (x : Explained). IsExplainedIn named p (explained_seen x)) found e each (among e h)) listed (All-contains_itself listed));
+  each = All-map (IsExplainedIn named p) explained_model listed
+      (All-weaker (Contains listed) (λ (e : Explained). IsExplainedIn named p (explained_model e)) (λ e h. All-contains (λ (x : Explained). IsExplainedIn named p (explained_model x)) found e each (among e h)) listed (All-contains_itself listed));
   ordered = subst (IsStrictlySortedBy report_cmp) (sym (explained_view listed)) ordered;
   is = is;
 })
   where
-    no_mapped : (xs : List Explained) → map explained_seen xs ≡ [] → xs ≡ []
+    no_mapped : (xs : List Explained) → map explained_model xs ≡ [] → xs ≡ []
     no_mapped [] e = refl
     no_mapped (x ∷ xs) e = cc
 
@@ -164,24 +164,24 @@ no_explained [] e = refl
 no_explained (x ∷ found) e = absurd (omega (arith, e))
 
 -- one more line of a trace
-pub lines_more : (all : List Line) (n : ℕ) (d x : Line) (front old new : List ℕ) → n < length all → x ≡ get_or all n d → old ≡ front ++ flat_map (λ l. trace_line (line_seen l)) (take n all) → new ≡ old ++ trace_line (line_seen x)
-    → new ≡ front ++ flat_map (λ l. trace_line (line_seen l)) (take (n + 1) all)
+pub lines_more : (all : List Line) (n : ℕ) (d x : Line) (front old new : List ℕ) → n < length all → x ≡ get_or all n d → old ≡ front ++ flat_map (λ l. trace_line (line_model l)) (take n all) → new ≡ old ++ trace_line (line_model x)
+    → new ≡ front ++ flat_map (λ l. trace_line (line_model l)) (take (n + 1) all)
 lines_more all n d x front old new lt at before added =
-    let each = λ (l : Line). trace_line (line_seen l) in
+    let each = λ (l : Line). trace_line (line_model l) in
     added ∙ ap (λ b. b ++ each x) before ∙ append_assoc front (flat_map each (take n all)) (each x)
     ∙ ap (λ b. front ++ (flat_map each (take n all) ++ b)) (ap each at ∙ sym (append-nil (each (get_or all n d))) ∙ sym (flat_map-cons each (get_or all n d) []))
     ∙ ap (λ b. front ++ b) (sym (flat_map-append each (take n all) (get_or all n d ∷ [])) ∙ ap (flat_map each) (sym (take_more all n d lt)))
 
 -- all lines of a finding
-pub lines_end : (all items : List Line) (n : ℕ) (old line new : List ℕ) → all ≡ items → length all ≤ n → new ≡ (old ++ line) ++ flat_map (λ l. trace_line (line_seen l)) (take n all) → new ≡ old ++ (line ++ flat_map trace_line (map line_seen items))
+pub lines_end : (all items : List Line) (n : ℕ) (old line new : List ℕ) → all ≡ items → length all ≤ n → new ≡ (old ++ line) ++ flat_map (λ l. trace_line (line_model l)) (take n all) → new ≡ old ++ (line ++ flat_map trace_line (map line_model items))
 lines_end all items n old line new same over is =
-    is ∙ ap (λ ls. (old ++ line) ++ flat_map (λ l. trace_line (line_seen l)) ls) (take_all n all over ∙ same)
-    ∙ ap (λ b. (old ++ line) ++ b) (sym (flat_map-map trace_line line_seen items))
-    ∙ append_assoc old line (flat_map trace_line (map line_seen items))
+    is ∙ ap (λ ls. (old ++ line) ++ flat_map (λ l. trace_line (line_model l)) ls) (take_all n all over ∙ same)
+    ∙ ap (λ b. (old ++ line) ++ b) (sym (flat_map-map trace_line line_model items))
+    ∙ append_assoc old line (flat_map trace_line (map line_model items))
 
 -- all findings, and their number
-pub report_end : (all : List Explained) (n : ℕ) (answer new : List ℕ) → length all ≤ n → answer ≡ flat_map (λ e. explained_lines (explained_seen e)) (take n all) → new ≡ answer ++ count_line (length all) → new ≡ explained_bytes (map explained_seen all)
+pub report_end : (all : List Explained) (n : ℕ) (answer new : List ℕ) → length all ≤ n → answer ≡ flat_map (λ e. explained_lines (explained_model e)) (take n all) → new ≡ answer ++ count_line (length all) → new ≡ explained_bytes (map explained_model all)
 report_end all n answer new over is counted =
     counted
-    ∙ ap (λ b. b ++ count_line (length all)) (is ∙ ap (flat_map (λ e. explained_lines (explained_seen e))) (take_all n all over) ∙ sym (flat_map-map explained_lines explained_seen all))
-    ∙ ap (λ k. flat_map explained_lines (map explained_seen all) ++ count_line k) (sym (length-map all explained_seen))
+    ∙ ap (λ b. b ++ count_line (length all)) (is ∙ ap (flat_map (λ e. explained_lines (explained_model e))) (take_all n all over) ∙ sym (flat_map-map explained_lines explained_model all))
+    ∙ ap (λ k. flat_map explained_lines (map explained_model all) ++ count_line k) (sym (length-map all explained_model))

@@ -5,7 +5,7 @@ use Rattle.tree.specs.Grammar.{access_word}
 use Rattle.tree.specs.Programs.{definition, item, program}
 use Rattle.tree.specs.Spelling.{optional, word}
 use Rattle.tree.specs.Trees.{ContractTree, DefinitionTree, Contract, Struct, Class, ItemTree, contract_of, contracts_of}
-use Rattle.program.specs.Parts.{ContractSeen}
+use Rattle.program.specs.Parts.{ContractModel}
 use Rattle.declarations.specs.Resolution.{each_behind, resolved_contracts}
 
 -- a contract has a symbol of its own
@@ -25,11 +25,11 @@ in_items (i ∷ items) =
     omega (arith, here, rest, listed, front, spelled)
 
 -- one is resolved for each
-length_behind : (f : List ContractTree → ContractTree → ContractSeen) (before contracts : List ContractTree) → length (each_behind (λ b c. f b c ∷ []) before contracts) ≡ length contracts
+length_behind : (f : List ContractTree → ContractTree → ContractModel) (before contracts : List ContractTree) → length (each_behind (λ b c. f b c ∷ []) before contracts) ≡ length contracts
 length_behind f before [] = refl
 length_behind f before (c ∷ cs) = let rest = length_behind f (before ++ c ∷ []) cs in omega (arith, rest)
 
-pub few_contracts : {C : Type 0} (text : List ℕ) (items : List ItemTree) (contracts : List C) (seen : C → ContractSeen) → map seen contracts ≡ resolved_contracts text (contracts_of items) → length contracts ≤ length (program items)
+pub few_contracts : {C : Type 0} (text : List ℕ) (items : List ItemTree) (contracts : List C) (seen : C → ContractModel) → map seen contracts ≡ resolved_contracts text (contracts_of items) → length contracts ≤ length (program items)
 few_contracts text items contracts seen resolved =
     let symbol = in_items items in
     let same = ap length resolved in

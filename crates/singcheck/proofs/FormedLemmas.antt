@@ -7,11 +7,11 @@ use Rattle.names.specs.Findings.{program_mistakes}
 use Rattle.declarations.specs.Program.{Program}
 use Rattle.declarations.specs.Resolution.{resolved_contracts}
 use Rattle.program.specs.Lists.{Each}
-use Rattle.program.specs.Methods.{MethodSeen}
-use Rattle.program.specs.Parts.{ContractSeen, IsWhole}
-use Rattle.program.specs.Programs.{ProgramSeen}
+use Rattle.program.specs.Methods.{MethodModel}
+use Rattle.program.specs.Parts.{ContractModel, IsWhole}
+use Rattle.program.specs.Programs.{ProgramModel}
 use Rattle.program.specs.WellFormed.{AreWellFormed}
-use Rattle.program.specs.declared.kind.Kind.{Kind}
+use Rattle.program.specs.declared.kind.HeapKind.{HeapKind}
 use Rattle.contracts.specs.Conditions.{IsSound}
 use Rattle.resolving.specs.Brought.{messages_told}
 use Rattle.resolving.specs.Fields.{structs_told}
@@ -22,25 +22,25 @@ use Rattle.singcheck.specs.Checks.{HasProgram}
 
 -- what the crates below say of programs with nothing wrong in their names
 pub record CleanPrograms : Type 0 where
-  pub whole : (p : Program) → program_mistakes p ≡ [] → All (λ (c : ContractSeen). IsWhole c.parts) (resolved_contracts p.text (contracts_of p.items))
+  pub whole : (p : Program) → program_mistakes p ≡ [] → All (λ (c : ContractModel). IsWhole c.parts) (resolved_contracts p.text (contracts_of p.items))
   pub formed : (p : Program) → program_mistakes p ≡ [] → AreWellFormed (resolved_contracts p.text (contracts_of p.items)) (messages_told p) (structs_told p) (methods_told p)
   pub bare : (p : Program) → Each IsBare (methods_told p)
 
 -- the items of a text whose program this is, with the text
-abbrev of_items : (text : List ℕ) (p : ProgramSeen) → HasProgram text p → Program
+abbrev of_items : (text : List ℕ) (p : ProgramModel) → HasProgram text p → Program
 of_items text p has = record { text = text; items = has.items }
 
-pub formed_of : CleanPrograms → (text : List ℕ) (p : ProgramSeen) → HasProgram text p → AreWellFormed p.contracts p.messages p.structs p.methods
+pub formed_of : CleanPrograms → (text : List ℕ) (p : ProgramModel) → HasProgram text p → AreWellFormed p.contracts p.messages p.structs p.methods
 formed_of laws text p has =
     let q = of_items text p has in
     let told = resolved_contracts text (contracts_of has.items) in
-    subst (λ (cs : List ContractSeen). AreWellFormed cs p.messages p.structs p.methods) (sym has.program.are)
-    (subst (λ (ms : List (List Kind)). AreWellFormed told ms p.structs p.methods) (sym has.messages)
-    (subst (λ (ss : List (List Kind)). AreWellFormed told (messages_told q) ss p.methods) (sym has.structs)
-    (subst (λ (ms : List MethodSeen). AreWellFormed told (messages_told q) (structs_told q) ms) (sym has.methods)
+    subst (λ (cs : List ContractModel). AreWellFormed cs p.messages p.structs p.methods) (sym has.program.are)
+    (subst (λ (ms : List (List HeapKind)). AreWellFormed told ms p.structs p.methods) (sym has.messages)
+    (subst (λ (ss : List (List HeapKind)). AreWellFormed told (messages_told q) ss p.methods) (sym has.structs)
+    (subst (λ (ms : List MethodModel). AreWellFormed told (messages_told q) (structs_told q) ms) (sym has.methods)
     (laws.formed q has.program.clean))))
 
-pub bare_of : CleanPrograms → (text : List ℕ) (p : ProgramSeen) → HasProgram text p → Each IsBare p.methods
+pub bare_of : CleanPrograms → (text : List ℕ) (p : ProgramModel) → HasProgram text p → Each IsBare p.methods
 bare_of laws text p has = subst (Each IsBare) (sym has.methods) (laws.bare (of_items text p has))
 
 -- what holds of all elements holds of the one at a place
@@ -49,10 +49,10 @@ all_there P [] n x all at = absurd (cc)
 all_there P (y ∷ xs) zero x all at = let same : y ≡ x = cc in subst P same (All-head P y xs all)
 all_there P (y ∷ xs) (suc n) x all at = all_there P xs n x (All-tail P y xs all) at
 
-pub sound_of : CleanPrograms → (text : List ℕ) (p : ProgramSeen) → HasProgram text p → AreSound p
+pub sound_of : CleanPrograms → (text : List ℕ) (p : ProgramModel) → HasProgram text p → AreSound p
 sound_of laws text p has =
-    let are_whole = λ (c : ContractSeen). IsWhole c.parts in
-    let are_sound = λ (c : ContractSeen). IsSound c.parts in
+    let are_whole = λ (c : ContractModel). IsWhole c.parts in
+    let are_sound = λ (c : ContractModel). IsSound c.parts in
     let whole = subst (All are_whole) (sym has.program.are) (laws.whole (of_items text p has) has.program.clean) in
     record {
       whole = λ n c there. ∣ all_there are_whole p.contracts n c whole there ∣₁;

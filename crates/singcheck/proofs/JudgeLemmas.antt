@@ -5,7 +5,7 @@ use Rattle.std.proofs.lemmas.List.{map-append}
 use Rattle.std.proofs.lemmas.List.Elements.{Contains-append_left, Contains-append_right, Contains-append_cases, Contains-get_or, Contains-push, Contains-push_cases}
 use Rattle.source.specs.Findings.{FindingParts, finding_parts}
 use Rattle.source.specs.declared.finding.Finding.{Finding}
-use Rattle.program.specs.Parts.{Parts, contract_parts, ContractSeen, contract_seen}
+use Rattle.program.specs.Parts.{Parts, contract_parts, ContractModel, contract_model}
 use Rattle.program.specs.declared.contract.Contract.{Contract}
 use Rattle.contracts.specs.Conditions as conditions
 use Rattle.contracts.specs.Conditions.{AreExactly, IsSound}
@@ -16,16 +16,16 @@ use Rattle.singcheck.specs.Stages.{Judges, Keeps, Adds, AddsAll, AreBroken, AreJ
 use Rattle.singcheck.specs.declared.soundness.Judging.{Judging}
 
 -- the parts at a place are those of the contract there
-pub parts_at : (contracts : List Contract) (i : ℕ) (parts : Parts) (c : ContractSeen) → slice_get (map contract_parts contracts) i ≡ Some parts → slice_get (map contract_seen contracts) i ≡ Some c → c.parts ≡ parts
+pub parts_at : (contracts : List Contract) (i : ℕ) (parts : Parts) (c : ContractModel) → slice_get (map contract_parts contracts) i ≡ Some parts → slice_get (map contract_model contracts) i ≡ Some c → c.parts ≡ parts
 parts_at [] i parts c e f = absurd (cc)
 parts_at (x ∷ xs) zero parts c e f =
     let one : contract_parts x ≡ parts = cc in
-    let other : contract_seen x ≡ c = cc in
+    let other : contract_model x ≡ c = cc in
     sym (ap (λ s. s.parts) other) ∙ one
 parts_at (x ∷ xs) (suc i) parts c e f = parts_at xs i parts c e f
 
 -- a sound contract's parts are those that it was made of
-pub keeps_is : (c : ContractSeen) (parts : Parts) (old new : Judging) (sound : Sound) → c.parts ≡ parts → IsSound parts → sound_parts sound ≡ parts → new.sounds.items ≡ old.sounds.items ++ sound ∷ [] → new.findings.items ≡ old.findings.items → Judges c old new
+pub keeps_is : (c : ContractModel) (parts : Parts) (old new : Judging) (sound : Sound) → c.parts ≡ parts → IsSound parts → sound_parts sound ≡ parts → new.sounds.items ≡ old.sounds.items ++ sound ∷ [] → new.findings.items ≡ old.findings.items → Judges c old new
 keeps_is c parts old new sound same is its e f = Keeps (record {
   sound = subst IsSound (sym same) is;
   kept = ap (map sound_parts) e ∙ map-append sound_parts old.sounds.items (sound ∷ []) ∙ ap (λ p. map sound_parts old.sounds.items ++ p ∷ []) (its ∙ sym same);
@@ -33,7 +33,7 @@ keeps_is c parts old new sound same is its e f = Keeps (record {
 })
 
 -- all that is wrong with a contract was added
-pub adds_is : (c : ContractSeen) (some parts : Parts) (old new : Judging) → c.parts ≡ some → c.parts ≡ parts → (f : FindingParts) × conditions.IsFault some f → AddsAll parts old.findings.items new.findings.items → Judges c old new
+pub adds_is : (c : ContractModel) (some parts : Parts) (old new : Judging) → c.parts ≡ some → c.parts ≡ parts → (f : FindingParts) × conditions.IsFault some f → AddsAll parts old.findings.items new.findings.items → Judges c old new
 adds_is c some parts old new first same broken all = Adds (record {
   broken = (broken.0, subst (λ p. conditions.IsFault p broken.0) (sym first) broken.1);
   all = subst (λ p. AddsAll p old.findings.items new.findings.items) (sym same) all;
@@ -43,7 +43,7 @@ pub none_of : (f : FindingParts) → Contains [] f → ⊥
 none_of f c = let below = c.1 in omega arith
 
 -- what is wrong with some contracts, and with one more
-pub broken_more : (contracts : List ContractSeen) (c : ContractSeen) (old more new : List FindingParts) → AreExactly (IsBroken contracts) old → AreExactly (conditions.IsFault c.parts) more → new ≡ old ++ more → AreExactly (IsBroken (contracts ++ c ∷ [])) new
+pub broken_more : (contracts : List ContractModel) (c : ContractModel) (old more new : List FindingParts) → AreExactly (IsBroken contracts) old → AreExactly (conditions.IsFault c.parts) more → new ≡ old ++ more → AreExactly (IsBroken (contracts ++ c ∷ [])) new
 broken_more contracts c old more new so_far here added = record {
   right = λ f h. ⊎_elim
       (λ earlier. let r = so_far.right f earlier in (r.0, Contains-append_left contracts (c ∷ []) r.0 r.1, r.2))
@@ -56,7 +56,7 @@ broken_more contracts c old more new so_far here added = record {
 }
 
 -- one more contract has been judged
-pub judged_more : (contracts : List ContractSeen) (c : ContractSeen) (old new : Judging) → AreJudged contracts old → Judges c old new → AreJudged (contracts ++ c ∷ []) new
+pub judged_more : (contracts : List ContractModel) (c : ContractModel) (old new : Judging) → AreJudged contracts old → Judges c old new → AreJudged (contracts ++ c ∷ []) new
 judged_more contracts c old new so_far (Keeps k) = record {
   exactly = record {
     right = λ f h.
@@ -67,7 +67,7 @@ judged_more contracts c old new so_far (Keeps k) = record {
         (λ e. absurd (k.sound f (subst (λ x. conditions.IsFault x.parts f) (sym e) b.2)))
         (Contains-push_cases contracts c b.0 b.1));
   };
-  kept = λ e. k.kept ∙ ap (λ l. l ++ c.parts ∷ []) (so_far.kept (sym k.same ∙ e)) ∙ sym (map-append (λ (x : ContractSeen). x.parts) contracts (c ∷ []));
+  kept = λ e. k.kept ∙ ap (λ l. l ++ c.parts ∷ []) (so_far.kept (sym k.same ∙ e)) ∙ sym (map-append (λ (x : ContractModel). x.parts) contracts (c ∷ []));
 }
 judged_more contracts c old new so_far (Adds a) =
     let exactly = broken_more contracts c (map finding_parts old.findings.items) a.all.more (map finding_parts new.findings.items) so_far.exactly a.all.exactly a.all.added in
@@ -77,17 +77,17 @@ judged_more contracts c old new so_far (Adds a) =
     }
 
 -- what stands at a place, and the contracts up to it
-pub at_turn : (all : List ContractSeen) (n : ℕ) → n < length all → (c : ContractSeen) × (slice_get all n ≡ Some c) × (take (suc n) all ≡ take n all ++ c ∷ [])
+pub at_turn : (all : List ContractModel) (n : ℕ) → n < length all → (c : ContractModel) × (slice_get all n ≡ Some c) × (take (suc n) all ≡ take n all ++ c ∷ [])
 at_turn [] n lt = absurd (omega (arith, lt))
 at_turn (x ∷ xs) zero lt = (x, refl, refl)
 at_turn (x ∷ xs) (suc n) lt = let r = at_turn xs n (omega arith) in (r.0, r.1, ap (λ l. x ∷ l) r.2)
 
-pub judged_turn : (all : List ContractSeen) (n : ℕ) (old new : Judging) → n < length all → AreJudged (take n all) old → ((c : ContractSeen) → slice_get all n ≡ Some c → Judges c old new) → AreJudged (take (n + 1) all) new
+pub judged_turn : (all : List ContractModel) (n : ℕ) (old new : Judging) → n < length all → AreJudged (take n all) old → ((c : ContractModel) → slice_get all n ≡ Some c → Judges c old new) → AreJudged (take (n + 1) all) new
 judged_turn all n old new lt so_far judges =
     let r = at_turn all n lt in
     rw add-one (subst (λ l. AreJudged l new) (sym r.2) (judged_more (take n all) r.0 old new so_far (judges r.0 r.1)))
 
-pub broken_turn : (all : List ContractSeen) (n : ℕ) (old more new : List FindingParts) → n < length all → AreExactly (IsBroken (take n all)) old → ((c : ContractSeen) → slice_get all n ≡ Some c → AreExactly (conditions.IsFault c.parts) more) → new ≡ old ++ more → AreExactly (IsBroken (take (n + 1) all)) new
+pub broken_turn : (all : List ContractModel) (n : ℕ) (old more new : List FindingParts) → n < length all → AreExactly (IsBroken (take n all)) old → ((c : ContractModel) → slice_get all n ≡ Some c → AreExactly (conditions.IsFault c.parts) more) → new ≡ old ++ more → AreExactly (IsBroken (take (n + 1) all)) new
 broken_turn all n old more new lt so_far here added =
     let r = at_turn all n lt in
     rw add-one (subst (λ l. AreExactly (IsBroken l) new) (sym r.2) (broken_more (take n all) r.0 old more new so_far (here r.0 r.1) added))
@@ -101,7 +101,7 @@ no_items [] e = refl
 no_items (x ∷ xs) e = absurd (omega (arith, e))
 
 -- where something was found, that is all that is wrong
-pub found_all : (contracts : List ContractSeen) (judging : Judging) → AreJudged contracts judging → 0 < length judging.findings.items → AreBroken contracts (map finding_parts judging.findings.items)
+pub found_all : (contracts : List ContractModel) (judging : Judging) → AreJudged contracts judging → 0 < length judging.findings.items → AreBroken contracts (map finding_parts judging.findings.items)
 found_all contracts judging judged some = record { some = none_mapped judging.findings.items some; are = judged.exactly }
   where
     none_mapped : (found : List Finding) → 0 < length found → map finding_parts found ≢ []
@@ -109,5 +109,5 @@ found_all contracts judging judged some = record { some = none_mapped judging.fi
     none_mapped (x ∷ xs) h = λ e. absurd (cc)
 
 -- where nothing was found, each is sound
-pub clean_all : (contracts : List ContractSeen) (judging : Judging) → AreJudged contracts judging → judging.findings.items ≡ [] → All (λ c. IsSound c.parts) contracts
+pub clean_all : (contracts : List ContractModel) (judging : Judging) → AreJudged contracts judging → judging.findings.items ≡ [] → All (λ c. IsSound c.parts) contracts
 clean_all contracts judging judged none = λ k d lt f broken. none_of f (subst (λ l. Contains (map finding_parts l) f) none (judged.exactly.all f (_, Contains-get_or contracts k d lt, broken)))

@@ -13,7 +13,7 @@ use Rattle.source.specs.declared.place.Place.{Place}
 use Rattle.source.specs.declared.token.Token.{Token}
 use Rattle.singcheck.specs.Answers.{AreFindings, OfText, OfSyntax, OfNames, OfContracts, Answers}
 use Rattle.singcheck.specs.Checks.{AreCheckFindings, Before, OfMethods, Checks}
-use Rattle.traces.specs.Explained.{ExplainedSeen}
+use Rattle.traces.specs.Explained.{ExplainedModel}
 use Rattle.singcheck.specs.Explains.{Bare, ByContract, ByFault, ByMistake, ByTokens, Explains, IsNoted}
 use Rattle.singcheck.specs.declared.fault.Status.{Status}
 use Rattle.singcheck.specs.declared.fault.Status.TheVariants.{Empty, Found}
@@ -59,7 +59,7 @@ checks_long : (text other bytes : List ℕ) (status : Status) → AreLong text o
 checks_long text other bytes Empty long told = no_program text long.one told.has.program.parsed.tokens told.has.program.parsed.lexed
 checks_long text other bytes Found long told = record { found = told.found; are = checked_long text other told.found long told.are; told = told.told }
 
-noted_long : (named : Option Place) (text other : List ℕ) → AreLong text other → (e : ExplainedSeen) → IsNoted named text e → IsNoted named other e
+noted_long : (named : Option Place) (text other : List ℕ) → AreLong text other → (e : ExplainedModel) → IsNoted named text e → IsNoted named other e
 noted_long named text other long e (Bare none) = Bare none
 noted_long named text other long e (ByTokens is) = no_program text long.one is.unexpected.tokens is.unexpected.lexed
 noted_long named text other long e (ByFault is) = ByFault (record { fault = is.fault; first = fault_long text other is.fault long is.first; finding = is.finding; lines = is.lines })

@@ -4,7 +4,7 @@ use Rattle.source.specs.Findings.{FindingParts}
 use Rattle.tree.specs.Trees.{contracts_of}
 use Rattle.declarations.specs.Resolution.{resolved_contracts}
 use Rattle.contracts.specs.Conditions.{AreExactly}
-use Rattle.program.specs.Programs.{ProgramSeen}
+use Rattle.program.specs.Programs.{ProgramModel}
 use Rattle.resolving.specs.Brought.{messages_told}
 use Rattle.resolving.specs.Fields.{structs_told}
 use Rattle.resolving.specs.Methods.{methods_told}
@@ -16,22 +16,22 @@ use Rattle.singcheck.specs.declared.fault.Status.TheVariants.{Empty, Found}
 use Rattle.singcheck.proofs.OnlyLemmas.{Laws, found_or_sound, one_findings, one_program, some_in}
 use Rattle.singcheck.proofs.SameLemmas.{AreAlike, alike_exactly, one_report}
 
-pub one_items : Laws → (text : List ℕ) (p q : ProgramSeen) (one : HasProgram text p) (other : HasProgram text q) → one.items ≡ other.items
+pub one_items : Laws → (text : List ℕ) (p q : ProgramModel) (one : HasProgram text p) (other : HasProgram text q) → one.items ≡ other.items
 one_items laws text p q one other = one_program laws text one.items other.items one.program.parsed other.program.parsed
 
-one_contracts : Laws → (text : List ℕ) (p q : ProgramSeen) → HasProgram text p → HasProgram text q → p.contracts ≡ q.contracts
+one_contracts : Laws → (text : List ℕ) (p q : ProgramModel) → HasProgram text p → HasProgram text q → p.contracts ≡ q.contracts
 one_contracts laws text p q one other = one.program.are ∙ ap (λ l. resolved_contracts text (contracts_of l)) (one_items laws text p q one other) ∙ sym other.program.are
 
-one_messages : Laws → (text : List ℕ) (p q : ProgramSeen) → HasProgram text p → HasProgram text q → p.messages ≡ q.messages
+one_messages : Laws → (text : List ℕ) (p q : ProgramModel) → HasProgram text p → HasProgram text q → p.messages ≡ q.messages
 one_messages laws text p q one other = one.messages ∙ ap (λ items. messages_told (record { text = text; items = items })) (one_items laws text p q one other) ∙ sym other.messages
 
-one_structs : Laws → (text : List ℕ) (p q : ProgramSeen) → HasProgram text p → HasProgram text q → p.structs ≡ q.structs
+one_structs : Laws → (text : List ℕ) (p q : ProgramModel) → HasProgram text p → HasProgram text q → p.structs ≡ q.structs
 one_structs laws text p q one other = one.structs ∙ ap (λ items. structs_told (record { text = text; items = items })) (one_items laws text p q one other) ∙ sym other.structs
 
-one_methods : Laws → (text : List ℕ) (p q : ProgramSeen) → HasProgram text p → HasProgram text q → p.methods ≡ q.methods
+one_methods : Laws → (text : List ℕ) (p q : ProgramModel) → HasProgram text p → HasProgram text q → p.methods ≡ q.methods
 one_methods laws text p q one other = one.methods ∙ ap (λ items. methods_told (record { text = text; items = items })) (one_items laws text p q one other) ∙ sym other.methods
 
-pub one_seen : Laws → (text : List ℕ) (p q : ProgramSeen) → HasProgram text p → HasProgram text q → p ≡ q
+pub one_seen : Laws → (text : List ℕ) (p q : ProgramModel) → HasProgram text p → HasProgram text q → p ≡ q
 one_seen laws text p q one other =
     let contracts = one_contracts laws text p q one other in
     let messages = one_messages laws text p q one other in
@@ -40,7 +40,7 @@ one_seen laws text p q one other =
     λ i. record { contracts = contracts i; messages = messages i; structs = structs i; methods = methods i }
 
 -- what an earlier stage found is not found in a program with which nothing is wrong so far
-pub before_or_methods : Laws → (text : List ℕ) (found : List FindingParts) (p : ProgramSeen) → AreFindings text found → HasProgram text p → ⊥
+pub before_or_methods : Laws → (text : List ℕ) (found : List FindingParts) (p : ProgramModel) → AreFindings text found → HasProgram text p → ⊥
 before_or_methods laws text found p are has = found_or_sound laws text found p.contracts are (record { items = has.items; parsed = has.program.parsed; clean = has.program.clean; are = has.program.are }) has.program.sound
 
 one_found : Laws → (text : List ℕ) (a b : List FindingParts) → AreCheckFindings text a → AreCheckFindings text b → AreAlike a b
@@ -59,7 +59,7 @@ found_or_clear laws text bytes found (OfMethods x) clear =
 
 one_clear : Laws → (text a b : List ℕ) → IsClear text a → IsClear text b → a ≡ b
 one_clear laws text a b one other =
-    one.are ∙ ap (λ (p : ProgramSeen). clear_line (length p.contracts) (length p.methods)) (one_seen laws text one.program other.program one.has other.has) ∙ sym other.are
+    one.are ∙ ap (λ (p : ProgramModel). clear_line (length p.contracts) (length p.methods)) (one_seen laws text one.program other.program one.has other.has) ∙ sym other.are
 
 pub one_answer_of : Laws → (text a b : List ℕ) (s t : Status) → Checks text a s → Checks text b t → a ≡ b
 one_answer_of laws text a b Empty Empty one other = one_clear laws text a b one other

@@ -2,9 +2,9 @@
 use Rattle.std.proofs.Common.{◌≡◌, ℕ, Bool, true, false, List, refl, sym, ap, ◌∙◌, subst}
 use Rattle.std.specs.Prelude.{nat_eq}
 use Rattle.std.specs.Cmp.Lexicographic.{pointwise, same_text, other_text}
-use Rattle.program.specs.Programs.{ProgramSeen}
+use Rattle.program.specs.Programs.{ProgramModel}
 use Rattle.machine.specs.Outcomes.{Bounds}
-use Rattle.machine.specs.Replays.{IsReplay, ReplaySeen}
+use Rattle.machine.specs.Replays.{IsReplay, ReplayModel}
 use Rattle.machine.specs.Runs.{AreBounds}
 use Rattle.machine.specs.declared.halts.Event.{Event}
 use Rattle.replays.specs.Schedules.{IsFirstMalformed, IsSchedule}
@@ -23,10 +23,10 @@ use Rattle.singcheck.proofs.SameLemmas.{one_report}
 -- what the crates below say of replays
 pub record ReplayLaws : Type 0 where
   pub laws : Laws
-  pub bounds : (text : List ℕ) (p : ProgramSeen) → HasProgram text p → ((bound : Bounds) → AreBounds p bound → ⊥) → ⊥
+  pub bounds : (text : List ℕ) (p : ProgramModel) → HasProgram text p → ((bound : Bounds) → AreBounds p bound → ⊥) → ⊥
   pub reading : (bytes : List ℕ) (a b : List Event) → IsSchedule bytes a → IsSchedule bytes b → a ≡ b
   pub apart : (bytes : List ℕ) (events : List Event) (n : ℕ) → IsSchedule bytes events → IsFirstMalformed bytes n → ⊥
-  pub replays : (p : ProgramSeen) (bound : Bounds) (n : ℕ) (events : List Event) (r s : ReplaySeen)
+  pub replays : (p : ProgramModel) (bound : Bounds) (n : ℕ) (events : List Event) (r s : ReplayModel)
       → IsReplay p bound n events r → IsReplay p bound n events s → r ≡ s
 
 -- bytes that cannot differ are the same
@@ -70,7 +70,7 @@ module _ (known : ReplayLaws) (entry lines text a b : List ℕ) (s t : Status) (
   same_some differ = known.bounds text y.program y.entered.has (λ bound are.
       differ (known.replays y.program bound y.n y.events x.replayed y.replayed (moved bound are) (y.led bound are)))
 
-  abbrev printed : List (List ℕ) → ProgramSeen → List Event → ReplaySeen → List ℕ
+  abbrev printed : List (List ℕ) → ProgramModel → List Event → ReplayModel → List ℕ
   printed structs p events r = replay_lines (record { program = p; structs = structs }) events r.steps r.halt r.world
 
   same_bytes : x.replayed ≡ y.replayed → a ≡ b
@@ -87,7 +87,7 @@ module _ (known : ReplayLaws) (entry lines text a b : List ℕ) (s t : Status) (
 
   ran_status : s ≡ t
   ran_status = status_never_differs s t (λ differ. same_some
-      (λ same. differ (x.is ∙ ap (λ (r : ReplaySeen). stop_status r.halt) same ∙ sym y.is)))
+      (λ same. differ (x.is ∙ ap (λ (r : ReplayModel). stop_status r.halt) same ∙ sym y.is)))
 
 pub one_bytes : ReplayLaws → (entry lines text a b : List ℕ) (s t : Status) → Replays entry lines text a s → Replays entry lines text b t
     → a ≡ b
@@ -109,13 +109,13 @@ one_status known entry lines text a b s t (OfRun x) (OfFindings y found) =
 one_status known entry lines text a b s t (OfRun x) (OfRun y) = ran_status known entry lines text a b s t x y
 
 -- where there is no entry, or a line is malformed, there is no answer of a run
-entered_or_lacking : ReplayLaws → (text entry : List ℕ) (p : ProgramSeen) (n : ℕ) → HasEntry text entry p n → LacksEntry text entry → ⊥
+entered_or_lacking : ReplayLaws → (text entry : List ℕ) (p : ProgramModel) (n : ℕ) → HasEntry text entry p n → LacksEntry text entry → ⊥
 entered_or_lacking known text entry p n has lacks =
     let program = one_seen known.laws text p lacks.program has.has lacks.has in
     let items = one_items known.laws text p lacks.program has.has lacks.has in
     lacks.none n (record {
       named = subst (λ l. IsFirstAt (method_names text l) entry n) items has.at.named;
-      begins = subst (λ (q : ProgramSeen). Begins q n) program has.at.begins;
+      begins = subst (λ (q : ProgramModel). Begins q n) program has.at.begins;
     })
 
 pub no_entry : ReplayLaws → (entry lines text bytes : List ℕ) (status : Status) → LacksEntry text entry

@@ -20,7 +20,7 @@ use Rattle.tree.specs.Trees.{ItemTree, contracts_of}
 use Rattle.program.specs.declared.contract.Sign.{Sign}
 use Rattle.declarations.specs.Mistakes.{finding_in}
 use Rattle.names.specs.Findings.{program_findings}
-use Rattle.program.specs.Parts.{ContractSeen}
+use Rattle.program.specs.Parts.{ContractModel}
 use Rattle.declarations.specs.Resolution.{resolved_contracts}
 use Rattle.program.specs.declared.contract.Edge.{Edge}
 use Rattle.program.specs.declared.number.StateId.{StateId}
@@ -43,7 +43,7 @@ one_program laws text a b one other =
     let spelled : whole program a ≡ whole program b = one.spelled ∙ ap symbols tokens ∙ sym other.spelled in
     laws.trees a b (append_cancel_right (program a) (program b) (End ∷ []) spelled)
 
-one_resolved : Laws → (text : List ℕ) (a b : List ContractSeen) → IsResolved text a → IsResolved text b → a ≡ b
+one_resolved : Laws → (text : List ℕ) (a b : List ContractModel) → IsResolved text a → IsResolved text b → a ≡ b
 one_resolved laws text a b one other =
     let items = one_program laws text one.items other.items one.parsed other.parsed in
     one.are ∙ ap (λ l. resolved_contracts text (contracts_of l)) items ∙ sym other.are
@@ -86,17 +86,17 @@ pub some_in : (found : List FindingParts) → found ≢ [] → (f : FindingParts
 some_in [] some = absurd (some refl)
 some_in (f ∷ found) some = (f, (0, omega arith, refl))
 
-names_or_clean : Laws → (text : List ℕ) (found : List FindingParts) (contracts : List ContractSeen) → IsMisnamed text found → IsResolved text contracts → ⊥
+names_or_clean : Laws → (text : List ℕ) (found : List FindingParts) (contracts : List ContractModel) → IsMisnamed text found → IsResolved text contracts → ⊥
 names_or_clean laws text found contracts wrong resolved =
     let first = some_in found wrong.some in
     let same = one_program laws text wrong.items resolved.items wrong.parsed resolved.parsed in
     nothing_in first.0 (subst (λ l. Contains l first.0) (ap (λ l. program_findings (record { text = text; items = l })) same ∙ ap (map (finding_in text)) resolved.clean) (wrong.are.right first.0 first.1))
 
-broken_or_sound : (contracts : List ContractSeen) (f : FindingParts) → All (λ c. IsSound c.parts) contracts → IsBroken contracts f → ⊥
+broken_or_sound : (contracts : List ContractModel) (f : FindingParts) → All (λ c. IsSound c.parts) contracts → IsBroken contracts f → ⊥
 broken_or_sound contracts f sound broken = All-contains (λ c. IsSound c.parts) contracts broken.0 sound broken.1 f broken.2
 
 -- a text with findings is no sound program
-pub found_or_sound : Laws → (text : List ℕ) (found : List FindingParts) (contracts : List ContractSeen) → AreFindings text found → IsResolved text contracts → All (λ c. IsSound c.parts) contracts → ⊥
+pub found_or_sound : Laws → (text : List ℕ) (found : List FindingParts) (contracts : List ContractModel) → AreFindings text found → IsResolved text contracts → All (λ c. IsSound c.parts) contracts → ⊥
 found_or_sound laws text found contracts (OfText h) resolved sound = text_or_program laws text found resolved.items h resolved.parsed
 found_or_sound laws text found contracts (OfSyntax h) resolved sound = syntax_or_program laws text found resolved.items h resolved.parsed
 found_or_sound laws text found contracts (OfNames h) resolved sound = names_or_clean laws text found contracts h resolved
@@ -148,13 +148,13 @@ one_bound edges first sign m n one other = ∥∥₁_elim one (ℕ_set m n) (λ 
     let down = least edges first sign n m y x in
     omega (arith, up, down)))
 
-one_line : (c : ContractSeen) (l m : List ℕ) → IsBoundsLine c l → IsBoundsLine c m → l ≡ m
+one_line : (c : ContractModel) (l m : List ℕ) → IsBoundsLine c l → IsBoundsLine c m → l ≡ m
 one_line c l m one other =
     let exp = one_bound c.parts.edges c.parts.first _ one.to_exp other.to_exp one.exp other.exp in
     let imp = one_bound c.parts.edges c.parts.first _ one.to_imp other.to_imp one.imp other.imp in
     one.is ∙ ap (λ n. bounds_line c.name n one.to_imp) exp ∙ ap (λ n. bounds_line c.name other.to_exp n) imp ∙ sym other.is
 
-one_lines : (cs : List ContractSeen) (ls ms : List (List ℕ)) → AllZip IsBoundsLine cs ls → AllZip IsBoundsLine cs ms → ls ≡ ms
+one_lines : (cs : List ContractModel) (ls ms : List (List ℕ)) → AllZip IsBoundsLine cs ls → AllZip IsBoundsLine cs ms → ls ≡ ms
 one_lines [] [] [] one other = refl
 one_lines [] [] (m ∷ ms) one other = absurd other
 one_lines [] (l ∷ ls) ms one other = absurd one

@@ -10,22 +10,22 @@ use Rattle.declarations.specs.Mistakes.{finding_in}
 use Rattle.declarations.specs.Program.{Program}
 use Rattle.declarations.specs.declared.mistake.Mistake.{Mistake}
 use Rattle.names.specs.Findings.{program_findings, program_mistakes}
-use Rattle.traces.specs.Explained.{explained_seen}
-use Rattle.traces.specs.Lines.{line_seen}
+use Rattle.traces.specs.Explained.{explained_model}
+use Rattle.traces.specs.Lines.{line_model}
 use Rattle.traces.specs.declared.line.Explained.{Explained}
 use Rattle.singcheck.specs.Remarked.{IsMistake, remark_lines, remark_within}
 
 -- the first so many mistakes are explained
 pub record Remarked (named : Option Place) (p : Program) (mistakes : List Mistake) (n : ℕ) (found : List Explained) : Type 0 where
   pub view : map (λ e. finding_parts e.finding) found ≡ map (finding_in p.text) (take n mistakes)
-  pub each : All (λ e. IsMistake named p (explained_seen e)) found
+  pub each : All (λ e. IsMistake named p (explained_model e)) found
 
 pub remarked_none : (named : Option Place) (p : Program) (mistakes : List Mistake) (found : List Explained) → found ≡ [] → Remarked named p mistakes 0 found
-remarked_none named p mistakes [] none = record { view = refl; each = All-nil (λ (e : Explained). IsMistake named p (explained_seen e)) }
+remarked_none named p mistakes [] none = record { view = refl; each = All-nil (λ (e : Explained). IsMistake named p (explained_model e)) }
 remarked_none named p mistakes (x ∷ found) none = cc
 
 pub remarked_more : (named : Option Place) (p : Program) (mistakes : List Mistake) (n : ℕ) (d : Mistake) (within : Bool) (found : List Explained) (e : Explained) → n < length mistakes → mistakes ≡ program_mistakes p
-    → finding_parts e.finding ≡ finding_in p.text (get_or mistakes n d) → map line_seen e.lines.items ≡ remark_lines named e.finding.place (remark_within within p (get_or mistakes n d)) → Remarked named p mistakes n found
+    → finding_parts e.finding ≡ finding_in p.text (get_or mistakes n d) → map line_model e.lines.items ≡ remark_lines named e.finding.place (remark_within within p (get_or mistakes n d)) → Remarked named p mistakes n found
     → Remarked named p mistakes (n + 1) (found ++ e ∷ [])
 remarked_more named p mistakes n d within found e lt all finding lines so =
     let says = finding_in p.text in
@@ -34,7 +34,7 @@ remarked_more named p mistakes n d within found e lt all finding lines so =
       view = map-append (λ (x : Explained). finding_parts x.finding) found (e ∷ []) ∙ ap (λ l. l ++ finding_parts e.finding ∷ []) so.view
           ∙ ap (λ f. map says (take n mistakes) ++ f ∷ []) finding ∙ sym (map-append says (take n mistakes) (m ∷ []))
           ∙ ap (map says) (sym (take_more mistakes n d lt));
-      each = All-push (λ (x : Explained). IsMistake named p (explained_seen x)) found e so.each
+      each = All-push (λ (x : Explained). IsMistake named p (explained_model x)) found e so.each
           (record { mistake = m; within = within; among = subst (λ l. Contains l m) all (n, lt, get_or_from_slice_get mistakes n m m (slice_get-get_or mistakes n d lt)); finding = finding; lines = lines });
     }
 

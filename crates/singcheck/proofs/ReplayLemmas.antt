@@ -6,8 +6,8 @@ use Rattle.source.specs.Findings.{FindingParts}
 use Rattle.source.specs.declared.lexer.TheConstants.{MAX_TEXT}
 use Rattle.source.specs.declared.place.Place.{Place}
 use Rattle.program.specs.Lists.{Each}
-use Rattle.program.specs.Methods.{MethodSeen}
-use Rattle.program.specs.Programs.{ProgramSeen}
+use Rattle.program.specs.Methods.{MethodModel}
+use Rattle.program.specs.Programs.{ProgramModel}
 use Rattle.program.specs.WellFormed.{AreWellFormed}
 use Rattle.wellformed.specs.Bare.{IsBare}
 use Rattle.rules.specs.Programs.{is_entry}
@@ -146,7 +146,7 @@ some_always None P all = tt
 some_always (Some x) P all = all x
 
 -- a world to which events lead is one of a run
-run_of : (p : ProgramSeen) (bound : Bounds) (n : ℕ) (events : List Event) (w : World) → Leads p bound (start_of p n) events w
+run_of : (p : ProgramModel) (bound : Bounds) (n : ℕ) (events : List Event) (w : World) → Leads p bound (start_of p n) events w
     → Run p bound n w
 run_of p bound n events w stays = begins
 run_of p bound n events w (moves before v u e led moved) = goes_on v u e (run_of p bound n before v led) moved
@@ -166,7 +166,7 @@ takes_nothing true takes is = absurd (cc)
 takes_nothing false true is = absurd (cc)
 takes_nothing false false is = refl
 
-entry_at : (p : ProgramSeen) (n : ℕ) (o : Option MethodSeen) → AreWellFormed p.contracts p.messages p.structs p.methods → Each IsBare p.methods
+entry_at : (p : ProgramModel) (n : ℕ) (o : Option MethodModel) → AreWellFormed p.contracts p.messages p.structs p.methods → Each IsBare p.methods
     → slice_get p.methods n ≡ o → IsSomeAnd o (λ m. is_entry m ≡ true) → IsEntry p n
 entry_at p n None formed bare at is = absurd is
 entry_at p n (Some m) formed bare at is = record {
@@ -176,33 +176,33 @@ entry_at p n (Some m) formed bare at is = record {
   alone = each_there IsBare p.methods n m bare at (takes_nothing m.gives m.takes is);
 }
 
-pub entry_is : (p : ProgramSeen) → AreWellFormed p.contracts p.messages p.structs p.methods → Each IsBare p.methods → (n : ℕ) → BeginsWith p n
+pub entry_is : (p : ProgramModel) → AreWellFormed p.contracts p.messages p.structs p.methods → Each IsBare p.methods → (n : ℕ) → BeginsWith p n
     → IsEntry p n
 entry_is p formed bare n is = entry_at p n (slice_get p.methods n) formed bare refl is
 
 -- the laws of runs: those of a program in which nothing is found, and those of every program
 abbrev pub AreSafeAlways : Type 0
-AreSafeAlways = (p : ProgramSeen) (bound : Bounds) → AreWellFormed p.contracts p.messages p.structs p.methods → AreSound p → AreBounds p bound
+AreSafeAlways = (p : ProgramModel) (bound : Bounds) → AreWellFormed p.contracts p.messages p.structs p.methods → AreSound p → AreBounds p bound
     → NothingIsFound p → (n : ℕ) (w : World) → IsEntry p n → Run p bound n w → IsSafe p bound w
 
 abbrev pub AreBoundedAlways : Type 0
-AreBoundedAlways = (p : ProgramSeen) (bound : Bounds) → AreWellFormed p.contracts p.messages p.structs p.methods → AreSound p → AreBounds p bound
+AreBoundedAlways = (p : ProgramModel) (bound : Bounds) → AreWellFormed p.contracts p.messages p.structs p.methods → AreSound p → AreBounds p bound
     → (n : ℕ) (w : World) → Run p bound n w → IsBounded p bound w
 
 -- what is known of the program of a text, and of runs
 pub record KnownOf (text : List ℕ) : Type 0 where
-  pub formed : (p : ProgramSeen) → HasProgram text p → AreWellFormed p.contracts p.messages p.structs p.methods
-  pub sound : (p : ProgramSeen) → HasProgram text p → AreSound p
-  pub bare : (p : ProgramSeen) → HasProgram text p → Each IsBare p.methods
-  pub bounds : (p : ProgramSeen) → HasProgram text p → ((bound : Bounds) → AreBounds p bound → ⊥) → ⊥
-  pub one : (p q : ProgramSeen) → HasProgram text p → HasProgram text q → p ≡ q
+  pub formed : (p : ProgramModel) → HasProgram text p → AreWellFormed p.contracts p.messages p.structs p.methods
+  pub sound : (p : ProgramModel) → HasProgram text p → AreSound p
+  pub bare : (p : ProgramModel) → HasProgram text p → Each IsBare p.methods
+  pub bounds : (p : ProgramModel) → HasProgram text p → ((bound : Bounds) → AreBounds p bound → ⊥) → ⊥
+  pub one : (p q : ProgramModel) → HasProgram text p → HasProgram text q → p ≡ q
   pub safe : AreSafeAlways
   pub bounded : AreBoundedAlways
 
 -- where a check finds nothing, nothing is found in the methods
-none_found : (text : List ℕ) (p : ProgramSeen) → KnownOf text → HasProgram text p → HasEmptyReport text → NothingIsFound p
+none_found : (text : List ℕ) (p : ProgramModel) → KnownOf text → HasProgram text p → HasEmptyReport text → NothingIsFound p
 none_found text p known has empty =
-    let none = subst (λ (q : ProgramSeen). (f : FindingParts) → IsWrong q f → ⊥)
+    let none = subst (λ (q : ProgramModel). (f : FindingParts) → IsWrong q f → ⊥)
     (known.one empty.1.program p empty.1.has has) empty.1.none in
     λ n lt. empty_verdict p n (λ f w. none f (n, lt, w))
 

@@ -6,7 +6,7 @@ use Rattle.source.specs.declared.fault.Memory.{Memory}
 use Rattle.source.specs.declared.finding.Finding.{Finding}
 use Rattle.source.specs.declared.lexer.TheConstants.{MAX_TEXT}
 use Rattle.contracts.specs.Conditions.{AreExactly}
-use Rattle.program.specs.Programs.{ProgramSeen}
+use Rattle.program.specs.Programs.{ProgramModel}
 use Rattle.analyse.specs.Verdicts.{IsFoundIn, IsMethodVerdict, place_of_method, too_many_pairs}
 use Rattle.sound.specs.Premises.{NothingIsFound}
 use Rattle.singcheck.specs.Checks.{HasProgram, IsWrong}
@@ -20,18 +20,18 @@ use Rattle.singcheck.proofs.JudgeLemmas.{none_of}
 use Rattle.singcheck.proofs.LongLemmas.{no_program, of_front}
 
 -- where no finding is found in a method, that is its verdict
-pub empty_verdict : (p : ProgramSeen) (n : ℕ) → ((f : FindingParts) → IsFoundIn p n f → ⊥) → IsMethodVerdict p n []
+pub empty_verdict : (p : ProgramModel) (n : ℕ) → ((f : FindingParts) → IsFoundIn p n f → ⊥) → IsMethodVerdict p n []
 empty_verdict p n none = record {
   exactly = λ f. (λ h. absurd (none_of f h), λ w. absurd (none f w));
   once = λ many. absurd (none (too_many_pairs (place_of_method p n)) (inl (many, refl)));
 }
 
 -- where all that is wrong is nothing, nothing is found in any method
-pub nothing_found : (p : ProgramSeen) (found : List Finding) → found ≡ [] → AreExactly (IsWrong p) (map finding_parts found) → NothingIsFound p
+pub nothing_found : (p : ProgramModel) (found : List Finding) → found ≡ [] → AreExactly (IsWrong p) (map finding_parts found) → NothingIsFound p
 nothing_found p found none are = λ n lt. empty_verdict p n (λ f w. none_of f (subst (λ l. Contains (map finding_parts l) f) none (are.all f (n, lt, w))))
 
 -- the text of a program in which nothing is wrong is safe
-pub safe_text : (text : List ℕ) (p : ProgramSeen) → ((q : ProgramSeen) → HasProgram text q → p ≡ q) → NothingIsFound p → AreCleanSafe p → IsSafeText text
+pub safe_text : (text : List ℕ) (p : ProgramModel) → ((q : ProgramModel) → HasProgram text q → p ≡ q) → NothingIsFound p → AreCleanSafe p → IsSafeText text
 safe_text text p one nothing safe = λ q has. subst RunsAreSafe (one q has) (record {
   each = λ bound bounds n w entry run. safe bound bounds nothing n w entry run;
 })

@@ -5,7 +5,7 @@ use Rattle.std.specs.Global.{Global}
 use Rattle.source.specs.Findings.{FindingParts, finding_parts}
 use Rattle.source.specs.declared.finding.Finding.{Finding}
 use Rattle.tree.specs.Trees.{ItemTree}
-use Rattle.program.specs.Parts.{ContractSeen}
+use Rattle.program.specs.Parts.{ContractModel}
 use Rattle.declarations.specs.Program.{Program}
 use Rattle.names.specs.Resolving.{AreAll, Explains}
 use Rattle.names.specs.declared.fault.NameFaults.{NameFaults}
@@ -34,5 +34,5 @@ misnamed text items found parsed all = OfNames (record {
     none_mapped (x ∷ xs) h = λ e. absurd (cc)
 
 -- what is wrong with its contracts
-pub unsound : (text : List ℕ) (contracts : List ContractSeen) (found : List FindingParts) → IsResolved text contracts → AreBroken contracts found → AreFindings text found
+pub unsound : (text : List ℕ) (contracts : List ContractModel) (found : List FindingParts) → IsResolved text contracts → AreBroken contracts found → AreFindings text found
 unsound text contracts found resolved broken = OfContracts (record { contracts = contracts; resolved = resolved; some = broken.some; are = broken.are })

@@ -17,7 +17,7 @@ use Rattle.tree.specs.Programs.{program}
 use Rattle.tree.specs.Trees.{ItemTree, contracts_of}
 use Rattle.program.specs.declared.kind.Side.TheVariants.{Exp, Imp}
 use Rattle.names.specs.Findings.{program_findings, program_mistakes}
-use Rattle.program.specs.Parts.{ContractSeen}
+use Rattle.program.specs.Parts.{ContractModel}
 use Rattle.declarations.specs.Resolution.{resolved_contracts}
 use Rattle.contracts.specs.Bounds.{IsBound, sign_to}
 use Rattle.contracts.specs.Conditions as conditions
@@ -69,19 +69,19 @@ pub record IsMisnamed (text : List ℕ) (found : List FindingParts) : Type 0 whe
   pub are : AreExactly (Contains (program_findings (record { text = text; items = items }))) found
 
 -- nothing is wrong with the names of the program, and these are its contracts with a number for each name
-pub record IsResolved (text : List ℕ) (contracts : List ContractSeen) : Type 0 where
+pub record IsResolved (text : List ℕ) (contracts : List ContractModel) : Type 0 where
   pub items : List ItemTree
   pub parsed : IsProgram text items
   pub clean : program_mistakes (record { text = text; items = items }) ≡ []
   pub are : contracts ≡ resolved_contracts text (contracts_of items)
 
 -- a condition is broken in one of the contracts, which is this finding
-abbrev pub IsBroken : List ContractSeen → FindingParts → Type 0
-IsBroken contracts f = (c : ContractSeen) × Contains contracts c × conditions.IsFault c.parts f
+abbrev pub IsBroken : List ContractModel → FindingParts → Type 0
+IsBroken contracts f = (c : ContractModel) × Contains contracts c × conditions.IsFault c.parts f
 
 -- conditions are broken in contracts of the program: all that is so
 pub record IsUnsound (text : List ℕ) (found : List FindingParts) : Type 0 where
-  pub contracts : List ContractSeen
+  pub contracts : List ContractModel
   pub resolved : IsResolved text contracts
   pub some : found ≢ []
   pub are : AreExactly (IsBroken contracts) found
@@ -94,7 +94,7 @@ pub data AreFindings (text : List ℕ) (found : List FindingParts) : Type 0 wher
   OfContracts : IsUnsound text found → AreFindings text found
 
 -- the line of a contract, with the greatest length of each of its queues
-pub record IsBoundsLine (c : ContractSeen) (line : List ℕ) : Type 0 where
+pub record IsBoundsLine (c : ContractModel) (line : List ℕ) : Type 0 where
   pub to_exp : ℕ
   pub to_imp : ℕ
   pub exp : ∥ IsBound c.parts.edges c.parts.first (sign_to Exp) to_exp ∥₁
@@ -109,7 +109,7 @@ pub record IsReported (text bytes : List ℕ) : Type 0 where
 
 -- the text has no findings, and the bytes are a line for each of its contracts in order, and then their number
 pub record AreBounds (text bytes : List ℕ) : Type 0 where
-  pub contracts : List ContractSeen
+  pub contracts : List ContractModel
   pub resolved : IsResolved text contracts
   pub sound : All (λ c. IsSound c.parts) contracts
   pub lines : List (List ℕ)

@@ -4,10 +4,10 @@ use Rattle.std.specs.Prelude.{◌≡◌, ◌≢◌, ◌<◌, ℕ, List, [], leng
 use Rattle.source.specs.Findings.{FindingParts}
 use Rattle.tree.specs.Trees.{ItemTree, contracts_of}
 use Rattle.names.specs.Findings.{program_mistakes}
-use Rattle.program.specs.Parts.{ContractSeen}
+use Rattle.program.specs.Parts.{ContractModel}
 use Rattle.declarations.specs.Resolution.{resolved_contracts}
 use Rattle.contracts.specs.Conditions.{AreExactly, IsSound}
-use Rattle.program.specs.Programs.{ProgramSeen}
+use Rattle.program.specs.Programs.{ProgramModel}
 use Rattle.resolving.specs.Brought.{messages_told}
 use Rattle.resolving.specs.Fields.{structs_told}
 use Rattle.resolving.specs.Methods.{methods_told}
@@ -19,14 +19,14 @@ use Rattle.singcheck.specs.declared.fault.Status.{Status}
 use Rattle.singcheck.specs.declared.fault.Status.TheVariants.{Empty, Found}
 
 -- the text is a program of these items and contracts, and nothing is wrong with them
-pub record IsSoundProgram (text : List ℕ) (items : List ItemTree) (contracts : List ContractSeen) : Type 0 where
+pub record IsSoundProgram (text : List ℕ) (items : List ItemTree) (contracts : List ContractModel) : Type 0 where
   pub parsed : IsProgram text items
   pub clean : program_mistakes (record { text = text; items = items }) ≡ []
   pub are : contracts ≡ resolved_contracts text (contracts_of items)
   pub sound : All (λ c. IsSound c.parts) contracts
 
 -- and this is what it comes to, with a number for each name
-pub record HasProgram (text : List ℕ) (p : ProgramSeen) : Type 0 where
+pub record HasProgram (text : List ℕ) (p : ProgramModel) : Type 0 where
   pub items : List ItemTree
   pub program : IsSoundProgram text items p.contracts
   pub messages : p.messages ≡ messages_told (record { text = text; items = items })
@@ -34,12 +34,12 @@ pub record HasProgram (text : List ℕ) (p : ProgramSeen) : Type 0 where
   pub methods : p.methods ≡ methods_told (record { text = text; items = items })
 
 -- this is found in one of the methods
-abbrev pub IsWrong : ProgramSeen → FindingParts → Type 0
+abbrev pub IsWrong : ProgramModel → FindingParts → Type 0
 IsWrong p f = (n : ℕ) × (n < length p.methods) × IsFoundIn p n f
 
 -- something is wrong in the methods of the text: all of it
 pub record IsMisowned (text : List ℕ) (found : List FindingParts) : Type 0 where
-  pub program : ProgramSeen
+  pub program : ProgramModel
   pub has : HasProgram text program
   pub some : found ≢ []
   pub are : AreExactly (IsWrong program) found
@@ -57,7 +57,7 @@ pub record IsCheckReport (text bytes : List ℕ) : Type 0 where
 
 -- the text has no findings, and the bytes say how many contracts and methods it has
 pub record IsClear (text bytes : List ℕ) : Type 0 where
-  pub program : ProgramSeen
+  pub program : ProgramModel
   pub has : HasProgram text program
   pub none : (f : FindingParts) → IsWrong program f → ⊥
   pub are : bytes ≡ clear_line (length program.contracts) (length program.methods)

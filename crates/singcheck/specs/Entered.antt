@@ -1,8 +1,8 @@
 -- For proofs within the crate: what a text and an entry come to.
 use Rattle.std.specs.Prelude.{◌≡◌, ℕ, List, IsSomeAnd, map, slice_get, string_bytes, true}
 use Rattle.source.specs.Findings.{finding_parts}
-use Rattle.program.specs.Programs.{ProgramSeen}
-use Rattle.rules.specs.Programs.{is_entry, seen_of}
+use Rattle.program.specs.Programs.{ProgramModel}
+use Rattle.rules.specs.Programs.{is_entry, model_of}
 use Rattle.machine.specs.Outcomes.{Bounds}
 use Rattle.machine.specs.Runs.{AreBounds, Run}
 use Rattle.machine.specs.World.{World}
@@ -18,17 +18,17 @@ use Rattle.singcheck.specs.declared.fault.RunFault.{RunFault}
 use Rattle.singcheck.specs.declared.fault.RunFault.TheVariants.{Read, Entry, Schedule, Memory}
 
 -- a run may begin with this method of a program
-abbrev pub Begins : ProgramSeen → ℕ → Type 0
+abbrev pub Begins : ProgramModel → ℕ → Type 0
 Begins p n = IsSomeAnd (slice_get p.methods n) (λ m. is_entry m ≡ true)
 
 -- where nothing is found in the methods of a program, its runs are safe
-abbrev pub AreCleanSafe : ProgramSeen → Type 0
+abbrev pub AreCleanSafe : ProgramModel → Type 0
 AreCleanSafe p =
     (bound : Bounds) → AreBounds p bound → NothingIsFound p → (n : ℕ) (w : World) → IsEntry p n → Run p bound n w → IsSafe p bound w
 
 -- this is what the text comes to, and the entry is its method
 pub record IsBegun (text entry : List ℕ) (b : Begun) : Type 0 where
-  pub entered : HasEntry text entry (seen_of b.program) b.method.0
+  pub entered : HasEntry text entry (model_of b.program) b.method.0
   pub structs : map string_bytes b.structs.items ≡ struct_names text entered.has.items
 
 abbrev pub IsEntered : List ℕ → List ℕ → Entered → Type 0

@@ -3,12 +3,12 @@ use Rattle.std.specs.Prelude.{◌≡◌, ◌≢◌, ◌<◌, ◌⊎◌, ◌++◌
 use Rattle.std.specs.List.{flat_map}
 use Rattle.std.specs.List.Sorted.{IsStrictlySortedBy}
 use Rattle.contracts.specs.Conditions.{AreExactly}
-use Rattle.program.specs.Parts.{ContractSeen}
-use Rattle.program.specs.Programs.{ProgramSeen}
+use Rattle.program.specs.Parts.{ContractModel}
+use Rattle.program.specs.Programs.{ProgramModel}
 use Rattle.reports.specs.Orders.{report_cmp}
 use Rattle.source.specs.Findings.{FindingParts}
 use Rattle.source.specs.declared.place.Place.{Place}
-use Rattle.traces.specs.Explained.{ExplainedSeen, IsExplainedIf}
+use Rattle.traces.specs.Explained.{ExplainedModel, IsExplainedIf}
 use Rattle.traces.specs.Shown.{IsShown}
 use Rattle.singcheck.specs.Answers.{AreFindings, IsResolved}
 use Rattle.singcheck.specs.Checks.{HasProgram, IsClear, IsWrong}
@@ -19,23 +19,23 @@ use Rattle.singcheck.specs.declared.fault.Status.{Status}
 use Rattle.singcheck.specs.declared.fault.Status.TheVariants.{Empty, Found}
 
 -- it is found in one of the methods, and this is why, if that is asked for
-abbrev pub IsExplainedIn : Option Place → ProgramSeen → ExplainedSeen → Type 0
+abbrev pub IsExplainedIn : Option Place → ProgramModel → ExplainedModel → Type 0
 IsExplainedIn named p e = (n : ℕ) × (n < length p.methods) × IsExplainedIf named p n e
 
 -- a line for the finding, and its trace under it
-abbrev pub explained_lines : ExplainedSeen → List ℕ
+abbrev pub explained_lines : ExplainedModel → List ℕ
 explained_lines e = finding_line e.finding ++ flat_map trace_line e.lines
 
 -- so for each, and then their number
-abbrev pub explained_bytes : List ExplainedSeen → List ℕ
+abbrev pub explained_bytes : List ExplainedModel → List ℕ
 explained_bytes listed = flat_map explained_lines listed ++ count_line (length listed)
 
 -- something is wrong in the methods of the text: all of it is listed in the order of a report, each finding once, and why it is one,
 -- or why those at the named place are
 pub record AreReasons (named : Option Place) (text bytes : List ℕ) : Type 0 where
-  pub program : ProgramSeen
+  pub program : ProgramModel
   pub has : HasProgram text program
-  pub listed : List ExplainedSeen
+  pub listed : List ExplainedModel
   pub some : listed ≢ []
   pub are : AreExactly (IsWrong program) (map (λ e. e.finding) listed)
   pub each : All (IsExplainedIn named program) listed
@@ -43,23 +43,23 @@ pub record AreReasons (named : Option Place) (text bytes : List ℕ) : Type 0 wh
   pub is : bytes ≡ explained_bytes listed
 
 -- it has no lines, or those of edges of one of the contracts that show it
-abbrev pub IsShownIn : Option Place → List ContractSeen → ExplainedSeen → Type 0
-IsShownIn named contracts e = (c : ContractSeen) × Contains contracts c × IsShown named c.parts e
+abbrev pub IsShownIn : Option Place → List ContractModel → ExplainedModel → Type 0
+IsShownIn named contracts e = (c : ContractModel) × Contains contracts c × IsShown named c.parts e
 
 -- It is found before the methods. It has no lines; or it is asked for, and is a token that is not expected; or it is a fault of the text
 -- or a mistake in its names, with what more is said of that; or edges of contracts of the text show it.
-pub data IsNoted (named : Option Place) (text : List ℕ) (e : ExplainedSeen) : Type 0 where
+pub data IsNoted (named : Option Place) (text : List ℕ) (e : ExplainedModel) : Type 0 where
   Bare : e.lines ≡ [] → IsNoted named text e
   ByTokens : IsAskedUnexpected named text e → IsNoted named text e
   ByFault : HasFault named text e → IsNoted named text e
   ByMistake : HasMistake named text e → IsNoted named text e
-  ByContract : (contracts : List ContractSeen) → IsResolved text contracts → IsShownIn named contracts e → IsNoted named text e
+  ByContract : (contracts : List ContractModel) → IsResolved text contracts → IsShownIn named contracts e → IsNoted named text e
 
 -- something is wrong before the methods: all that the first stage with findings finds, in the order of a report, each finding once
 pub record AreNoted (named : Option Place) (text bytes : List ℕ) : Type 0 where
   pub found : List FindingParts
   pub are : AreFindings text found
-  pub listed : List ExplainedSeen
+  pub listed : List ExplainedModel
   pub same : AreExactly (Contains found) (map (λ e. e.finding) listed)
   pub each : All (IsNoted named text) listed
   pub ordered : IsStrictlySortedBy report_cmp (map (λ e. e.finding) listed)
@@ -71,10 +71,10 @@ Explains named text bytes Empty = IsClear text bytes
 Explains named text bytes Found = AreNoted named text bytes ⊎ AreReasons named text bytes
 
 -- For proofs within the crate: these are all findings of the first stage with some, each with its lines, in no order.
-pub record AreExplained (named : Option Place) (text : List ℕ) (es : List ExplainedSeen) : Type 0 where
+pub record AreExplained (named : Option Place) (text : List ℕ) (es : List ExplainedModel) : Type 0 where
   pub are : AreFindings text (map (λ e. e.finding) es)
   pub each : All (IsNoted named text) es
 
 -- and so where there are some
-abbrev pub IsExplainedText : Option Place → List ℕ → List ExplainedSeen → Type 0
+abbrev pub IsExplainedText : Option Place → List ℕ → List ExplainedModel → Type 0
 IsExplainedText named text es = es ≢ [] → AreExplained named text es

@@ -2,7 +2,7 @@
 use Rattle.std.specs.Prelude.{ℕ, List, ◌++◌, codes}
 use Rattle.std.specs.Fmt.{decimal}
 use Rattle.source.specs.Findings.{FindingParts, code_name}
-use Rattle.traces.specs.Lines.{LineSeen}
+use Rattle.traces.specs.Lines.{LineModel}
 
 -- `LINE:COL CODE text`
 abbrev pub finding_line : FindingParts → List ℕ
@@ -10,7 +10,7 @@ finding_line f = decimal f.place.line ++ codes ":" ++ decimal f.place.col ++ cod
     ++ f.text ++ codes "\n"
 
 -- `  LINE:COL text`
-abbrev pub trace_line : LineSeen → List ℕ
+abbrev pub trace_line : LineModel → List ℕ
 trace_line l = codes "  " ++ decimal l.place.line ++ codes ":" ++ decimal l.place.col ++ codes " " ++ l.text ++ codes "\n"
 
 -- `findings: N`

@@ -4,14 +4,14 @@ use Rattle.source.specs.Findings.{FindingParts, finding_parts}
 use Rattle.tree.specs.Trees.{ItemTree, contracts_of}
 use Rattle.names.specs.Findings.{program_mistakes}
 use Rattle.declarations.specs.Resolution.{resolved_contracts}
-use Rattle.program.specs.Parts.{ContractSeen, IsWhole}
-use Rattle.program.specs.Programs.{ProgramSeen, contracts_seen, program_seen}
+use Rattle.program.specs.Parts.{ContractModel, IsWhole}
+use Rattle.program.specs.Programs.{ProgramModel, contracts_model, program_model}
 use Rattle.program.specs.declared.limits.TheConstants.{MOST_METHODS}
 use Rattle.contracts.specs.Conditions.{IsSound}
 use Rattle.resolving.specs.Brought.{messages_told}
 use Rattle.resolving.specs.Fields.{structs_told}
 use Rattle.resolving.specs.Methods.{methods_told}
-use Rattle.rules.specs.Programs.{seen_of}
+use Rattle.rules.specs.Programs.{model_of}
 use Rattle.rules.specs.declared.lowered.Program.{Program}
 use Rattle.singcheck.specs.Answers.{AreFindings, IsProgram, IsResolved}
 use Rattle.singcheck.specs.Checks.{HasProgram}
@@ -23,7 +23,7 @@ use Rattle.singcheck.specs.declared.programs.Named.{Named}
 use Rattle.singcheck.specs.declared.programs.Named.TheVariants as named
 
 -- the text is a program of these items, nothing is wrong with its names, and this is what it comes to
-pub record HasNames (text : List ℕ) (items : List ItemTree) (p : ProgramSeen) : Type 0 where
+pub record HasNames (text : List ℕ) (items : List ItemTree) (p : ProgramModel) : Type 0 where
   pub parsed : IsProgram text items
   pub clean : program_mistakes (record { text = text; items = items }) ≡ []
   pub contracts : p.contracts ≡ resolved_contracts text (contracts_of items)
@@ -32,7 +32,7 @@ pub record HasNames (text : List ℕ) (items : List ItemTree) (p : ProgramSeen) 
   pub methods : p.methods ≡ methods_told (record { text = text; items = items })
 
 -- and this is known of it
-pub record AreNamed (text : List ℕ) (items : List ItemTree) (p : ProgramSeen) : Type 0 where
+pub record AreNamed (text : List ℕ) (items : List ItemTree) (p : ProgramModel) : Type 0 where
   pub names : HasNames text items p
   pub whole : All (λ c. IsWhole c.parts) p.contracts
   pub room : length p.contracts < 2 ^ 32
@@ -41,22 +41,22 @@ pub record AreNamed (text : List ℕ) (items : List ItemTree) (p : ProgramSeen) 
 -- the findings of the names, or the methods where there are none
 abbrev pub IsNamed : List ℕ → List ItemTree → Named → Type 0
 IsNamed text items (named.Found findings) = AreFindings text (map finding_parts findings.items)
-IsNamed text items (named.Methods methods) = AreNamed text items (program_seen methods)
+IsNamed text items (named.Methods methods) = AreNamed text items (program_model methods)
 
 -- the program whose contracts are sound, and what is known of it
-pub record IsSoundOne (p : ProgramSeen) (program : Program) : Type 0 where
-  pub same : seen_of program ≡ p
-  pub sound : All (λ c. IsSound c.parts) (seen_of program).contracts
-  pub safe : AreCleanSafe (seen_of program)
+pub record IsSoundOne (p : ProgramModel) (program : Program) : Type 0 where
+  pub same : model_of program ≡ p
+  pub sound : All (λ c. IsSound c.parts) (model_of program).contracts
+  pub safe : AreCleanSafe (model_of program)
 
 -- the program of a text, with which nothing is wrong before its methods, and what is known of it
 pub record IsProgramBefore (text : List ℕ) (program : Program) : Type 0 where
-  pub has : HasProgram text (seen_of program)
-  pub few : length (seen_of program).methods ≤ MOST_METHODS
-  pub safe : AreCleanSafe (seen_of program)
+  pub has : HasProgram text (model_of program)
+  pub few : length (model_of program).methods ≤ MOST_METHODS
+  pub safe : AreCleanSafe (model_of program)
 
 -- the text is resolved, and this is wrong with its contracts
-pub record AreBrokenOf (text : List ℕ) (contracts : List ContractSeen) (found : List FindingParts) : Type 0 where
+pub record AreBrokenOf (text : List ℕ) (contracts : List ContractModel) (found : List FindingParts) : Type 0 where
   pub resolved : IsResolved text contracts
   pub whole : All (λ c. IsWhole c.parts) contracts
   pub room : length contracts < 2 ^ 32
@@ -65,12 +65,12 @@ pub record AreBrokenOf (text : List ℕ) (contracts : List ContractSeen) (found 
 -- what is wrong with a text before its methods, or its program where nothing is
 abbrev pub IsBuiltOf : List ℕ → Built → Type 0
 IsBuiltOf text (built.Found findings) = AreFindings text (map finding_parts findings.items)
-IsBuiltOf text (built.Broken methods findings) = AreBrokenOf text (contracts_seen methods) (map finding_parts findings.items)
+IsBuiltOf text (built.Broken methods findings) = AreBrokenOf text (contracts_model methods) (map finding_parts findings.items)
 IsBuiltOf text (built.Program program) = IsProgramBefore text program
 
 -- the methods of a program and what is wrong with its contracts, or the program where nothing is
-abbrev pub IsBuilt : ProgramSeen → Built → Type 0
+abbrev pub IsBuilt : ProgramModel → Built → Type 0
 IsBuilt p (built.Found findings) = ⊥
 IsBuilt p (built.Broken methods findings) =
-    (contracts_seen methods ≡ p.contracts) × AreBroken p.contracts (map finding_parts findings.items)
+    (contracts_model methods ≡ p.contracts) × AreBroken p.contracts (map finding_parts findings.items)
 IsBuilt p (built.Program program) = IsSoundOne p program

@@ -11,38 +11,38 @@ use Rattle.declarations.specs.declared.mistake.Mistake.{Mistake}
 use Rattle.declarations.specs.declared.mistake.Mistake.TheVariants as mistake
 use Rattle.names.specs.Findings.{program_mistakes}
 use Rattle.remarks.specs.FaultRemarks.{fault_remark}
-use Rattle.remarks.specs.Remarks.{RemarkSeen, remark_of}
-use Rattle.traces.specs.Explained.{ExplainedSeen, is_asked}
-use Rattle.traces.specs.Lines.{LineSeen, line}
+use Rattle.remarks.specs.Remarks.{RemarkModel, remark_of}
+use Rattle.traces.specs.Explained.{ExplainedModel, is_asked}
+use Rattle.traces.specs.Lines.{LineModel, line}
 use Rattle.singcheck.specs.Answers.{IsProgram, fault_findings}
 
 -- the line of a remark, if there is one, and if lines are asked for of what is found there
-abbrev pub said_lines : Option RemarkSeen → List LineSeen
+abbrev pub said_lines : Option RemarkModel → List LineModel
 said_lines r = option_map_or (λ said. line said.place said.text ∷ []) r []
 
-abbrev pub remark_lines : Option Place → Place → Option RemarkSeen → List LineSeen
+abbrev pub remark_lines : Option Place → Place → Option RemarkModel → List LineModel
 remark_lines named place r = if is_asked named place then said_lines r else []
 
 -- what more is said of a mistake; of a name that nothing declares only where its nearest name is looked for
-abbrev pub remark_within : Bool → Program → Mistake → Option RemarkSeen
+abbrev pub remark_within : Bool → Program → Mistake → Option RemarkModel
 remark_within false p (mistake.Unknown name sort) = None
 remark_within within p m = remark_of p m
 
 -- one of all the mistakes in the names of the text: its finding, with what more is said of it
-pub record IsMistake (named : Option Place) (p : Program) (e : ExplainedSeen) : Type 0 where
+pub record IsMistake (named : Option Place) (p : Program) (e : ExplainedModel) : Type 0 where
   pub mistake : Mistake
   pub within : Bool
   pub among : Contains (program_mistakes p) mistake
   pub finding : e.finding ≡ finding_in p.text mistake
   pub lines : e.lines ≡ remark_lines named e.finding.place (remark_within within p mistake)
 
-pub record HasMistake (named : Option Place) (text : List ℕ) (e : ExplainedSeen) : Type 0 where
+pub record HasMistake (named : Option Place) (text : List ℕ) (e : ExplainedModel) : Type 0 where
   pub items : List ItemTree
   pub parsed : IsProgram text items
   pub is : IsMistake named (record { text = text; items = items }) e
 
 -- the first fault of the text: its finding, with what more is said of it
-pub record HasFault (named : Option Place) (text : List ℕ) (e : ExplainedSeen) : Type 0 where
+pub record HasFault (named : Option Place) (text : List ℕ) (e : ExplainedModel) : Type 0 where
   pub fault : TextFault
   pub first : IsFault text fault
   pub finding : e.finding ∷ [] ≡ fault_findings fault

@@ -6,10 +6,10 @@ use Rattle.tree.specs.Trees.{DefinitionTree, Struct, Class, ItemTree, MethodTree
 use Rattle.declarations.specs.Resolution.{printed}
 use Rattle.tables.specs.Words.{word_at}
 use Rattle.program.specs.Lists.{Each}
-use Rattle.program.specs.Programs.{ProgramSeen}
+use Rattle.program.specs.Programs.{ProgramModel}
 use Rattle.rules.specs.Programs.{is_entry}
 use Rattle.machine.specs.Outcomes.{Bounds}
-use Rattle.machine.specs.Replays.{IsReplay, ReplaySeen}
+use Rattle.machine.specs.Replays.{IsReplay, ReplayModel}
 use Rattle.machine.specs.Runs.{AreBounds}
 use Rattle.machine.specs.declared.halts.Event.{Event}
 use Rattle.machine.specs.declared.halts.Halt.{Halt}
@@ -51,28 +51,28 @@ pub record IsFirstAt (names : List (List ℕ)) (name : List ℕ) (n : ℕ) : Typ
   pub others : Each (λ x. x ≢ name) before
 
 -- the entry is the name of this method, with which a run may begin
-pub record IsEntryAt (text entry : List ℕ) (items : List ItemTree) (p : ProgramSeen) (n : ℕ) : Type 0 where
+pub record IsEntryAt (text entry : List ℕ) (items : List ItemTree) (p : ProgramModel) (n : ℕ) : Type 0 where
   pub named : IsFirstAt (method_names text items) entry n
   pub begins : IsSomeAnd (slice_get p.methods n) (λ m. is_entry m ≡ true)
 
 -- nothing is wrong with the text but in its methods, and a run may begin with this one, whose name the entry is
-pub record HasEntry (text entry : List ℕ) (p : ProgramSeen) (n : ℕ) : Type 0 where
+pub record HasEntry (text entry : List ℕ) (p : ProgramModel) (n : ℕ) : Type 0 where
   pub has : HasProgram text p
   pub at : IsEntryAt text entry has.items p n
 
 -- nothing is wrong with the text but in its methods, and a run may begin with one whose name the entry is
 abbrev pub HasSomeEntry : (text entry : List ℕ) → Type 0
-HasSomeEntry text entry = (p : ProgramSeen) × (n : ℕ) × HasEntry text entry p n
+HasSomeEntry text entry = (p : ProgramModel) × (n : ℕ) × HasEntry text entry p n
 
 -- nothing is wrong with the text but in its methods, and the entry is the name of none with which a run may begin
 pub record LacksEntry (text entry : List ℕ) : Type 0 where
-  pub program : ProgramSeen
+  pub program : ProgramModel
   pub has : HasProgram text program
   pub none : (n : ℕ) → ¬ IsEntryAt text entry has.items program n
 
 -- a run may begin, and this line of the schedule is the first malformed one
 pub record LacksSchedule (text entry schedule : List ℕ) (line : ℕ) : Type 0 where
-  pub program : ProgramSeen
+  pub program : ProgramModel
   pub n : ℕ
   pub entered : HasEntry text entry program n
   pub malformed : IsFirstMalformed schedule line
@@ -84,12 +84,12 @@ stop_status (Some why) = Found
 
 -- the events of the schedule lead from the entry to what is printed
 pub record IsRan (entry schedule text bytes : List ℕ) (status : Status) : Type 0 where
-  pub program : ProgramSeen
+  pub program : ProgramModel
   pub n : ℕ
   pub entered : HasEntry text entry program n
   pub events : List Event
   pub told : IsSchedule schedule events
-  pub replayed : ReplaySeen
+  pub replayed : ReplayModel
   pub led : (bound : Bounds) → AreBounds program bound → IsReplay program bound n events replayed
   pub are : bytes
       ≡ replay_lines (record { program = program; structs = struct_names text entered.has.items }) events replayed.steps replayed.halt

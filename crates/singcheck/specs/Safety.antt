@@ -1,7 +1,7 @@
 -- What an empty report of a text promises of its program, and what holds of a replay whatever is found in the methods.
 use Rattle.std.specs.Prelude.{◌≡◌, ◌≢◌, ℕ, List, Some, take}
 use Rattle.source.specs.declared.place.Place.{Place}
-use Rattle.program.specs.Programs.{ProgramSeen}
+use Rattle.program.specs.Programs.{ProgramModel}
 use Rattle.machine.specs.Outcomes.{Bounds}
 use Rattle.machine.specs.Runs.{AreBounds, Leads, Run, start_of}
 use Rattle.machine.specs.World.{World}
@@ -19,12 +19,12 @@ use Rattle.singcheck.specs.declared.fault.Status.TheVariants.{Empty, Found}
 
 -- Every run of a program is safe, with whatever method it begins, and in whatever order its processes take turns. The queues have the
 -- bounds of their contracts.
-pub record RunsAreSafe (p : ProgramSeen) : Type 0 where
+pub record RunsAreSafe (p : ProgramModel) : Type 0 where
   pub each : (bound : Bounds) → AreBounds p bound → (n : ℕ) (w : World) → IsEntry p n → Run p bound n w → IsSafe p bound w
 
 -- what the text comes to is safe in every run
 abbrev pub IsSafeText : List ℕ → Type 0
-IsSafeText text = (p : ProgramSeen) → HasProgram text p → RunsAreSafe p
+IsSafeText text = (p : ProgramModel) → HasProgram text p → RunsAreSafe p
 
 -- a check finds nothing in the text
 abbrev pub HasEmptyReport : List ℕ → Type 0

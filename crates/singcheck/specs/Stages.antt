@@ -2,7 +2,7 @@
 use Rattle.std.specs.Prelude.{◌≡◌, ◌≢◌, ◌<◌, ◌^◌, ℕ, List, [], ◌∷◌, ◌++◌, length, map, All}
 use Rattle.source.specs.Findings.{FindingParts, finding_parts}
 use Rattle.source.specs.declared.finding.Finding.{Finding}
-use Rattle.program.specs.Parts.{ContractSeen, contract_seen}
+use Rattle.program.specs.Parts.{ContractModel, contract_model}
 use Rattle.contracts.specs.Conditions as conditions
 use Rattle.contracts.specs.Conditions.{AreExactly, IsSound}
 use Rattle.contracts.specs.Parts.{Parts}
@@ -23,9 +23,9 @@ use Rattle.singcheck.specs.declared.stages.Staged.TheVariants as staged
 
 -- the contracts of the text, and a sound one for each
 pub record IsClean (text : List ℕ) (clean : Clean) : Type 0 where
-  pub resolved : IsResolved text (map contract_seen clean.resolved.contracts.items)
-  pub sounds : map sound_parts clean.sounds.items ≡ map (λ c. c.parts) (map contract_seen clean.resolved.contracts.items)
-  pub sound : All (λ c. IsSound c.parts) (map contract_seen clean.resolved.contracts.items)
+  pub resolved : IsResolved text (map contract_model clean.resolved.contracts.items)
+  pub sounds : map sound_parts clean.sounds.items ≡ map (λ c. c.parts) (map contract_model clean.resolved.contracts.items)
+  pub sound : All (λ c. IsSound c.parts) (map contract_model clean.resolved.contracts.items)
 
 -- the text is a program of this tree, which fewer than 2^32 symbols spell
 pub record IsProgramOf (text : List ℕ) (tree : Tree) : Type 0 where
@@ -43,22 +43,22 @@ IsStaged text (staged.Found findings) = AreFindings text (map finding_parts find
 IsStaged text (staged.Clean clean) = IsClean text clean
 
 -- something is wrong with these contracts: all of it
-pub record AreBroken (contracts : List ContractSeen) (found : List FindingParts) : Type 0 where
+pub record AreBroken (contracts : List ContractModel) (found : List FindingParts) : Type 0 where
   pub some : found ≢ []
   pub are : AreExactly (IsBroken contracts) found
 
 -- these contracts are sound, each with its parts
-pub record AreSounds (contracts : List ContractSeen) (sounds : List Sound) : Type 0 where
+pub record AreSounds (contracts : List ContractModel) (sounds : List Sound) : Type 0 where
   pub kept : map sound_parts sounds ≡ map (λ c. c.parts) contracts
   pub sound : All (λ c. IsSound c.parts) contracts
 
 -- what is wrong with these contracts, or the sound ones where nothing is
-abbrev pub IsJudgement : List ContractSeen → Judgement → Type 0
+abbrev pub IsJudgement : List ContractModel → Judgement → Type 0
 IsJudgement contracts (judgement.Found findings) = AreBroken contracts (map finding_parts findings.items)
 IsJudgement contracts (judgement.Sounds sounds) = AreSounds contracts sounds.items
 
 -- a sound contract is kept
-pub record KeepsSound (c : ContractSeen) (old new : Judging) : Type 0 where
+pub record KeepsSound (c : ContractModel) (old new : Judging) : Type 0 where
   pub sound : IsSound c.parts
   pub kept : map sound_parts new.sounds.items ≡ map sound_parts old.sounds.items ++ c.parts ∷ []
   pub same : new.findings.items ≡ old.findings.items
@@ -70,21 +70,21 @@ pub record AddsAll (parts : Parts) (old new : List Finding) : Type 0 where
   pub added : map finding_parts new ≡ map finding_parts old ++ more
 
 -- something is wrong with a contract, and all of it is added
-pub record AddsFaults (c : ContractSeen) (old new : Judging) : Type 0 where
+pub record AddsFaults (c : ContractModel) (old new : Judging) : Type 0 where
   pub broken : (f : FindingParts) × conditions.IsFault c.parts f
   pub all : AddsAll c.parts old.findings.items new.findings.items
 
-pub data Judges (c : ContractSeen) (old new : Judging) : Type 0 where
+pub data Judges (c : ContractModel) (old new : Judging) : Type 0 where
   Keeps : KeepsSound c old new → Judges c old new
   Adds : AddsFaults c old new → Judges c old new
 
 -- these contracts have been judged
-pub record AreJudged (contracts : List ContractSeen) (judging : Judging) : Type 0 where
+pub record AreJudged (contracts : List ContractModel) (judging : Judging) : Type 0 where
   pub exactly : AreExactly (IsBroken contracts) (map finding_parts judging.findings.items)
   pub kept : judging.findings.items ≡ [] → map sound_parts judging.sounds.items ≡ map (λ c. c.parts) contracts
 
 -- the line of a contract is added
-pub record AddsLine (c : ContractSeen) (old new : List ℕ) : Type 0 where
+pub record AddsLine (c : ContractModel) (old new : List ℕ) : Type 0 where
   pub line : List ℕ
   pub its : IsBoundsLine c line
   pub added : new ≡ old ++ line

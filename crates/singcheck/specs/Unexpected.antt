@@ -16,8 +16,8 @@ use Rattle.expected.specs.Expectations.{expectation_of}
 use Rattle.expected.specs.Expected.{IsExpected, IsSublist}
 use Rattle.expected.specs.OpenBraces.{open_braces}
 use Rattle.expected.specs.declared.kinds.TheConstants.{ALL_KINDS}
-use Rattle.traces.specs.Explained.{ExplainedSeen, is_asked}
-use Rattle.traces.specs.Lines.{LineSeen, line}
+use Rattle.traces.specs.Explained.{ExplainedModel, is_asked}
+use Rattle.traces.specs.Lines.{LineModel, line}
 use Rattle.singcheck.specs.Answers.{wrong_token}
 
 -- where a wrong token is, or the end of the text
@@ -44,11 +44,11 @@ begins_item (Some token) = begins_definition token.kind
 abbrev pub likely_brace : List Token → ℕ → Option Span
 likely_brace tokens number = if begins_item (slice_get tokens number) then slice_get (open_braces [] (take number tokens)) 0 else None
 
-abbrev pub brace_lines : List Token → ℕ → List LineSeen
+abbrev pub brace_lines : List Token → ℕ → List LineModel
 brace_lines tokens number = option_map_or (λ brace. line brace.place (codes "{ is not closed") ∷ []) (likely_brace tokens number) []
 
 -- The tokens of the text are no program: the first wrong one, or the end; what could have stood there, exactly, and a brace.
-pub record IsUnexpected (text : List ℕ) (e : ExplainedSeen) : Type 0 where
+pub record IsUnexpected (text : List ℕ) (e : ExplainedModel) : Type 0 where
   pub tokens : List Token
   pub lexed : AreTokens text tokens
   pub number : ℕ
@@ -61,6 +61,6 @@ pub record IsUnexpected (text : List ℕ) (e : ExplainedSeen) : Type 0 where
   pub lines : e.lines ≡ line e.finding.place (expectation_of kinds) ∷ brace_lines tokens number
 
 -- and it is asked for
-pub record IsAskedUnexpected (named : Option Place) (text : List ℕ) (e : ExplainedSeen) : Type 0 where
+pub record IsAskedUnexpected (named : Option Place) (text : List ℕ) (e : ExplainedModel) : Type 0 where
   pub asked : is_asked named e.finding.place ≡ true
   pub unexpected : IsUnexpected text e

@@ -1,7 +1,7 @@
 //! The check of a text, its methods too.
 
 ghost use Rattle.std.specs.Prelude.{◌≡◌, ◌<◌, ◌^◌, true, ℕ, map, length, List, IfOk, IfErr, OnOk};
-ghost use Rattle.rules.specs.Programs.{seen_of};
+ghost use Rattle.rules.specs.Programs.{model_of};
 ghost use Rattle.sound.specs.Premises.{NothingIsFound};
 ghost use Rattle.singcheck.specs.Checks.{Checks, HasProgram};
 ghost use Rattle.singcheck.specs.CheckFaults.{AreUnfit, Explains, workers_fit, slots_fit};
@@ -119,9 +119,9 @@ fn check_methods<R: Threads + Wait + Sync, G: Gate>(
     tools: &Tools<'_, R, G>,
     program: &Program,
 ) -> Result<Report, Memory>
-    requires few { length (seen_of program.now).methods < 2 ^ 32 }
-    ensures report { IfOk result (λ r. (text : List ℕ) → HasProgram text (seen_of program.now) → Checks text r.bytes.items r.status) }
-    ensures clean { IfOk result (λ r. r.status ≡ Status.Empty → NothingIsFound (seen_of program.now)) }
+    requires few { length (model_of program.now).methods < 2 ^ 32 }
+    ensures report { IfOk result (λ r. (text : List ℕ) → HasProgram text (model_of program.now) → Checks text r.bytes.items r.status) }
+    ensures clean { IfOk result (λ r. r.status ≡ Status.Empty → NothingIsFound (model_of program.now)) }
 {
     let alloc = tools.alloc;
     let findings = analyse_methods(tools, program)?;

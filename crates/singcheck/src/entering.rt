@@ -4,7 +4,7 @@ ghost use Rattle.std.specs.Prelude.{◌≡◌, ◌<◌, ◌≤◌, ◌^◌, ℕ,
 ghost use Rattle.tree.specs.Trees.{program_tree};
 ghost use Rattle.contracts.specs.Conditions.{IsSound};
 ghost use Rattle.program.specs.declared.limits.TheConstants.{MOST_METHODS};
-ghost use Rattle.rules.specs.Programs.{seen_of};
+ghost use Rattle.rules.specs.Programs.{model_of};
 ghost use Rattle.singcheck.specs.Entered.{Begins, IsEntered};
 ghost use Rattle.singcheck.specs.Named.{HasNames};
 ghost use Rattle.singcheck.specs.Stages.{IsProgramOf};
@@ -71,9 +71,9 @@ fn enter_method(
     program: Program,
     entry: &[u8],
 ) -> Result<Entered, Memory>
-    requires program { HasNames text.now (program_tree tree.now) (seen_of program) }
-    requires sound { All (λ c. IsSound c.parts) (seen_of program).contracts }
-    requires few { length (seen_of program).methods ≤ MOST_METHODS }
+    requires program { HasNames text.now (program_tree tree.now) (model_of program) }
+    requires sound { All (λ c. IsSound c.parts) (model_of program).contracts }
+    requires few { length (model_of program).methods ≤ MOST_METHODS }
     ensures { IfOk result (IsEntered text.now entry.now) }
 {
     let Some(method) = entry_of(&program, entry_place(text, tree, entry)) else {
@@ -88,16 +88,16 @@ fn enter_method(
 }
 
 /// The method at a place, if there is one and a run may begin with it.
-fn entry_of(program: &Program, place: Option<usize>) -> Option<MethodId>
-    requires few { length (seen_of program.now).methods < 2 ^ 32 }
-    ensures some { IfSome result (λ id. (place ≡ Some id.0) × Begins (seen_of program.now) id.0) }
-    ensures none { IfNone result ((n : ℕ) → place ≡ Some n → ¬ Begins (seen_of program.now) n) }
+fn entry_of(program: &Program, index: Option<usize>) -> Option<MethodId>
+    requires few { length (model_of program.now).methods < 2 ^ 32 }
+    ensures some { IfSome result (λ id. (index ≡ Some id.0) × Begins (model_of program.now) id.0) }
+    ensures none { IfNone result ((n : ℕ) → index ≡ Some n → ¬ Begins (model_of program.now) n) }
 {
-    let place = place?;
-    if place >= program.methods().len() {
+    let index = index?;
+    if index >= program.methods().len() {
         return None;
     }
-    let method = MethodId(place as u32);
+    let method = MethodId(index as u32);
     if program.is_entry(method) {
         Some(method)
     } else {

@@ -6,9 +6,9 @@ ghost use Rattle.source.specs.Places.{place_of};
 ghost use Rattle.source.specs.Tokens.{AreTokens};
 ghost use Rattle.syntax.specs.Parsing.{IsFirstWrong};
 ghost use Rattle.tree.specs.Programs.{program};
-ghost use Rattle.traces.specs.Explained.{explained_seen};
+ghost use Rattle.traces.specs.Explained.{explained_model};
 ghost use Rattle.expected.specs.Expectations.{expectation_of};
-ghost use Rattle.traces.specs.Lines.{line, line_seen};
+ghost use Rattle.traces.specs.Lines.{line, line_model};
 ghost use Rattle.singcheck.specs.Unexpected.{IsAskedUnexpected, begins_item, brace_lines, likely_brace, wrong_span};
 
 use crate::stages::{finding_at, token_at};
@@ -29,7 +29,7 @@ pub(crate) fn explain_at(
 ) -> Result<Option<Explained>, Memory>
     requires wrong { IsFirstWrong program tokens.now.list.items number }
     ensures { (text : List ℕ) → AreTokens text tokens.now.list.items → tokens.now.end ≡ place_of (body_of text)
-        → IfOk result (λ found. IfSome found (λ e. IsAskedUnexpected named text (explained_seen e))) }
+        → IfOk result (λ found. IfSome found (λ e. IsAskedUnexpected named text (explained_model e))) }
 {
     fault_is_within();
     let finding = finding_at(alloc, tokens, number)?;
@@ -45,7 +45,7 @@ pub(crate) fn explain_at(
 
 /// The line that says that tokens of these kinds are expected there.
 fn expectation_line(alloc: Global, place: Place, kinds: &[Kind]) -> Result<Line, Memory>
-    ensures { IfOk result (λ shown. line_seen shown ≡ line place (expectation_of kinds.now)) }
+    ensures { IfOk result (λ shown. line_model shown ≡ line place (expectation_of kinds.now)) }
 {
     let text = expectation(alloc, kinds)?.into_bytes();
     Ok(Line { place, text })
@@ -73,8 +73,8 @@ fn add_brace(
     lines: &mut Vec<Line>,
 ) -> Result<(), Memory>
     requires within { number ≤ length tokens.now.list.items }
-    ensures { OnOk result (map line_seen lines.new.items
-        ≡ map line_seen lines.old.items ++ brace_lines tokens.now.list.items number) }
+    ensures { OnOk result (map line_model lines.new.items
+        ≡ map line_model lines.old.items ++ brace_lines tokens.now.list.items number) }
 {
     if let Some(brace) = likely_brace(tokens, number) {
         lines.push(brace_line(alloc, brace.place)?)?;
@@ -84,7 +84,7 @@ fn add_brace(
 
 /// The line that says that the brace there is not closed.
 fn brace_line(alloc: Global, place: Place) -> Result<Line, Memory>
-    ensures { IfOk result (λ shown. line_seen shown ≡ line place (codes "{ is not closed")) }
+    ensures { IfOk result (λ shown. line_model shown ≡ line place (codes "{ is not closed")) }
 {
     let mut text = Vec::new(alloc);
     text.extend_from_slice(b"{ is not closed")?;

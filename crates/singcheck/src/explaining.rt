@@ -3,12 +3,12 @@
 ghost use Rattle.std.specs.Prelude.{◌≡◌, ◌<◌, ◌^◌, ◌↔◌, ◌++◌, All, Contains, IfOk, OnOk, length, map};
 ghost use Rattle.std.specs.List.Sorted.{IsStrictlySortedBy};
 ghost use Rattle.contracts.specs.Conditions.{AreExactly};
-ghost use Rattle.program.specs.Parts.{IsWhole, contract_seen};
+ghost use Rattle.program.specs.Parts.{IsWhole, contract_model};
 ghost use Rattle.reports.specs.Orders.{report_cmp};
-ghost use Rattle.rules.specs.Programs.{seen_of};
+ghost use Rattle.rules.specs.Programs.{model_of};
 ghost use Rattle.source.specs.Findings.{FindingParts, finding_parts};
-ghost use Rattle.traces.specs.Explained.{explained_seen};
-ghost use Rattle.traces.specs.declared.line.Explained.{Explained as ExplainedSeen};
+ghost use Rattle.traces.specs.Explained.{explained_model};
+ghost use Rattle.traces.specs.declared.line.Explained.{Explained as ExplainedModel};
 ghost use Rattle.singcheck.specs.Checks.{IsWrong};
 ghost use Rattle.singcheck.specs.Answers.{IsBroken};
 ghost use Rattle.singcheck.specs.Explains.{IsExplainedIn, IsShownIn, explained_bytes, explained_lines};
@@ -34,9 +34,9 @@ pub(crate) fn explain_methods(
     program: &Program,
     named: Option<Place>,
 ) -> Result<Vec<Explained>, Memory>
-    requires few { length (seen_of program.now).methods < 2 ^ 32 }
-    ensures found { IfOk result (λ found. AreExactly (IsWrong (seen_of program.now)) (map (λ e. finding_parts e.finding) found.items)) }
-    ensures each { IfOk result (λ found. All (λ e. IsExplainedIn named (seen_of program.now) (explained_seen e)) found.items) }
+    requires few { length (model_of program.now).methods < 2 ^ 32 }
+    ensures found { IfOk result (λ found. AreExactly (IsWrong (model_of program.now)) (map (λ e. finding_parts e.finding) found.items)) }
+    ensures each { IfOk result (λ found. All (λ e. IsExplainedIn named (model_of program.now) (explained_model e)) found.items) }
 {
     let (rows, seat) = table(alloc, SLOTS)?;
     let mut worker = Worker::new(alloc, seat);
@@ -57,12 +57,12 @@ pub(crate) fn explain_contracts(
     resolved: &Resolved,
     named: Option<Place>,
 ) -> Result<Vec<Explained>, Memory>
-    requires whole { All (λ c. IsWhole c.parts) (map contract_seen resolved.now.contracts.items) }
+    requires whole { All (λ c. IsWhole c.parts) (map contract_model resolved.now.contracts.items) }
     requires few { length resolved.now.contracts.items < 2 ^ 32 }
-    ensures found { IfOk result (λ found. AreExactly (IsBroken (map contract_seen resolved.now.contracts.items))
+    ensures found { IfOk result (λ found. AreExactly (IsBroken (map contract_model resolved.now.contracts.items))
         (map (λ e. finding_parts e.finding) found.items)) }
     ensures each { IfOk result (λ found.
-        All (λ e. IsShownIn named (map contract_seen resolved.now.contracts.items) (explained_seen e)) found.items) }
+        All (λ e. IsShownIn named (map contract_model resolved.now.contracts.items) (explained_model e)) found.items) }
 {
     let mut found = Vec::new(alloc);
     for number in 0..resolved.contracts.len() as u32 {
@@ -80,7 +80,7 @@ pub(crate) fn explain_contracts(
 pub(crate) fn explained_in_order(explained: Vec<Explained>) -> Result<Vec<Explained>, Memory>
     ensures same { IfOk result (λ listed. (f : FindingParts) → Contains (map (λ e. finding_parts e.finding) listed.items) f
         ↔ Contains (map (λ e. finding_parts e.finding) explained.items) f) }
-    ensures among { IfOk result (λ listed. (e : ExplainedSeen) → Contains listed.items e → Contains explained.items e) }
+    ensures among { IfOk result (λ listed. (e : ExplainedModel) → Contains listed.items e → Contains explained.items e) }
     ensures ordered { IfOk result (λ listed. IsStrictlySortedBy report_cmp (map (λ e. finding_parts e.finding) listed.items)) }
 {
     let mut listed = explained;
@@ -91,7 +91,7 @@ pub(crate) fn explained_in_order(explained: Vec<Explained>) -> Result<Vec<Explai
 
 /// A line a finding with its trace under it, as they stand, and then their number.
 pub(crate) fn explained_report(alloc: Global, listed: &[Explained]) -> Result<Vec<u8>, Memory>
-    ensures { IfOk result (λ bytes. bytes.items ≡ explained_bytes (map explained_seen listed.now)) }
+    ensures { IfOk result (λ bytes. bytes.items ≡ explained_bytes (map explained_model listed.now)) }
 {
     let mut answer = Vec::new(alloc);
     for explained in listed {
@@ -103,7 +103,7 @@ pub(crate) fn explained_report(alloc: Global, listed: &[Explained]) -> Result<Ve
 
 /// Adds the line of a finding and those of its trace.
 fn add_explained(answer: &mut Vec<u8>, explained: &Explained) -> Result<(), Memory>
-    ensures { OnOk result (answer.new.items ≡ answer.old.items ++ explained_lines (explained_seen explained.now)) }
+    ensures { OnOk result (answer.new.items ≡ answer.old.items ++ explained_lines (explained_model explained.now)) }
 {
     add_finding(answer, &explained.finding)?;
     for line in &explained.lines {

@@ -8,7 +8,7 @@ ghost use Rattle.replays.specs.Schedules.{IsSchedule};
 ghost use Rattle.source.specs.Findings.{FindingParts};
 ghost use Rattle.singcheck.specs.Answers.{Answers, AreFindings};
 ghost use Rattle.program.specs.Lists.{Each};
-ghost use Rattle.program.specs.Programs.{ProgramSeen};
+ghost use Rattle.program.specs.Programs.{ProgramModel};
 ghost use Rattle.program.specs.WellFormed.{AreWellFormed};
 ghost use Rattle.sound.specs.Premises.{AreSound};
 ghost use Rattle.wellformed.specs.Bare.{IsBare};
@@ -72,7 +72,7 @@ pub fn one_replay()
 
 /// A text comes to one program, or to none.
 pub fn one_program()
-    ensures { (text : List ℕ) (p q : ProgramSeen) → HasProgram text p → HasProgram text q → p ≡ q }
+    ensures { (text : List ℕ) (p q : ProgramModel) → HasProgram text p → HasProgram text q → p ≡ q }
 {
     one_cutting();
     one_fault();
@@ -81,7 +81,7 @@ pub fn one_program()
 
 /// A text in whose text, names or contracts something is found comes to no program.
 pub fn findings_or_program()
-    ensures { (text : List ℕ) (found : List FindingParts) (p : ProgramSeen) → AreFindings text found → HasProgram text p → ⊥ }
+    ensures { (text : List ℕ) (found : List FindingParts) (p : ProgramModel) → AreFindings text found → HasProgram text p → ⊥ }
 {
     one_cutting();
     one_fault();
@@ -91,10 +91,10 @@ pub fn findings_or_program()
 /// The program of a text is well formed (`formed`), each of its contracts is sound (`sound`), and a method of it that takes nothing has
 /// no parameter of the exchange heap (`bare`), whatever is found in its methods.
 pub fn each_program_is_well_formed()
-    ensures formed { (text : List ℕ) (p : ProgramSeen) → HasProgram text p
+    ensures formed { (text : List ℕ) (p : ProgramModel) → HasProgram text p
         → AreWellFormed p.contracts p.messages p.structs p.methods }
-    ensures sound { (text : List ℕ) (p : ProgramSeen) → HasProgram text p → AreSound p }
-    ensures bare { (text : List ℕ) (p : ProgramSeen) → HasProgram text p → Each IsBare p.methods }
+    ensures sound { (text : List ℕ) (p : ProgramModel) → HasProgram text p → AreSound p }
+    ensures bare { (text : List ℕ) (p : ProgramModel) → HasProgram text p → Each IsBare p.methods }
 {
     clean_contracts_are_whole();
     clean_methods_are_well_formed();
@@ -102,7 +102,7 @@ pub fn each_program_is_well_formed()
 
 /// The contracts of what a text comes to have bounds: it is refuted that no bounds are theirs.
 pub fn each_program_has_bounds()
-    ensures { (text : List ℕ) (p : ProgramSeen) → HasProgram text p → ((bound : Bounds) → AreBounds p bound → ⊥) → ⊥ }
+    ensures { (text : List ℕ) (p : ProgramModel) → HasProgram text p → ((bound : Bounds) → AreBounds p bound → ⊥) → ⊥ }
 {
     clean_contracts_are_whole();
     each_contract_is_judged();
@@ -126,7 +126,7 @@ pub fn each_text_is_answered()
 /// Where the entry and the events are there, the events come to something, which is printed (`ran`).
 pub fn each_replay_is_answered()
     ensures comes { (entry lines text : List ℕ) → (ComesTo entry lines text → ⊥) → ⊥ }
-    ensures ran { (entry lines text : List ℕ) (p : ProgramSeen) (n : ℕ) (events : List Event)
+    ensures ran { (entry lines text : List ℕ) (p : ProgramModel) (n : ℕ) (events : List Event)
         → HasEntry text entry p n → IsSchedule lines events
         → ((bytes : List ℕ) (status : Status) → IsRan entry lines text bytes status → ⊥) → ⊥ }
 {

@@ -3,7 +3,7 @@
 ghost use Rattle.std.specs.Prelude.{◌≡◌, ◌++◌, OnOk};
 ghost use Rattle.std.specs.Fmt.{decimal};
 ghost use Rattle.source.specs.Findings.{finding_parts};
-ghost use Rattle.traces.specs.Lines.{line_seen};
+ghost use Rattle.traces.specs.Lines.{line_model};
 ghost use Rattle.singcheck.specs.Lines.{finding_line, trace_line, count_line, bounds_line, ok_line, clear_line};
 
 use itoa::Buffer;
@@ -42,7 +42,7 @@ pub(crate) fn add_finding(answer: &mut Vec<u8>, finding: &Finding) -> Result<(),
 
 /// Adds a line of a trace: `  LINE:COL text`.
 pub(crate) fn add_line(answer: &mut Vec<u8>, line: &Line) -> Result<(), Memory>
-    ensures { OnOk result (answer.new.items ≡ answer.old.items ++ trace_line (line_seen line.now)) }
+    ensures { OnOk result (answer.new.items ≡ answer.old.items ++ trace_line (line_model line.now)) }
 {
     add(answer, "  ")?;
     add_number(answer, line.place.line as usize)?;

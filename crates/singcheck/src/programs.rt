@@ -3,7 +3,7 @@
 ghost use Rattle.std.specs.Prelude.{◌<◌, ◌^◌, All, IfOk, length};
 ghost use Rattle.tree.specs.Trees.{program_tree};
 ghost use Rattle.program.specs.Parts.{IsWhole};
-ghost use Rattle.program.specs.Programs.{contracts_seen, program_seen};
+ghost use Rattle.program.specs.Programs.{contracts_model, program_model};
 ghost use Rattle.singcheck.specs.Named.{IsBuilt, IsBuiltOf, IsNamed};
 ghost use Rattle.singcheck.specs.Stages.{IsProgramOf};
 
@@ -68,9 +68,9 @@ pub(crate) fn named_methods(alloc: Global, tree: &Tree, text: &[u8]) -> Result<N
 
 /// The stage of the contracts, of a program whose methods are resolved.
 pub(crate) fn judged_program(alloc: Global, methods: Methods) -> Result<Built, Memory>
-    requires whole { All (λ c. IsWhole c.parts) (contracts_seen methods) }
-    requires few { length (contracts_seen methods) < 2 ^ 32 }
-    ensures { IfOk result (IsBuilt (program_seen methods)) }
+    requires whole { All (λ c. IsWhole c.parts) (contracts_model methods) }
+    requires few { length (contracts_model methods) < 2 ^ 32 }
+    ensures { IfOk result (IsBuilt (program_model methods)) }
 {
     match judge_contracts(alloc, methods.contracts())? {
         Judgement::Found(findings) => Ok(Built::Broken(methods, findings)),

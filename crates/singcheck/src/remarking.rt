@@ -11,9 +11,9 @@ ghost use Rattle.tree.specs.Programs.{program};
 ghost use Rattle.tree.specs.Trees.{program_tree};
 ghost use Rattle.declarations.specs.Mistakes.{finding_in};
 ghost use Rattle.declarations.specs.Program.{program_of};
-ghost use Rattle.remarks.specs.Remarks.{remark_seen};
-ghost use Rattle.traces.specs.Explained.{explained_seen};
-ghost use Rattle.traces.specs.Lines.{line_seen};
+ghost use Rattle.remarks.specs.Remarks.{remark_model};
+ghost use Rattle.traces.specs.Explained.{explained_model};
+ghost use Rattle.traces.specs.Lines.{line_model};
 ghost use Rattle.singcheck.specs.Answers.{IsProgram};
 ghost use Rattle.singcheck.specs.Explains.{IsExplainedText};
 ghost use Rattle.singcheck.specs.Remarked.{remark_lines, remark_within, said_lines};
@@ -40,7 +40,7 @@ pub(crate) fn explain_text(
     text: &[u8],
     named: Option<Place>,
 ) -> Result<Vec<Explained>, Memory>
-    ensures { IfOk result (λ found. IsExplainedText named text.now (map explained_seen found.items)) }
+    ensures { IfOk result (λ found. IsExplainedText named text.now (map explained_model found.items)) }
 {
     match lex(alloc, text) {
         Ok(tokens) => explain_tokens(alloc, text, tokens, named),
@@ -57,7 +57,7 @@ fn explain_tokens(
 ) -> Result<Vec<Explained>, Memory>
     requires lexed { AreTokens text.now tokens.list.items }
     requires end { tokens.end ≡ place_of (body_of text.now) }
-    ensures { IfOk result (λ found. IsExplainedText named text.now (map explained_seen found.items)) }
+    ensures { IfOk result (λ found. IsExplainedText named text.now (map explained_model found.items)) }
 {
     match parse(alloc, &tokens) {
         Ok(tree) => {
@@ -78,7 +78,7 @@ fn explain_wrong(
 ) -> Result<Vec<Explained>, Memory>
     requires wrong { IsFirstWrong program tokens.now.list.items number }
     ensures { (text : List ℕ) → AreTokens text tokens.now.list.items → tokens.now.end ≡ place_of (body_of text)
-        → IfOk result (λ found. IsExplainedText named text (map explained_seen found.items)) }
+        → IfOk result (λ found. IsExplainedText named text (map explained_model found.items)) }
 {
     let mut found = Vec::new(alloc);
     match explain_at(alloc, tokens, number, named)? {
@@ -96,7 +96,7 @@ fn explain_names(
     named: Option<Place>,
 ) -> Result<Vec<Explained>, Memory>
     requires parsed { IsProgram text.now (program_tree tree.now) }
-    ensures { IfOk result (λ found. IsExplainedText named text.now (map explained_seen found.items)) }
+    ensures { IfOk result (λ found. IsExplainedText named text.now (map explained_model found.items)) }
 {
     let mistakes = mistakes_of(alloc, tree, text)?;
     let most = most_looked_for(text);
@@ -125,7 +125,7 @@ fn explain_mistake(
     within: bool,
 ) -> Result<Explained, Memory>
     ensures finding { IfOk result (λ e. finding_parts e.finding ≡ finding_in text.now mistake) }
-    ensures lines { IfOk result (λ e. map line_seen e.lines.items
+    ensures lines { IfOk result (λ e. map line_model e.lines.items
         ≡ remark_lines named e.finding.place (remark_within within (program_of text.now tree.now) mistake)) }
 {
     let finding = mistake.finding(alloc, text)?;
@@ -148,7 +148,7 @@ fn remark_within(
     mistake: Mistake,
     within: bool,
 ) -> Result<Option<Remark>, Memory>
-    ensures { IfOk result (λ said. option_map remark_seen said
+    ensures { IfOk result (λ said. option_map remark_model said
         ≡ remark_within within (program_of text.now tree.now) mistake) }
 {
     match mistake {
@@ -164,7 +164,7 @@ fn explain_fault(
     named: Option<Place>,
 ) -> Result<Vec<Explained>, Memory>
     ensures { (text : List ℕ) → (fault ≢ TextFault.Memory → IsFault text fault)
-        → IfOk result (λ found. IsExplainedText named text (map explained_seen found.items)) }
+        → IfOk result (λ found. IsExplainedText named text (map explained_model found.items)) }
 {
     let finding = fault_finding(alloc, fault)?;
     let said = fault_remark(alloc, fault)?;
@@ -181,8 +181,8 @@ fn explained_by(
     named: Option<Place>,
 ) -> Result<Explained, Memory>
     ensures finding { IfOk result (λ e. e.finding ≡ finding) }
-    ensures lines { IfOk result (λ e. map line_seen e.lines.items
-        ≡ remark_lines named e.finding.place (option_map remark_seen said)) }
+    ensures lines { IfOk result (λ e. map line_model e.lines.items
+        ≡ remark_lines named e.finding.place (option_map remark_model said)) }
 {
     let mut lines = Vec::new(alloc);
     if is_asked(named, finding.place) {
@@ -193,8 +193,8 @@ fn explained_by(
 
 /// Adds the line of a remark, if there is one.
 fn add_remark(said: Option<Remark>, lines: &mut Vec<Line>) -> Result<(), Memory>
-    ensures { OnOk result (map line_seen lines.new.items
-        ≡ map line_seen lines.old.items ++ said_lines (option_map remark_seen said)) }
+    ensures { OnOk result (map line_model lines.new.items
+        ≡ map line_model lines.old.items ++ said_lines (option_map remark_model said)) }
 {
     match said {
         Some(remark) => lines.push(Line {

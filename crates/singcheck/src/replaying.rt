@@ -2,7 +2,7 @@
 
 ghost use Rattle.std.specs.Prelude.{◌≡◌, ◌≢◌, ◌<◌, ◌⊎◌, ℕ, List, IfErr, IfOk, IfSome, IsErrOf, OnOk, OnErr, length};
 ghost use Rattle.std.specs.Io.KnownBytes.{Keeps};
-ghost use Rattle.rules.specs.Programs.{seen_of};
+ghost use Rattle.rules.specs.Programs.{model_of};
 ghost use Rattle.replays.specs.Schedules.{IsFirstMalformed, IsSchedule};
 ghost use Rattle.singcheck.specs.Entered.{IsAnswerFault, IsBegun, IsScheduledFault};
 ghost use Rattle.singcheck.specs.Replays.{HasSomeEntry, IsRan, LacksEntry, LacksSchedule, Replays, stop_status};
@@ -125,7 +125,7 @@ fn run_schedule<Q: Source>(
     begun: &Begun,
     schedule: &mut Q,
 ) -> Result<Report, RunFault>
-    requires there { begun.now.method.0 < length (seen_of begun.now.program).methods }
+    requires there { begun.now.method.0 < length (model_of begun.now.program).methods }
     ensures ran { IfOk result (λ answer. IfSome (Q.remaining schedule.old) (λ lines. (text entry : List ℕ)
         → IsBegun text entry begun.now → IsRan entry lines text answer.bytes.items answer.status)) }
     ensures line { (n : ℕ) → IsErrOf result (RunFault.Schedule n) → IfSome (Q.remaining schedule.old) (λ lines. IsFirstMalformed lines n) }
@@ -145,7 +145,7 @@ fn run_schedule<Q: Source>(
 
 /// What these events come to from there, line by line.
 fn replay_events(alloc: Global, begun: &Begun, events: &[Event]) -> Result<Report, Memory>
-    requires there { begun.now.method.0 < length (seen_of begun.now.program).methods }
+    requires there { begun.now.method.0 < length (model_of begun.now.program).methods }
     ensures { IfOk result (λ r. (text entry schedule : List ℕ) → IsBegun text entry begun.now → IsSchedule schedule events.now
         → IsRan entry schedule text r.bytes.items r.status) }
 {

@@ -2,7 +2,7 @@
 
 ghost use Rattle.std.specs.Prelude.{◌≡◌, map, length, IfOk};
 ghost use Rattle.source.specs.Findings.{finding_parts};
-ghost use Rattle.rules.specs.Programs.{seen_of};
+ghost use Rattle.rules.specs.Programs.{model_of};
 ghost use Rattle.singcheck.specs.Lines.{clear_line};
 ghost use Rattle.singcheck.specs.Reports.{IsReport, report_bytes};
 
@@ -34,7 +34,7 @@ pub(crate) fn finding_report(alloc: Global, findings: Vec<Finding>) -> Result<Re
 /// The answer to a program in which nothing is found.
 pub(crate) fn clear(alloc: Global, program: &Program) -> Result<Report, Memory>
     ensures bytes { IfOk result (λ r. r.bytes.items
-        ≡ clear_line (length (seen_of program.now).contracts) (length (seen_of program.now).methods)) }
+        ≡ clear_line (length (model_of program.now).contracts) (length (model_of program.now).methods)) }
     ensures status { IfOk result (λ r. r.status ≡ Status.Empty) }
 {
     let mut bytes = Vec::new(alloc);

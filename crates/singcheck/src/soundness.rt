@@ -1,7 +1,7 @@
 //! The stage of the contracts: each is sound, or something is wrong with it.
 
 ghost use Rattle.std.specs.Prelude.{◌≡◌, ◌++◌, ◌<◌, ◌^◌, All, IfOk, OnOk, Some, length, map, slice_get};
-ghost use Rattle.program.specs.Parts.{ContractSeen, IsWhole, contract_seen};
+ghost use Rattle.program.specs.Parts.{ContractModel, IsWhole, contract_model};
 ghost use Rattle.singcheck.specs.Stages.{IsJudgement, Judges};
 
 use contracts::{Judged, Sound, edges};
@@ -20,9 +20,9 @@ pub(crate) enum Judgement {
 
 /// The contracts that are sound, or what is wrong with the others.
 pub(crate) fn judge_contracts(alloc: Global, resolved: &Resolved) -> Result<Judgement, Memory>
-    requires whole { All (λ c. IsWhole c.parts) (map contract_seen resolved.now.contracts.items) }
+    requires whole { All (λ c. IsWhole c.parts) (map contract_model resolved.now.contracts.items) }
     requires few { length resolved.now.contracts.items < 2 ^ 32 }
-    ensures { IfOk result (IsJudgement (map contract_seen resolved.now.contracts.items)) }
+    ensures { IfOk result (IsJudgement (map contract_model resolved.now.contracts.items)) }
 {
     let mut judging = Judging {
         sounds: Vec::new(alloc),
@@ -66,9 +66,9 @@ fn judge(
     judging: &mut Judging,
 ) -> Result<(), Memory>
     requires there { id.0 < length resolved.now.contracts.items }
-    requires whole { All (λ c. IsWhole c.parts) (map contract_seen resolved.now.contracts.items) }
-    ensures { OnOk result ((c : ContractSeen)
-        → slice_get (map contract_seen resolved.now.contracts.items) id.0 ≡ Some c
+    requires whole { All (λ c. IsWhole c.parts) (map contract_model resolved.now.contracts.items) }
+    ensures { OnOk result ((c : ContractModel)
+        → slice_get (map contract_model resolved.now.contracts.items) id.0 ≡ Some c
         → Judges c judging.old judging.new) }
 {
     match Sound::judge(alloc, edges(resolved, id))? {

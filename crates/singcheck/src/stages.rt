@@ -5,7 +5,7 @@ ghost use Rattle.source.specs.Findings.{finding_parts};
 ghost use Rattle.source.specs.Marks.{body_of};
 ghost use Rattle.source.specs.Places.{place_of};
 ghost use Rattle.source.specs.Tokens.{AreTokens};
-ghost use Rattle.program.specs.Parts.{IsWhole, contract_seen};
+ghost use Rattle.program.specs.Parts.{IsWhole, contract_model};
 ghost use Rattle.singcheck.specs.Answers.{IsResolved, fault_findings, wrong_token};
 ghost use Rattle.singcheck.specs.Stages.{IsParsed, IsProgramOf, IsStaged};
 
@@ -135,10 +135,10 @@ fn staged_names(alloc: Global, text: &[u8], tree: Tree) -> Result<Staged, Memory
 
 /// The stage of the contracts.
 fn staged_contracts(alloc: Global, resolved: Resolved) -> Result<Staged, Memory>
-    requires whole { All (λ c. IsWhole c.parts) (map contract_seen resolved.contracts.items) }
+    requires whole { All (λ c. IsWhole c.parts) (map contract_model resolved.contracts.items) }
     requires few { length resolved.contracts.items < 2 ^ 32 }
     ensures { IfOk result (λ staged. (text : List ℕ)
-        → IsResolved text (map contract_seen resolved.contracts.items) → IsStaged text staged) }
+        → IsResolved text (map contract_model resolved.contracts.items) → IsStaged text staged) }
 {
     match judge_contracts(alloc, &resolved)? {
         Judgement::Found(findings) => Ok(Staged::Found(findings)),

@@ -3,7 +3,7 @@
 ghost use Rattle.std.specs.Prelude.{◌≡◌, ◌<◌, ◌^◌, ◌++◌, All, IfOk, OnOk, length, map};
 ghost use Rattle.source.specs.Findings.{finding_parts};
 ghost use Rattle.contracts.specs.Conditions.{AreExactly};
-ghost use Rattle.rules.specs.Programs.{seen_of};
+ghost use Rattle.rules.specs.Programs.{model_of};
 ghost use Rattle.pool.specs.Counts.{method_of};
 ghost use Rattle.singcheck.specs.Checks.{IsWrong};
 ghost use Rattle.singcheck.specs.Verdicts.{AddsVerdict, AreOfMethods, HasVerdict};
@@ -31,8 +31,8 @@ pub(crate) fn analyse_methods<R: Threads + Wait + Sync, G: Gate>(
     tools: &Tools<'_, R, G>,
     program: &Program,
 ) -> Result<Vec<Finding>, Memory>
-    requires few { length (seen_of program.now).methods < 2 ^ 32 }
-    ensures { IfOk result (λ found. AreExactly (IsWrong (seen_of program.now)) (map finding_parts found.items)) }
+    requires few { length (model_of program.now).methods < 2 ^ 32 }
+    ensures { IfOk result (λ found. AreExactly (IsWrong (model_of program.now)) (map finding_parts found.items)) }
 {
     threads_share_a_program();
     threads_share_rows();
@@ -65,7 +65,7 @@ fn found_in(
     done: &[Done<Result<Receipt, Verdict>>],
 ) -> Result<Vec<Finding>, Memory>
     requires each { All (λ d. HasVerdict program.now shelf.now (method_of d) d.out) done.now }
-    ensures { IfOk result (λ found. AreOfMethods (seen_of program.now) (map method_of done.now) (map finding_parts found.items)) }
+    ensures { IfOk result (λ found. AreOfMethods (model_of program.now) (map method_of done.now) (map finding_parts found.items)) }
 {
     let _ = program;
     let mut found = Vec::new(alloc);

@@ -2,11 +2,11 @@
 
 ghost use Rattle.std.specs.Prelude.{◌≡◌, ◌≢◌, ◌<◌, ◌^◌, ℕ, All, List, Option, IfErr, IfOk, IfSome, IsErrOf, OnOk, OnErr, length, map};
 ghost use Rattle.std.specs.Io.KnownBytes.{Keeps};
-ghost use Rattle.program.specs.Parts.{IsWhole, contract_seen};
-ghost use Rattle.rules.specs.Programs.{seen_of};
+ghost use Rattle.program.specs.Parts.{IsWhole, contract_model};
+ghost use Rattle.rules.specs.Programs.{model_of};
 ghost use Rattle.source.specs.Findings.{FindingParts, finding_parts};
-ghost use Rattle.source.specs.declared.place.Place.{Place as PlaceSeen};
-ghost use Rattle.traces.specs.Explained.{explained_seen};
+ghost use Rattle.source.specs.declared.place.Place.{Place as PlaceModel};
+ghost use Rattle.traces.specs.Explained.{explained_model};
 ghost use Rattle.singcheck.specs.Answers.{AreFindings};
 ghost use Rattle.singcheck.specs.Checks.{HasProgram};
 ghost use Rattle.singcheck.specs.Explains.{AreExplained, Explains};
@@ -91,8 +91,8 @@ fn why_text(
 
 /// The answer to a text with these findings, which are all that its first stage with some has, each with its lines.
 fn why_noted(alloc: Global, explained: Vec<Explained>) -> Result<Report, Memory>
-    ensures { IfOk result (λ answer. (named : Option PlaceSeen) (text : List ℕ)
-        → AreExplained named text (map explained_seen explained.items) → Explains named text answer.bytes.items answer.status) }
+    ensures { IfOk result (λ answer. (named : Option PlaceModel) (text : List ℕ)
+        → AreExplained named text (map explained_model explained.items) → Explains named text answer.bytes.items answer.status) }
 {
     let listed = explained_in_order(explained)?;
     Ok(Report {
@@ -103,10 +103,10 @@ fn why_noted(alloc: Global, explained: Vec<Explained>) -> Result<Report, Memory>
 
 /// The answer to a text whose contracts break conditions.
 fn why_contracts(alloc: Global, resolved: &Resolved, named: Option<Place>) -> Result<Report, Memory>
-    requires whole { All (λ c. IsWhole c.parts) (map contract_seen resolved.now.contracts.items) }
+    requires whole { All (λ c. IsWhole c.parts) (map contract_model resolved.now.contracts.items) }
     requires few { length resolved.now.contracts.items < 2 ^ 32 }
     ensures { IfOk result (λ answer. (text : List ℕ) (found : List FindingParts)
-        → AreBrokenOf text (map contract_seen resolved.now.contracts.items) found → Explains named text answer.bytes.items answer.status) }
+        → AreBrokenOf text (map contract_model resolved.now.contracts.items) found → Explains named text answer.bytes.items answer.status) }
 {
     let explained = explain_contracts(alloc, resolved, named)?;
     why_noted(alloc, explained)
@@ -114,8 +114,8 @@ fn why_contracts(alloc: Global, resolved: &Resolved, named: Option<Place>) -> Re
 
 /// The answer to a program with which nothing is wrong before its methods.
 fn why_methods(alloc: Global, program: &Program, named: Option<Place>) -> Result<Report, Memory>
-    requires few { length (seen_of program.now).methods < 2 ^ 32 }
-    ensures { IfOk result (λ answer. (text : List ℕ) → HasProgram text (seen_of program.now)
+    requires few { length (model_of program.now).methods < 2 ^ 32 }
+    ensures { IfOk result (λ answer. (text : List ℕ) → HasProgram text (model_of program.now)
         → Explains named text answer.bytes.items answer.status) }
 {
     let found = explain_methods(alloc, program, named)?;

@@ -4,11 +4,11 @@ use Rattle.std.proofs.Common.{sym, ap, ◌∙◌, subst, arith, ⊎_elim}
 use Rattle.std.proofs.lemmas.Bool.{cases_Bool, cases_lt, eqb-true}
 use Rattle.std.specs.Prelude.{Option, ◌||◌, if◌then◌else◌, is_some, slice_get}
 use Rattle.program.specs.Lists.{Each, is_among}
-use Rattle.program.specs.Programs.{ProgramSeen}
+use Rattle.program.specs.Programs.{ProgramModel}
 use Rattle.program.specs.WellFormed.{is_end}
 use Rattle.program.specs.declared.call.Argument.{Argument}
-use Rattle.program.specs.declared.kind.Kind.TheVariants.{Struct, Array, Endpoint}
-use Rattle.program.specs.declared.kind.Kind.{Kind}
+use Rattle.program.specs.declared.kind.HeapKind.TheVariants.{Struct, Array, Endpoint}
+use Rattle.program.specs.declared.kind.HeapKind.{HeapKind}
 use Rattle.program.specs.declared.kind.Side.{Side}
 use Rattle.contracts.specs.Leaving.{end_on}
 use Rattle.rules.specs.Endpoints.{edges_out}
@@ -36,18 +36,18 @@ use Rattle.machine.specs.Instructions.{is_own, argument_tests}
 abbrev pub ArePlain : List Block → Type 0
 ArePlain bs = (a : ℕ) → is_end (block_at bs a).kind ≡ false → (block_at bs a).queue ≡ []
 
-pub record RunFits (p : ProgramSeen) (bs : List Block) : Type 0 where
+pub record RunFits (p : ProgramModel) (bs : List Block) : Type 0 where
   pub fits : BlocksFit p bs
   pub plain : ArePlain bs
 
 -- what an event of any run comes to: blocks of which this holds, or a fault that is not F6
-abbrev pub IsFine : ProgramSeen → Outcome → Type 0
+abbrev pub IsFine : ProgramModel → Outcome → Type 0
 IsFine p (Moved v) = RunFits p v.blocks
 IsFine p (Faulty F6) = ⊥
 IsFine p _ = Unit {0}
 
 -- ---- tests
-pub one_test : (p : ProgramSeen) (b : Bool) (fault : Fault) (tests : List Test) (o : Outcome) → (b ≡ false → IsFine p (Faulty fault))
+pub one_test : (p : ProgramModel) (b : Bool) (fault : Fault) (tests : List Test) (o : Outcome) → (b ≡ false → IsFine p (Faulty fault))
     → (b ≡ true → IsFine p (tested tests o)) → IsFine p (tested (test b fault ∷ tests) o)
 one_test p true fault tests o f g = g refl
 one_test p false fault tests o f g = f refl
@@ -57,7 +57,7 @@ tested_append [] ys o = refl
 tested_append (None ∷ xs) ys o = tested_append xs ys o
 tested_append (Some fault ∷ xs) ys o = refl
 
-pub claim_fine : (p : ProgramSeen) (c : Bool) → IsFine p (Faulty (if c then F3 else F1))
+pub claim_fine : (p : ProgramModel) (c : Bool) → IsFine p (Faulty (if c then F3 else F1))
 claim_fine p true = tt
 claim_fine p false = tt
 
@@ -73,12 +73,12 @@ pub some_is : (x : Option ℕ) → is_some x ≡ true → (t : ℕ) × (x ≡ So
 some_is None e = absurd (cc)
 some_is (Some t) e = (t, refl)
 
-pub no_edges : (p : ProgramSeen) (k : Kind) (q message : ℕ) → is_end k ≡ false → end_on (edges_out p (Some k) q) message ≡ None
+pub no_edges : (p : ProgramModel) (k : HeapKind) (q message : ℕ) → is_end k ≡ false → end_on (edges_out p (Some k) q) message ≡ None
 no_edges p (Struct n) q message e = refl
 no_edges p (Array n) q message e = refl
 no_edges p (Endpoint c side state) q message e = absurd (true≢false refl e)
 
-pub end_of_kind : (k : Kind) (c : ℕ) (side : Side) → stateless k ≡ Endpoint record { 0 = c } side record { 0 = 0 } → is_end k ≡ true
+pub end_of_kind : (k : HeapKind) (c : ℕ) (side : Side) → stateless k ≡ Endpoint record { 0 = c } side record { 0 = 0 } → is_end k ≡ true
 end_of_kind (Struct n) c side e = absurd (cc)
 end_of_kind (Array n) c side e = absurd (cc)
 end_of_kind (Endpoint d s q) c side e = refl
@@ -89,7 +89,7 @@ plain_append self bs more fresh h a no_end = queue_append self bs more a fresh �
     (λ short. h a (ap (λ (b : Block). is_end b.kind) (sym (block_append bs more a short)) ∙ no_end))
     (λ past. ap (λ (b : Block). b.queue) (block_past bs a past)) (cases_lt a (length bs))
 
-module _ (p : ProgramSeen) (bound : Bounds) (w : World) (self : ℕ) (f : Frame) (rest : List Frame) (h : RunFits p w.blocks) where
+module _ (p : ProgramModel) (bound : Bounds) (w : World) (self : ℕ) (f : Frame) (rest : List Frame) (h : RunFits p w.blocks) where
   -- a variable of which the process has the block
   pub record OwnAt (x : Option ℕ) : Type 0 where
     pub at : ℕ

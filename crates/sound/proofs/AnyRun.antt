@@ -5,9 +5,9 @@ use Rattle.std.proofs.lemmas.List.{length-map}
 use Rattle.std.specs.Option.{option_map_or}
 use Rattle.std.specs.Prelude.{Option, slice_get, if◌then◌else◌, nat_lt}
 use Rattle.program.specs.Lists.{is_among}
-use Rattle.program.specs.Methods.{MethodSeen, VariableSeen}
-use Rattle.program.specs.Parts.{ContractSeen}
-use Rattle.program.specs.Programs.{ProgramSeen}
+use Rattle.program.specs.Methods.{MethodModel, VariableModel}
+use Rattle.program.specs.Parts.{ContractModel}
+use Rattle.program.specs.Programs.{ProgramModel}
 use Rattle.program.specs.WellFormed.{is_end}
 use Rattle.program.specs.declared.kind.Side.TheVariants.{Imp, Exp}
 use Rattle.program.specs.declared.kind.Side.{Side}
@@ -55,16 +55,16 @@ use Rattle.sound.proofs.Trees.{graphs_fit}
 use Rattle.machine.specs.Instructions.{is_own, argument_tests, send_tests, edge_out, value_tests, returns, event_of, exchanges}
 
 -- What is asked of an instruction, whatever is found: a new block is no endpoint, and the contract of a new channel is there.
-abbrev pub IsMadeWell : ProgramSeen → MethodSeen → Instruction → Type 0
+abbrev pub IsMadeWell : ProgramModel → MethodModel → Instruction → Type 0
 IsMadeWell p m (New v arguments next) = is_end (kind_at m.variables v.variable.0) ≡ false
-IsMadeWell p m (NewChannel c next) = (x : ContractSeen) × (slice_get p.contracts c.contract.0 ≡ Some x)
+IsMadeWell p m (NewChannel c next) = (x : ContractModel) × (slice_get p.contracts c.contract.0 ≡ Some x)
 IsMadeWell p m _ = Unit {0}
 
-pub record AreMadeWell (p : ProgramSeen) : Type 0 where
-  pub each : (n : ℕ) (m : MethodSeen) (point : ℕ) (i : Instruction) → method_at p n ≡ Some m
+pub record AreMadeWell (p : ProgramModel) : Type 0 where
+  pub each : (n : ℕ) (m : MethodModel) (point : ℕ) (i : Instruction) → method_at p n ≡ Some m
       → slice_get (graph_of m).instructions point ≡ Some i → IsMadeWell p m i
 
-module _ (p : ProgramSeen) (bound : Bounds) (w : World) (self : ℕ) (f : Frame) (rest : List Frame) (h : RunFits p w.blocks) where
+module _ (p : ProgramModel) (bound : Bounds) (w : World) (self : ℕ) (f : Frame) (rest : List Frame) (h : RunFits p w.blocks) where
   -- ---- Return
   returns_fine : (value : Option Mention) (fs : List Frame) → IsFine p (returns p bound w self f rest value fs)
   returns_fine value [] = one_test p (owns_none w.blocks self) F7 [] _ (λ e. tt) (λ e. h)
@@ -85,14 +85,14 @@ module _ (p : ProgramSeen) (bound : Bounds) (w : World) (self : ℕ) (f : Frame)
       given_counts (addresses f.variables (payloads_claimed payloads)) x
       (given_once p bound w self f rest h [] (payloads_claimed payloads) (payloads_claim payloads) given x).1
 
-  new_fits : (m : MethodSeen) (v : Mention) (arguments : List Mention) → method_at p f.method ≡ Some m
+  new_fits : (m : MethodModel) (v : Mention) (arguments : List Mention) → method_at p f.method ≡ Some m
       → is_end (kind_at m.variables v.variable.0) ≡ false → AreGiven p bound w self f rest h [] (payloads_claimed arguments)
       → RunFits p (changed (handed (Inside (length w.blocks)) (addresses f.variables (payloads_claimed arguments))) w.blocks
       ++ new_block (kind_at (variables_of p f.method) v.variable.0) self 0 0 (addresses f.variables (payloads_claimed arguments)) ∷ [])
   new_fits m v arguments there plain given =
       let xs = addresses f.variables (payloads_claimed arguments) in
       let k = kind_at (variables_of p f.method) v.variable.0 in
-      let no_end : is_end k ≡ false = ap (λ (o : Option MethodSeen). is_end
+      let no_end : is_end k ≡ false = ap (λ (o : Option MethodModel). is_end
       (kind_at (option_map_or (λ x. x.variables) o []) v.variable.0)) there ∙ plain in
       let mine = given_mine p bound w self f rest h [] (payloads_claimed arguments) given in
       record {
@@ -111,7 +111,7 @@ module _ (p : ProgramSeen) (bound : Bounds) (w : World) (self : ℕ) (f : Frame)
       exchange_fits p bound w self f rest h (address (read f.variables e.holder.variable.0)) e.field
       (address (read f.variables e.given.variable.0)) held own_at own_given apart is
 
-  channel_fits : (c : channel.Channel) (held : ContractSeen) → slice_get p.contracts c.contract.0 ≡ Some held
+  channel_fits : (c : channel.Channel) (held : ContractModel) → slice_get p.contracts c.contract.0 ≡ Some held
       → RunFits p (w.blocks ++ new_block (end_kind c Imp) self (length w.blocks + 1) (first_state p c.contract.0) []
       ∷ new_block (end_kind c Exp) self (length w.blocks) (first_state p c.contract.0) [] ∷ [])
   channel_fits c held there =
@@ -128,7 +128,7 @@ module _ (p : ProgramSeen) (bound : Bounds) (w : World) (self : ℕ) (f : Frame)
         plain = plain_append self w.blocks more fresh h.plain;
       }
 
-  module _ (always : HeldAlways) (longer : NeverLonger) (sound : IsSoundProgram p bound) (m : MethodSeen)
+  module _ (always : HeldAlways) (longer : NeverLonger) (sound : IsSoundProgram p bound) (m : MethodModel)
       (there : method_at p f.method ≡ Some m) where
     instruction_fine : (i : Instruction) (choice : ℕ) → IsMadeWell p m i → IsFine p (event_of p bound w self f rest i choice)
     instruction_fine (Use v next) choice fit =
@@ -174,9 +174,9 @@ module _ (p : ProgramSeen) (bound : Bounds) (w : World) (self : ℕ) (f : Frame)
     instruction_fine (Stop place) choice fit = returns_fine None rest
 
 -- ---- runs
-module _ (always : HeldAlways) (longer : NeverLonger) (p : ProgramSeen) (bound : Bounds) (sound : IsSoundProgram p bound)
+module _ (always : HeldAlways) (longer : NeverLonger) (p : ProgramModel) (bound : Bounds) (sound : IsSoundProgram p bound)
     (made_well : AreMadeWell p) where
-  fine_at : (w : World) (e : Event) (f : Frame) (rest : List Frame) → RunFits p w.blocks → (x : Option MethodSeen)
+  fine_at : (w : World) (e : Event) (f : Frame) (rest : List Frame) → RunFits p w.blocks → (x : Option MethodModel)
       → method_at p f.method ≡ x → IsFine p (event_at p bound w e f rest (point_instruction x f.point))
   fine_at w e f rest h None there = tt
   fine_at w e f rest h (Some m) there = by (slice_get (graph_of m).instructions f.point) refl
@@ -211,7 +211,7 @@ module _ (always : HeldAlways) (longer : NeverLonger) (p : ProgramSeen) (bound :
   run_fits m v (goes_on w u e run moved) = subst (λ (o : Outcome). IsFine p o) moved (fine w e (run_fits m w run))
 
 -- a queue is no longer than its bound
-short : NeverLonger → (p : ProgramSeen) (bound : Bounds) → IsSoundProgram p bound → (bs : List Block) → ChannelsFit p bs
+short : NeverLonger → (p : ProgramModel) (bound : Bounds) → IsSoundProgram p bound → (bs : List Block) → ChannelsFit p bs
     → (a c : ℕ) (side : Side) → IsLiveEnd bs a c side → length (block_at bs a).queue ≤ bound c side
 short longer p bound sound bs channels a c side live =
     let ch = channel_of p bs a c side channels live.there live.lives (ap stateless live.kind) in
@@ -223,9 +223,9 @@ short longer p bound sound bs channels a c side live =
     omega arith
 
 -- a graph that fits makes well
-fit_made : (p : ProgramSeen) (m : MethodSeen) (scope : Scope) (point : ℕ) (i : Instruction) → IsFit p m scope point i → IsMadeWell p m i
+fit_made : (p : ProgramModel) (m : MethodModel) (scope : Scope) (point : ℕ) (i : Instruction) → IsFit p m scope point i → IsMadeWell p m i
 fit_made p m scope point (New v arguments next) fit =
-    ap (λ (o : Option VariableSeen). is_end (option_map_or (λ x. x.kind) o no_kind)) fit.there ∙ fit.block
+    ap (λ (o : Option VariableModel). is_end (option_map_or (λ x. x.kind) o no_kind)) fit.there ∙ fit.block
 fit_made p m scope point (NewChannel c next) fit = (fit.contract, fit.contract_there)
 fit_made p m scope point (Use v next) fit = tt
 fit_made p m scope point (Move v u next) fit = tt
@@ -240,7 +240,7 @@ fit_made p m scope point (Start place method arguments next) fit = tt
 fit_made p m scope point (Return place value last) fit = tt
 fit_made p m scope point (Stop place) fit = tt
 
-made_well : (p : ProgramSeen) → AreGraphsFit p → AreMadeWell p
+made_well : (p : ProgramModel) → AreGraphsFit p → AreMadeWell p
 made_well p graphs = record {
   each = λ n m point i there at.
       let g = graphs.each n m there in
@@ -248,7 +248,7 @@ made_well p graphs = record {
 }
 
 -- in every run queues are walks, and no send passes the bound of a queue
-pub runs_are_bounded : HeldAlways → NeverLonger → (p : ProgramSeen) (bound : Bounds)
+pub runs_are_bounded : HeldAlways → NeverLonger → (p : ProgramModel) (bound : Bounds)
     → AreWellFormed p.contracts p.messages p.structs p.methods → AreSound p → AreBounds p bound
     → (n : ℕ) (w : World) → Run p bound n w → IsBounded p bound w
 runs_are_bounded always longer p bound well sound bounds n w run =

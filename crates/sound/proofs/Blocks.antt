@@ -5,11 +5,11 @@ use Rattle.std.proofs.lemmas.Bool.{cases_lt}
 use Rattle.std.proofs.lemmas.List.{length-append}
 use Rattle.std.specs.Option.{option_map_or}
 use Rattle.std.specs.Prelude.{Option, slice_get}
-use Rattle.program.specs.Methods.{MethodSeen, VariableSeen}
-use Rattle.program.specs.Programs.{ProgramSeen}
+use Rattle.program.specs.Methods.{MethodModel, VariableModel}
+use Rattle.program.specs.Programs.{ProgramModel}
 use Rattle.program.specs.WellFormed.{is_end}
-use Rattle.program.specs.declared.kind.Kind.TheVariants.{Endpoint}
-use Rattle.program.specs.declared.kind.Kind.{Kind}
+use Rattle.program.specs.declared.kind.HeapKind.TheVariants.{Endpoint}
+use Rattle.program.specs.declared.kind.HeapKind.{HeapKind}
 use Rattle.program.specs.declared.kind.Side.TheVariants.{Imp, Exp}
 use Rattle.program.specs.declared.kind.Side.{Side}
 use Rattle.contracts.specs.TwoEnds.{Ends}
@@ -44,7 +44,7 @@ end_same ends side b b' same lives h = record {
   queue = h.queue ∙ ap (λ (q : List MessageHeld). map (λ x. x.message) q) (sym (same.queue lives));
 }
 
-pub channels_same : (p : ProgramSeen) (bs bs' : List Block) → length bs ≤ length bs'
+pub channels_same : (p : ProgramModel) (bs bs' : List Block) → length bs ≤ length bs'
     → ((a : ℕ) → a < length bs → SameEnd (block_at bs a) (block_at bs' a))
     → ((a : ℕ) → length bs ≤ a → is_end (block_at bs' a).kind ≡ false) → ChannelsFit p bs → ChannelsFit p bs'
 channels_same p bs bs' more same fresh h = record {
@@ -171,7 +171,7 @@ kept_append bs more P a some within = record {
 }
 
 -- fields stay where blocks are added
-pub same_append : (p : ProgramSeen) (bs more : List Block) → SameFields p bs (bs ++ more)
+pub same_append : (p : ProgramModel) (bs more : List Block) → SameFields p bs (bs ++ more)
 same_append p bs more = record {
   cut = cut_append bs more;
   kept = kept_append bs more (LiesInside bs);
@@ -180,7 +180,7 @@ same_append p bs more = record {
   fields = λ a short l. ap (λ (b : Block). b.fields) (block_append bs more a short);
 }
 
-pub brought_append : (p : ProgramSeen) (self : ℕ) (bs more : List Block) (a : ℕ) → AreFresh self more
+pub brought_append : (p : ProgramModel) (self : ℕ) (bs more : List Block) (a : ℕ) → AreFresh self more
     → AreBrought p bs (block_at bs a).queue → AreBrought p (bs ++ more) (block_at (bs ++ more) a).queue
 brought_append p self bs more a fresh h =
     subst (λ (q : List MessageHeld). AreBrought p (bs ++ more) q) (sym (queue_append self bs more a fresh))
@@ -206,7 +206,7 @@ new_counts self (x ∷ bs) b (suc a) own =
     let k = new_counts self bs b a own in
     omega arith
 
-pub fresh_one : (self : ℕ) (k : Kind) (fields : List ℕ) → AreFresh self (new_block k self 0 0 fields ∷ [])
+pub fresh_one : (self : ℕ) (k : HeapKind) (fields : List ℕ) → AreFresh self (new_block k self 0 0 fields ∷ [])
 fresh_one self k fields = record { queue = queue; no_queue = no_queue; theirs = theirs }
   where
     queue : (n : ℕ) → (block_at (new_block k self 0 0 fields ∷ []) n).queue ≡ []
@@ -228,14 +228,14 @@ new_kind (x ∷ bs) b zero past e = absurd (omega arith)
 new_kind (x ∷ bs) b (suc a) past e = let short : length bs ≤ a = omega arith in new_kind bs b a short e
 
 -- a block behind the others that is no end
-pub channels_new : (p : ProgramSeen) (bs : List Block) (b : Block) → is_end b.kind ≡ false → ChannelsFit p bs → ChannelsFit p (bs ++ b ∷ [])
+pub channels_new : (p : ProgramModel) (bs : List Block) (b : Block) → is_end b.kind ≡ false → ChannelsFit p bs → ChannelsFit p (bs ++ b ∷ [])
 channels_new p bs b plain h =
     channels_same p bs (bs ++ b ∷ []) (simp length-append (omega arith))
     (λ a within. same_end (block_at bs a) (block_at (bs ++ b ∷ []) a) (block_append bs (b ∷ []) a within))
     (λ a past. new_kind bs b a past plain) h
 
-pub kind_of_variable : (p : ProgramSeen) (n : ℕ) (m : MethodSeen) (v : ℕ) (x : VariableSeen) → method_at p n ≡ Some m
+pub kind_of_variable : (p : ProgramModel) (n : ℕ) (m : MethodModel) (v : ℕ) (x : VariableModel) → method_at p n ≡ Some m
     → slice_get m.variables v ≡ Some x → kind_at (variables_of p n) v ≡ x.kind
 kind_of_variable p n m v x there at =
-    ap (λ (o : Option MethodSeen). kind_at (option_map_or (λ y. y.variables) o []) v) there
-    ∙ ap (λ (o : Option VariableSeen). option_map_or (λ y. y.kind) o no_kind) at
+    ap (λ (o : Option MethodModel). kind_at (option_map_or (λ y. y.variables) o []) v) there
+    ∙ ap (λ (o : Option VariableModel). option_map_or (λ y. y.kind) o no_kind) at

@@ -5,8 +5,8 @@ use Rattle.std.specs.Coded.{le_prop}
 use Rattle.std.proofs.Math.Logic.{∥∥₁_elim}
 use Rattle.std.proofs.Math.Nat.{ℕ_set}
 use Rattle.std.proofs.lemmas.Bool.{cases_eq}
-use Rattle.program.specs.Parts.{ContractSeen, IsWhole, Parts, message_ids, state_ids}
-use Rattle.program.specs.Programs.{ProgramSeen}
+use Rattle.program.specs.Parts.{ContractModel, IsWhole, Parts, message_ids, state_ids}
+use Rattle.program.specs.Programs.{ProgramModel}
 use Rattle.program.specs.declared.number.MessageId.{MessageId}
 use Rattle.program.specs.declared.number.StateId.{StateId}
 use Rattle.contracts.specs.Conditions.{IsSound}
@@ -66,8 +66,8 @@ whole_of parts t = record {
 }
 
 -- a contract of a program, where each has a sound one of its parts
-sound_at : (sounds : List Sound) (contracts : List ContractSeen) (n : ℕ) (c : ContractSeen)
-    → map sound_parts sounds ≡ map (λ (x : ContractSeen). x.parts) contracts → slice_get contracts n ≡ Some c
+sound_at : (sounds : List Sound) (contracts : List ContractModel) (n : ℕ) (c : ContractModel)
+    → map sound_parts sounds ≡ map (λ (x : ContractModel). x.parts) contracts → slice_get contracts n ≡ Some c
     → ∥ IsWhole c.parts ∥₁ × IsSound c.parts
 sound_at [] [] n c same there = absurd (cc)
 sound_at [] (d ∷ contracts) n c same there = absurd (cc)
@@ -75,10 +75,10 @@ sound_at (s ∷ sounds) [] n c same there = absurd (cc)
 sound_at (s ∷ sounds) (d ∷ contracts) zero c same there =
     let head : sound_parts s ≡ d.parts = cc in
     let here : d ≡ c = cc in
-    subst (λ (parts : Parts). ∥ IsWhole parts ∥₁ × IsSound parts) (head ∙ ap (λ (x : ContractSeen). x.parts) here) (s.whole, s.sound)
+    subst (λ (parts : Parts). ∥ IsWhole parts ∥₁ × IsSound parts) (head ∙ ap (λ (x : ContractModel). x.parts) here) (s.whole, s.sound)
 sound_at (s ∷ sounds) (d ∷ contracts) (suc n) c same there = sound_at sounds contracts n c (cc) there
 
-pub all_sound : (p : ProgramSeen) (sounds : List Sound) → map sound_parts sounds ≡ map (λ (x : ContractSeen). x.parts) p.contracts
+pub all_sound : (p : ProgramModel) (sounds : List Sound) → map sound_parts sounds ≡ map (λ (x : ContractModel). x.parts) p.contracts
     → AreSound p
 all_sound p sounds same = record {
   whole = λ n c there. (sound_at sounds p.contracts n c same there).0;
@@ -86,7 +86,7 @@ all_sound p sounds same = record {
 }
 
 -- what is asked of contracts, as the proofs have it
-pub sound_program : (p : ProgramSeen) (bound : Bounds) → AreSound p → AreBounds p bound → IsSoundProgram p bound
+pub sound_program : (p : ProgramModel) (bound : Bounds) → AreSound p → AreBounds p bound → IsSoundProgram p bound
 sound_program p bound sound bounds = record {
   whole = λ n c there. whole_of c.parts (sound.whole n c there);
   sound = sound.sound;

@@ -3,8 +3,8 @@ use Rattle.std.proofs.Common.{◌≡◌, ◌≢◌, ◌==◌, ◌&&◌, ℕ, ◌
 use Rattle.std.proofs.Common.{◌∙◌, subst, arith, inl, inr, ⊎_elim, set}
 use Rattle.std.proofs.lemmas.Bool.{cases_Bool, cases_eq}
 use Rattle.std.specs.Prelude.{Option, ◌⊎◌, if◌then◌else◌}
-use Rattle.program.specs.Methods.{MethodSeen}
-use Rattle.program.specs.Programs.{ProgramSeen}
+use Rattle.program.specs.Methods.{MethodModel}
+use Rattle.program.specs.Programs.{ProgramModel}
 use Rattle.program.specs.WellFormed.{is_end}
 use Rattle.program.specs.declared.statement.Mention.{Mention}
 use Rattle.flow.specs.Graphs.{Delete}
@@ -77,7 +77,7 @@ then_queue goes c (Inside n) e = refl
 then_queue goes c Channel e = refl
 then_queue goes c Freed e = refl
 
-module _ (p : ProgramSeen) (w : World) (self : ℕ) (h : BlocksFit p w.blocks) (a : ℕ) (owned : owns w.blocks self a ≡ true) where
+module _ (p : ProgramModel) (w : World) (self : ℕ) (h : BlocksFit p w.blocks) (a : ℕ) (owned : owns w.blocks self a ≡ true) where
   abbrev pub goes : ℕ → Bool
   goes = goes_with w.blocks a
 
@@ -216,7 +216,7 @@ module _ (p : ProgramSeen) (w : World) (self : ℕ) (h : BlocksFit p w.blocks) (
           (λ f. ap (λ (b : Bool). not b && owns w.blocks self j) f) (cases_Bool (goes j))) in
           omega arith
 
-pub good_delete : (p : ProgramSeen) (bound : Bounds) (w : World) (self choice : ℕ) (f : Frame) (rest : List Frame) (m : MethodSeen)
+pub good_delete : (p : ProgramModel) (bound : Bounds) (w : World) (self choice : ℕ) (f : Frame) (rest : List Frame) (m : MethodModel)
     (v : Mention) (next : ℕ)
     → Here p w self f rest m (Delete v next) → IsGood p w (event_of p bound w self f rest (Delete v next) choice)
 good_delete p bound w self choice f rest m v next h =

@@ -3,9 +3,9 @@ use Rattle.std.proofs.Common.{◌≡◌, ◌≢◌, ◌==◌, ℕ, zero, suc, �
 use Rattle.std.proofs.Common.{arith, inl, inr, ⊎_elim, set}
 use Rattle.std.proofs.lemmas.Bool.{cases_eq}
 use Rattle.std.specs.Prelude.{Option, ◌⊎◌, slice_get}
-use Rattle.program.specs.Programs.{ProgramSeen}
+use Rattle.program.specs.Programs.{ProgramModel}
 use Rattle.program.specs.WellFormed.{field_kinds, is_end}
-use Rattle.program.specs.declared.kind.Kind.{Kind}
+use Rattle.program.specs.declared.kind.HeapKind.{HeapKind}
 use Rattle.machine.specs.Blocks.{exchanged_block}
 use Rattle.machine.specs.Heaps.{IsHeld}
 use Rattle.machine.specs.World.{Block, MessageHeld, World, block_at, changed, freed, is_empty, is_freed, is_process, is_queue, owns, read}
@@ -23,26 +23,26 @@ use Rattle.sound.proofs.SentBlocks.{process_not_freed}
 use Rattle.rules.specs.Endpoints.{declared_leaf}
 
 -- addresses are still as declared where one of them is another that is declared so too
-declared_set : (bs : List Block) (kinds : List Kind) (xs : List ℕ) (i x : ℕ) (k : Kind) → slice_get kinds i ≡ Some k
+declared_set : (bs : List Block) (kinds : List HeapKind) (xs : List ℕ) (i x : ℕ) (k : HeapKind) → slice_get kinds i ≡ Some k
     → HasLeaf bs k x (declared_leaf k) → AreDeclared bs kinds xs → AreDeclared bs kinds (set xs i x)
 declared_set bs [] xs i x k e leaf h = absurd (cc)
 declared_set bs (y ∷ kinds) [] i x k e leaf h = absurd h
 declared_set bs (y ∷ kinds) (z ∷ xs) zero x k e leaf h =
     let s : y ≡ k = cc in
-    (subst (λ (t : Kind). HasLeaf bs t x (declared_leaf t)) (sym s) leaf, h.1)
+    (subst (λ (t : HeapKind). HasLeaf bs t x (declared_leaf t)) (sym s) leaf, h.1)
 declared_set bs (y ∷ kinds) (z ∷ xs) (suc i) x k e leaf h = (h.0, declared_set bs kinds xs i x k e leaf h.1)
 
 -- how one of them is declared
-pub declared_get : (bs : List Block) (kinds : List Kind) (xs : List ℕ) (i : ℕ) (k : Kind) → slice_get kinds i ≡ Some k
+pub declared_get : (bs : List Block) (kinds : List HeapKind) (xs : List ℕ) (i : ℕ) (k : HeapKind) → slice_get kinds i ≡ Some k
     → AreDeclared bs kinds xs → (x : ℕ) × (slice_get xs i ≡ Some x) × HasLeaf bs k x (declared_leaf k)
 declared_get bs [] xs i k e h = absurd (cc)
 declared_get bs (y ∷ kinds) [] i k e h = absurd h
 declared_get bs (y ∷ kinds) (z ∷ xs) zero k e h =
     let s : y ≡ k = cc in
-    (z, refl, subst (λ (t : Kind). HasLeaf bs t z (declared_leaf t)) s h.0)
+    (z, refl, subst (λ (t : HeapKind). HasLeaf bs t z (declared_leaf t)) s h.0)
 declared_get bs (y ∷ kinds) (z ∷ xs) (suc i) k e h = declared_get bs kinds xs i k e h.1
 
-module _ (p : ProgramSeen) (w : World) (self : ℕ) (h : BlocksFit p w.blocks) (at field given held : ℕ)
+module _ (p : ProgramModel) (w : World) (self : ℕ) (h : BlocksFit p w.blocks) (at field given held : ℕ)
     (owned_at : owns w.blocks self at ≡ true) (owned_given : owns w.blocks self given ≡ true) (apart : given ≢ at)
     (found : slice_get (block_at w.blocks at).fields field ≡ Some held) where
   abbrev pub bs' : List Block
@@ -135,11 +135,11 @@ module _ (p : ProgramSeen) (w : World) (self : ℕ) (h : BlocksFit p w.blocks) (
   old_declared were a short lives = declared_kept w.blocks bs' (field_kinds p.structs (block_at w.blocks a).kind)
       (block_at w.blocks a).fields cut_now (kept_now _) (were a short (sym (freed_now a) ∙ lives))
 
-  pub declared_now : (k : Kind) → slice_get (field_kinds p.structs (block_at w.blocks at).kind) field ≡ Some k
+  pub declared_now : (k : HeapKind) → slice_get (field_kinds p.structs (block_at w.blocks at).kind) field ≡ Some k
       → HasLeaf bs' k given (declared_leaf k) → FieldsDeclared p w.blocks → FieldsDeclared p bs'
   declared_now k is leaf were a within lives =
       let short : a < length w.blocks = let e = long in omega arith in
-      subst (λ (t : Kind). AreDeclared bs' (field_kinds p.structs t) (block_at bs' a).fields) (sym (kind_now a))
+      subst (λ (t : HeapKind). AreDeclared bs' (field_kinds p.structs t) (block_at bs' a).fields) (sym (kind_now a))
       (⊎_elim
       (λ e. subst (λ (xs : List ℕ). AreDeclared bs' (field_kinds p.structs (block_at w.blocks a).kind) xs)
       (sym (held_exchange.fields_at w.blocks self at field given held h.held owned_at owned_given apart found a e))

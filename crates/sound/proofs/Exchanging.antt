@@ -1,11 +1,11 @@
 -- Exchange: a field and a variable change places.
 use Rattle.std.proofs.Common.{◌≡◌, ◌≢◌, ◌==◌, ◌&&◌, ℕ, ◌<◌, Bool, true, false, not, List, [], ◌∷◌, Some, refl, sym, ap, ◌∙◌, subst, set}
 use Rattle.std.specs.Prelude.{Option, ◌||◌, slice_get}
-use Rattle.program.specs.Methods.{MethodSeen, VariableSeen}
-use Rattle.program.specs.Programs.{ProgramSeen}
+use Rattle.program.specs.Methods.{MethodModel, VariableModel}
+use Rattle.program.specs.Programs.{ProgramModel}
 use Rattle.program.specs.WellFormed.{field_kinds}
-use Rattle.program.specs.declared.kind.Kind.{Kind}
-use Rattle.program.specs.declared.kind.Kind.TheVariants.{Struct, Array, Endpoint}
+use Rattle.program.specs.declared.kind.HeapKind.{HeapKind}
+use Rattle.program.specs.declared.kind.HeapKind.TheVariants.{Struct, Array, Endpoint}
 use Rattle.program.specs.declared.statement.Exchange as stated
 use Rattle.flow.specs.Graphs.{Exchange}
 use Rattle.rules.specs.Arguments.{field_checks, payload}
@@ -35,9 +35,9 @@ use Rattle.sound.proofs.SentBlocks.{process_not_freed}
 use Rattle.machine.specs.Instructions.{event_of, exchanges, is_own}
 
 -- the state of a kind says nothing of fields
-fields_stateless : (p : ProgramSeen) (j k : Kind) → stateless j ≡ stateless k
+fields_stateless : (p : ProgramModel) (j k : HeapKind) → stateless j ≡ stateless k
     → field_kinds p.structs j ≡ field_kinds p.structs k
-fields_stateless p (Struct a) (Struct b) e = ap (λ (k : Kind). field_kinds p.structs k) e
+fields_stateless p (Struct a) (Struct b) e = ap (λ (k : HeapKind). field_kinds p.structs k) e
 fields_stateless p (Struct a) (Array t) e = absurd (cc)
 fields_stateless p (Struct a) (Endpoint c s q) e = absurd (cc)
 fields_stateless p (Array t) (Struct a) e = absurd (cc)
@@ -59,7 +59,7 @@ still_holds bs self taken x owned apart =
     and_one true = refl
     and_one false = refl
 
-pub good_exchange : (p : ProgramSeen) (bound : Bounds) (w : World) (self choice : ℕ) (f : Frame) (rest : List Frame) (m : MethodSeen)
+pub good_exchange : (p : ProgramModel) (bound : Bounds) (w : World) (self choice : ℕ) (f : Frame) (rest : List Frame) (m : MethodModel)
     (e : stated.Exchange) (next : ℕ) → Here p w self f rest m (Exchange e next)
     → ((h : IsGraphFit p m) → IsExchangeFit p m h.scope f.point e next)
     → IsGood p w (event_of p bound w self f rest (Exchange e next) choice)
@@ -73,7 +73,7 @@ good_exchange p bound w self choice f rest m e next h fit =
     let row' = set h.row xv (declared_leaf k) in
     let checks = is_another m e.holder e.given ∷ has_something m h.row e.holder ∷ field_checks m h.row k (payload e.given) in
     let passed = all_pass checks ((next, row') ∷ []) (λ finding q. h.passes finding
-    (ap (λ (o : Option Kind). exchanged p m h.row e next o) kind_is ∙ q)) in
+    (ap (λ (o : Option HeapKind). exchanged p m h.row e next o) kind_is ∙ q)) in
     let other = not_refused (hv == xv) _ passed.0 in
     let h_owned = not_false (is_owned h.row hv) (not_refused (not (is_owned h.row hv)) _ passed.1.0) in
     let x_own = not_refused (is_lent m xv) _ passed.1.1.0 in
@@ -91,9 +91,9 @@ good_exchange p bound w self choice f rest m e next h fit =
     (x.is ∙ ap Some s))) other in
     let kinds_same : field_kinds p.structs (block_at w.blocks a).kind ≡ field_kinds p.structs g.holder.kind =
     fields_stateless p (block_at w.blocks a).kind o.variable.kind o.leaf.kind
-    ∙ ap (λ (v : VariableSeen). field_kinds p.structs v.kind) (some_same o.variable g.holder (sym o.there ∙ g.holder_there)) in
+    ∙ ap (λ (v : VariableModel). field_kinds p.structs v.kind) (some_same o.variable g.holder (sym o.there ∙ g.holder_there)) in
     let is : slice_get (field_kinds p.structs (block_at w.blocks a).kind) e.field ≡ Some k =
-    ap (λ (kinds : List Kind). slice_get kinds e.field) kinds_same ∙ g.field_there in
+    ap (λ (kinds : List HeapKind). slice_get kinds e.field) kinds_same ∙ g.field_there in
     let got = declared_get w.blocks (field_kinds p.structs (block_at w.blocks a).kind) (block_at w.blocks a).fields e.field k is
     (h.holds.declared a o.leaf.there (process_not_freed (block_at w.blocks a).owner self o.owned)) in
     let held = got.0 in
@@ -108,10 +108,10 @@ good_exchange p bound w self choice f rest m e next h fit =
     let fits' = row_set bs m.variables vs h.row xv (Some held) (declared_leaf k)
     (row_kept w.blocks bs m.variables vs h.row cut (kept (λ j. 0 < standing j vs)) h.fits)
     (λ y there. fits_kind bs k y.kind (Some held) (declared_leaf k)
-    (sym (ap (λ (z : VariableSeen). stateless z.kind) (some_same y g.given.variable (sym there ∙ g.given.there)) ∙ g.given.kind))
+    (sym (ap (λ (z : VariableModel). stateless z.kind) (some_same y g.given.variable (sym there ∙ g.given.there)) ∙ g.given.kind))
     held_leaf) in
     let reached = h.onward ((next, row') ∷ []) (next, row')
-    (ap (λ (o : Option Kind). exchanged p m h.row e next o) kind_is ∙ passed_goes checks ((next, row') ∷ []) passed)
+    (ap (λ (o : Option HeapKind). exchanged p m h.row e next o) kind_is ∙ passed_goes checks ((next, row') ∷ []) passed)
     (contains_first (next, row') []) in
     let tests = test (is_own p bound w self f rest (read vs hv)) F1
     ∷ test (is_own_still w.blocks self (address (read vs hv) ∷ []) (read vs xv)) F3 ∷ [] in

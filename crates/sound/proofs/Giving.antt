@@ -6,9 +6,9 @@ use Rattle.std.specs.Prelude.{Option, ◌||◌, if◌then◌else◌}
 use Rattle.source.specs.Findings.{FindingParts}
 use Rattle.source.specs.declared.place.Place.{Place}
 use Rattle.program.specs.Lists.{Each, is_among}
-use Rattle.program.specs.Methods.{MethodSeen, VariableSeen}
+use Rattle.program.specs.Methods.{MethodModel, VariableModel}
 use Rattle.program.specs.declared.call.Argument.{Argument}
-use Rattle.program.specs.declared.kind.Kind.{Kind}
+use Rattle.program.specs.declared.kind.HeapKind.{HeapKind}
 use Rattle.program.specs.declared.statement.Mention.{Mention}
 use Rattle.rules.specs.Arguments.{payload}
 use Rattle.rules.specs.Endpoints.{declared_leaf, is_wrong}
@@ -32,7 +32,7 @@ abbrev pub given : List (Option ℕ) → List Argument → List ℕ
 given vs arguments = addresses vs arguments
 
 -- an address that is given stands in a variable of an argument
-pub given_some : (bs : List Block) (vs : List (Option ℕ)) (row : List Leaf) (kinds : List Kind) (arguments : List Argument) (a : ℕ)
+pub given_some : (bs : List Block) (vs : List (Option ℕ)) (row : List Leaf) (kinds : List HeapKind) (arguments : List Argument) (a : ℕ)
     → ArgsFit bs vs row kinds arguments → standing_in a (given vs arguments) ≡ standing_of a vs arguments
 given_some bs vs row [] [] a fit = refl
 given_some bs vs row [] (b ∷ arguments) a fit = absurd fit
@@ -73,7 +73,7 @@ all_claims_of a vs (b ∷ arguments) h =
     ∙ ap (λ (n : ℕ). one_at a (read vs (number b)) + n) (all_claims_of a vs arguments h.1)
 
 -- what is given leaves the variables
-pub given_leaves : (a : ℕ) (bs : List Block) (vs : List (Option ℕ)) (row : List Leaf) (kinds : List Kind) (arguments : List Argument)
+pub given_leaves : (a : ℕ) (bs : List Block) (vs : List (Option ℕ)) (row : List Leaf) (kinds : List HeapKind) (arguments : List Argument)
     → ArgsFit bs vs row kinds arguments → PairApart arguments → Each (λ b. b.claimed ≡ true) arguments → standing a vs ≤ 1
     → (standing a (let_go vs arguments) + one_if (is_among (given vs arguments) a) ≡ standing a vs)
     × (standing_in a (given vs arguments) ≡ one_if (is_among (given vs arguments) a))
@@ -86,8 +86,8 @@ given_leaves a bs vs row kinds arguments fit apart claims once =
     (omega arith, four)
 
 -- what goes into a message or the fields of a block, as arguments
-pub taken_fit : (m : MethodSeen) (bs : List Block) (vs : List (Option ℕ)) (row : List Leaf) (wrong : List ℕ → Place → FindingParts)
-    (kinds : List Kind) (given : List Mention) → RowFits bs m.variables vs row
+pub taken_fit : (m : MethodModel) (bs : List Block) (vs : List (Option ℕ)) (row : List Leaf) (wrong : List ℕ → Place → FindingParts)
+    (kinds : List HeapKind) (given : List Mention) → RowFits bs m.variables vs row
     → AreOfKinds m.variables kinds (map (λ x. x.variable.0) given) → Passed (each_taken m row wrong kinds given)
     → ArgsFit bs vs row kinds (payloads_claimed given)
 taken_fit m bs vs row wrong [] [] fits are h = tt
@@ -101,8 +101,8 @@ taken_fit m bs vs row wrong (k ∷ kinds) (x ∷ given) fits are h = (
 )
 
 -- none of it is lent
-pub taken_own : (m : MethodSeen) (row : List Leaf) (wrong : List ℕ → Place → FindingParts) (variables : List VariableSeen)
-    (kinds : List Kind) (given : List Mention) → AreOfKinds variables kinds (map (λ x. x.variable.0) given)
+pub taken_own : (m : MethodModel) (row : List Leaf) (wrong : List ℕ → Place → FindingParts) (variables : List VariableModel)
+    (kinds : List HeapKind) (given : List Mention) → AreOfKinds variables kinds (map (λ x. x.variable.0) given)
     → Passed (each_taken m row wrong kinds given)
     → Each (λ a. a.claimed ≡ true → is_lent m (number a) ≡ false) (payloads_claimed given)
 taken_own m row wrong variables [] [] are h = tt
@@ -116,7 +116,7 @@ payloads_claim [] = tt
 payloads_claim (x ∷ payloads) = (refl, payloads_claim payloads)
 
 -- what is given, where its blocks are kept, is as it was declared
-pub given_declared : (bs bs' : List Block) (vs : List (Option ℕ)) (row : List Leaf) (kinds : List Kind) (arguments : List Argument)
+pub given_declared : (bs bs' : List Block) (vs : List (Option ℕ)) (row : List Leaf) (kinds : List HeapKind) (arguments : List Argument)
     → StaysCutOff bs bs' → ArgsFit bs vs row kinds arguments
     → ((a : ℕ) → is_among (given vs arguments) a ≡ true → a < length bs → IsKept bs bs' a) → AreDeclared bs' kinds (given vs arguments)
 given_declared bs bs' vs row [] [] cut fit kept = tt
@@ -134,7 +134,7 @@ given_declared bs bs' vs row (k ∷ kinds) (a ∷ arguments) cut fit kept =
     )
 
 -- what is given is the process's own
-pub given_own : (bs : List Block) (self : ℕ) (vs : List (Option ℕ)) (row : List Leaf) (kinds : List Kind) (arguments : List Argument)
+pub given_own : (bs : List Block) (self : ℕ) (vs : List (Option ℕ)) (row : List Leaf) (kinds : List HeapKind) (arguments : List Argument)
     (a : ℕ) → ArgsFit bs vs row kinds arguments → ((y v : ℕ) → read vs v ≡ Some y → owns bs self y ≡ true)
     → is_among (given vs arguments) a ≡ true → owns bs self a ≡ true
 given_own bs self vs row [] [] a fit own h = absurd (cc)
@@ -146,7 +146,7 @@ given_own bs self vs row (k ∷ kinds) (b ∷ arguments) a fit own h = ⊎_elim
     (cases_Bool (address (read vs (number b)) == a))
 
 -- an address that a variable has that is no argument is not given
-pub not_given : (bs : List Block) (vs : List (Option ℕ)) (row : List Leaf) (kinds : List Kind) (arguments : List Argument) (v a : ℕ)
+pub not_given : (bs : List Block) (vs : List (Option ℕ)) (row : List Leaf) (kinds : List HeapKind) (arguments : List Argument) (v a : ℕ)
     → ArgsFit bs vs row kinds arguments → standing a vs ≤ 1 → read vs v ≡ Some a → Each (λ b. number b ≢ v) arguments
     → is_among (given vs arguments) a ≡ false
 not_given bs vs row [] [] v a fit once is apart = refl

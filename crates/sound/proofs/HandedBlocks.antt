@@ -2,7 +2,7 @@
 use Rattle.std.proofs.Common.{◌≡◌, ℕ, ◌<◌, Bool, true, false, List, length, refl, sym, ap, ◌∙◌, subst, arith, inl}
 use Rattle.std.specs.Prelude.{if◌then◌else◌}
 use Rattle.program.specs.Lists.{is_among}
-use Rattle.program.specs.Programs.{ProgramSeen}
+use Rattle.program.specs.Programs.{ProgramModel}
 use Rattle.program.specs.WellFormed.{is_end}
 use Rattle.machine.specs.Blocks.{handed}
 use Rattle.machine.specs.Heaps.{IsHeld}
@@ -16,7 +16,7 @@ use Rattle.sound.proofs.Blocks.{channels_same}
 use Rattle.sound.proofs.Invariant.{one_if, in_queue, AreBrought, BlocksFit, ChannelsFit, StaysCutOff}
 use Rattle.sound.proofs.SentBlocks.{process_not_freed}
 
-module _ (p : ProgramSeen) (bs bs' : List Block) (self : ℕ) (given : List ℕ) (to : Owner) (h : BlocksFit p bs)
+module _ (p : ProgramModel) (bs bs' : List Block) (self : ℕ) (given : List ℕ) (to : Owner) (h : BlocksFit p bs)
     (mine : (x : ℕ) → is_among given x ≡ true → owns bs self x ≡ true) (lives : is_freed to ≡ false)
     (no_queue : (a : ℕ) → is_queue to a ≡ false)
     (long : length bs' ≡ length bs) (at : (j : ℕ) → block_at bs' j ≡ handed to given j (block_at bs j)) where

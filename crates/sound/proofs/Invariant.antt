@@ -3,13 +3,13 @@ use Rattle.std.proofs.Common.{◌≡◌, ◌==◌, ℕ, ◌+◌, ◌<◌, ◌≤
 use Rattle.std.specs.Prelude.{Option, ◌⊎◌, slice_get}
 use Rattle.source.specs.declared.place.Place.{Place}
 use Rattle.program.specs.Lists.{Each}
-use Rattle.program.specs.Methods.{MethodSeen, VariableSeen}
-use Rattle.program.specs.Parts.{ContractSeen}
-use Rattle.program.specs.Programs.{ProgramSeen}
+use Rattle.program.specs.Methods.{MethodModel, VariableModel}
+use Rattle.program.specs.Parts.{ContractModel}
+use Rattle.program.specs.Programs.{ProgramModel}
 use Rattle.program.specs.WellFormed.{field_kinds, is_end}
 use Rattle.program.specs.declared.call.Argument.{Argument}
-use Rattle.program.specs.declared.kind.Kind.TheVariants.{Endpoint}
-use Rattle.program.specs.declared.kind.Kind.{Kind}
+use Rattle.program.specs.declared.kind.HeapKind.TheVariants.{Endpoint}
+use Rattle.program.specs.declared.kind.HeapKind.{HeapKind}
 use Rattle.program.specs.declared.kind.Side.TheVariants.{Imp, Exp}
 use Rattle.program.specs.declared.kind.Side.{Side}
 use Rattle.program.specs.declared.method.Role.TheVariants as role
@@ -38,26 +38,26 @@ use Rattle.machine.specs.World.{MessageHeld, Block, Frame, World, block_at, stac
 use Rattle.sound.specs.Operands.{stateless}
 
 -- ---- what a leaf says of an address
-abbrev pub IsOn : List Block → Kind → ℕ → Leaf → Type 0
+abbrev pub IsOn : List Block → HeapKind → ℕ → Leaf → Type 0
 IsOn bs k a leaf.Nothing = ⊥
 IsOn bs k a leaf.Block = is_end k ≡ false
 IsOn bs k a leaf.CutOff = (is_end k ≡ true) × (cut_off bs a ≡ true)
 IsOn bs k a (leaf.State q) = (is_end k ≡ true) × (((block_at bs a).state ≡ q) ⊎ (cut_off bs a ≡ true))
 
-pub record HasLeaf (bs : List Block) (k : Kind) (a : ℕ) (l : Leaf) : Type 0 where
+pub record HasLeaf (bs : List Block) (k : HeapKind) (a : ℕ) (l : Leaf) : Type 0 where
   pub there : a < length bs
   pub kind : stateless (block_at bs a).kind ≡ stateless k
   pub state : IsOn bs k a l
 
 -- none, and nothing; or an address of which the leaf holds
-abbrev pub LeafFits : List Block → Kind → Option ℕ → Leaf → Type 0
+abbrev pub LeafFits : List Block → HeapKind → Option ℕ → Leaf → Type 0
 LeafFits bs k None l = l ≡ leaf.Nothing
 LeafFits bs k (Some a) l = HasLeaf bs k a l
 
-pub record RowFits (bs : List Block) (variables : List VariableSeen) (vs : List (Option ℕ)) (row : List Leaf) : Type 0 where
+pub record RowFits (bs : List Block) (variables : List VariableModel) (vs : List (Option ℕ)) (row : List Leaf) : Type 0 where
   pub long : length vs ≡ length variables
   pub row_long : length row ≡ length variables
-  pub each : (v : ℕ) (x : VariableSeen) → slice_get variables v ≡ Some x → LeafFits bs x.kind (read vs v) (leaf_at row v)
+  pub each : (v : ℕ) (x : VariableModel) → slice_get variables v ≡ Some x → LeafFits bs x.kind (read vs v) (leaf_at row v)
 
 -- ---- who has what; an address that is lent counts where it was lent to
 abbrev pub one_at : ℕ → Option ℕ → ℕ
@@ -78,27 +78,27 @@ call_arguments (Some (Call place method arguments target next)) = arguments
 call_arguments _ = []
 
 -- what a waiting frame has, without what it has given to the one above
-abbrev pub kept_back : ProgramSeen → Frame → List (Option ℕ)
+abbrev pub kept_back : ProgramModel → Frame → List (Option ℕ)
 kept_back p g = let_go g.variables (as_claimed (call_arguments (instruction_at p g)))
 
-abbrev pub waiting : ProgramSeen → ℕ → List Frame → ℕ
+abbrev pub waiting : ProgramModel → ℕ → List Frame → ℕ
 waiting p a [] = 0
 waiting p a (g ∷ rest) = standing a (kept_back p g) + waiting p a rest
 
-abbrev pub held : ProgramSeen → ℕ → List Frame → ℕ
+abbrev pub held : ProgramModel → ℕ → List Frame → ℕ
 held p a [] = 0
 held p a (f ∷ rest) = standing a f.variables + waiting p a rest
 
 -- ---- stacks
-pub record TopFits (p : ProgramSeen) (bs : List Block) (f : Frame) : Type 0 where
-  pub m : MethodSeen
+pub record TopFits (p : ProgramModel) (bs : List Block) (f : Frame) : Type 0 where
+  pub m : MethodModel
   pub there : method_at p f.method ≡ Some m
   pub row : List Leaf
   pub reached : Reached (outcome p f.method) (entry_of p f.method) (f.point, row)
   pub fits : RowFits bs m.variables f.variables row
 
 -- a variable that was lent: the address that the parameter has, and its leaf before the call, the declared one or cut off
-pub record IsLent (bs : List Block) (k : Kind) (mine theirs : Option ℕ) (l : Leaf) : Type 0 where
+pub record IsLent (bs : List Block) (k : HeapKind) (mine theirs : Option ℕ) (l : Leaf) : Type 0 where
   pub at : ℕ
   pub within : at < length bs
   pub mine_is : mine ≡ Some at
@@ -115,7 +115,7 @@ by_role role.Local P Q R = P
 by_role role.Lent P Q R = Q
 by_role role.Claimed P Q R = R
 
-abbrev pub AreLent : List Block → List (Option ℕ) → List Leaf → List VariableSeen → List (Option ℕ) → List Argument → Type 0
+abbrev pub AreLent : List Block → List (Option ℕ) → List Leaf → List VariableModel → List (Option ℕ) → List Argument → Type 0
 AreLent bs mine before [] ys arguments = arguments ≡ []
 AreLent bs mine before (x ∷ xs) [] arguments = ⊥
 AreLent bs mine before (x ∷ xs) (y ∷ ys) arguments =
@@ -125,10 +125,10 @@ AreLent bs mine before (x ∷ xs) (y ∷ ys) arguments =
     (with_first (λ a. (a.claimed ≡ true) × (read mine a.mention.variable.0 ≡ None)) (AreLent bs mine before xs ys) arguments)
 
 -- a frame that waits for the one above it, at its call
-pub record WaitsFor (p : ProgramSeen) (bs : List Block) (g above : Frame) : Type 0 where
-  pub m : MethodSeen
+pub record WaitsFor (p : ProgramModel) (bs : List Block) (g above : Frame) : Type 0 where
+  pub m : MethodModel
   pub there : method_at p g.method ≡ Some m
-  pub callee : MethodSeen
+  pub callee : MethodModel
   pub callee_there : method_at p above.method ≡ Some callee
   pub place : Place
   pub arguments : List Argument
@@ -142,17 +142,17 @@ pub record WaitsFor (p : ProgramSeen) (bs : List Block) (g above : Frame) : Type
   pub long : length g.variables ≡ length m.variables
 
 -- the last frame has nothing lent, and gives nothing
-pub record IsLast (p : ProgramSeen) (f : Frame) : Type 0 where
-  pub m : MethodSeen
+pub record IsLast (p : ProgramModel) (f : Frame) : Type 0 where
+  pub m : MethodModel
   pub there : method_at p f.method ≡ Some m
   pub void : m.result ≡ None
-  pub alone : (v : ℕ) (x : VariableSeen) → slice_get m.variables v ≡ Some x → is_lent_role x.role ≡ false
+  pub alone : (v : ℕ) (x : VariableModel) → slice_get m.variables v ≡ Some x → is_lent_role x.role ≡ false
 
-abbrev pub RestFits : ProgramSeen → List Block → Frame → List Frame → Type 0
+abbrev pub RestFits : ProgramModel → List Block → Frame → List Frame → Type 0
 RestFits p bs above [] = IsLast p above
 RestFits p bs above (g ∷ rest) = WaitsFor p bs g above × RestFits p bs g rest
 
-abbrev pub StackFits : ProgramSeen → List Block → List Frame → Type 0
+abbrev pub StackFits : ProgramModel → List Block → List Frame → Type 0
 StackFits p bs [] = Unit {0}
 StackFits p bs (f ∷ rest) = TopFits p bs f × RestFits p bs f rest
 
@@ -166,17 +166,17 @@ in_queue x [] = 0
 in_queue x (m ∷ ms) = standing_in x m.payload + in_queue x ms
 
 -- addresses of these kinds, each as it is declared
-abbrev pub AreDeclared : List Block → List Kind → List ℕ → Type 0
+abbrev pub AreDeclared : List Block → List HeapKind → List ℕ → Type 0
 AreDeclared bs [] [] = Unit {0}
 AreDeclared bs (k ∷ kinds) (a ∷ given) = HasLeaf bs k a (declared_leaf k) × AreDeclared bs kinds given
 AreDeclared bs _ _ = ⊥
 
-abbrev pub AreBrought : ProgramSeen → List Block → List MessageHeld → Type 0
+abbrev pub AreBrought : ProgramModel → List Block → List MessageHeld → Type 0
 AreBrought p bs queue = Each (λ m. AreDeclared bs (brought p m.message) m.payload) queue
 
 -- ---- fields
 -- the fields of each block that is not freed hold what they are declared with
-abbrev pub FieldsDeclared : ProgramSeen → List Block → Type 0
+abbrev pub FieldsDeclared : ProgramModel → List Block → Type 0
 FieldsDeclared p bs = (a : ℕ) → a < length bs → freed bs a ≡ false
     → AreDeclared bs (field_kinds p.structs (block_at bs a).kind) (block_at bs a).fields
 
@@ -187,13 +187,13 @@ pub record IsEndOf (ends : Ends) (side : Side) (b : Block) : Type 0 where
   pub queue : map (λ n. n.0) (ends.queue (sign_to side)) ≡ map (λ m. m.message) b.queue
 
 -- an importing end, its peer, and moves of two ends that lead to their states and queues
-pub record ChannelFits (p : ProgramSeen) (bs : List Block) (a c : ℕ) : Type 0 where
+pub record ChannelFits (p : ProgramModel) (bs : List Block) (a c : ℕ) : Type 0 where
   pub peer : ℕ
   pub peer_is : (block_at bs a).peer ≡ peer
   pub peer_there : peer < length bs
   pub peer_kind : stateless (block_at bs peer).kind ≡ Endpoint record { 0 = c } Exp record { 0 = 0 }
   pub back : (block_at bs peer).peer ≡ a
-  pub contract : ContractSeen
+  pub contract : ContractModel
   pub contract_there : slice_get p.contracts c ≡ Some contract
   pub n : ℕ
   pub ends : Ends
@@ -209,27 +209,27 @@ pub record IsPeer (bs : List Block) (a c : ℕ) : Type 0 where
   pub peer_kind : stateless (block_at bs peer).kind ≡ Endpoint record { 0 = c } Imp record { 0 = 0 }
   pub back : (block_at bs peer).peer ≡ a
 
-pub record ChannelsFit (p : ProgramSeen) (bs : List Block) : Type 0 where
+pub record ChannelsFit (p : ProgramModel) (bs : List Block) : Type 0 where
   pub imp : (a c : ℕ) → a < length bs → stateless (block_at bs a).kind ≡ Endpoint record { 0 = c } Imp record { 0 = 0 }
       → ChannelFits p bs a c
   pub exp : (a c : ℕ) → a < length bs → stateless (block_at bs a).kind ≡ Endpoint record { 0 = c } Exp record { 0 = 0 } → IsPeer bs a c
 
 -- what holds of the blocks of every run, whatever its verdicts
-pub record BlocksFit (p : ProgramSeen) (bs : List Block) : Type 0 where
+pub record BlocksFit (p : ProgramModel) (bs : List Block) : Type 0 where
   pub channels : ChannelsFit p bs
   pub queues : (a x : ℕ) → in_queue x (block_at bs a).queue ≡ one_if (is_queue (block_at bs x).owner a)
   pub held : IsHeld bs
 
 -- ---- what is asked of contracts
 -- contracts that are sound, and bounds that no walk passes
-pub record IsSoundProgram (p : ProgramSeen) (bound : Bounds) : Type 0 where
-  pub whole : (c : ℕ) (x : ContractSeen) → slice_get p.contracts c ≡ Some x → IsWhole x.parts
-  pub sound : (c : ℕ) (x : ContractSeen) → slice_get p.contracts c ≡ Some x → IsSound x.parts
-  pub bounds : (c : ℕ) (x : ContractSeen) (side : Side) → slice_get p.contracts c ≡ Some x
+pub record IsSoundProgram (p : ProgramModel) (bound : Bounds) : Type 0 where
+  pub whole : (c : ℕ) (x : ContractModel) → slice_get p.contracts c ≡ Some x → IsWhole x.parts
+  pub sound : (c : ℕ) (x : ContractModel) → slice_get p.contracts c ≡ Some x → IsSound x.parts
+  pub bounds : (c : ℕ) (x : ContractModel) (side : Side) → slice_get p.contracts c ≡ Some x
       → IsBound x.parts.edges x.parts.first (sign_to side) (bound c side)
 
 -- ---- the invariant
-pub record Holds (p : ProgramSeen) (w : World) : Type 0 where
+pub record Holds (p : ProgramModel) (w : World) : Type 0 where
   pub channels : ChannelsFit p w.blocks
   pub stacks : (q : ℕ) → StackFits p w.blocks (stack_at w.processes q)
   pub own : (q a : ℕ) → held p a (stack_at w.processes q) ≡ one_if (owns w.blocks q a)
@@ -238,7 +238,7 @@ pub record Holds (p : ProgramSeen) (w : World) : Type 0 where
   pub held : IsHeld w.blocks
   pub declared : FieldsDeclared p w.blocks
 
-pub blocks_fit : (p : ProgramSeen) (w : World) → Holds p w → BlocksFit p w.blocks
+pub blocks_fit : (p : ProgramModel) (w : World) → Holds p w → BlocksFit p w.blocks
 blocks_fit p w h = record { channels = h.channels; queues = h.queues; held = h.held }
 
 -- what is cut off stays so

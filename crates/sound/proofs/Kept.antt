@@ -5,11 +5,11 @@ use Rattle.std.proofs.lemmas.Bool.{cases_eq}
 use Rattle.std.proofs.lemmas.List.{get_or-set_same, get_or-set_other, length-set}
 use Rattle.std.specs.Option.{option_map_or}
 use Rattle.std.specs.Prelude.{Option, ◌⊎◌, slice_get}
-use Rattle.program.specs.Methods.{MethodSeen, VariableSeen}
-use Rattle.program.specs.Programs.{ProgramSeen}
+use Rattle.program.specs.Methods.{MethodModel, VariableModel}
+use Rattle.program.specs.Programs.{ProgramModel}
 use Rattle.program.specs.declared.call.Argument.{Argument}
 use Rattle.program.specs.WellFormed.{field_kinds}
-use Rattle.program.specs.declared.kind.Kind.{Kind}
+use Rattle.program.specs.declared.kind.HeapKind.{HeapKind}
 use Rattle.program.specs.declared.method.Role.TheVariants as role
 use Rattle.program.specs.declared.method.Role.{Role}
 use Rattle.flow.specs.Graphs.{Call}
@@ -41,7 +41,7 @@ pub record IsKept (bs bs' : List Block) (a : ℕ) : Type 0 where
 abbrev pub AreKept : List Block → List Block → (ℕ → Type 0) → Type 0
 AreKept bs bs' P = (a : ℕ) → P a → a < length bs → IsKept bs bs' a
 
-on_kept : (bs bs' : List Block) (k : Kind) (a : ℕ) (l : Leaf) → a < length bs → StaysCutOff bs bs' → IsKept bs bs' a → IsOn bs k a l
+on_kept : (bs bs' : List Block) (k : HeapKind) (a : ℕ) (l : Leaf) → a < length bs → StaysCutOff bs bs' → IsKept bs bs' a → IsOn bs k a l
     → IsOn bs' k a l
 on_kept bs bs' k a leaf.Nothing within cut kept h = h
 on_kept bs bs' k a leaf.Block within cut kept h = h
@@ -49,17 +49,17 @@ on_kept bs bs' k a leaf.CutOff within cut kept h = (h.0, cut.each a within h.1)
 on_kept bs bs' k a (leaf.State q) within cut kept h =
     (h.0, ⊎_elim (λ e. ⊎_elim (λ same. inl (same ∙ e)) (λ c. inr c) kept.state) (λ c. inr (cut.each a within c)) h.1)
 
-pub leaf_kept : (bs bs' : List Block) (k : Kind) (a : ℕ) (l : Leaf) → StaysCutOff bs bs' → IsKept bs bs' a → HasLeaf bs k a l
+pub leaf_kept : (bs bs' : List Block) (k : HeapKind) (a : ℕ) (l : Leaf) → StaysCutOff bs bs' → IsKept bs bs' a → HasLeaf bs k a l
     → HasLeaf bs' k a l
 leaf_kept bs bs' k a l cut kept h =
     record { there = kept.there; kind = ap stateless kept.kind ∙ h.kind; state = on_kept bs bs' k a l h.there cut kept h.state }
 
-pub fits_kept : (bs bs' : List Block) (k : Kind) (x : Option ℕ) (l : Leaf) → StaysCutOff bs bs'
+pub fits_kept : (bs bs' : List Block) (k : HeapKind) (x : Option ℕ) (l : Leaf) → StaysCutOff bs bs'
     → ((a : ℕ) → x ≡ Some a → a < length bs → IsKept bs bs' a) → LeafFits bs k x l → LeafFits bs' k x l
 fits_kept bs bs' k None l cut kept h = h
 fits_kept bs bs' k (Some a) l cut kept h = leaf_kept bs bs' k a l cut (kept a refl h.there) h
 
-pub row_kept : (bs bs' : List Block) (variables : List VariableSeen) (vs : List (Option ℕ)) (row : List Leaf) → StaysCutOff bs bs'
+pub row_kept : (bs bs' : List Block) (variables : List VariableModel) (vs : List (Option ℕ)) (row : List Leaf) → StaysCutOff bs bs'
     → AreKept bs bs' (λ a. 0 < standing a vs) → RowFits bs variables vs row → RowFits bs' variables vs row
 row_kept bs bs' variables vs row cut kept h = record {
   long = h.long;
@@ -80,7 +80,7 @@ pub first_map : (P P' : Argument → Type 0) (Q Q' : List Argument → Type 0) (
 first_map P P' Q Q' [] f g h = h
 first_map P P' Q Q' (a ∷ arguments) f g h = (f a h.0, g arguments h.1)
 
-lent_kept : (bs bs' : List Block) (k : Kind) (mine theirs : Option ℕ) (l : Leaf) → StaysCutOff bs bs' → IsLent bs k mine theirs l
+lent_kept : (bs bs' : List Block) (k : HeapKind) (mine theirs : Option ℕ) (l : Leaf) → StaysCutOff bs bs' → IsLent bs k mine theirs l
     → IsLent bs' k mine theirs l
 lent_kept bs bs' k mine theirs l cut h =
     record {
@@ -91,7 +91,7 @@ lent_kept bs bs' k mine theirs l cut h =
       leaf = ⊎_elim (λ e. inl e) (λ c. inr (c.0, c.1, cut.each h.at h.within c.2)) h.leaf;
     }
 
-pub all_lent_kept : (bs bs' : List Block) (mine : List (Option ℕ)) (before : List Leaf) (xs : List VariableSeen) (ys : List (Option ℕ))
+pub all_lent_kept : (bs bs' : List Block) (mine : List (Option ℕ)) (before : List Leaf) (xs : List VariableModel) (ys : List (Option ℕ))
     (arguments : List Argument) → StaysCutOff bs bs' → AreLent bs mine before xs ys arguments → AreLent bs' mine before xs ys arguments
 all_lent_kept bs bs' mine before [] ys arguments cut h = h
 all_lent_kept bs bs' mine before (x ∷ xs) [] arguments cut h = h
@@ -107,24 +107,24 @@ all_lent_kept bs bs' mine before (x ∷ xs) (y ∷ ys) arguments cut h =
     h
 
 -- lent variables keep what they have
-pub record LentStays (variables : List VariableSeen) (vs vs' : List (Option ℕ)) : Type 0 where
+pub record LentStays (variables : List VariableModel) (vs vs' : List (Option ℕ)) : Type 0 where
   pub long : length vs' ≡ length vs
-  pub each : (v : ℕ) (x : VariableSeen) → slice_get variables v ≡ Some x → is_lent_role x.role ≡ true → read vs' v ≡ read vs v
+  pub each : (v : ℕ) (x : VariableModel) → slice_get variables v ≡ Some x → is_lent_role x.role ≡ true → read vs' v ≡ read vs v
 
-pub lent_stays_same : (variables : List VariableSeen) (vs : List (Option ℕ)) → LentStays variables vs vs
+pub lent_stays_same : (variables : List VariableModel) (vs : List (Option ℕ)) → LentStays variables vs vs
 lent_stays_same variables vs = record { long = refl; each = λ v x there lent. refl }
 
-pub lent_stays_on : (variables : List VariableSeen) (vs us ws : List (Option ℕ)) → LentStays variables vs us → LentStays variables us ws
+pub lent_stays_on : (variables : List VariableModel) (vs us ws : List (Option ℕ)) → LentStays variables vs us → LentStays variables us ws
     → LentStays variables vs ws
 lent_stays_on variables vs us ws h k =
     record { long = k.long ∙ h.long; each = λ v x there lent. k.each v x there lent ∙ h.each v x there lent }
 
-pub lent_of : (variables : List VariableSeen) (v : ℕ) (x : VariableSeen) → slice_get variables v ≡ Some x
+pub lent_of : (variables : List VariableModel) (v : ℕ) (x : VariableModel) → slice_get variables v ≡ Some x
     → option_map_or (λ y. is_lent_role y.role) (slice_get variables v) false ≡ is_lent_role x.role
-lent_of variables v x there = ap (λ (o : Option VariableSeen). option_map_or (λ y. is_lent_role y.role) o false) there
+lent_of variables v x there = ap (λ (o : Option VariableModel). option_map_or (λ y. is_lent_role y.role) o false) there
 
 -- a variable that is not lent takes something else
-pub lent_stays_set : (variables : List VariableSeen) (vs : List (Option ℕ)) (v : ℕ) (y : Option ℕ)
+pub lent_stays_set : (variables : List VariableModel) (vs : List (Option ℕ)) (v : ℕ) (y : Option ℕ)
     → option_map_or (λ y. is_lent_role y.role) (slice_get variables v) false ≡ false → LentStays variables vs (set vs v y)
 lent_stays_set variables vs v y own = record {
   long = length-set vs v y;
@@ -133,7 +133,7 @@ lent_stays_set variables vs v y own = record {
       ∙ (ap (λ (n : ℕ). option_map_or (λ y. is_lent_role y.role) (slice_get variables n) false) e ∙ own)));
 }
 
-pub all_lent_stays : (bs : List Block) (mine : List (Option ℕ)) (before : List Leaf) (xs : List VariableSeen) (ys ys' : List (Option ℕ))
+pub all_lent_stays : (bs : List Block) (mine : List (Option ℕ)) (before : List Leaf) (xs : List VariableModel) (ys ys' : List (Option ℕ))
     (arguments : List Argument) → LentStays xs ys ys' → AreLent bs mine before xs ys arguments → AreLent bs mine before xs ys' arguments
 all_lent_stays bs mine before [] ys ys' arguments same h = h
 all_lent_stays bs mine before (x ∷ xs) [] ys' arguments same h = absurd h
@@ -157,7 +157,7 @@ pub some_same : {X : Type 0} (x y : X) → Some x ≡ Some y → x ≡ y
 some_same x y e = cc
 
 -- ---- frames
-waits_kept : (p : ProgramSeen) (bs bs' : List Block) (g above : Frame) → StaysCutOff bs bs'
+waits_kept : (p : ProgramModel) (bs bs' : List Block) (g above : Frame) → StaysCutOff bs bs'
     → AreKept bs bs' (λ a. 0 < standing a (kept_back p g)) → WaitsFor p bs g above → WaitsFor p bs' g above
 waits_kept p bs bs' g above cut kept h = record {
   m = h.m;
@@ -176,7 +176,7 @@ waits_kept p bs bs' g above cut kept h = record {
   lent = all_lent_kept bs bs' g.variables h.before h.callee.variables above.variables h.arguments cut h.lent;
 }
 
-pub rest_kept : (p : ProgramSeen) (bs bs' : List Block) (above : Frame) (rest : List Frame) → StaysCutOff bs bs'
+pub rest_kept : (p : ProgramModel) (bs bs' : List Block) (above : Frame) (rest : List Frame) → StaysCutOff bs bs'
     → AreKept bs bs' (λ a. 0 < waiting p a rest) → RestFits p bs above rest → RestFits p bs' above rest
 rest_kept p bs bs' above [] cut kept h = h
 rest_kept p bs bs' above (g ∷ rest) cut kept h = (
@@ -185,7 +185,7 @@ rest_kept p bs bs' above (g ∷ rest) cut kept h = (
       (λ a some within. kept a (omega arith) within) h.1,
 )
 
-pub stack_kept : (p : ProgramSeen) (bs bs' : List Block) (fs : List Frame) → StaysCutOff bs bs' → AreKept bs bs' (λ a. 0 < held p a fs)
+pub stack_kept : (p : ProgramModel) (bs bs' : List Block) (fs : List Frame) → StaysCutOff bs bs' → AreKept bs bs' (λ a. 0 < held p a fs)
     → StackFits p bs fs → StackFits p bs' fs
 stack_kept p bs bs' [] cut kept h = h
 stack_kept p bs bs' (f ∷ rest) cut kept h = (
@@ -201,7 +201,7 @@ stack_kept p bs bs' (f ∷ rest) cut kept h = (
 )
 
 -- the frame above goes on in its method, and its lent parameters stay
-pub rest_above : (p : ProgramSeen) (bs : List Block) (above above' : Frame) (m : MethodSeen) (rest : List Frame)
+pub rest_above : (p : ProgramModel) (bs : List Block) (above above' : Frame) (m : MethodModel) (rest : List Frame)
     → method_at p above.method ≡ Some m → above'.method ≡ above.method → LentStays m.variables above.variables above'.variables
     → RestFits p bs above rest → RestFits p bs above' rest
 rest_above p bs above above' m [] there same stays h =
@@ -223,14 +223,14 @@ rest_above p bs above above' m (g ∷ rest) there same stays h = (
     long = h.0.long;
     fits = h.0.fits;
     lent = all_lent_stays bs g.variables h.0.before h.0.callee.variables above.variables above'.variables h.0.arguments
-        (subst (λ (x : MethodSeen). LentStays x.variables above.variables above'.variables)
+        (subst (λ (x : MethodModel). LentStays x.variables above.variables above'.variables)
         (some_same m h.0.callee (sym there ∙ h.0.callee_there)) stays) h.0.lent;
   },
   h.1,
 )
 
 -- ---- queues
-pub declared_kept : (bs bs' : List Block) (kinds : List Kind) (given : List ℕ) → StaysCutOff bs bs'
+pub declared_kept : (bs bs' : List Block) (kinds : List HeapKind) (given : List ℕ) → StaysCutOff bs bs'
     → AreKept bs bs' (λ a. 0 < standing_in a given) → AreDeclared bs kinds given → AreDeclared bs' kinds given
 declared_kept bs bs' [] [] cut kept h = h
 declared_kept bs bs' [] (a ∷ given) cut kept h = h
@@ -242,7 +242,7 @@ declared_kept bs bs' (k ∷ kinds) (a ∷ given) cut kept h =
           (λ x some within. kept x (omega arith) within) h.1,
     )
 
-pub brought_kept : (p : ProgramSeen) (bs bs' : List Block) (queue : List MessageHeld) → StaysCutOff bs bs'
+pub brought_kept : (p : ProgramModel) (bs bs' : List Block) (queue : List MessageHeld) → StaysCutOff bs bs'
     → AreKept bs bs' (λ a. 0 < in_queue a queue) → AreBrought p bs queue → AreBrought p bs' queue
 brought_kept p bs bs' [] cut kept h = h
 brought_kept p bs bs' (m ∷ ms) cut kept h = (
@@ -261,7 +261,7 @@ abbrev pub LiesInside : List Block → ℕ → Type 0
 LiesInside bs x = (b : ℕ) × (is_inside (block_at bs x).owner b ≡ true)
 
 -- blocks of which those inside others are kept, and fields stay
-pub record SameFields (p : ProgramSeen) (bs bs' : List Block) : Type 0 where
+pub record SameFields (p : ProgramModel) (bs bs' : List Block) : Type 0 where
   pub cut : StaysCutOff bs bs'
   pub kept : AreKept bs bs' (LiesInside bs)
   pub kinds : (a : ℕ) → a < length bs → (block_at bs' a).kind ≡ (block_at bs a).kind
@@ -269,10 +269,10 @@ pub record SameFields (p : ProgramSeen) (bs bs' : List Block) : Type 0 where
   pub fields : (a : ℕ) → a < length bs → freed bs' a ≡ false → (block_at bs' a).fields ≡ (block_at bs a).fields
 
 -- the fields of a block that was there are still as they are declared
-pub fields_kept : (p : ProgramSeen) (bs bs' : List Block) (a : ℕ) → IsHeld bs → SameFields p bs bs' → FieldsDeclared p bs → a < length bs
+pub fields_kept : (p : ProgramModel) (bs bs' : List Block) (a : ℕ) → IsHeld bs → SameFields p bs bs' → FieldsDeclared p bs → a < length bs
     → freed bs' a ≡ false → AreDeclared bs' (field_kinds p.structs (block_at bs' a).kind) (block_at bs' a).fields
 fields_kept p bs bs' a held same h within lives =
-    subst (λ (k : Kind). AreDeclared bs' (field_kinds p.structs k) (block_at bs' a).fields) (sym (same.kinds a within))
+    subst (λ (k : HeapKind). AreDeclared bs' (field_kinds p.structs k) (block_at bs' a).fields) (sym (same.kinds a within))
     (subst (λ (xs : List ℕ). AreDeclared bs' (field_kinds p.structs (block_at bs a).kind) xs) (sym (same.fields a within lives))
     (declared_kept bs bs' (field_kinds p.structs (block_at bs a).kind) (block_at bs a).fields same.cut
     (λ x some short. same.kept x (
@@ -283,13 +283,13 @@ fields_kept p bs bs' a held same h within lives =
     (h a within (same.lives a within lives))))
 
 -- all of them, where there is no block more
-pub all_fields_kept : (p : ProgramSeen) (bs bs' : List Block) → IsHeld bs → SameFields p bs bs' → length bs' ≡ length bs
+pub all_fields_kept : (p : ProgramModel) (bs bs' : List Block) → IsHeld bs → SameFields p bs bs' → length bs' ≡ length bs
     → FieldsDeclared p bs → FieldsDeclared p bs'
 all_fields_kept p bs bs' held same long h a within lives = fields_kept p bs bs' a held same h (omega arith) lives
 
 -- ---- one frame goes on
 -- what a frame leaves behind, by its new variables and the new blocks: what it did not have is kept, and what it has is counted
-pub record GoesOn (p : ProgramSeen) (w : World) (self : ℕ) (f : Frame) (m : MethodSeen) (vs' : List (Option ℕ))
+pub record GoesOn (p : ProgramModel) (w : World) (self : ℕ) (f : Frame) (m : MethodModel) (vs' : List (Option ℕ))
     (bs' : List Block) : Type 0 where
   pub lent : LentStays m.variables f.variables vs'
   pub cut : StaysCutOff w.blocks bs'
@@ -310,7 +310,7 @@ went f next vs' = record { method = f.method; point = next; variables = vs' }
 abbrev pub on_world : World → ℕ → Frame → ℕ → List (Option ℕ) → List Frame → List Block → World
 on_world w self f next vs' rest bs' = record { processes = set w.processes self (went f next vs' ∷ rest); blocks = bs' }
 
-pub goes_on : (p : ProgramSeen) (w : World) (self : ℕ) (f : Frame) (rest : List Frame) (m : MethodSeen) (next : ℕ) (vs' : List (Option ℕ))
+pub goes_on : (p : ProgramModel) (w : World) (self : ℕ) (f : Frame) (rest : List Frame) (m : MethodModel) (next : ℕ) (vs' : List (Option ℕ))
     (row' : List Leaf) (bs' : List Block)
     → Holds p w → stack_at w.processes self ≡ f ∷ rest → method_at p f.method ≡ Some m → RestFits p w.blocks f rest
     → Reached (outcome p f.method) (entry_of p f.method) (next, row') → RowFits bs' m.variables vs' row' → GoesOn p w self f m vs' bs'

@@ -2,10 +2,10 @@
 use Rattle.std.proofs.Common.{◌≡◌, ℕ, ◌<◌, true, false, List, [], ◌∷◌, ◌++◌, Some, length, sym, ap, ◌∙◌, subst, arith, set}
 use Rattle.std.proofs.lemmas.Option.{slice_get_within}
 use Rattle.program.specs.Lists.{is_among}
-use Rattle.program.specs.Methods.{MethodSeen, VariableSeen}
-use Rattle.program.specs.Programs.{ProgramSeen}
+use Rattle.program.specs.Methods.{MethodModel, VariableModel}
+use Rattle.program.specs.Programs.{ProgramModel}
 use Rattle.program.specs.WellFormed.{field_kinds, is_end}
-use Rattle.program.specs.declared.kind.Kind.{Kind}
+use Rattle.program.specs.declared.kind.HeapKind.{HeapKind}
 use Rattle.program.specs.declared.statement.Mention.{Mention}
 use Rattle.flow.specs.Graphs.{New}
 use Rattle.rules.specs.Arguments.{claimed, given_before, target_checks}
@@ -33,7 +33,7 @@ use Rattle.sound.proofs.Parameters.{each_taken, fields_known}
 use Rattle.sound.proofs.Quiet.{contains_first}
 use Rattle.machine.specs.Instructions.{argument_tests, event_of}
 
-pub good_new : (p : ProgramSeen) (bound : Bounds) (w : World) (self choice : ℕ) (f : Frame) (rest : List Frame) (m : MethodSeen)
+pub good_new : (p : ProgramModel) (bound : Bounds) (w : World) (self choice : ℕ) (f : Frame) (rest : List Frame) (m : MethodModel)
     (target : Mention) (arguments : List Mention) (next : ℕ)
     → Here p w self f rest m (New target arguments next)
     → ((h : IsGraphFit p m) → IsNewFit p m h.scope f.point target.variable.0 arguments next)
@@ -54,7 +54,7 @@ good_new p bound w self choice f rest m target arguments next h fit =
     let before = passed_left (given_checks ++ field_checks) (target_checks m row1 (Some target)) passed in
     let behind = passed_right (given_checks ++ field_checks) (target_checks m row1 (Some target)) passed in
     let each : Passed (each_taken m h.row wrong_for_field kinds arguments) =
-    subst (λ (ks : List Kind). Passed (each_taken m h.row wrong_for_field ks arguments)) (fields_known m p v g.variable g.there)
+    subst (λ (ks : List HeapKind). Passed (each_taken m h.row wrong_for_field ks arguments)) (fields_known m p v g.variable g.there)
     (passed_right given_checks field_checks before) in
     let apart = pair_apart p m [] args (passed_left given_checks field_checks before) in
     let own_v = not_refused (is_lent m v) _ behind.0 in
@@ -77,7 +77,7 @@ good_new p bound w self choice f rest m target arguments next h fit =
     let cut' = made.cut_now p w self hb given k mine once plain in
     let last = made.last p w self hb given k mine once plain in
     let typed : AreDeclared bs' (field_kinds p.structs k) given =
-    subst (λ (t : Kind). AreDeclared bs' (field_kinds p.structs t) given) (sym is_kind)
+    subst (λ (t : HeapKind). AreDeclared bs' (field_kinds p.structs t) given) (sym is_kind)
     (given_declared w.blocks bs' vs h.row kinds args cut' fits
     (made.kept_now p w self hb given k mine once plain (λ y. is_among given y ≡ true))) in
     let vs' = set us v (Some n) in
@@ -86,8 +86,8 @@ good_new p bound w self choice f rest m target arguments next h fit =
     (λ y at. record {
       there = made.there_now p w self hb given k mine once plain;
       kind = ap (λ (x : Block). stateless x.kind) last
-          ∙ (ap stateless is_kind ∙ ap (λ (x : VariableSeen). stateless x.kind) (some_same g.variable y (sym g.there ∙ at)));
-      state = ap (λ (x : VariableSeen). is_end x.kind) (some_same y g.variable (sym at ∙ g.there)) ∙ g.block;
+          ∙ (ap stateless is_kind ∙ ap (λ (x : VariableModel). stateless x.kind) (some_same g.variable y (sym g.there ∙ at)));
+      state = ap (λ (x : VariableModel). is_end x.kind) (some_same y g.variable (sym at ∙ g.there)) ∙ g.block;
     }) in
     let reached = h.onward ((next, row') ∷ []) (next, row') (passed_goes checks ((next, row') ∷ []) passed)
     (contains_first (next, row') []) in

@@ -5,9 +5,9 @@ use Rattle.std.proofs.lemmas.Bool.{cases_lt}
 use Rattle.std.proofs.lemmas.List.{length-append}
 use Rattle.std.specs.Prelude.{if◌then◌else◌}
 use Rattle.program.specs.Lists.{is_among}
-use Rattle.program.specs.Programs.{ProgramSeen}
+use Rattle.program.specs.Programs.{ProgramModel}
 use Rattle.program.specs.WellFormed.{field_kinds, is_end}
-use Rattle.program.specs.declared.kind.Kind.{Kind}
+use Rattle.program.specs.declared.kind.HeapKind.{HeapKind}
 use Rattle.machine.specs.Blocks.{handed}
 use Rattle.machine.specs.Heaps.{IsHeld}
 use Rattle.machine.specs.World.{Block, World, block_at, is_freed, is_process, owns}
@@ -20,7 +20,7 @@ use Rattle.sound.proofs.HandedBlocks as handing
 use Rattle.sound.proofs.Invariant.{one_if, one_at, standing_in, AreBrought, AreDeclared, BlocksFit, FieldsDeclared, StaysCutOff}
 use Rattle.sound.proofs.Kept.{AreKept, LiesInside, SameFields, fields_kept, occurs_standing}
 
-module _ (p : ProgramSeen) (w : World) (self : ℕ) (h : BlocksFit p w.blocks) (given : List ℕ) (k : Kind)
+module _ (p : ProgramModel) (w : World) (self : ℕ) (h : BlocksFit p w.blocks) (given : List ℕ) (k : HeapKind)
     (mine : (x : ℕ) → is_among given x ≡ true → owns w.blocks self x ≡ true)
     (once : (x : ℕ) → standing_in x given ≡ one_if (is_among given x)) (plain : is_end k ≡ false) where
   abbrev pub n : ℕ

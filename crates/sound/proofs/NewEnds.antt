@@ -5,16 +5,16 @@ use Rattle.std.proofs.lemmas.Bool.{cases_eq, cases_lt}
 use Rattle.std.proofs.lemmas.List.{length-append}
 use Rattle.std.specs.Option.{option_map_or}
 use Rattle.std.specs.Prelude.{Option, ◌⊎◌, slice_get}
-use Rattle.program.specs.Parts.{ContractSeen}
-use Rattle.program.specs.Programs.{ProgramSeen}
-use Rattle.program.specs.declared.kind.Kind.TheVariants.{Endpoint}
+use Rattle.program.specs.Parts.{ContractModel}
+use Rattle.program.specs.Programs.{ProgramModel}
+use Rattle.program.specs.declared.kind.HeapKind.TheVariants.{Endpoint}
 use Rattle.program.specs.declared.kind.Side.TheVariants.{Imp, Exp}
 use Rattle.program.specs.declared.statement.Channel as made
 use Rattle.contracts.specs.TwoEnds.{begun}
 use Rattle.rules.specs.Endpoints.{first_state}
 use Rattle.machine.specs.Blocks.{new_block, end_kind}
 use Rattle.program.specs.WellFormed.{field_kinds}
-use Rattle.program.specs.declared.kind.Kind.{Kind}
+use Rattle.program.specs.declared.kind.HeapKind.{HeapKind}
 use Rattle.machine.specs.Heaps.{IsHeld}
 use Rattle.machine.specs.World.{Block, block_at, is_inside, is_process, is_queue, is_freed}
 use Rattle.sound.specs.Operands.{stateless}
@@ -26,7 +26,7 @@ use Rattle.sound.proofs.Lists.{eqb_apart, add_zero}
 use Rattle.sound.proofs.Moving.{kind_apart, same_contract}
 
 -- ---- old ends
-old_imp : (p : ProgramSeen) (bs bs' : List Block) (j d : ℕ) → length bs ≤ length bs'
+old_imp : (p : ProgramModel) (bs bs' : List Block) (j d : ℕ) → length bs ≤ length bs'
     → ((i : ℕ) → i < length bs → block_at bs' i ≡ block_at bs i) → j < length bs → ChannelFits p bs j d → ChannelFits p bs' j d
 old_imp p bs bs' j d more same old k =
     let t = k.peer_there in
@@ -62,7 +62,7 @@ old_exp bs bs' j d more same old k =
       back = ap (λ (b : Block). b.peer) sp ∙ k.back;
     }
 
-module _ (p : ProgramSeen) (bs : List Block) (self : ℕ) (c : made.Channel) (held : ContractSeen)
+module _ (p : ProgramModel) (bs : List Block) (self : ℕ) (c : made.Channel) (held : ContractModel)
     (held_there : slice_get p.contracts c.contract.0 ≡ Some held) (channels : ChannelsFit p bs) where
   abbrev pub n : ℕ
   n = length bs
@@ -126,7 +126,7 @@ module _ (p : ProgramSeen) (bs : List Block) (self : ℕ) (c : made.Channel) (he
   old i short = block_append bs (b1 ∷ b2 ∷ []) i short
 
   start_is : start ≡ held.parts.first.0
-  start_is = ap (λ (z : Option ContractSeen). option_map_or (λ x. x.parts.first.0) z 0) held_there
+  start_is = ap (λ (z : Option ContractModel). option_map_or (λ x. x.parts.first.0) z 0) held_there
 
   places : (j : ℕ) → n ≤ j → j < length bs' → (j ≡ n) ⊎ (j ≡ n + 1)
   places j low high = let l = long_now in ⊎_elim (λ e. inl e) (λ d. inr (let d' : j ≢ n = d in omega arith)) (cases_eq j n)
@@ -191,7 +191,7 @@ module _ (p : ProgramSeen) (bs : List Block) (self : ℕ) (c : made.Channel) (he
       → AreDeclared bs' (field_kinds p.structs (block_at bs' j).kind) (block_at bs' j).fields
   empty_end j b is kinds fields =
       subst (λ (x : Block). AreDeclared bs' (field_kinds p.structs x.kind) x.fields) (sym is)
-      (subst (λ (ks : List Kind). AreDeclared bs' ks b.fields) (sym kinds)
+      (subst (λ (ks : List HeapKind). AreDeclared bs' ks b.fields) (sym kinds)
       (subst (λ (xs : List ℕ). AreDeclared bs' [] xs) (sym fields) tt))
 
   pub declared_now : IsHeld bs → FieldsDeclared p bs → FieldsDeclared p bs'

@@ -5,11 +5,11 @@ use Rattle.std.specs.Option.{option_map_or}
 use Rattle.std.specs.List.{filter}
 use Rattle.source.specs.Findings.{FindingParts}
 use Rattle.source.specs.declared.place.Place.{Place}
-use Rattle.program.specs.Methods.{MethodSeen, VariableSeen}
-use Rattle.program.specs.Programs.{ProgramSeen}
+use Rattle.program.specs.Methods.{MethodModel, VariableModel}
+use Rattle.program.specs.Programs.{ProgramModel}
 use Rattle.program.specs.WellFormed.{field_kinds, is_parameter}
 use Rattle.program.specs.declared.call.Argument.{Argument}
-use Rattle.program.specs.declared.kind.Kind.{Kind}
+use Rattle.program.specs.declared.kind.HeapKind.{HeapKind}
 use Rattle.program.specs.declared.statement.Mention.{Mention}
 use Rattle.rules.specs.Arguments.{argument_checks, payload, taken_checks}
 use Rattle.rules.specs.Endpoints.{field_of, fields_of, kind_of}
@@ -17,32 +17,32 @@ use Rattle.rules.specs.Outcomes.{Check}
 use Rattle.rules.specs.declared.row.Leaf.{Leaf}
 
 -- the parameters among variables
-abbrev pub parameters_of : List VariableSeen → List VariableSeen
+abbrev pub parameters_of : List VariableModel → List VariableModel
 parameters_of variables = filter (λ v. is_parameter v.role) variables
 
 -- and what they hold
-abbrev pub kinds_among : List VariableSeen → List Kind
+abbrev pub kinds_among : List VariableModel → List HeapKind
 kinds_among variables = map (λ v. v.kind) (parameters_of variables)
 
-module _ (m : MethodSeen) where
+module _ (m : MethodModel) where
   -- the checks of arguments for parameters of these kinds, but that none is given twice
-  abbrev pub each_argument : List Leaf → List Kind → List Argument → List Check
+  abbrev pub each_argument : List Leaf → List HeapKind → List Argument → List Check
   each_argument row kinds arguments = flat_map (λ x. argument_checks m row x.0 x.1) (zip kinds arguments)
 
   -- likewise for what goes into a message or the fields of a new block
-  abbrev pub each_taken : List Leaf → (List ℕ → Place → FindingParts) → List Kind → List Mention → List Check
+  abbrev pub each_taken : List Leaf → (List ℕ → Place → FindingParts) → List HeapKind → List Mention → List Check
   each_taken row wrong kinds given = flat_map (λ x. taken_checks m row wrong x.0 x.1) (zip kinds (map payload given))
 
   -- what a variable holds that is there
-  pub kind_known : (v : ℕ) (x : VariableSeen) → slice_get m.variables v ≡ Some x → kind_of m v ≡ Some x.kind
-  kind_known v x there = ap (λ (o : Option VariableSeen). option_map_or (λ y. Some y.kind) o None) there
+  pub kind_known : (v : ℕ) (x : VariableModel) → slice_get m.variables v ≡ Some x → kind_of m v ≡ Some x.kind
+  kind_known v x there = ap (λ (o : Option VariableModel). option_map_or (λ y. Some y.kind) o None) there
 
   -- what its block has in its fields that own
-  pub fields_known : (p : ProgramSeen) (v : ℕ) (x : VariableSeen) → slice_get m.variables v ≡ Some x
+  pub fields_known : (p : ProgramModel) (v : ℕ) (x : VariableModel) → slice_get m.variables v ≡ Some x
       → fields_of p m v ≡ field_kinds p.structs x.kind
-  fields_known p v x there = ap (λ (o : Option Kind). option_map_or (λ k. field_kinds p.structs k) o []) (kind_known v x there)
+  fields_known p v x there = ap (λ (o : Option HeapKind). option_map_or (λ k. field_kinds p.structs k) o []) (kind_known v x there)
 
   -- what one of them holds
-  pub field_known : (p : ProgramSeen) (v field : ℕ) (x : VariableSeen) → slice_get m.variables v ≡ Some x
+  pub field_known : (p : ProgramModel) (v field : ℕ) (x : VariableModel) → slice_get m.variables v ≡ Some x
       → field_of p m v field ≡ slice_get (field_kinds p.structs x.kind) field
-  field_known p v field x there = ap (λ (kinds : List Kind). slice_get kinds field) (fields_known p v x there)
+  field_known p v field x there = ap (λ (kinds : List HeapKind). slice_get kinds field) (fields_known p v x there)

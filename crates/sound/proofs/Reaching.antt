@@ -7,19 +7,19 @@ use Rattle.std.specs.Option.{option_map}
 use Rattle.std.specs.Prelude.{Option, flat_map, ◌||◌, slice_get, if◌then◌else◌, IfSome}
 use Rattle.source.specs.declared.place.Place.{Place}
 use Rattle.program.specs.Lists.{Each, is_among}
-use Rattle.program.specs.Methods.{MethodSeen, VariableSeen}
-use Rattle.program.specs.Programs.{ProgramSeen}
+use Rattle.program.specs.Methods.{MethodModel, VariableModel}
+use Rattle.program.specs.Programs.{ProgramModel}
 use Rattle.program.specs.WellFormed.{is_parameter}
 use Rattle.program.specs.declared.call.Argument.{Argument}
 use Rattle.program.specs.declared.contract.Edge.{Edge}
-use Rattle.program.specs.declared.kind.Kind.{Kind}
+use Rattle.program.specs.declared.kind.HeapKind.{HeapKind}
 use Rattle.program.specs.declared.method.Role.TheVariants as role
 use Rattle.program.specs.declared.method.Role.{Role}
 use Rattle.program.specs.declared.number.VarId.{VarId}
 use Rattle.program.specs.declared.statement.Awaited.TheVariants.{Message, Closed}
 use Rattle.program.specs.declared.statement.Awaited.{Awaited}
 use Rattle.program.specs.declared.statement.Mention.{Mention}
-use Rattle.flow.specs.Cases.{EntranceSeen, first_mentions, case_for, awaits}
+use Rattle.flow.specs.Cases.{EntranceModel, first_mentions, case_for, awaits}
 use Rattle.flow.specs.Graphs.{Instruction, Use, New, Move, Delete, Exchange, NewChannel, Send, Switch, Branch, Forget, Call, Start}
 use Rattle.flow.specs.Graphs.{Return, Stop}
 use Rattle.flow.specs.Lowering.{graph_of}
@@ -46,7 +46,7 @@ use Rattle.sound.proofs.Lists.{each_all, each_append, each_contains, each_flat, 
 use Rattle.sound.proofs.Parameters.{field_known}
 
 -- the case that is found stands among the cases
-pub case_is : (P : EntranceSeen → Type 0) (cases : List EntranceSeen) (v : ℕ) (n : Option ℕ) (c : EntranceSeen) → Each P cases
+pub case_is : (P : EntranceModel → Type 0) (cases : List EntranceModel) (v : ℕ) (n : Option ℕ) (c : EntranceModel) → Each P cases
     → case_for cases v n ≡ Some c → P c × (c.endpoint.variable.0 ≡ v) × (awaits c.awaited n ≡ true)
 case_is P [] v n c h e = absurd (cc)
 case_is P (x ∷ cases) v n c h e = by (x.endpoint.variable.0 == v) (awaits x.awaited n) refl refl e (λ k. case_is P cases v n c h.1 k)
@@ -58,20 +58,20 @@ case_is P (x ∷ cases) v n c h e = by (x.endpoint.variable.0 == v) (awaits x.aw
     by true true i j k more = let same : x ≡ c =
         cc in (
           subst P same h.0,
-          ap (λ (z : EntranceSeen). z.endpoint.variable.0) (sym same)
+          ap (λ (z : EntranceModel). z.endpoint.variable.0) (sym same)
               ∙ eqb-true x.endpoint.variable.0 v i,
-          ap (λ (z : EntranceSeen). awaits z.awaited n) (sym same) ∙ j,
+          ap (λ (z : EntranceModel). awaits z.awaited n) (sym same) ∙ j,
         )
     by true false i j k more = more k
     by false b i j k more = more k
 
-pub passed_owned : (m : MethodSeen) (row : List Leaf) (es : List Mention) → Passed (map (has_something m row) es)
+pub passed_owned : (m : MethodModel) (row : List Leaf) (es : List Mention) → Passed (map (has_something m row) es)
     → Each (λ e. is_owned row e.variable.0 ≡ true) es
 passed_owned m row [] h = tt
 passed_owned m row (e ∷ es) h =
     (not_false (is_owned row e.variable.0) (not_refused (not (is_owned row e.variable.0)) _ h.0), passed_owned m row es h.1)
 
-back_none : (m : MethodSeen) (row : List Leaf) (place : Place) (gone : List ℕ) (v : ℕ) → Each (λ v. is_lent m v ≡ false) gone
+back_none : (m : MethodModel) (row : List Leaf) (place : Place) (gone : List ℕ) (v : ℕ) → Each (λ v. is_lent m v ≡ false) gone
     → Passed (given_back m row place None gone) → is_among gone v ≡ true → leaf_at row v ≡ leaf.Nothing
 back_none m row place [] v own h has = absurd (cc)
 back_none m row place (u ∷ gone) v own h has = ⊎_elim
@@ -80,7 +80,7 @@ back_none m row place (u ∷ gone) v own h has = ⊎_elim
     ap (leaf_at row) (sym (eqb-true u v e)) ∙ something_is (leaf_at row u) z)
     (λ n. back_none m row place gone v own.1 h.1 (sym (ap (λ (b : Bool). b || is_among gone v) n) ∙ has)) (cases_Bool (u == v))
 
-module _ (p : ProgramSeen) (m : MethodSeen) (scope : (point variable : ℕ) → Bool) where
+module _ (p : ProgramModel) (m : MethodModel) (scope : (point variable : ℕ) → Bool) where
   -- nothing is out of scope
   abbrev NoneOut : Pair → Type 0
   NoneOut x = (v : ℕ) → scope x.0 v ≡ false → leaf_at x.1 v ≡ leaf.Nothing
@@ -109,51 +109,51 @@ module _ (p : ProgramSeen) (m : MethodSeen) (scope : (point variable : ℕ) → 
       ⊎_elim (λ inside. ⊎_elim (λ still. still) (λ g. absurd (true≢false g refl)) (k.each v inside))
       (λ out. absurd (true≢false owned (ap is_something (h v out)))) (cases_Bool (scope from v))
 
-  given_in : (to : ℕ) (row : List Leaf) (k : Option Kind) (target : Option Mention) → IfSome target (λ v. scope to v.variable.0 ≡ true)
+  given_in : (to : ℕ) (row : List Leaf) (k : Option HeapKind) (target : Option Mention) → IfSome target (λ v. scope to v.variable.0 ≡ true)
       → NoneOut (to, row) → NoneOut (to, given_leaf row k target)
   given_in to row None target inside h = h
   given_in to row (Some k) None inside h = h
   given_in to row (Some k) (Some v) inside h = set_in to row v.variable.0 (declared_leaf k) inside h
 
-  bound_in : (from to : ℕ) (row : List Leaf) (bound : List VarId) (kinds : List Kind) → Each (λ v. IsBoundAt p m scope from to v.0) bound
+  bound_in : (from to : ℕ) (row : List Leaf) (bound : List VarId) (kinds : List HeapKind) → Each (λ v. IsBoundAt p m scope from to v.0) bound
       → NoneOut (to, row) → NoneOut (to, bound_leaves row bound kinds)
   bound_in from to row [] kinds b h = h
   bound_in from to row (v ∷ bound) [] b h = h
   bound_in from to row (v ∷ bound) (k ∷ kinds) b h =
       bound_in from to (set row v.0 (declared_leaf k)) bound kinds b.1 (set_in to row v.0 (declared_leaf k) b.0.after h)
 
-  received_in : (from : ℕ) (row : List Leaf) (cases : List EntranceSeen) (e : ℕ) (d : Edge) → NoneOut (from, row)
+  received_in : (from : ℕ) (row : List Leaf) (cases : List EntranceModel) (e : ℕ) (d : Edge) → NoneOut (from, row)
       → Each (IsEntrance p m scope from) cases → is_owned row e ≡ true → Each NoneOut (received p m row cases e d)
   received_in from row cases e d h fits owned = by (case_for cases e (Some d.message.0)) refl
     where
-      binds_at : (a : Awaited) (c : EntranceSeen) → c.awaited ≡ a → IsEntrance p m scope from c → awaits a (Some d.message.0) ≡ true
-          → Each (λ v. IsBoundAt p m scope from c.next v.0) c.bound
-      binds_at (Message id) c is k e = (subst (λ (a : Awaited). AreBrought p m scope from a c.bound c.next) is k.binds).1.1
+      binds_at : (a : Awaited) (c : EntranceModel) → c.awaited ≡ a → IsEntrance p m scope from c → awaits a (Some d.message.0) ≡ true
+          → Each (λ v. IsBoundAt p m scope from c.next v.0) c.targets
+      binds_at (Message id) c is k e = (subst (λ (a : Awaited). AreBrought p m scope from a c.targets c.next) is k.binds).1.1
       binds_at Closed c is k e = absurd (true≢false e refl)
 
-      by : (x : Option EntranceSeen) → case_for cases e (Some d.message.0) ≡ x
-          → Each NoneOut (pair_at x (λ c. bound_leaves (set row e (leaf.State d.to.0)) c.bound (brought p d.message.0)))
+      by : (x : Option EntranceModel) → case_for cases e (Some d.message.0) ≡ x
+          → Each NoneOut (pair_at x (λ c. bound_leaves (set row e (leaf.State d.to.0)) c.targets (brought p d.message.0)))
       by None is = tt
       by (Some c) is =
           let k = case_is (IsEntrance p m scope from) cases e (Some d.message.0) c fits is in (
-            bound_in from c.next (set row e (leaf.State d.to.0)) c.bound (brought p d.message.0) (binds_at c.awaited c refl k.0 k.2)
+            bound_in from c.next (set row e (leaf.State d.to.0)) c.targets (brought p d.message.0) (binds_at c.awaited c refl k.0 k.2)
                 (set_in c.next row e (leaf.State d.to.0) (owned_in from c.next e row k.0.keeps h owned)
                 (keeps_all from c.next row k.0.keeps h)),
             tt,
           )
 
-  closed_in : (from : ℕ) (row : List Leaf) (cases : List EntranceSeen) (e : ℕ) → NoneOut (from, row)
+  closed_in : (from : ℕ) (row : List Leaf) (cases : List EntranceModel) (e : ℕ) → NoneOut (from, row)
       → Each (IsEntrance p m scope from) cases
       → is_owned row e ≡ true → Each NoneOut (closed p m row cases e)
   closed_in from row cases e h fits owned = by (case_for cases e None) refl
     where
-      by : (x : Option EntranceSeen) → case_for cases e None ≡ x → Each NoneOut (pair_at x (λ c. set row e leaf.CutOff))
+      by : (x : Option EntranceModel) → case_for cases e None ≡ x → Each NoneOut (pair_at x (λ c. set row e leaf.CutOff))
       by None is = tt
       by (Some c) is =
           let k = case_is (IsEntrance p m scope from) cases e None c fits is in
           (set_in c.next row e leaf.CutOff (owned_in from c.next e row k.0.keeps h owned) (keeps_all from c.next row k.0.keeps h), tt)
 
-  comes_in : (from : ℕ) (row : List Leaf) (cases : List EntranceSeen) (e : Mention) → NoneOut (from, row)
+  comes_in : (from : ℕ) (row : List Leaf) (cases : List EntranceModel) (e : Mention) → NoneOut (from, row)
       → Each (IsEntrance p m scope from) cases
       → is_owned row e.variable.0 ≡ true → Each NoneOut (comes_at p m row cases e)
   comes_in from row cases e h fits owned =
@@ -183,7 +183,7 @@ module _ (p : ProgramSeen) (m : MethodSeen) (scope : (point variable : ℕ) → 
       let l = declared_leaf fit.kind in
       let k = checked_passed
       (is_another m x.holder x.given ∷ has_something m row x.holder ∷ field_checks m row fit.kind (payload x.given))
-      ((next, set row x.given.variable.0 l) ∷ []) all (sym (ap (λ (o : Option Kind). exchanged p m row x next o) kind) ∙ e) in
+      ((next, set row x.given.variable.0 l) ∷ []) all (sym (ap (λ (o : Option HeapKind). exchanged p m row x next o) kind) ∙ e) in
       subst (λ ps. Each NoneOut ps) k.1
       (set_in next row x.given.variable.0 l fit.in_scope (keeps_all from next row fit.keeps h), tt)
   step_in from row (Move v u next) all fit h e =
@@ -267,7 +267,7 @@ module _ (p : ProgramSeen) (m : MethodSeen) (scope : (point variable : ℕ) → 
       subst (λ ps. Each NoneOut ps) k.1 tt
   step_in from row (Stop place) all fit h e = absurd (cc)
 
-module _ (p : ProgramSeen) (n : ℕ) (m : MethodSeen) (g : IsGraphFit p m) (there : slice_get p.methods n ≡ Some m) where
+module _ (p : ProgramModel) (n : ℕ) (m : MethodModel) (g : IsGraphFit p m) (there : slice_get p.methods n ≡ Some m) where
   point_in : (x : Pair) (i : Option Instruction) (all : List Pair) → slice_get (graph_of m).instructions x.0 ≡ i → NoneOut p m g.scope x
       → point_outcome p m x.1 i ≡ Goes all → Each (NoneOut p m g.scope) all
   point_in x None all at h e = subst (λ ps. Each (NoneOut p m g.scope) ps) (goes_same [] all e) tt
@@ -277,7 +277,7 @@ module _ (p : ProgramSeen) (n : ℕ) (m : MethodSeen) (g : IsGraphFit p m) (ther
   unfolding outcome
   leads_in x y h l =
       let e : point_outcome p m x.1 (slice_get (graph_of m).instructions x.0) ≡ Goes l.all =
-      sym (ap (λ (o : Option MethodSeen). method_outcome p o x) there) ∙ l.goes in
+      sym (ap (λ (o : Option MethodModel). method_outcome p o x) there) ∙ l.goes in
       each_contains (NoneOut p m g.scope) l.all y (point_in x (slice_get (graph_of m).instructions x.0) l.all refl h e) l.has
 
   path_in : (steps : List Pair) (x y : Pair) → NoneOut p m g.scope x → IsPath (outcome p n) x steps y → NoneOut p m g.scope y
@@ -285,20 +285,20 @@ module _ (p : ProgramSeen) (n : ℕ) (m : MethodSeen) (g : IsGraphFit p m) (ther
   path_in (s ∷ steps) x y h path = path_in steps s y (leads_in x s h path.0) path.1
 
   begin_in : NoneOut p m g.scope ((graph_of m).first, map (λ v. entry_leaf v.role v.kind) m.variables)
-  begin_in v out = ap given (slice_get-map (λ (x : VariableSeen). entry_leaf x.role x.kind) m.variables v)
+  begin_in v out = ap given (slice_get-map (λ (x : VariableModel). entry_leaf x.role x.kind) m.variables v)
       ∙ by (slice_get m.variables v) refl
     where
-      local : (x : VariableSeen) (r : Role) → x.role ≡ r → slice_get m.variables v ≡ Some x → entry_leaf r x.kind ≡ leaf.Nothing
+      local : (x : VariableModel) (r : Role) → x.role ≡ r → slice_get m.variables v ≡ Some x → entry_leaf r x.kind ≡ leaf.Nothing
       local x role.Local is at = refl
       local x role.Lent is at = absurd (true≢false (g.begins v x at (ap is_parameter is)) out)
       local x role.Claimed is at = absurd (true≢false (g.begins v x at (ap is_parameter is)) out)
 
-      by : (o : Option VariableSeen) → slice_get m.variables v ≡ o
-          → given (option_map (λ (x : VariableSeen). entry_leaf x.role x.kind) o) ≡ leaf.Nothing
+      by : (o : Option VariableModel) → slice_get m.variables v ≡ o
+          → given (option_map (λ (x : VariableModel). entry_leaf x.role x.kind) o) ≡ leaf.Nothing
       by None at = refl
       by (Some x) at = local x x.role refl at
 
-pub reached_none : (p : ProgramSeen) (n : ℕ) (m : MethodSeen) (g : IsGraphFit p m) → slice_get p.methods n ≡ Some m → (x : Pair)
+pub reached_none : (p : ProgramModel) (n : ℕ) (m : MethodModel) (g : IsGraphFit p m) → slice_get p.methods n ≡ Some m → (x : Pair)
     → Reached (outcome p n) (entry_of p n) x → (v : ℕ) → g.scope x.0 v ≡ false → leaf_at x.1 v ≡ leaf.Nothing
 reached_none p n m g there x reached v out =
     path_in p n m g there reached.steps (entry_of p n) x

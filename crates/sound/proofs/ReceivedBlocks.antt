@@ -4,9 +4,9 @@ use Rattle.std.proofs.Common.{arith, inl, inr, ⊎_elim}
 use Rattle.std.proofs.lemmas.Bool.{cases_Bool, cases_eq, cases_lt, eqb-true}
 use Rattle.std.specs.Prelude.{◌⊎◌, slice_get, if◌then◌else◌}
 use Rattle.program.specs.Lists.{is_among}
-use Rattle.program.specs.Parts.{ContractSeen}
-use Rattle.program.specs.Programs.{ProgramSeen}
-use Rattle.program.specs.declared.kind.Kind.TheVariants.{Endpoint}
+use Rattle.program.specs.Parts.{ContractModel}
+use Rattle.program.specs.Programs.{ProgramModel}
+use Rattle.program.specs.declared.kind.HeapKind.TheVariants.{Endpoint}
 use Rattle.program.specs.declared.kind.Side.{Side}
 use Rattle.contracts.specs.Bounds.{sign_to}
 use Rattle.contracts.specs.TwoEnds.{Leads}
@@ -48,11 +48,11 @@ got_process : (has : Bool) (self q : ℕ) (o : Owner)
 got_process true self q o = refl
 got_process false self q o = refl
 
-module _ (p : ProgramSeen) (w : World) (self : ℕ) (h : BlocksFit p w.blocks) (a state' : ℕ) (m : MessageHeld) (ms : List MessageHeld)
+module _ (p : ProgramModel) (w : World) (self : ℕ) (h : BlocksFit p w.blocks) (a state' : ℕ) (m : MessageHeld) (ms : List MessageHeld)
     (c : ℕ) (side : Side) (owned : owns w.blocks self a ≡ true) (within : a < length w.blocks)
     (kind : stateless (block_at w.blocks a).kind ≡ Endpoint record { 0 = c } side record { 0 = 0 })
     (was : (block_at w.blocks a).queue ≡ m ∷ ms)
-    (leads : (x : ContractSeen) → slice_get p.contracts c ≡ Some x
+    (leads : (x : ContractModel) → slice_get p.contracts c ≡ Some x
     → Leads x.parts.edges record { 0 = (block_at w.blocks a).state } record { 0 = m.message } (sign_to side) record { 0 = state' })
   where
     abbrev pub got : List Block

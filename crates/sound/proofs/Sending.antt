@@ -8,14 +8,14 @@ use Rattle.std.specs.Option.{option_map_or}
 use Rattle.std.specs.Prelude.{is_none, is_some, unwrap_or, Option, ◌⊎◌, ◌||◌, slice_get, if◌then◌else◌, nat_lt}
 use Rattle.source.specs.declared.place.Place.{Place}
 use Rattle.program.specs.Lists.{Each, is_among}
-use Rattle.program.specs.Methods.{MethodSeen, VariableSeen}
-use Rattle.program.specs.Parts.{ContractSeen}
-use Rattle.program.specs.Programs.{ProgramSeen}
+use Rattle.program.specs.Methods.{MethodModel, VariableModel}
+use Rattle.program.specs.Parts.{ContractModel}
+use Rattle.program.specs.Programs.{ProgramModel}
 use Rattle.program.specs.WellFormed.{is_end}
 use Rattle.program.specs.declared.call.Argument.{Argument}
 use Rattle.program.specs.declared.contract.Edge.{Edge}
-use Rattle.program.specs.declared.kind.Kind.TheVariants.{Endpoint, Struct, Array}
-use Rattle.program.specs.declared.kind.Kind.{Kind}
+use Rattle.program.specs.declared.kind.HeapKind.TheVariants.{Endpoint, Struct, Array}
+use Rattle.program.specs.declared.kind.HeapKind.{HeapKind}
 use Rattle.program.specs.declared.kind.Side.TheVariants.{Imp, Exp}
 use Rattle.program.specs.declared.kind.Side.{Side}
 use Rattle.program.specs.declared.number.MessageId.{MessageId}
@@ -58,49 +58,49 @@ use Rattle.sound.specs.Queues.{other}
 use Rattle.machine.specs.Instructions.{event_of, argument_tests, send_tests, send_from, edge_out, has_room, is_own}
 
 -- an end's contract and side
-pub record EndIs (k : Kind) : Type 0 where
+pub record EndIs (k : HeapKind) : Type 0 where
   pub c : ℕ
   pub side : Side
   pub is : stateless k ≡ Endpoint record { 0 = c } side record { 0 = 0 }
 
-pub end_is : (k : Kind) → is_end k ≡ true → EndIs k
+pub end_is : (k : HeapKind) → is_end k ≡ true → EndIs k
 end_is (Struct n) e = absurd (cc)
 end_is (Array n) e = absurd (cc)
 end_is (Endpoint c side state) e = record { c = c.0; side = side; is = refl }
 
 -- what hangs on the contract and the side alone
-abbrev pub of_end : {X : Type 0} → (ℕ → Side → X) → X → Kind → X
+abbrev pub of_end : {X : Type 0} → (ℕ → Side → X) → X → HeapKind → X
 of_end f d (Endpoint c side state) = f c.0 side
 of_end f d _ = d
 
-pub of_end_is : {X : Type 0} (f : ℕ → Side → X) (d : X) (k : Kind) (c : ℕ) (side : Side)
+pub of_end_is : {X : Type 0} (f : ℕ → Side → X) (d : X) (k : HeapKind) (c : ℕ) (side : Side)
     → stateless k ≡ Endpoint record { 0 = c } side record { 0 = 0 } → of_end f d k ≡ f c side
 of_end_is f d (Struct n) c side e = absurd (cc)
 of_end_is f d (Array n) c side e = absurd (cc)
 of_end_is f d (Endpoint c' side' state) c side e = ap (of_end f d) e
 
-out_of_end : (p : ProgramSeen) (k : Kind) (q : ℕ)
+out_of_end : (p : ProgramModel) (k : HeapKind) (q : ℕ)
     → edges_out p (Some k) q ≡ of_end (λ c side. edges_from (edges_of p c) (sign_from side) q) [] k
 out_of_end p (Struct n) q = refl
 out_of_end p (Array n) q = refl
 out_of_end p (Endpoint c side state) q = refl
 
-bound_of_end : (bound : Bounds) (k : Kind) → bound_of bound k ≡ of_end bound 0 k
+bound_of_end : (bound : Bounds) (k : HeapKind) → bound_of bound k ≡ of_end bound 0 k
 bound_of_end bound (Struct n) = refl
 bound_of_end bound (Array n) = refl
 bound_of_end bound (Endpoint c side state) = refl
 
-pub out_edges : (p : ProgramSeen) (k : Kind) (c : ℕ) (side : Side) (q : ℕ) → stateless k ≡ Endpoint record { 0 = c } side record { 0 = 0 }
+pub out_edges : (p : ProgramModel) (k : HeapKind) (c : ℕ) (side : Side) (q : ℕ) → stateless k ≡ Endpoint record { 0 = c } side record { 0 = 0 }
     → edges_out p (Some k) q ≡ edges_from (edges_of p c) (sign_from side) q
 out_edges p k c side q e = out_of_end p k q ∙ of_end_is (λ c side. edges_from (edges_of p c) (sign_from side) q) [] k c side e
 
 -- the two ends of the channel of an end
-pub record ChannelOf (p : ProgramSeen) (bs : List Block) (a c : ℕ) (side : Side) : Type 0 where
-  pub contract : ContractSeen
+pub record ChannelOf (p : ProgramModel) (bs : List Block) (a c : ℕ) (side : Side) : Type 0 where
+  pub contract : ContractModel
   pub there : slice_get p.contracts c ≡ Some contract
   pub ends : EndsAre p contract side (block_at bs a) (is_alive bs (block_at bs a).peer) (block_at bs (block_at bs a).peer)
 
-pub channel_of : (p : ProgramSeen) (bs : List Block) (a c : ℕ) (side : Side) → ChannelsFit p bs → a < length bs → freed bs a ≡ false
+pub channel_of : (p : ProgramModel) (bs : List Block) (a c : ℕ) (side : Side) → ChannelsFit p bs → a < length bs → freed bs a ≡ false
     → stateless (block_at bs a).kind ≡ Endpoint record { 0 = c } side record { 0 = 0 } → ChannelOf p bs a c side
 channel_of p bs a c Imp h within alive kind =
     let k = h.imp a c within kind in
@@ -134,12 +134,12 @@ channel_of p bs a c Exp h within alive kind =
     }
 
 -- what a sender's leaf says
-pub record SendsOn (p : ProgramSeen) (m : MethodSeen) (b : Block) (k : Kind) (l : Leaf) (message : ℕ) : Type 0 where
+pub record SendsOn (p : ProgramModel) (m : MethodModel) (b : Block) (k : HeapKind) (l : Leaf) (message : ℕ) : Type 0 where
   pub to : ℕ
   pub edge : end_on (edges_out p (Some b.kind) b.state) message ≡ Some to
   pub leaf_is : sent_leaf p (Some k) message l ≡ leaf.State to
 
-sends_on : (p : ProgramSeen) (m : MethodSeen) (bs : List Block) (a : ℕ) (k : Kind) (l : Leaf) (message : ℕ) → HasLeaf bs k a l
+sends_on : (p : ProgramModel) (m : MethodModel) (bs : List Block) (a : ℕ) (k : HeapKind) (l : Leaf) (message : ℕ) → HasLeaf bs k a l
     → is_end k ≡ true → lacks_edge p (Some k) message l ≡ false → cut_off bs a ≡ false → SendsOn p m (block_at bs a) k l message
 sends_on p m bs a k leaf.Nothing message h end lacks cut = absurd h.state
 sends_on p m bs a k leaf.Block message h end lacks cut = absurd (true≢false end h.state)
@@ -160,7 +160,7 @@ sends_on p m bs a k (leaf.State q) message h end lacks cut =
           leaf_is = ap (λ (x : Option ℕ). option_map_or leaf.State x (leaf.State q)) is;
         }
 
-sent_on_cut : (p : ProgramSeen) (m : MethodSeen) (bs bs' : List Block) (a : ℕ) (k : Kind) (l : Leaf) (message : ℕ) → HasLeaf bs k a l
+sent_on_cut : (p : ProgramModel) (m : MethodModel) (bs bs' : List Block) (a : ℕ) (k : HeapKind) (l : Leaf) (message : ℕ) → HasLeaf bs k a l
     → is_end k ≡ true → cut_off bs' a ≡ true → IsOn bs' k a (sent_leaf p (Some k) message l)
 sent_on_cut p m bs bs' a k leaf.Nothing message h end cut = absurd h.state
 sent_on_cut p m bs bs' a k leaf.Block message h end cut = absurd (true≢false end h.state)
@@ -172,7 +172,7 @@ sent_on_cut p m bs bs' a k (leaf.State q) message h end cut = by (end_on (edges_
     by (Some t) = (end, inr cut)
 
 -- the queue of a peer has room for what may be sent
-room_for : NeverLonger → (p : ProgramSeen) (bound : Bounds) → IsSoundProgram p bound → (x : ContractSeen) (side : Side) (c : ℕ)
+room_for : NeverLonger → (p : ProgramModel) (bound : Bounds) → IsSoundProgram p bound → (x : ContractModel) (side : Side) (c : ℕ)
     → slice_get p.contracts c ≡ Some x → (b peer : Block) (m : MessageHeld) (q' : ℕ) → EndsAre p x side b true peer
     → Leads x.parts.edges record { 0 = b.state } record { 0 = m.message } (sign_from side) record { 0 = q' }
     → length peer.queue < bound c (other side)
@@ -200,23 +200,23 @@ or_left true y e = refl
 or_left false y e = absurd (cc)
 
 -- where an edge is found, the end goes along it
-pub sends_along : (p : ProgramSeen) (bs : List Block) (a message to c : ℕ) (side : Side)
+pub sends_along : (p : ProgramModel) (bs : List Block) (a message to c : ℕ) (side : Side)
     → stateless (block_at bs a).kind ≡ Endpoint record { 0 = c } side record { 0 = 0 }
     → end_on (edges_out p (Some (block_at bs a).kind) (block_at bs a).state) message ≡ Some to
-    → (y : ContractSeen) → slice_get p.contracts c ≡ Some y
+    → (y : ContractModel) → slice_get p.contracts c ≡ Some y
     → Leads y.parts.edges record { 0 = (block_at bs a).state } record { 0 = message } (sign_from side) record { 0 = to }
 sends_along p bs a message to c side kind edge y there =
     subst (λ (es : List Edge). Leads es record { 0 = (block_at bs a).state } record { 0 = message } (sign_from side) record { 0 = to })
-    (ap (λ (z : Option ContractSeen). option_map_or (λ u. u.parts.edges) z []) there)
+    (ap (λ (z : Option ContractModel). option_map_or (λ u. u.parts.edges) z []) there)
     (end_leads (edges_of p c) (sign_from side) (block_at bs a).state message to
     (sym (ap (λ (es : List Edge). end_on es message) (out_edges p (block_at bs a).kind c side (block_at bs a).state kind)) ∙ edge))
 
 -- a send that has an edge, or whose endpoint is cut off, finds room
-pub room_is : NeverLonger → (p : ProgramSeen) (bound : Bounds) → IsSoundProgram p bound
+pub room_is : NeverLonger → (p : ProgramModel) (bound : Bounds) → IsSoundProgram p bound
     → (w : World) (self : ℕ) (f : Frame) (rest : List Frame) (a state' : ℕ) (msg : MessageHeld) (c : ℕ) (side : Side)
     → ChannelsFit p w.blocks → a < length w.blocks → freed w.blocks a ≡ false
     → stateless (block_at w.blocks a).kind ≡ Endpoint record { 0 = c } side record { 0 = 0 }
-    → (cut_off w.blocks a ≡ false → (y : ContractSeen) → slice_get p.contracts c ≡ Some y
+    → (cut_off w.blocks a ≡ false → (y : ContractModel) → slice_get p.contracts c ≡ Some y
     → Leads y.parts.edges record { 0 = (block_at w.blocks a).state } record { 0 = msg.message } (sign_from side) record { 0 = state' })
     → has_room p bound w self f rest (block_at w.blocks a).peer ≡ true
 room_is longer p bound sound w self f rest a state' msg c side channels within alive kind leads = ⊎_elim
@@ -238,8 +238,8 @@ room_is longer p bound sound w self f rest a state' msg c side channels within a
     (cases_Bool (freed w.blocks (block_at w.blocks a).peer))
 
 -- the row after a send
-pub sent_fits : (bs bs' : List Block) (variables : List VariableSeen) (vs : List (Option ℕ)) (row : List Leaf) (arguments : List Argument)
-    (e a : ℕ) (l' : Leaf) (x : VariableSeen)
+pub sent_fits : (bs bs' : List Block) (variables : List VariableModel) (vs : List (Option ℕ)) (row : List Leaf) (arguments : List Argument)
+    (e a : ℕ) (l' : Leaf) (x : VariableModel)
     → RowFits bs variables vs row → NotClaimed arguments e → StaysCutOff bs bs' → ((j : ℕ) → j ≢ a → j < length bs → IsKept bs bs' j)
     → standing a (let_go vs arguments) ≤ 1 → read vs e ≡ Some a → slice_get variables e ≡ Some x → HasLeaf bs' x.kind a l'
     → RowFits bs' variables (let_go vs arguments) (set (claimed row arguments) e l')
@@ -255,7 +255,7 @@ sent_fits bs bs' variables vs row arguments e a l' x h free cut kept once is the
     here : read (let_go vs arguments) e ≡ Some a
     here = go_other vs arguments e free ∙ is
 
-    mine : (u : ℕ) (y : VariableSeen) → slice_get variables u ≡ Some y → u ≡ e
+    mine : (u : ℕ) (y : VariableModel) → slice_get variables u ≡ Some y → u ≡ e
         → LeafFits bs' y.kind (read (let_go vs arguments) u) (leaf_at (set (claimed row arguments) e l') u)
     mine u y at s =
         let within : e < length variables = slice_get_within variables e x there in
@@ -263,11 +263,11 @@ sent_fits bs bs' variables vs row arguments e a l' x h free cut kept once is the
         let v : read (let_go vs arguments) u ≡ Some a = ap (read (let_go vs arguments)) s ∙ here in
         let r : leaf_at (set (claimed row arguments) e l') u ≡ l' =
         ap (leaf_at (set (claimed row arguments) e l')) s ∙ leaf_set_same (claimed row arguments) e l' (omega arith) in
-        let k : x.kind ≡ y.kind = ap (λ (z : VariableSeen). z.kind) (some_same x y (sym there ∙ (sym (ap (slice_get variables) s) ∙ at))) in
+        let k : x.kind ≡ y.kind = ap (λ (z : VariableModel). z.kind) (some_same x y (sym there ∙ (sym (ap (slice_get variables) s) ∙ at))) in
         subst (λ (z : Option ℕ). LeafFits bs' y.kind z (leaf_at (set (claimed row arguments) e l') u)) (sym v)
-        (subst (λ (z : Leaf). HasLeaf bs' y.kind a z) (sym r) (subst (λ (z : Kind). HasLeaf bs' z a l') k leaf))
+        (subst (λ (z : Leaf). HasLeaf bs' y.kind a z) (sym r) (subst (λ (z : HeapKind). HasLeaf bs' z a l') k leaf))
 
-    others : (u : ℕ) (y : VariableSeen) → slice_get variables u ≡ Some y → u ≢ e
+    others : (u : ℕ) (y : VariableModel) → slice_get variables u ≡ Some y → u ≢ e
         → LeafFits bs' y.kind (read (let_go vs arguments) u) (leaf_at (set (claimed row arguments) e l') u)
     others u y at n =
         subst (λ (z : Leaf). LeafFits bs' y.kind (read (let_go vs arguments) u) z) (sym (leaf_set_other (claimed row arguments) e u l' n))
@@ -278,7 +278,7 @@ claims_apart : (arguments : List Argument) (e : ℕ) → Each (λ b. number b �
 claims_apart [] e h = tt
 claims_apart (a ∷ arguments) e h = ((λ c. h.0), claims_apart arguments e h.1)
 
-pub good_send : (p : ProgramSeen) (bound : Bounds) (w : World) (self choice : ℕ) (f : Frame) (rest : List Frame) (m : MethodSeen)
+pub good_send : (p : ProgramModel) (bound : Bounds) (w : World) (self choice : ℕ) (f : Frame) (rest : List Frame) (m : MethodModel)
     → NeverLonger → IsSoundProgram p bound → (place : Place) (e : Mention) (message : MessageId) (payloads : List Mention) (next : ℕ)
     → (h : Here p w self f rest m (Send place e message payloads next))
     → IsSendFit p m h.graph.scope f.point e.variable.0 message.0 payloads next
@@ -306,10 +306,10 @@ good_send p bound w self choice f rest m longer sound place e message payloads n
     let each = passed_right given_checks payload_checks all_passed in
     let kind_x : kind_of m v ≡ Some x.kind = kind_known m v x o.there in
     let end : is_end x.kind ≡ true =
-    ap (λ (z : VariableSeen). is_end z.kind) (some_same x fit.endpoint.variable (sym o.there ∙ fit.endpoint.there))
+    ap (λ (z : VariableModel). is_end z.kind) (some_same x fit.endpoint.variable (sym o.there ∙ fit.endpoint.there))
     ∙ fit.endpoint.end in
     let edge_there : lacks_edge p (Some x.kind) message.0 l ≡ false =
-    ap (λ (k : Option Kind). lacks_edge p k message.0 l) (sym kind_x)
+    ap (λ (k : Option HeapKind). lacks_edge p k message.0 l) (sym kind_x)
     ∙ not_refused (lacks_edge p (kind_of m v) message.0 l) _ (passed_right (given_checks ++ payload_checks) lacks passed.1).0 in
     let apart = pair_apart p m (v ∷ []) args given_passed in
     let free = not_earlier p m (v ∷ []) args given_passed v (ap (λ (b : Bool). b || false) (eqb_same v v refl)) in
@@ -328,11 +328,11 @@ good_send p bound w self choice f rest m longer sound place e message payloads n
     let goes_to : (c : cut_off w.blocks a ≡ false) → state' ≡ (found c).to = λ c.
     ap (λ (b : Bool). if b then (block_at w.blocks a).state else unwrap_or edge (block_at w.blocks a).state) c
     ∙ ap (λ (z : Option ℕ). unwrap_or z (block_at w.blocks a).state) (found c).edge in
-    let leads : (c : cut_off w.blocks a ≡ false) (y : ContractSeen) → slice_get p.contracts end_k.c ≡ Some y
+    let leads : (c : cut_off w.blocks a ≡ false) (y : ContractModel) → slice_get p.contracts end_k.c ≡ Some y
     → Leads y.parts.edges record { 0 = (block_at w.blocks a).state } record { 0 = message.0 }
     (sign_from end_k.side) record { 0 = state' } = λ c y there.
     sends_along p w.blocks a message.0 state' end_k.c end_k.side kind_a ((found c).edge ∙ ap Some (sym (goes_to c))) y there in
-    let moves : (y : ContractSeen) → slice_get p.contracts end_k.c ≡ Some y
+    let moves : (y : ContractModel) → slice_get p.contracts end_k.c ≡ Some y
     → ((cut_off w.blocks a ≡ true) × (state' ≡ (block_at w.blocks a).state))
     ⊎ Leads y.parts.edges record { 0 = (block_at w.blocks a).state } record { 0 = message.0 }
     (sign_from end_k.side) record { 0 = state' } = λ y there.
@@ -348,7 +348,7 @@ good_send p bound w self choice f rest m longer sound place e message payloads n
     let not_mine : is_among (addresses vs args) a ≡ false = not_given w.blocks vs h.row kinds args v a fits (all a) o.is free in
     let after_once : standing a (let_go vs args) ≤ 1 = let k = (leaves a).0 in let k2 = all a in omega arith in
     let leaf' : HasLeaf bs' x.kind a (sent_leaf p (kind_of m v) message.0 l) =
-    subst (λ (k : Option Kind). HasLeaf bs' x.kind a (sent_leaf p k message.0 l)) (sym kind_x) (record {
+    subst (λ (k : Option HeapKind). HasLeaf bs' x.kind a (sent_leaf p k message.0 l)) (sym kind_x) (record {
       there = let k = cut'.long in let k2 = o.leaf.there in omega arith;
       kind = ap (λ (b : Block). stateless b.kind) (at p w self hb a state' msg end_k.c end_k.side o.owned o.leaf.there kind_a mine once
           moves a) ∙ o.leaf.kind;

@@ -4,9 +4,9 @@ use Rattle.std.proofs.Common.{◌∙◌, subst, arith, inl, inr, ⊎_elim}
 use Rattle.std.proofs.lemmas.Bool.{cases_Bool, cases_eq}
 use Rattle.std.specs.Prelude.{◌⊎◌, slice_get, if◌then◌else◌}
 use Rattle.program.specs.Lists.{is_among}
-use Rattle.program.specs.Parts.{ContractSeen}
-use Rattle.program.specs.Programs.{ProgramSeen}
-use Rattle.program.specs.declared.kind.Kind.TheVariants.{Endpoint}
+use Rattle.program.specs.Parts.{ContractModel}
+use Rattle.program.specs.Programs.{ProgramModel}
+use Rattle.program.specs.declared.kind.HeapKind.TheVariants.{Endpoint}
 use Rattle.program.specs.declared.kind.Side.TheVariants.{Imp, Exp}
 use Rattle.program.specs.declared.kind.Side.{Side}
 use Rattle.contracts.specs.Leaving.{sign_from}
@@ -36,7 +36,7 @@ pub record PeerIs (bs : List Block) (a c : ℕ) (side : Side) : Type 0 where
   pub back : (block_at bs (block_at bs a).peer).peer ≡ a
   pub apart : (block_at bs a).peer ≢ a
 
-pub peer_is : (p : ProgramSeen) (bs : List Block) (a c : ℕ) (side : Side) → ChannelsFit p bs → a < length bs
+pub peer_is : (p : ProgramModel) (bs : List Block) (a c : ℕ) (side : Side) → ChannelsFit p bs → a < length bs
     → stateless (block_at bs a).kind ≡ Endpoint record { 0 = c } side record { 0 = 0 } → PeerIs bs a c side
 peer_is p bs a c Imp h within kind =
     let k = h.imp a c within kind in
@@ -85,12 +85,12 @@ handed_freed true true to o = refl
 handed_freed true false to o = refl
 handed_freed false gone to o = refl
 
-module _ (p : ProgramSeen) (w : World) (self : ℕ) (h : BlocksFit p w.blocks) (a state' : ℕ) (m : MessageHeld) (c : ℕ) (side : Side)
+module _ (p : ProgramModel) (w : World) (self : ℕ) (h : BlocksFit p w.blocks) (a state' : ℕ) (m : MessageHeld) (c : ℕ) (side : Side)
     (owned : owns w.blocks self a ≡ true) (within : a < length w.blocks)
     (kind : stateless (block_at w.blocks a).kind ≡ Endpoint record { 0 = c } side record { 0 = 0 })
     (mine : (x : ℕ) → is_among m.payload x ≡ true → owns w.blocks self x ≡ true)
     (once : (x : ℕ) → standing_in x m.payload ≡ one_if (is_among m.payload x))
-    (moves : (x : ContractSeen) → slice_get p.contracts c ≡ Some x
+    (moves : (x : ContractModel) → slice_get p.contracts c ≡ Some x
     → ((cut_off w.blocks a ≡ true) × (state' ≡ (block_at w.blocks a).state))
     ⊎ Leads x.parts.edges record { 0 = (block_at w.blocks a).state } record { 0 = m.message } (sign_from side) record { 0 = state' })
   where
@@ -214,7 +214,7 @@ module _ (p : ProgramSeen) (w : World) (self : ℕ) (h : BlocksFit p w.blocks) (
         (λ j. ap (λ (b : Block). b.peer) (at j)) (λ j l. sym (freed_now j) ∙ l)
         state_other (λ j n1 n2. queue_other j n2) moved
       where
-        moved : (x : ContractSeen) → slice_get p.contracts c ≡ Some x
+        moved : (x : ContractModel) → slice_get p.contracts c ≡ Some x
             → EndsAre p x side (block_at w.blocks a) (is_alive w.blocks to) (block_at w.blocks to)
             → EndsAre p x side (block_at sent a) (is_alive w.blocks to) (block_at sent to)
         moved x there e = ⊎_elim

@@ -2,15 +2,15 @@
 use Rattle.std.proofs.Common.{◌≡◌, ℕ, ◌+◌, ◌<◌, true, false, List, [], ◌∷◌, Some, None, length, map, sym, ap, ◌∙◌, subst, inl, inr, ⊎_elim}
 use Rattle.std.specs.Prelude.{Option, slice_get, IsSomeAnd, IfSome}
 use Rattle.std.proofs.lemmas.Option.{slice_get_within}
-use Rattle.program.specs.Methods.{MethodSeen}
-use Rattle.program.specs.Programs.{ProgramSeen}
+use Rattle.program.specs.Methods.{MethodModel}
+use Rattle.program.specs.Programs.{ProgramModel}
 use Rattle.program.specs.Scopes.{GoesBack}
-use Rattle.program.specs.Statements.{CallSeen, NewSeen, SendSeen}
+use Rattle.program.specs.Statements.{CallModel, NewModel, SendModel}
 use Rattle.program.specs.WellFormed.{Holds, HoldAll, IsAction, IsCallOf, IsIn, IsKind, IsMessageOf, IsNew, IsSend}
 use Rattle.program.specs.WellFormed.{IsStartOf, IsTaken, field_kinds}
 use Rattle.program.specs.WellFormed.{IsWellFormed}
 use Rattle.program.specs.WellFormed.{Setting, are_ends, is_end, parameters}
-use Rattle.program.specs.declared.kind.Kind.{Kind}
+use Rattle.program.specs.declared.kind.HeapKind.{HeapKind}
 use Rattle.program.specs.declared.number.VarId.{VarId}
 use Rattle.program.specs.declared.statement.Action.TheVariants as does
 use Rattle.program.specs.declared.statement.Action.{Action}
@@ -27,7 +27,7 @@ use Rattle.sound.proofs.Lists.{each_at, some_more, some_there}
 use Rattle.sound.proofs.Operands.{all_claim, contract_at, end_variable, found_kinds, given_fit, is_taken, of_kind, payloads_of_kinds}
 use Rattle.sound.proofs.Scopes.{Grown, in_scope, own_gone, scope_parted}
 
-module _ (p : ProgramSeen) (m : MethodSeen) (well : IsWellFormed p.contracts p.messages p.structs p.methods m) where
+module _ (p : ProgramModel) (m : MethodModel) (well : IsWellFormed p.contracts p.messages p.structs p.methods m) where
   -- a statement of the method, where these variables are the last in scope
   abbrev pub around : (exit again here : Option VarId) → Setting
   around exit again here = record {
@@ -176,7 +176,7 @@ module _ (p : ProgramSeen) (m : MethodSeen) (well : IsWellFormed p.contracts p.m
       both_fits p m a b (in_scope m here) (in_scope m here) (in_scope m here) Outside from next (g from next)
       (f (from + length (b from next).instructions) (b from next).entry)
 
-  pub new_fit : (n : NewSeen) (exit again here : Option VarId) (Outside : Scope → Type 0) (from next : ℕ)
+  pub new_fit : (n : NewModel) (exit again here : Option VarId) (Outside : Scope → Type 0) (from next : ℕ)
       → IsNew (around exit again here) n → here_fits (made_new n) here here Outside from next
   new_fit n exit again here Outside from next wf =
       let s = around exit again here in
@@ -196,7 +196,7 @@ module _ (p : ProgramSeen) (m : MethodSeen) (well : IsWellFormed p.contracts p.m
       from next
 
   -- what takes the result of a call is in scope
-  target_in : (exit again here : Option VarId) (k : Option Kind) (target : Option Mention) → IsTaken (around exit again here) k target
+  target_in : (exit again here : Option VarId) (k : Option HeapKind) (target : Option Mention) → IsTaken (around exit again here) k target
       → IfSome target (λ v. IsIn (around exit again here) v.variable) → IfSome target (λ v. in_scope m here v.variable.0 ≡ true)
   target_in exit again here k None taken h = tt
   target_in exit again here None (Some v) taken h = absurd taken
@@ -204,7 +204,7 @@ module _ (p : ProgramSeen) (m : MethodSeen) (well : IsWellFormed p.contracts p.m
       let t = of_kind (around exit again here) k v.variable taken in
       inside exit again here v.variable (slice_get_within m.variables v.variable.0 t.variable t.there) h
 
-  pub called_fit : (c : CallSeen) (exit again here : Option VarId) (Outside : Scope → Type 0) (from next : ℕ)
+  pub called_fit : (c : CallModel) (exit again here : Option VarId) (Outside : Scope → Type 0) (from next : ℕ)
       → IsSomeAnd (slice_get p.methods c.method.0) (IsCallOf (around exit again here) c)
       → here_fits (called c) here here Outside from next
   called_fit c exit again here Outside from next wf =
@@ -227,8 +227,8 @@ module _ (p : ProgramSeen) (m : MethodSeen) (well : IsWellFormed p.contracts p.m
       (reads_fit c.behind here Outside))
       from next
 
-  pub started_fit : (c : CallSeen) (exit again here : Option VarId) (Outside : Scope → Type 0) (from next : ℕ)
-      → ((n : ℕ) (callee : MethodSeen) → slice_get p.methods n ≡ Some callee → callee.gives ≡ false → callee.result ≡ None)
+  pub started_fit : (c : CallModel) (exit again here : Option VarId) (Outside : Scope → Type 0) (from next : ℕ)
+      → ((n : ℕ) (callee : MethodModel) → slice_get p.methods n ≡ Some callee → callee.gives ≡ false → callee.result ≡ None)
       → IsSomeAnd (slice_get p.methods c.method.0) (IsStartOf (around exit again here) c)
       → here_fits (started c) here here Outside from next
   started_fit c exit again here Outside from next void_at wf =
@@ -246,7 +246,7 @@ module _ (p : ProgramSeen) (m : MethodSeen) (well : IsWellFormed p.contracts p.m
       }))
       from next
 
-  pub sent_fit : (x : SendSeen) (exit again here : Option VarId) (Outside : Scope → Type 0) (from next : ℕ)
+  pub sent_fit : (x : SendModel) (exit again here : Option VarId) (Outside : Scope → Type 0) (from next : ℕ)
       → IsSend (around exit again here) x → here_fits (sent x) here here Outside from next
   sent_fit x exit again here Outside from next wf =
       let s = around exit again here in

@@ -7,11 +7,11 @@ use Rattle.std.specs.Option.{option_map_or}
 use Rattle.std.specs.Prelude.{Option, slice_get, if◌then◌else◌}
 use Rattle.source.specs.declared.place.Place.{Place}
 use Rattle.program.specs.Lists.{Each, is_among}
-use Rattle.program.specs.Methods.{MethodSeen, VariableSeen}
-use Rattle.program.specs.Programs.{ProgramSeen}
+use Rattle.program.specs.Methods.{MethodModel, VariableModel}
+use Rattle.program.specs.Programs.{ProgramModel}
 use Rattle.program.specs.WellFormed.{is_parameter, is_claimed}
 use Rattle.program.specs.declared.call.Argument.{Argument}
-use Rattle.program.specs.declared.kind.Kind.{Kind}
+use Rattle.program.specs.declared.kind.HeapKind.{HeapKind}
 use Rattle.program.specs.declared.method.Role.TheVariants as role
 use Rattle.program.specs.declared.method.Role.{Role}
 use Rattle.program.specs.declared.number.MethodId.{MethodId}
@@ -65,7 +65,7 @@ stack_past : (ps : List (List Frame)) → stack_at ps (length ps) ≡ []
 stack_past [] = refl
 stack_past (x ∷ ps) = stack_past ps
 
-module _ (p : ProgramSeen) (w : World) (self : ℕ) (h : Holds p w) (given : List ℕ)
+module _ (p : ProgramModel) (w : World) (self : ℕ) (h : Holds p w) (given : List ℕ)
     (mine : (x : ℕ) → is_among given x ≡ true → owns w.blocks self x ≡ true) where
   abbrev fresh : ℕ
   fresh = length w.processes
@@ -125,7 +125,7 @@ module _ (p : ProgramSeen) (w : World) (self : ℕ) (h : Holds p w) (given : Lis
       by true e = absurd (omega arith)
       by false e = refl
 
-  pub with_started : (f : Frame) (rest : List Frame) (m : MethodSeen) (next : ℕ) (vs' : List (Option ℕ)) (row' : List Leaf) (top : Frame)
+  pub with_started : (f : Frame) (rest : List Frame) (m : MethodModel) (next : ℕ) (vs' : List (Option ℕ)) (row' : List Leaf) (top : Frame)
       → stack_at w.processes self ≡ f ∷ rest → method_at p f.method ≡ Some m → RestFits p w.blocks f rest
       → Reached (outcome p f.method) (entry_of p f.method) (next, row') → RowFits taken m.variables vs' row'
       → LentStays m.variables f.variables vs' → TopFits p taken top → IsLast p top
@@ -222,8 +222,8 @@ module _ (p : ProgramSeen) (w : World) (self : ℕ) (h : Holds p w) (given : Lis
               ∙ sym (process_apart (block_at w.blocks a).owner self q (mine a k) (λ s. n (sym s)))
           by false k = refl
 
-none_lent : (variables xs : List VariableSeen) (arguments : List Argument) → AreArguments variables (parameters_of xs) arguments
-    → Each (λ a. a.claimed ≡ true) arguments → (v : ℕ) (x : VariableSeen) → slice_get xs v ≡ Some x → is_lent_role x.role ≡ false
+none_lent : (variables xs : List VariableModel) (arguments : List Argument) → AreArguments variables (parameters_of xs) arguments
+    → Each (λ a. a.claimed ≡ true) arguments → (v : ℕ) (x : VariableModel) → slice_get xs v ≡ Some x → is_lent_role x.role ≡ false
 none_lent variables [] arguments are claims v x there = absurd (cc)
 none_lent variables (y ∷ xs) arguments are claims v x there =
     by y.role refl arguments are claims (λ more k c u z t. none_lent variables xs more k c u z t) v there
@@ -231,17 +231,17 @@ none_lent variables (y ∷ xs) arguments are claims v x there =
     by : (r : Role) → y.role ≡ r → (as' : List Argument)
         → AreArguments variables (if is_parameter r then y ∷ parameters_of xs else parameters_of xs) as' → Each (λ a. a.claimed ≡ true) as'
         → ((more : List Argument) → AreArguments variables (parameters_of xs) more → Each (λ a. a.claimed ≡ true) more
-        → (u : ℕ) (z : VariableSeen) → slice_get xs u ≡ Some z → is_lent_role z.role ≡ false)
+        → (u : ℕ) (z : VariableModel) → slice_get xs u ≡ Some z → is_lent_role z.role ≡ false)
         → (v : ℕ) → slice_get (y ∷ xs) v ≡ Some x → is_lent_role x.role ≡ false
-    by role.Local is as' k c go zero t = ap (λ (z : VariableSeen). is_lent_role z.role) (sym (some_same y x t)) ∙ ap is_lent_role is
+    by role.Local is as' k c go zero t = ap (λ (z : VariableModel). is_lent_role z.role) (sym (some_same y x t)) ∙ ap is_lent_role is
     by role.Local is as' k c go (suc v) t = go as' k c v x t
     by role.Lent is [] k c go v t = absurd k
     by role.Lent is (a ∷ as') k c go v t = absurd (true≢false c.0 (k.0.1 ∙ ap is_claimed is))
     by role.Claimed is [] k c go v t = absurd k
-    by role.Claimed is (a ∷ as') k c go zero t = ap (λ (z : VariableSeen). is_lent_role z.role) (sym (some_same y x t)) ∙ ap is_lent_role is
+    by role.Claimed is (a ∷ as') k c go zero t = ap (λ (z : VariableModel). is_lent_role z.role) (sym (some_same y x t)) ∙ ap is_lent_role is
     by role.Claimed is (a ∷ as') k c go (suc v) t = go as' k.1 c.1 v x t
 
-pub good_start : (p : ProgramSeen) (bound : Bounds) (w : World) (self choice : ℕ) (f : Frame) (rest : List Frame) (m : MethodSeen)
+pub good_start : (p : ProgramModel) (bound : Bounds) (w : World) (self choice : ℕ) (f : Frame) (rest : List Frame) (m : MethodModel)
     (place : Place) (method : MethodId) (arguments : List Argument) (next : ℕ)
     → (h : Here p w self f rest m (Start place method arguments next)) → IsStartFit p m h.graph.scope f.point method.0 arguments next
     → IsGood p w (event_of p bound w self f rest (Start place method arguments next) choice)
@@ -254,8 +254,8 @@ good_start p bound w self choice f rest m place method arguments next h g =
     let row' = claimed h.row arguments in
     let passed = all_pass checks ((next, row') ∷ []) h.passes in
     let each : Passed (each_argument m h.row (kinds_among x.variables) arguments) =
-    subst (λ (ks : List Kind). Passed (each_argument m h.row ks arguments))
-    (ap (λ (o : Option MethodSeen). option_map_or (λ y. kinds_among y.variables) o []) g.there)
+    subst (λ (ks : List HeapKind). Passed (each_argument m h.row ks arguments))
+    (ap (λ (o : Option MethodModel). option_map_or (λ y. kinds_among y.variables) o []) g.there)
     (passed_right (given_before m [] arguments) (each_argument m h.row kinds arguments) passed) in
     let apart = pair_apart p m [] arguments (passed_left (given_before m [] arguments) (each_argument m h.row kinds arguments) passed) in
     let args = args_fit p m w.blocks vs h.row (parameters_of x.variables) arguments h.fits g.arguments_fit each in
@@ -279,7 +279,7 @@ good_start p bound w self choice f rest m place method arguments next h g =
       blocks =
           changed (handed (Process (length w.processes)) (addresses vs arguments)) w.blocks;
     }))
-    (sym (ap (λ (o : Option MethodSeen). entered_at o method.0 (given_of vs arguments)) g.there)) (
+    (sym (ap (λ (o : Option MethodModel). entered_at o method.0 (given_of vs arguments)) g.there)) (
       with_started p w self h.holds (addresses vs arguments) mine f rest m next us row' top h.is h.there h.below
           (h.onward ((next, row') ∷ []) (next, row') (passed_goes checks ((next, row') ∷ []) passed) (contains_first (next, row') []))
           (row_kept w.blocks bs' m.variables us row' cut (kept_now p w self h.holds (addresses vs arguments) mine

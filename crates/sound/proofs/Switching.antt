@@ -7,16 +7,16 @@ use Rattle.std.specs.Option.{option_map_or}
 use Rattle.std.specs.Prelude.{is_none, unwrap_or, Option, slice_get, if◌then◌else◌, Contains}
 use Rattle.source.specs.declared.place.Place.{Place}
 use Rattle.program.specs.Lists.{Each}
-use Rattle.program.specs.Methods.{MethodSeen, VariableSeen}
-use Rattle.program.specs.Parts.{ContractSeen}
-use Rattle.program.specs.Programs.{ProgramSeen}
+use Rattle.program.specs.Methods.{MethodModel, VariableModel}
+use Rattle.program.specs.Parts.{ContractModel}
+use Rattle.program.specs.Programs.{ProgramModel}
 use Rattle.program.specs.WellFormed.{is_end}
 use Rattle.program.specs.declared.contract.Edge.{Edge}
-use Rattle.program.specs.declared.kind.Kind.TheVariants.{Endpoint}
-use Rattle.program.specs.declared.kind.Kind.{Kind}
+use Rattle.program.specs.declared.kind.HeapKind.TheVariants.{Endpoint}
+use Rattle.program.specs.declared.kind.HeapKind.{HeapKind}
 use Rattle.program.specs.declared.number.VarId.{VarId}
 use Rattle.program.specs.declared.statement.Mention.{Mention}
-use Rattle.flow.specs.Cases.{EntranceSeen, first_mentions, case_for}
+use Rattle.flow.specs.Cases.{EntranceModel, first_mentions, case_for}
 use Rattle.flow.specs.Graphs.{Switch}
 use Rattle.contracts.specs.Bounds.{sign_to}
 use Rattle.contracts.specs.Leaving.{edges_from, end_on}
@@ -58,8 +58,8 @@ use Rattle.sound.proofs.Cases.{each_get, contains_get, contains_flat, passed_fla
 use Rattle.sound.proofs.Cases.{bound_stays, and_false, InState, in_state_is, tests_own, brings}
 use Rattle.machine.specs.Instructions.{event_of, is_own, receives, receives_from, receives_at, closes_at, edge_in}
 
-module _ (p : ProgramSeen) (bound : Bounds) (w : World) (self choice : ℕ) (f : Frame) (rest : List Frame) (m : MethodSeen)
-    (always : HeldAlways) (sound : IsSoundProgram p bound) (place : Place) (cases : List EntranceSeen)
+module _ (p : ProgramModel) (bound : Bounds) (w : World) (self choice : ℕ) (f : Frame) (rest : List Frame) (m : MethodModel)
+    (always : HeldAlways) (sound : IsSoundProgram p bound) (place : Place) (cases : List EntranceModel)
     (h : Here p w self f rest m (Switch place cases)) (fit : IsSwitch p m h.graph.scope f.point cases) where
   abbrev es : List Mention
   es = first_mentions [] cases
@@ -93,7 +93,7 @@ module _ (p : ProgramSeen) (bound : Bounds) (w : World) (self choice : ℕ) (f :
     is_an_end : is_end own.variable.kind ≡ true
     is_an_end =
         let e = each_get (λ e. IsEndVariable m.variables e.variable.0) es choice v fit.ends at_choice in
-        ap (λ (z : VariableSeen). is_end z.kind) (some_same own.variable e.variable (sym own.there ∙ e.there)) ∙ e.end
+        ap (λ (z : VariableModel). is_end z.kind) (some_same own.variable e.variable (sym own.there ∙ e.there)) ∙ e.end
 
     end_k : EndIs own.variable.kind
     end_k = end_is own.variable.kind is_an_end
@@ -108,12 +108,12 @@ module _ (p : ProgramSeen) (bound : Bounds) (w : World) (self choice : ℕ) (f :
     stands = standing_read f.variables v.variable.0 own.at own.is
 
     -- a close
-    close_good : (c : EntranceSeen) → case_for cases v.variable.0 None ≡ Some c → freed w.blocks (block_at w.blocks own.at).peer ≡ true
+    close_good : (c : EntranceModel) → case_for cases v.variable.0 None ≡ Some c → freed w.blocks (block_at w.blocks own.at).peer ≡ true
         → (block_at w.blocks own.at).queue ≡ [] → IsGood p w (Moved (on_world w self f c.next f.variables rest w.blocks))
     close_good c is gone empty =
         let row' = set h.row v.variable.0 leaf.CutOff in
         let there : Contains (closed p m h.row cases v.variable.0) (c.next, row') =
-        subst (λ (x : Option EntranceSeen). Contains (pair_at x (λ c. set h.row v.variable.0 leaf.CutOff)) (c.next, row')) (sym is)
+        subst (λ (x : Option EntranceModel). Contains (pair_at x (λ c. set h.row v.variable.0 leaf.CutOff)) (c.next, row')) (sym is)
         (contains_first (c.next, row') []) in
         let in_pairs : Contains pairs (c.next, row') =
         contains_flat (comes_at p m h.row cases) es v (c.next, row') (contains_get es choice v at_choice)
@@ -152,7 +152,7 @@ module _ (p : ProgramSeen) (bound : Bounds) (w : World) (self choice : ℕ) (f :
       edges = front.contract.parts.edges
 
       edges_are : edges_of p end_k.c ≡ edges
-      edges_are = ap (λ (z : Option ContractSeen). option_map_or (λ u. u.parts.edges) z []) front.there
+      edges_are = ap (λ (z : Option ContractModel). option_map_or (λ u. u.parts.edges) z []) front.there
 
       abbrev state' : ℕ
       state' = unwrap_or (edge_in p bound w self f rest own.at y.message) (block_at w.blocks own.at).state
@@ -162,7 +162,7 @@ module _ (p : ProgramSeen) (bound : Bounds) (w : World) (self choice : ℕ) (f :
 
       awaited_is : awaited_edges p m h.row v ≡ edges_from edges (sign_to end_k.side) (block_at w.blocks own.at).state
       awaited_is = ap (λ (l : Leaf). in_state l (λ q. edges_in p (kind_of m v.variable.0) q) []) state_is.is
-          ∙ (ap (λ (k : Option Kind). edges_in p k state_is.q) (kind_known m v.variable.0 own.variable own.there)
+          ∙ (ap (λ (k : Option HeapKind). edges_in p k state_is.q) (kind_known m v.variable.0 own.variable own.there)
           ∙ (in_edges p own.variable.kind end_k.c end_k.side state_is.q end_k.is
           ∙ (ap (λ (z : List Edge). edges_from z (sign_to end_k.side) state_is.q) edges_are
           ∙ ap (λ (n : ℕ). edges_from edges (sign_to end_k.side) n) (sym state_is.state))))
@@ -181,7 +181,7 @@ module _ (p : ProgramSeen) (bound : Bounds) (w : World) (self choice : ℕ) (f :
           ap (λ (n : ℕ). is_none (case_for cases v.variable.0 (Some n))) (sym row_edge.message)
           ∙ not_refused (is_none (case_for cases v.variable.0 (Some row_edge.edge.message.0))) _ k
 
-      leads : (x : ContractSeen) → slice_get p.contracts end_k.c ≡ Some x
+      leads : (x : ContractModel) → slice_get p.contracts end_k.c ≡ Some x
           → Leads x.parts.edges record { 0 = (block_at w.blocks own.at).state } record { 0 = y.message }
           (sign_to end_k.side) record { 0 = state' }
       leads x there = subst (λ (n : ℕ). Leads x.parts.edges record { 0 = (block_at w.blocks own.at).state } record { 0 = y.message }
@@ -220,17 +220,17 @@ module _ (p : ProgramSeen) (bound : Bounds) (w : World) (self choice : ℕ) (f :
       bound_none (u ∷ bs) to k =
           (nothing_none w.blocks m.variables f.variables h.row u.0 h.fits (h.none u.0 k.0.before), bound_none bs to k.1)
 
-      message_good : (c : EntranceSeen) → case_for cases v.variable.0 (Some y.message) ≡ Some c
-          → IsGood p w (Moved (on_world w self f c.next (bound_to f.variables c.bound y.payload) rest bs'))
+      message_good : (c : EntranceModel) → case_for cases v.variable.0 (Some y.message) ≡ Some c
+          → IsGood p w (Moved (on_world w self f c.next (bound_to f.variables c.targets y.payload) rest bs'))
       message_good c is =
           let k = case_is (IsEntrance p m h.graph.scope f.point) cases v.variable.0 (Some y.message) c fit.each is in
           let b = brings p m h.graph.scope f.point y.message c c.awaited refl k.0 k.2 in
           let d = row_edge.edge in
-          let row_d = bound_leaves (set h.row v.variable.0 (leaf.State d.to.0)) c.bound (brought p d.message.0) in
-          let row' = bound_leaves (set h.row v.variable.0 (leaf.State front.to)) c.bound (brought p y.message) in
+          let row_d = bound_leaves (set h.row v.variable.0 (leaf.State d.to.0)) c.targets (brought p d.message.0) in
+          let row' = bound_leaves (set h.row v.variable.0 (leaf.State front.to)) c.targets (brought p y.message) in
           let there : Contains (received p m h.row cases v.variable.0 d) (c.next, row_d) =
-          subst (λ (x : Option EntranceSeen). Contains (pair_at x
-          (λ c. bound_leaves (set h.row v.variable.0 (leaf.State d.to.0)) c.bound (brought p d.message.0))) (c.next, row_d))
+          subst (λ (x : Option EntranceModel). Contains (pair_at x
+          (λ c. bound_leaves (set h.row v.variable.0 (leaf.State d.to.0)) c.targets (brought p d.message.0))) (c.next, row_d))
           (sym (ap (λ (n : ℕ). case_for cases v.variable.0 (Some n)) row_edge.message ∙ is)) (contains_first (c.next, row_d) []) in
           let in_pairs : Contains pairs (c.next, row_d) =
           contains_flat (comes_at p m h.row cases) es v (c.next, row_d) (contains_get es choice v at_choice)
@@ -238,27 +238,27 @@ module _ (p : ProgramSeen) (bound : Bounds) (w : World) (self choice : ℕ) (f :
           (closed p m h.row cases v.variable.0) (c.next, row_d)
           (contains_flat (received p m h.row cases v.variable.0) (awaited_edges p m h.row v) d (c.next, row_d) row_edge.there there)) in
           let row_is : row_d ≡ row' =
-          ap (λ (n : ℕ). bound_leaves (set h.row v.variable.0 (leaf.State n)) c.bound (brought p d.message.0)) row_edge.ends
-          ∙ ap (λ (n : ℕ). bound_leaves (set h.row v.variable.0 (leaf.State front.to)) c.bound (brought p n)) row_edge.message in
+          ap (λ (n : ℕ). bound_leaves (set h.row v.variable.0 (leaf.State n)) c.targets (brought p d.message.0)) row_edge.ends
+          ∙ ap (λ (n : ℕ). bound_leaves (set h.row v.variable.0 (leaf.State front.to)) c.targets (brought p n)) row_edge.message in
           let base = sent_fits w.blocks bs' m.variables f.variables h.row [] v.variable.0 own.at
           (leaf.State front.to) own.variable h.fits tt cut' (λ j n short. kept' (λ z. z ≢ own.at) (λ z q. q) j n short) once own.is
           own.there leaf' in (
-            goes_on p w self f rest m c.next (bound_to f.variables c.bound y.payload) row' bs' h.holds h.is h.there h.below
+            goes_on p w self f rest m c.next (bound_to f.variables c.targets y.payload) row' bs' h.holds h.is h.there h.below
                 (subst (λ (r : List Leaf). Reached (outcome p f.method) (entry_of p f.method) (c.next, r)) row_is
                 (reaches (c.next, row_d) in_pairs))
-                (bound_fits bs' m.variables f.variables (set h.row v.variable.0 (leaf.State front.to)) c.bound
+                (bound_fits bs' m.variables f.variables (set h.row v.variable.0 (leaf.State front.to)) c.targets
                 (brought p y.message) y.payload base b.kinds typed')
                 (record {
-                  lent = bound_stays p m f.variables c.bound y.payload
-                      (each_map (λ u. IsBoundAt p m h.graph.scope f.point c.next u.0) (λ u. is_lent m u.0 ≡ false) c.bound
+                  lent = bound_stays p m f.variables c.targets y.payload
+                      (each_map (λ u. IsBoundAt p m h.graph.scope f.point c.next u.0) (λ u. is_lent m u.0 ≡ false) c.targets
                       (λ u i. i.own) b.bound_at);
                   cut = cut';
                   kept = kept' (λ j. standing j f.variables ≡ 0) (λ j z s. let k1 : standing j f.variables ≡ standing own.at f.variables =
                       ap (λ (n : ℕ). standing n f.variables) s in let k2 = stands in absurd (omega arith));
                   counted = λ j. counted_now p w self hb own.at state' y ys end_k.c end_k.side own.owned own.leaf.there kind_a was leads j
-                      (standing j f.variables) (standing j (bound_to f.variables c.bound y.payload))
-                      (bound_counts j m.variables f.variables c.bound (brought p y.message) bs' y.payload h.fits.long b.kinds typed'
-                      b.apart (bound_none c.bound c.next b.bound_at));
+                      (standing j f.variables) (standing j (bound_to f.variables c.targets y.payload))
+                      (bound_counts j m.variables f.variables c.targets (brought p y.message) bs' y.payload h.fits.long b.kinds typed'
+                      b.apart (bound_none c.targets c.next b.bound_at));
                   others = others_now p w self hb own.at state' y ys end_k.c end_k.side own.owned own.leaf.there kind_a was leads;
                   channels = channels_now p w self hb own.at state' y ys end_k.c end_k.side own.owned own.leaf.there kind_a was leads;
                   queues = queues_now p w self hb own.at state' y ys end_k.c end_k.side own.owned own.leaf.there kind_a was leads;
@@ -271,7 +271,7 @@ module _ (p : ProgramSeen) (bound : Bounds) (w : World) (self choice : ℕ) (f :
             cut',
           )
 
-      receive_good : (x : Option EntranceSeen) → case_for cases v.variable.0 (Some y.message) ≡ x
+      receive_good : (x : Option EntranceModel) → case_for cases v.variable.0 (Some y.message) ≡ x
           → IsGood p w (receives_at p bound w self f rest x own.at y ys)
       receive_good None is = absurd (true≢false (ap is_none is) has_case)
       receive_good (Some c) is = message_good c is
@@ -281,7 +281,7 @@ module _ (p : ProgramSeen) (bound : Bounds) (w : World) (self choice : ℕ) (f :
     close_or_wait false e empty = tt
     close_or_wait true e empty = by (case_for cases v.variable.0 None) refl
       where
-        by : (x : Option EntranceSeen) → case_for cases v.variable.0 None ≡ x → IsGood p w (closes_at p bound w self f rest x)
+        by : (x : Option EntranceModel) → case_for cases v.variable.0 None ≡ x → IsGood p w (closes_at p bound w self f rest x)
         by None is = absurd (each_get (λ e. case_for cases e.variable.0 None ≢ None) es choice v fit.closes at_choice is)
         by (Some c) is = close_good c is e empty
 

@@ -2,8 +2,8 @@
 use Rattle.std.proofs.Common.{◌≡◌, ◌≢◌, ℕ, suc, length, Bool, true, false, List, [], ◌∷◌, Some, None, refl, sym, ap, ◌∙◌, subst, arith, inr}
 use Rattle.std.proofs.lemmas.Option.{slice_get_within}
 use Rattle.std.specs.Prelude.{Option, slice_get, if◌then◌else◌, nat_lt}
-use Rattle.program.specs.Methods.{MethodSeen}
-use Rattle.program.specs.Programs.{ProgramSeen}
+use Rattle.program.specs.Methods.{MethodModel}
+use Rattle.program.specs.Programs.{ProgramModel}
 use Rattle.flow.specs.Graphs.{Instruction, Use, New, Move, Delete, Exchange, NewChannel, Send, Switch, Branch, Forget, Call, Start}
 use Rattle.flow.specs.Graphs.{Return, Stop}
 use Rattle.flow.specs.Lowering.{graph_of}
@@ -23,7 +23,7 @@ use Rattle.sound.proofs.Contracts.{sound_program}
 use Rattle.sound.proofs.Trees.{graphs_fit}
 use Rattle.sound.specs.Safe.{FieldsOwn, IsSafe}
 use Rattle.program.specs.WellFormed.{field_kinds}
-use Rattle.program.specs.declared.kind.Kind.{Kind}
+use Rattle.program.specs.declared.kind.HeapKind.{HeapKind}
 use Rattle.machine.specs.Heaps.{IsHeld}
 use Rattle.machine.proofs.Chains.{is_inside_is}
 use Rattle.machine.proofs.Holding.{inside_not_process}
@@ -48,7 +48,7 @@ use Rattle.sound.proofs.Here.{IsGood, Here, outcome_at}
 use Rattle.machine.specs.Instructions.{event_of}
 
 -- a process that has ended owns nothing
-ended_has_nothing : (p : ProgramSeen) (w : World) → Holds p w → (q a : ℕ) → stack_at w.processes q ≡ [] → owns w.blocks q a ≡ false
+ended_has_nothing : (p : ProgramModel) (w : World) → Holds p w → (q a : ℕ) → stack_at w.processes q ≡ [] → owns w.blocks q a ≡ false
 ended_has_nothing p w h q a is = by (owns w.blocks q a) (sym (ap (held p a) is) ∙ h.own q a)
   where
     by : (b : Bool) → 0 ≡ one_if b → b ≡ false
@@ -56,12 +56,12 @@ ended_has_nothing p w h q a is = by (owns w.blocks q a) (sym (ap (held p a) is) 
     by false e = refl
 
 -- a verdict without findings: no step at a reached pair has one
-clean : (p : ProgramSeen) (n : ℕ) → IsMethodVerdict p n [] → IsClean p n
+clean : (p : ProgramModel) (n : ℕ) → IsMethodVerdict p n [] → IsClean p n
 clean p n h f finds =
     let none = (h.exactly f).1 (inr ((λ many. let one = h.once many in absurd (omega arith)), finds)) in
     absurd (let short = none.1 in omega arith)
 
-here : (p : ProgramSeen) (w : World) (self : ℕ) (f : Frame) (rest : List Frame) (i : Instruction) → AreGraphsFit p → IsClean p f.method
+here : (p : ProgramModel) (w : World) (self : ℕ) (f : Frame) (rest : List Frame) (i : Instruction) → AreGraphsFit p → IsClean p f.method
     → Holds p w → stack_at w.processes self ≡ f ∷ rest → (t : TopFits p w.blocks f)
     → RestFits p w.blocks f rest → instruction_at p f ≡ Some i → Here p w self f rest t.m i
 here p w self f rest i graphs none h is t below at =
@@ -83,9 +83,9 @@ here p w self f rest i graphs none h is t below at =
       onward = λ all y e has. reached_more (outcome p f.method) (entry_of p f.method) (f.point, t.row) y all t.reached (same ∙ e) has;
     }
 
-good_instruction : HeldAlways → NeverLonger → (p : ProgramSeen) (bound : Bounds) → IsSoundProgram p bound → AreGraphsFit p
-    → ((n : ℕ) (x : MethodSeen) → method_at p n ≡ Some x → IsClean p n)
-    → (w : World) (self choice : ℕ) (f : Frame) (rest : List Frame) (m : MethodSeen) (i : Instruction)
+good_instruction : HeldAlways → NeverLonger → (p : ProgramModel) (bound : Bounds) → IsSoundProgram p bound → AreGraphsFit p
+    → ((n : ℕ) (x : MethodModel) → method_at p n ≡ Some x → IsClean p n)
+    → (w : World) (self choice : ℕ) (f : Frame) (rest : List Frame) (m : MethodModel) (i : Instruction)
     → Here p w self f rest m i → ((h : IsGraphFit p m) → IsFit p m h.scope f.point i) → IsGood p w (event_of p bound w self f rest i choice)
 good_instruction always longer p bound sound graphs none w self choice f rest m (Use v next) h fit =
     good_use p bound w self choice f rest m v next h
@@ -116,14 +116,14 @@ good_instruction always longer p bound sound graphs none w self choice f rest m 
 good_instruction always longer p bound sound graphs none w self choice f rest m (Stop place) h fit = absurd (h.passes _ refl)
 
 -- addresses that are as declared are as many
-declared_long : (bs : List Block) (kinds : List Kind) (xs : List ℕ) → AreDeclared bs kinds xs → length xs ≡ length kinds
+declared_long : (bs : List Block) (kinds : List HeapKind) (xs : List ℕ) → AreDeclared bs kinds xs → length xs ≡ length kinds
 declared_long bs [] [] h = refl
 declared_long bs [] (x ∷ xs) h = absurd h
 declared_long bs (k ∷ kinds) [] h = absurd h
 declared_long bs (k ∷ kinds) (x ∷ xs) h = ap suc (declared_long bs kinds xs h.1)
 
 -- fields that hold what is inside their block, and are as declared
-fields_own : (p : ProgramSeen) (bs : List Block) → IsHeld bs → FieldsDeclared p bs → FieldsOwn p bs
+fields_own : (p : ProgramModel) (bs : List Block) → IsHeld bs → FieldsDeclared p bs → FieldsOwn p bs
 fields_own p bs held were = record {
   full = λ a within lives. declared_long bs (field_kinds p.structs (block_at bs a).kind) (block_at bs a).fields (were a within lives);
   once = held.holds_are;
@@ -131,8 +131,8 @@ fields_own p bs held were = record {
 }
 
 -- every event of a world of which the invariant holds is good
-module _ (always : HeldAlways) (longer : NeverLonger) (p : ProgramSeen) (bound : Bounds) (sound : IsSoundProgram p bound)
-    (graphs : AreGraphsFit p) (none : (n : ℕ) (m : MethodSeen) → method_at p n ≡ Some m → IsClean p n) where
+module _ (always : HeldAlways) (longer : NeverLonger) (p : ProgramModel) (bound : Bounds) (sound : IsSoundProgram p bound)
+    (graphs : AreGraphsFit p) (none : (n : ℕ) (m : MethodModel) → method_at p n ≡ Some m → IsClean p n) where
   good_at : (w : World) (e : Event) (f : Frame) (rest : List Frame) → Holds p w → stack_at w.processes e.process ≡ f ∷ rest
       → (t : TopFits p w.blocks f) → RestFits p w.blocks f rest → (x : Option Instruction) → instruction_at p f ≡ x
       → IsGood p w (event_at p bound w e f rest x)
@@ -174,13 +174,13 @@ module _ (always : HeldAlways) (longer : NeverLonger) (p : ProgramSeen) (bound :
   }
 
 -- where nothing is found, every run is safe
-pub empty_report_is_safe : HeldAlways → NeverLonger → (p : ProgramSeen) (bound : Bounds)
+pub empty_report_is_safe : HeldAlways → NeverLonger → (p : ProgramModel) (bound : Bounds)
     → AreWellFormed p.contracts p.messages p.structs p.methods → AreSound p → AreBounds p bound → NothingIsFound p
     → (n : ℕ) (w : World) → IsEntry p n → Run p bound n w → IsSafe p bound w
 empty_report_is_safe always longer p bound well sound bounds nothing n w entry run =
     let graphs = graphs_fit p well in
     let program = sound_program p bound sound bounds in
-    let none : (k : ℕ) (x : MethodSeen) → method_at p k ≡ Some x → IsClean p k =
+    let none : (k : ℕ) (x : MethodModel) → method_at p k ≡ Some x → IsClean p k =
     λ k x there. clean p k (nothing k (slice_get_within p.methods k x there))
     in
     safe always longer p bound program graphs none w (run_holds always longer p bound program graphs none n w entry run)

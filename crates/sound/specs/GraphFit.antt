@@ -2,19 +2,19 @@
 -- scope before an instruction is in scope behind it, but for what its Forget names; what an instruction assigns is in scope behind it.
 use Rattle.std.specs.Prelude.{◌≡◌, ◌≢◌, ℕ, ◌⊎◌, Bool, true, false, List, [], map, Option, Some, None, IfSome, slice_get}
 use Rattle.program.specs.Lists.{Each, is_among}
-use Rattle.program.specs.Methods.{MethodSeen, VariableSeen}
-use Rattle.program.specs.Parts.{ContractSeen}
-use Rattle.program.specs.Programs.{ProgramSeen}
+use Rattle.program.specs.Methods.{MethodModel, VariableModel}
+use Rattle.program.specs.Parts.{ContractModel}
+use Rattle.program.specs.Programs.{ProgramModel}
 use Rattle.program.specs.WellFormed.{are_ends, field_kinds, is_end, is_parameter, parameters}
 use Rattle.program.specs.declared.call.Argument.{Argument}
-use Rattle.program.specs.declared.kind.Kind.{Kind}
+use Rattle.program.specs.declared.kind.HeapKind.{HeapKind}
 use Rattle.program.specs.declared.number.VarId.{VarId}
 use Rattle.program.specs.declared.statement.Awaited.{Awaited}
 use Rattle.program.specs.declared.statement.Awaited.TheVariants.{Message, Closed}
 use Rattle.program.specs.declared.statement.Channel.{Channel}
 use Rattle.program.specs.declared.statement.Exchange as stated
 use Rattle.program.specs.declared.statement.Mention.{Mention}
-use Rattle.flow.specs.Cases.{EntranceSeen, case_for, first_mentions}
+use Rattle.flow.specs.Cases.{EntranceModel, case_for, first_mentions}
 use Rattle.flow.specs.Graphs.{Instruction, Use, New, Move, Delete, Exchange, NewChannel, Send, Switch, Branch, Forget, Call, Start}
 use Rattle.flow.specs.Graphs.{Return, Stop}
 use Rattle.flow.specs.Lowering.{graph_of}
@@ -32,7 +32,7 @@ Scope = (point variable : ℕ) → Bool
 pub record Keeps (scope : Scope) (from to : ℕ) (gone : List ℕ) : Type 0 where
   pub each : (v : ℕ) → scope from v ≡ true → (scope to v ≡ true) ⊎ (is_among gone v ≡ true)
 
-module _ (p : ProgramSeen) (m : MethodSeen) (scope : Scope) where
+module _ (p : ProgramModel) (m : MethodModel) (scope : Scope) where
   -- a variable that a case binds comes into scope there, and is not lent
   pub record IsBoundAt (from to v : ℕ) : Type 0 where
     pub before : scope from v ≡ false
@@ -47,19 +47,19 @@ module _ (p : ProgramSeen) (m : MethodSeen) (scope : Scope) where
       × (AreApart (map (λ v. v.0) bound) × Each (λ v. IsBoundAt from to v.0) bound)
 
   -- a case of a switch at a point
-  pub record IsEntrance (point : ℕ) (c : EntranceSeen) : Type 0 where
-    pub binds : AreBrought point c.awaited c.bound c.next
+  pub record IsEntrance (point : ℕ) (c : EntranceModel) : Type 0 where
+    pub binds : AreBrought point c.awaited c.targets c.next
     pub keeps : Keeps scope point c.next []
 
   -- A switch: each of its endpoints is one, and has a case for its close.
-  pub record IsSwitch (point : ℕ) (cases : List EntranceSeen) : Type 0 where
+  pub record IsSwitch (point : ℕ) (cases : List EntranceModel) : Type 0 where
     pub each : Each (IsEntrance point) cases
     pub ends : Each (λ e. IsEndVariable m.variables e.variable.0) (first_mentions [] cases)
     pub closes : Each (λ e. case_for cases e.variable.0 None ≢ None) (first_mentions [] cases)
 
   -- a call: what it gives and takes is what the method that it calls asks and gives
   pub record IsCallFit (point method : ℕ) (arguments : List Argument) (target : Option Mention) (next : ℕ) : Type 0 where
-    pub callee : MethodSeen
+    pub callee : MethodModel
     pub there : slice_get p.methods method ≡ Some callee
     pub arguments_fit : AreArguments m.variables (parameters callee) arguments
     pub taken : IsTakenBy m.variables callee.result target
@@ -68,7 +68,7 @@ module _ (p : ProgramSeen) (m : MethodSeen) (scope : Scope) where
 
   -- A start: what is started gives nothing, and claims what it is given.
   pub record IsStartFit (point method : ℕ) (arguments : List Argument) (next : ℕ) : Type 0 where
-    pub callee : MethodSeen
+    pub callee : MethodModel
     pub there : slice_get p.methods method ≡ Some callee
     pub arguments_fit : AreArguments m.variables (parameters callee) arguments
     pub void : callee.result ≡ None
@@ -82,7 +82,7 @@ module _ (p : ProgramSeen) (m : MethodSeen) (scope : Scope) where
 
   -- New: the variable is of no endpoint, and what is given is of the kinds of its fields that own.
   pub record IsNewFit (point v : ℕ) (arguments : List Mention) (next : ℕ) : Type 0 where
-    pub variable : VariableSeen
+    pub variable : VariableModel
     pub there : slice_get m.variables v ≡ Some variable
     pub block : is_end variable.kind ≡ false
     pub kinds : AreOfKinds m.variables (field_kinds p.structs variable.kind) (map (λ x. x.variable.0) arguments)
@@ -91,9 +91,9 @@ module _ (p : ProgramSeen) (m : MethodSeen) (scope : Scope) where
 
   -- Exchange: the block of the holder has such a field, and what is given is of its kind.
   pub record IsExchangeFit (point : ℕ) (e : stated.Exchange) (next : ℕ) : Type 0 where
-    pub holder : VariableSeen
+    pub holder : VariableModel
     pub holder_there : slice_get m.variables e.holder.variable.0 ≡ Some holder
-    pub kind : Kind
+    pub kind : HeapKind
     pub field_there : slice_get (field_kinds p.structs holder.kind) e.field ≡ Some kind
     pub given : IsOfKind m.variables kind e.given.variable.0
     pub in_scope : scope next e.given.variable.0 ≡ true
@@ -101,10 +101,10 @@ module _ (p : ProgramSeen) (m : MethodSeen) (scope : Scope) where
 
   -- NewChannel: the contract is there, and the two variables are for its two ends.
   pub record IsChannelFit (point : ℕ) (c : Channel) (next : ℕ) : Type 0 where
-    pub contract : ContractSeen
+    pub contract : ContractModel
     pub contract_there : slice_get p.contracts c.contract.0 ≡ Some contract
-    pub first : VariableSeen
-    pub second : VariableSeen
+    pub first : VariableModel
+    pub second : VariableModel
     pub first_there : slice_get m.variables c.first.variable.0 ≡ Some first
     pub second_there : slice_get m.variables c.second.variable.0 ≡ Some second
     pub ends : are_ends c.contract.0 first.kind second.kind ≡ true
@@ -114,7 +114,7 @@ module _ (p : ProgramSeen) (m : MethodSeen) (scope : Scope) where
 
   -- a Move: both variables are of one kind
   pub record IsMoveFit (point target source next : ℕ) : Type 0 where
-    pub variable : VariableSeen
+    pub variable : VariableModel
     pub there : slice_get m.variables source ≡ Some variable
     pub kind : IsOfKind m.variables variable.kind target
     pub in_scope : scope next target ≡ true
@@ -149,12 +149,12 @@ module _ (p : ProgramSeen) (m : MethodSeen) (scope : Scope) where
   IsFit point (Stop place) = Unit {0}
 
 -- a method's graph under some scopes; its parameters are in scope where it begins
-pub record IsGraphFit (p : ProgramSeen) (m : MethodSeen) : Type 0 where
+pub record IsGraphFit (p : ProgramModel) (m : MethodModel) : Type 0 where
   pub scope : Scope
-  pub begins : (v : ℕ) (x : VariableSeen) → slice_get m.variables v ≡ Some x → is_parameter x.role ≡ true
+  pub begins : (v : ℕ) (x : VariableModel) → slice_get m.variables v ≡ Some x → is_parameter x.role ≡ true
       → scope (graph_of m).first v ≡ true
   pub fits : (point : ℕ) (i : Instruction) → slice_get (graph_of m).instructions point ≡ Some i → IsFit p m scope point i
 
 -- all methods of a program
-pub record AreGraphsFit (p : ProgramSeen) : Type 0 where
-  pub each : (n : ℕ) (m : MethodSeen) → slice_get p.methods n ≡ Some m → IsGraphFit p m
+pub record AreGraphsFit (p : ProgramModel) : Type 0 where
+  pub each : (n : ℕ) (m : MethodModel) → slice_get p.methods n ≡ Some m → IsGraphFit p m

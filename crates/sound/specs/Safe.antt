@@ -1,8 +1,8 @@
 -- What holds in every run of a program in which nothing is found.
 use Rattle.std.specs.Prelude.{◌≡◌, ◌≢◌, ◌+◌, ◌==◌, ◌<◌, ◌&&◌, ℕ, true, false, not, List, [], ◌∷◌, length, Option, Some, None, if◌then◌else◌}
 use Rattle.program.specs.Lists.{Each}
-use Rattle.program.specs.Methods.{VariableSeen}
-use Rattle.program.specs.Programs.{ProgramSeen}
+use Rattle.program.specs.Methods.{VariableModel}
+use Rattle.program.specs.Programs.{ProgramModel}
 use Rattle.program.specs.WellFormed.{field_kinds}
 use Rattle.program.specs.declared.kind.Side.{Side}
 use Rattle.rules.specs.Mentions.{is_lent_role}
@@ -16,18 +16,18 @@ use Rattle.machine.specs.declared.halts.Fault.{Fault}
 use Rattle.sound.specs.Queues.{IsLiveEnd, QueueIsWalk}
 
 -- In how many variables of a frame an address stands. What stands in a lent parameter is a copy: the caller has the address too.
-abbrev pub stands_in : List VariableSeen → List (Option ℕ) → ℕ → ℕ
+abbrev pub stands_in : List VariableModel → List (Option ℕ) → ℕ → ℕ
 stands_in (v ∷ variables) (Some b ∷ xs) a = (if (b == a) && not (is_lent_role v.role) then 1 else 0) + stands_in variables xs a
 stands_in (v ∷ variables) (None ∷ xs) a = stands_in variables xs a
 stands_in _ _ a = 0
 
 -- in how many variables of the frames of a process
-abbrev pub stands_in_frames : ProgramSeen → List Frame → ℕ → ℕ
+abbrev pub stands_in_frames : ProgramModel → List Frame → ℕ → ℕ
 stands_in_frames p [] a = 0
 stands_in_frames p (f ∷ frames) a = stands_in (variables_of p f.method) f.variables a + stands_in_frames p frames a
 
 -- The fields that own: each holds a block that is inside theirs, and each block that is inside another is in just one field.
-pub record FieldsOwn (p : ProgramSeen) (blocks : List Block) : Type 0 where
+pub record FieldsOwn (p : ProgramModel) (blocks : List Block) : Type 0 where
   -- a block that is not freed has an address in each field that owns of its struct
   pub full : (a : ℕ) → a < length blocks → freed blocks a ≡ false
       → length (block_at blocks a).fields ≡ length (field_kinds p.structs (block_at blocks a).kind)
@@ -37,7 +37,7 @@ pub record FieldsOwn (p : ProgramSeen) (blocks : List Block) : Type 0 where
   pub rooted : (x : ℕ) → Rooted blocks x
 
 -- What holds of a world, and of each event that may come next in it.
-pub record IsSafe (p : ProgramSeen) (bound : Bounds) (w : World) : Type 0 where
+pub record IsSafe (p : ProgramModel) (bound : Bounds) (w : World) : Type 0 where
   -- no event is a fault
   pub no_fault : (e : Event) (fault : Fault) → event_outcome p bound w e ≢ Faulty fault
   -- the queue to each end that lives is a walk of its contract

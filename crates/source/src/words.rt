@@ -8,7 +8,7 @@ ghost use Rattle.source.specs.Words.{word_kind, kind_among, word_text, statement
 use crate::kind::Kind;
 
 /// How a reserved word is written; nothing for another kind.
-pub(crate) fn written(kind: Kind) -> &'static [u8]
+pub(crate) fn spelling_of(kind: Kind) -> &'static [u8]
     ensures { result.now ≡ word_text kind }
 {
     match kind {
@@ -68,7 +68,7 @@ fn written_in_statements(kind: Kind) -> &'static [u8]
 fn is_written(kind: Kind, word: &[u8]) -> bool
     ensures { result ≡ pointwise nat_eq (word_text kind) word.now }
 {
-    let text = written(kind);
+    let text = spelling_of(kind);
     if text.len() != word.len() {
         return false;
     }

@@ -107,27 +107,27 @@ abbrev pub of_named_bind : Span × Option (parts.NamedTail.NamedTail × Span) �
 of_named_bind p = of_typed p.0 p.1
 
 abbrev pub of_scalar_bind : parts.ScalarType.ScalarType × Span → Bind
-of_scalar_bind p = record { kind = Some (of_scalar p.0); name = p.1 }
+of_scalar_bind p = record { ty = Some (of_scalar p.0); name = p.1 }
 
-type_behind : (t : type_nodes.Type.Type) (span : Span) (starts : Symbol → Bool) → Begins value_type starts t → Begins bind starts (record { kind = Some t; name = span })
+type_behind : (t : type_nodes.Type.Type) (span : Span) (starts : Symbol → Bool) → Begins value_type starts t → Begins bind starts (record { ty = Some t; name = span })
 type_behind t span starts b = record { head = b.head; tail = b.tail ++ name span; is = ap (λ l. l ++ name span) b.is; first = b.first }
 
 pub named_bind_form : Form bind named_bind of_named_bind (is_kind kind.Name)
 named_bind_form = record {
   first = record { each = λ p. record { head = Named p.0; tail = optional typed p.1; is = refl; first = refl } };
   same = λ p. same p.0 p.1;
-  each = λ b. each b.kind b.name;
+  each = λ b. each b.ty b.name;
 }
   where
     same : (span : Span) (o : Option (parts.NamedTail.NamedTail × Span)) → bind (of_typed span o) ≡ named_bind (span, o)
     same span None = refl
     same span (Some p) = ap (λ l. l ++ name p.1) (named_form.same (record { name = span; tail = p.0 }))
 
-    typed_form : (t : type_nodes.Type.Type) (span : Span) → FormOf value_type of_named (is_kind kind.Name) t → FormOf bind of_named_bind (is_kind kind.Name) (record { kind = Some t; name = span })
-    typed_form t span (Same n is) = Same (n.name, Some (n.tail, span)) (ap (λ t. record { kind = Some t; name = span }) is)
+    typed_form : (t : type_nodes.Type.Type) (span : Span) → FormOf value_type of_named (is_kind kind.Name) t → FormOf bind of_named_bind (is_kind kind.Name) (record { ty = Some t; name = span })
+    typed_form t span (Same n is) = Same (n.name, Some (n.tail, span)) (ap (λ t. record { ty = Some t; name = span }) is)
     typed_form t span (Other b) = Other (type_behind t span (λ y. not (is_kind kind.Name y)) b)
 
-    each : (o : Option type_nodes.Type.Type) (span : Span) → FormOf bind of_named_bind (is_kind kind.Name) (record { kind = o; name = span })
+    each : (o : Option type_nodes.Type.Type) (span : Span) → FormOf bind of_named_bind (is_kind kind.Name) (record { ty = o; name = span })
     each None span = Same (span, None) refl
     each (Some t) span = typed_form t span (named_form.each t)
 
@@ -135,17 +135,17 @@ pub scalar_bind_form : Form bind scalar_bind of_scalar_bind (λ y. not (is_kind 
 scalar_bind_form = record {
   first = record { each = λ p. first p.0 p.1 (scalar_form.first.each p.0) };
   same = λ p. ap (λ l. l ++ name p.1) (scalar_form.same p.0);
-  each = λ b. each b.kind b.name;
+  each = λ b. each b.ty b.name;
 }
   where
     first : (s : parts.ScalarType.ScalarType) (span : Span) → Begins scalar_type (λ y. not (is_kind kind.Name y)) s → Begins scalar_bind (λ y. not (is_kind kind.Name y)) (s, span)
     first s span b = record { head = b.head; tail = b.tail ++ name span; is = ap (λ l. l ++ name span) b.is; first = b.first }
 
-    typed_form : (t : type_nodes.Type.Type) (span : Span) → FormOf value_type of_scalar (λ y. not (is_kind kind.Name y)) t → FormOf bind of_scalar_bind (λ y. not (is_kind kind.Name y)) (record { kind = Some t; name = span })
-    typed_form t span (Same s is) = Same (s, span) (ap (λ t. record { kind = Some t; name = span }) is)
+    typed_form : (t : type_nodes.Type.Type) (span : Span) → FormOf value_type of_scalar (λ y. not (is_kind kind.Name y)) t → FormOf bind of_scalar_bind (λ y. not (is_kind kind.Name y)) (record { ty = Some t; name = span })
+    typed_form t span (Same s is) = Same (s, span) (ap (λ t. record { ty = Some t; name = span }) is)
     typed_form t span (Other b) = Other (type_behind t span (λ y. not (not (is_kind kind.Name y))) b)
 
-    each : (o : Option type_nodes.Type.Type) (span : Span) → FormOf bind of_scalar_bind (λ y. not (is_kind kind.Name y)) (record { kind = o; name = span })
+    each : (o : Option type_nodes.Type.Type) (span : Span) → FormOf bind of_scalar_bind (λ y. not (is_kind kind.Name y)) (record { ty = o; name = span })
     each None span = Other (record { head = Named span; tail = []; is = refl; first = refl })
     each (Some t) span = typed_form t span (scalar_form.each t)
 
@@ -164,7 +164,7 @@ stops_bind p = stops p.0 p.1
     stops span (Some q) r h = h
 
 pub bind_piece : Piece bind bind_on bind_at
-bind_piece = record { some = record { kind = None; name = named_piece.some }; each = λ b. way b.kind b.name }
+bind_piece = record { some = record { ty = None; name = named_piece.some }; each = λ b. way b.ty b.name }
   where
     named_way : (span : Span) (o : Option (parts.NamedTail.NamedTail × Span)) → ReadsOneWay bind bind_on bind_at (of_typed span o)
     named_way span o = form_way named_bind_form bind_stops (named_bind_piece.each (span, o))
@@ -172,7 +172,7 @@ bind_piece = record { some = record { kind = None; name = named_piece.some }; ea
     scalar_way : (s : parts.ScalarType.ScalarType) (span : Span) → ReadsOneWay bind bind_on bind_at (of_scalar_bind (s, span))
     scalar_way s span = form_way scalar_bind_form (λ _ r h. h) (wide_way (λ y h. refl) (scalar_bind_piece.each (s, span)))
 
-    way : (o : Option type_nodes.Type.Type) (span : Span) → ReadsOneWay bind bind_on bind_at (record { kind = o; name = span })
+    way : (o : Option type_nodes.Type.Type) (span : Span) → ReadsOneWay bind bind_on bind_at (record { ty = o; name = span })
     way None span = named_way span None
     way (Some (type.Scalar s)) span = scalar_way (record { scalar = s; array = None }) span
     way (Some (type.Heap (heap.Pointer other b))) span = named_way other (Some (tail.Pointer b, span))
@@ -204,17 +204,17 @@ bind_apart (Some t) y h = refl
 pub bind_item : OpenItem bind bind_on bind_at opens_type
 bind_item = record {
   piece = bind_piece;
-  begin = record { each = λ b. begins b.kind b.name };
+  begin = record { each = λ b. begins b.ty b.name };
   free = apart_kinds opens_tail kind.Comma refl;
-  leaves = record { apart = λ b y h. bind_apart b.kind y (apart_kinds opens_tail kind.Comma refl y h) };
+  leaves = record { apart = λ b y h. bind_apart b.ty y (apart_kinds opens_tail kind.Comma refl y h) };
 }
   where
-    begins : (o : Option type_nodes.Type.Type) (span : Span) → Begins bind (by_kind opens_type) (record { kind = o; name = span })
+    begins : (o : Option type_nodes.Type.Type) (span : Span) → Begins bind (by_kind opens_type) (record { ty = o; name = span })
     begins None span = record { head = Named span; tail = []; is = refl; first = refl }
     begins (Some t) span = type_behind t span (by_kind opens_type) (type_starts.each t)
 
 pub binds_inside : InParens (listed bind) binds_on binds_at
-binds_inside = record { on = refl; here = elim [ [] ↦ refl | b ∷ bs ↦ row_stops (is_kind kind.Comma) bind_at (Fixed kind.CloseParen) refl (λ b. bind_apart b.kind (Fixed kind.CloseParen) refl) (b ∷ bs) ] }
+binds_inside = record { on = refl; here = elim [ [] ↦ refl | b ∷ bs ↦ row_stops (is_kind kind.Comma) bind_at (Fixed kind.CloseParen) refl (λ b. bind_apart b.ty (Fixed kind.CloseParen) refl) (b ∷ bs) ] }
 
 pub bind_list_piece : Piece (listed bind) binds_on binds_at
 bind_list_piece = listed_open_piece bind_item

@@ -71,22 +71,22 @@ claims_meets : Meets {X = Bool} (when_at (is_kind kind.OpenBracket)) typed_name 
 claims_meets = record { here = elim [ true ↦ λ p r h. stops_never (typed_name p ++ r) | false ↦ λ p r h. type_stops p r ] }
 
 abbrev pub parameter_to : made.Parameter.Parameter → Bool × (type_nodes.Type.Type × Span)
-parameter_to p = (p.claims, (p.kind, p.name))
+parameter_to p = (p.claims, (p.ty, p.name))
 
 abbrev pub parameter_from : Bool × (type_nodes.Type.Type × Span) → made.Parameter.Parameter
-parameter_from p = record { claims = p.0; kind = p.1.0; name = p.1.1 }
+parameter_from p = record { claims = p.0; ty = p.1.0; name = p.1.1 }
 
 pub parameter_piece : Piece parameter never (λ _. never)
 parameter_piece = via_piece parameter_to parameter_from (λ _. refl) (both_piece maybe_claims_piece typed_name_piece claims_follows claims_meets)
 
 pub parameter_item : Item parameter opens_parameter
-parameter_item = record { piece = parameter_piece; begin = record { each = λ p. begins p.claims p.kind p.name }; apart = refl }
+parameter_item = record { piece = parameter_piece; begin = record { each = λ p. begins p.claims p.ty p.name }; apart = refl }
   where
     typed : (k : Option Kind) → opens_type k ≡ true → opens_parameter k ≡ true
     typed (Some kind.OpenBracket) h = refl
     typed k h = h
 
-    begins : (c : Bool) (t : type_nodes.Type.Type) (span : Span) → Begins parameter (by_kind opens_parameter) (record { claims = c; kind = t; name = span })
+    begins : (c : Bool) (t : type_nodes.Type.Type) (span : Span) → Begins parameter (by_kind opens_parameter) (record { claims = c; ty = t; name = span })
     begins true t span = record { head = Fixed kind.OpenBracket; tail = _; is = refl; first = refl }
     begins false t span =
         let b = type_starts.each t in

@@ -174,11 +174,11 @@ atom_is_read old new z a is read stops = subst (Takes atom atom_at old new) (sym
 -- by what an expression begins
 
 prefix_opens : (p : Prefix) → Begins prefix (by_kind opens_expression) p
-prefix_opens p = opens p.operator p.place
+prefix_opens p = opens p.operator p.span
   where
-    opens : (o : PrefixOperator) (place : Span) → Begins prefix (by_kind opens_expression) (record { operator = o; place = place })
-    opens prefixes.Not place = record { head = Placed kind.Bang place; tail = []; is = refl; first = refl }
-    opens prefixes.Negate place = record { head = Placed kind.Minus place; tail = []; is = refl; first = refl }
+    opens : (o : PrefixOperator) (span : Span) → Begins prefix (by_kind opens_expression) (record { operator = o; span = span })
+    opens prefixes.Not span = record { head = Placed kind.Bang span; tail = []; is = refl; first = refl }
+    opens prefixes.Negate span = record { head = Placed kind.Minus span; tail = []; is = refl; first = refl }
 
 atom_opens : (a : AtomTree) → Begins atom (by_kind opens_expression) a
 atom_opens (Number span) = record { head = Placed kind.Number span; tail = []; is = refl; first = refl }

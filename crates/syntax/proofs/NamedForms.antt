@@ -26,8 +26,8 @@ use Rattle.syntax.proofs.NameRests.{Passed, Written, member_rest, Ended, Made, M
 use Rattle.syntax.proofs.StatementLeads.{other}
 
 abbrev pub of_rest : Span → NameRest → StatementTree
-of_rest first (Pointed b d) = Declare (record { kind = type.Heap (heap.Pointer first b); name = d.0; value = d.1 })
-of_rest first (Dotted (Ended e d)) = Declare (record { kind = type.Heap (heap.Endpoint first e.side e.state e.bang e.in_heap); name = d.0; value = d.1 })
+of_rest first (Pointed b d) = Declare (record { ty = type.Heap (heap.Pointer first b); name = d.0; value = d.1 })
+of_rest first (Dotted (Ended e d)) = Declare (record { ty = type.Heap (heap.Endpoint first e.side e.state e.bang e.in_heap); name = d.0; value = d.1 })
 of_rest first (Dotted (Made c)) = NewChannel (record { contract = first; word = c.word; «open» = c.«open»; first = c.first; second = c.second })
 of_rest first (Dotted (Member span (Passed p))) = Call (record { name = first; member = Some span; open_paren = p.0; arguments = p.1 })
 of_rest first (Dotted (Member span (Written v))) = Assign (record { target = Field first span; value = v })
@@ -63,7 +63,7 @@ named_form = record {
     scalar_other scalar.Bool = refl
     scalar_other scalar.Byte = refl
 
-    declare : (t : type_nodes.Type.Type) (span : Span) (o : Option ValueTree) → FormOf statement of_named (is_kind kind.Name) (Declare (record { kind = t; name = span; value = o }))
+    declare : (t : type_nodes.Type.Type) (span : Span) (o : Option ValueTree) → FormOf statement of_named (is_kind kind.Name) (Declare (record { ty = t; name = span; value = o }))
     declare (type.Scalar s) span o = Other (record { head = Fixed (scalar_word s); tail = _; is = refl; first = scalar_other s })
     declare (type.Heap (heap.Array s b)) span o = Other (record { head = Fixed (scalar_word s); tail = _; is = refl; first = scalar_other s })
     declare (type.Heap (heap.Pointer first b)) span o = Same (first, Pointed b (span, o)) refl
@@ -79,7 +79,7 @@ named_form = record {
     call first left (Some span) es = Same (first, Dotted (Member span (Passed (left, es)))) refl
 
     each : (z : StatementTree) → FormOf statement of_named (is_kind kind.Name) z
-    each (Declare d) = declare d.kind d.name d.value
+    each (Declare d) = declare d.ty d.name d.value
     each (Assign a) = assign a.target a.value
     each (Call c) = call c.name c.open_paren c.member c.arguments
     each (NewChannel n) = Same (n.contract, Dotted (Made (record { word = n.word; «open» = n.«open»; first = n.first; second = n.second }))) refl

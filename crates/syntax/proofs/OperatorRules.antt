@@ -84,16 +84,16 @@ prefix_marks = record { some = prefixes.Not; known = known; blank = refl; only =
     plain prefixes.Negate e = cc
 
 abbrev pub prefix_to : tree.Prefix.Prefix → tree.PrefixOperator.PrefixOperator × Span
-prefix_to p = (p.operator, p.place)
+prefix_to p = (p.operator, p.span)
 
 abbrev pub prefix_from : tree.PrefixOperator.PrefixOperator × Span → tree.Prefix.Prefix
-prefix_from p = record { operator = p.0; place = p.1 }
+prefix_from p = record { operator = p.0; span = p.1 }
 
 pub prefix_piece : Piece prefix never (λ _. never)
 prefix_piece = via_piece prefix_to prefix_from (λ _. refl) (marks_piece prefix_marks)
 
 pub prefix_starts : Starts prefix (by_kind opens_prefix)
-prefix_starts = record { each = λ p. record { head = Placed (prefix_word p.operator) p.place; tail = []; is = refl; first = opens p.operator } }
+prefix_starts = record { each = λ p. record { head = Placed (prefix_word p.operator) p.span; tail = []; is = refl; first = opens p.operator } }
   where
     opens : (o : tree.PrefixOperator.PrefixOperator) → opens_prefix (Some (prefix_word o)) ≡ true
     opens prefixes.Not = refl

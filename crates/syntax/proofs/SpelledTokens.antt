@@ -55,7 +55,7 @@ type_tokens (type.Scalar s) = refl
 type_tokens (type.Heap h) = heap_tokens h
 
 param_tokens : SpellsTokens param
-param_tokens p = simp (list_all-append, type_tokens p.kind)
+param_tokens p = simp (list_all-append, type_tokens p.ty)
 
 message_tokens : SpellsTokens message
 message_tokens m = simp (list_all-append, listed_tokens param param_tokens m.params)
@@ -124,7 +124,7 @@ value_tokens (New n) = made_tokens n.made
 -- statements
 
 declare_tokens : SpellsTokens declare
-declare_tokens d = simp (list_all-append, type_tokens d.kind, optional_tokens init value_tokens d.value)
+declare_tokens d = simp (list_all-append, type_tokens d.ty, optional_tokens init value_tokens d.value)
 
 assign_tokens : SpellsTokens assign
 assign_tokens a = simp (list_all-append, target_tokens a.target, value_tokens a.value)
@@ -134,7 +134,7 @@ awaited_tokens (awaits.Message span) = refl
 awaited_tokens (awaits.Closed span) = refl
 
 bind_tokens : SpellsTokens bind
-bind_tokens b = simp (list_all-append, optional_tokens value_type type_tokens b.kind)
+bind_tokens b = simp (list_all-append, optional_tokens value_type type_tokens b.ty)
 
 mutual
   statement_tokens : SpellsTokens statement
@@ -182,14 +182,14 @@ access_tokens : SpellsTokens (optional (λ a. word (access_word a)))
 access_tokens = optional_tokens (λ a. word (access_word a)) (λ _. refl)
 
 field_tokens : SpellsTokens field
-field_tokens f = simp (list_all-append, access_tokens f.access, type_tokens f.kind)
+field_tokens f = simp (list_all-append, access_tokens f.access, type_tokens f.ty)
 
 result_tokens : SpellsTokens result_type
 result_tokens None = refl
 result_tokens (Some t) = type_tokens t
 
 parameter_tokens : SpellsTokens parameter
-parameter_tokens p = simp (list_all-append, when_tokens claims_words refl p.claims, type_tokens p.kind)
+parameter_tokens p = simp (list_all-append, when_tokens claims_words refl p.claims, type_tokens p.ty)
 
 method_tokens : SpellsTokens method
 method_tokens m =

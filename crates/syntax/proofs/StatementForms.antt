@@ -138,7 +138,7 @@ abbrev pub scalar_declared : parts.ScalarType.ScalarType × (Span × Option Valu
 scalar_declared = both scalar_type declared
 
 abbrev pub of_declared : parts.ScalarType.ScalarType × (Span × Option ValueTree) → StatementTree
-of_declared p = Declare (record { kind = of_scalar p.0; name = p.1.0; value = p.1.1 })
+of_declared p = Declare (record { ty = of_scalar p.0; name = p.1.0; value = p.1.1 })
 
 pub declared_follows : Follows (is_kind kind.OpenBracket) declared never
 declared_follows = record { each = λ d r h. refl }
@@ -171,14 +171,14 @@ scalar_declared_form = record {
   each = each;
 }
   where
-    declare : (t : type_nodes.Type.Type) (span : Span) (o : Option ValueTree) → FormOf statement of_declared (by_kind opens_scalar) (Declare (record { kind = t; name = span; value = o }))
+    declare : (t : type_nodes.Type.Type) (span : Span) (o : Option ValueTree) → FormOf statement of_declared (by_kind opens_scalar) (Declare (record { ty = t; name = span; value = o }))
     declare (type.Scalar s) span o = Same (record { scalar = s; array = None }, (span, o)) refl
     declare (type.Heap (heap.Array s b)) span o = Same (record { scalar = s; array = Some b }, (span, o)) refl
     declare (type.Heap (heap.Pointer first b)) span o = Other (record { head = Named first; tail = _; is = refl; first = refl })
     declare (type.Heap (heap.Endpoint first end state bang in_heap)) span o = Other (record { head = Named first; tail = _; is = refl; first = refl })
 
     each : (z : StatementTree) → FormOf statement of_declared (by_kind opens_scalar) z
-    each (Declare d) = declare d.kind d.name d.value
+    each (Declare d) = declare d.ty d.name d.value
     each (Assign a) = away (Assign a) kind.Name (assign_begins a.target a.value) refl
     each (Block b) = away (Block b) kind.OpenBrace (begins_by (Block b)) refl
     each (Call c) = away (Call c) kind.Name (begins_by (Call c)) refl

@@ -92,7 +92,7 @@ opens_by (Return span e) = kind_is kind.Return
 opens_by (Switch span first more close) = kind_is kind.Switch
 
 -- a declaration begins as its type does
-pub declare_begins : (t : tree.Type.Type) (span : Span) (o : Option ValueTree) (starts : Symbol → Bool) → Begins value_type starts t → Begins statement starts (Declare (record { kind = t; name = span; value = o }))
+pub declare_begins : (t : tree.Type.Type) (span : Span) (o : Option ValueTree) (starts : Symbol → Bool) → Begins value_type starts t → Begins statement starts (Declare (record { ty = t; name = span; value = o }))
 declare_begins t span o starts b = record { head = b.head; tail = b.tail ++ declared (span, o); is = ap (λ l. l ++ declared (span, o)) b.is; first = b.first }
 
 pub assign_begins : (t : TargetTree) (v : ValueTree) → Begins statement (is_kind kind.Name) (Assign (record { target = t; value = v }))
@@ -102,7 +102,7 @@ assign_begins (Element span e) v = record { head = Named span; tail = _; is = re
 
 pub begins_by : (z : StatementTree) → Begins statement (by_kind (opens_by z)) z
 begins_by (Block (Braces inner close)) = record { head = Fixed kind.OpenBrace; tail = _; is = refl; first = refl }
-begins_by (Declare d) = declare_begins d.kind d.name d.value (by_kind opens_type) (type_starts.each d.kind)
+begins_by (Declare d) = declare_begins d.ty d.name d.value (by_kind opens_type) (type_starts.each d.ty)
 begins_by (Assign a) = assign_begins a.target a.value
 begins_by (Call c) = record { head = Named c.name; tail = _; is = refl; first = refl }
 begins_by (Start span c) = record { head = Placed kind.Start span; tail = _; is = refl; first = refl }
@@ -129,7 +129,7 @@ of_kind : (z : StatementTree) (opening : Kind) → Begins statement (is_kind ope
 of_kind z opening b h = record { head = b.head; tail = b.tail; is = b.is; first = ap opens_statement (kind_only opening (kind_at (b.head ∷ [])) b.first) ∙ h }
 
 begins_statement : (z : StatementTree) → Begins statement (by_kind opens_statement) z
-begins_statement (Declare d) = declare_begins d.kind d.name d.value (by_kind opens_statement) (typed d.kind (type_starts.each d.kind))
+begins_statement (Declare d) = declare_begins d.ty d.name d.value (by_kind opens_statement) (typed d.ty (type_starts.each d.ty))
   where
     typed : (t : tree.Type.Type) → Begins value_type (by_kind opens_type) t → Begins value_type (by_kind opens_statement) t
     typed t b = record { head = b.head; tail = b.tail; is = b.is; first = type_opens (kind_at (b.head ∷ [])) b.first }

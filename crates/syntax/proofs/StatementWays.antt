@@ -29,7 +29,7 @@ use Rattle.syntax.proofs.StatementForms.{block_form, if_form, while_form, switch
 use Rattle.syntax.proofs.StatementCycle.{block_to, block_from, block_back, block_spelled, test_to, test_from, test_back, test_spelled, Last, Further, others_to, others_from, others_back, others_spelled, others_stops, else_starts, else_opens, last_form, further_form, else_way, case_to, case_from, case_back, case_spelled, case_stops, case_starts, statement_splits, statement_leaves, case_splits, case_leaves, block_inside, cases_end, cases_follow, cases_meet, case_follows, case_meets, if_to, if_from, switch_to, switch_from}
 use Rattle.syntax.proofs.ExpressionFails.{parens_expression_piece}
 
-declare_way : (t : tree.Type.Type) (span : Span) (o : Option ValueTree) → ReadsOneWay statement statement_on statement_at (Declare (record { kind = t; name = span; value = o }))
+declare_way : (t : tree.Type.Type) (span : Span) (o : Option ValueTree) → ReadsOneWay statement statement_on statement_at (Declare (record { ty = t; name = span; value = o }))
 declare_way (type.Scalar s) span o = form_way scalar_declared_form (λ _ r _. stops_never r) (wide_way (λ y h. refl) (scalar_declared_piece.each (record { scalar = s; array = None }, (span, o))))
 declare_way (type.Heap (heap.Array s b)) span o = form_way scalar_declared_form (λ _ r _. stops_never r) (wide_way (λ y h. refl) (scalar_declared_piece.each (record { scalar = s; array = Some b }, (span, o))))
 declare_way (type.Heap (heap.Pointer first b)) span o = named_way first (Pointed b (span, o))
@@ -47,7 +47,7 @@ call_way first left (Some span) es = named_way first (Dotted (Member span (Passe
 mutual
   statement_way : (x : StatementTree) → ReadsOneWay statement statement_on statement_at x
   statement_way (Block b) = form_way block_form (λ _ r _. stops_never r) (wide_way (λ y h. refl) (block_way b))
-  statement_way (Declare d) = declare_way d.kind d.name d.value
+  statement_way (Declare d) = declare_way d.ty d.name d.value
   statement_way (Assign a) = assign_way a.target a.value
   statement_way (Call c) = call_way c.name c.open_paren c.member c.arguments
   statement_way (Start span c) = form_way start_form (λ _ r _. stops_never r) (wide_way (λ y h. refl) (start_piece.each (span, c)))

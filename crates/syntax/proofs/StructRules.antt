@@ -49,10 +49,10 @@ pub behind_piece : Piece behind_access never (λ _. never)
 behind_piece = both_piece type_piece named_end_piece type_ends type_met
 
 abbrev pub field_to : made.Field.Field → Option item_nodes.Access.Access × Behind
-field_to f = (f.access, (f.kind, (f.name, tt)))
+field_to f = (f.access, (f.ty, (f.name, tt)))
 
 abbrev pub field_from : Option item_nodes.Access.Access × Behind → made.Field.Field
-field_from p = record { access = p.0; kind = p.1.0; name = p.1.1.0 }
+field_from p = record { access = p.0; ty = p.1.0; name = p.1.1.0 }
 
 -- no type begins with an access word
 type_apart : (k : Option Kind) → opens_type k ≡ true → opens_access k ≡ false
@@ -76,7 +76,7 @@ pub field_piece : Piece field never (λ _. never)
 field_piece = via_piece field_to field_from (λ _. refl) (both_piece access_piece behind_piece field_follows field_meets)
 
 pub field_starts : Starts field (by_kind opens_field)
-field_starts = record { each = λ f. begins f.access f.kind f.name }
+field_starts = record { each = λ f. begins f.access f.ty f.name }
   where
     worded : (a : item_nodes.Access.Access) → opens_field (Some (access_word a)) ≡ true
     worded access.Public = refl
@@ -89,7 +89,7 @@ field_starts = record { each = λ f. begins f.access f.kind f.name }
     typed (Some kind.Internal) h = refl
     typed k h = h
 
-    begins : (o : Option item_nodes.Access.Access) (t : type_nodes.Type.Type) (span : Span) → Begins field (by_kind opens_field) (record { access = o; kind = t; name = span })
+    begins : (o : Option item_nodes.Access.Access) (t : type_nodes.Type.Type) (span : Span) → Begins field (by_kind opens_field) (record { access = o; ty = t; name = span })
     begins None t span =
         let b = type_starts.each t in
         record { head = b.head; tail = b.tail ++ named_end (span, tt); is = ap (λ l. l ++ named_end (span, tt)) b.is; first = typed (kind_at (b.head ∷ [])) b.first }

@@ -156,10 +156,10 @@ type_piece = record { some = type.Scalar scalar.Int; each = way }
 -- param = type ID .
 
 abbrev pub param_to : contract_nodes.Param.Param → type_nodes.Type.Type × Span
-param_to p = (p.kind, p.name)
+param_to p = (p.ty, p.name)
 
 abbrev pub param_from : type_nodes.Type.Type × Span → contract_nodes.Param.Param
-param_from p = record { kind = p.0; name = p.1 }
+param_from p = record { ty = p.0; name = p.1 }
 
 pub type_follows : Follows type_on name never
 type_follows = record { each = λ span r h. refl }
@@ -183,14 +183,14 @@ pub param_piece : Piece param never (λ _. never)
 param_piece = via_piece param_to param_from (λ _. refl) (both_piece type_piece named_piece type_follows type_meets)
 
 pub param_item : Item param opens_type
-param_item = record { piece = param_piece; begin = record { each = λ p. begins p.kind p.name }; apart = refl }
+param_item = record { piece = param_piece; begin = record { each = λ p. begins p.ty p.name }; apart = refl }
   where
     scalar_opens : (s : kind_nodes.Scalar.Scalar) → opens_type (Some (scalar_word s)) ≡ true
     scalar_opens scalar.Int = refl
     scalar_opens scalar.Bool = refl
     scalar_opens scalar.Byte = refl
 
-    begins : (t : type_nodes.Type.Type) (span : Span) → Begins param (by_kind opens_type) (record { kind = t; name = span })
+    begins : (t : type_nodes.Type.Type) (span : Span) → Begins param (by_kind opens_type) (record { ty = t; name = span })
     begins (type.Scalar s) span = record { head = scalar_head s; tail = name span; is = refl; first = scalar_opens s }
     begins (type.Heap (heap.Pointer other b)) span = record { head = Named other; tail = pointer_tail b ++ name span; is = refl; first = refl }
     begins (type.Heap (heap.Array s b)) span = record { head = scalar_head s; tail = array_tail b ++ name span; is = refl; first = scalar_opens s }

@@ -111,8 +111,8 @@ scalar_bind p = row (scalar_type p.0 ∷ name p.1 ∷ [])
 
 -- what a name and what follows it bind
 abbrev pub of_typed : Span → Option (NamedTail × Span) → Bind
-of_typed span None = record { kind = None; name = span }
-of_typed span (Some p) = record { kind = Some (of_tail span p.0); name = p.1 }
+of_typed span None = record { ty = None; name = span }
+of_typed span (Some p) = record { ty = Some (of_tail span p.0); name = p.1 }
 
 -- what stands before the statements of a case, as a tree
 abbrev pub case_front_tree : CaseFront → CaseFrontTree
@@ -128,7 +128,7 @@ bind_on = by_kind opens_tail
 
 -- by what this one could
 abbrev pub bind_at : Bind → Symbol → Bool
-bind_at b = optional_at bind_on (λ _. never) b.kind
+bind_at b = optional_at bind_on (λ _. never) b.ty
 
 -- by what some list of binds could
 abbrev pub binds_on : Symbol → Bool

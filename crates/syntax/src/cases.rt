@@ -8,7 +8,7 @@ ghost use Rattle.syntax.specs.StatementParts.{case_front, case_front_tree, typed
 ghost use Rattle.syntax.specs.StatementParts.{opens_tail, bind_on, bind_at, binds_on, binds_at};
 
 use crate::cursor::{Cursor, Stuck};
-use crate::fitted::{fitted, push};
+use crate::fitted::{push, shrink};
 use crate::fronts::{NamedTail, NamedType};
 use crate::types::{is_type, named_tail, scalar_type};
 use source::{Kind, Span};
@@ -29,7 +29,7 @@ pub struct CaseFront {
 pub fn case_front(alloc: Global, cursor: &mut Cursor<'_>) -> Result<CaseFront, Stuck>
     ensures { ReadsEnded case_front_tree case_front cursor.old cursor.new result }
 {
-    let word = cursor.placed(Kind::Case)?;
+    let word = cursor.expect_span(Kind::Case)?;
     let endpoint = cursor.name()?;
     cursor.expect(Kind::Dot)?;
     let message = awaited(cursor)?;
@@ -51,7 +51,7 @@ fn awaited(cursor: &mut Cursor<'_>) -> Result<Awaited, Stuck>
     if cursor.is_next(Kind::Name) {
         Ok(Awaited::Message(cursor.name()?))
     } else {
-        Ok(Awaited::Closed(cursor.placed(Kind::ChannelClosed)?))
+        Ok(Awaited::Closed(cursor.expect_span(Kind::ChannelClosed)?))
     }
 }
 
@@ -59,7 +59,7 @@ fn awaited(cursor: &mut Cursor<'_>) -> Result<Awaited, Stuck>
 fn binds(alloc: Global, cursor: &mut Cursor<'_>) -> Result<(Span, Vec<Bind>), Stuck>
     ensures { ReadsEnded (λ p. (p.0, p.1.items)) (parens (listed bind)) cursor.old cursor.new result }
 {
-    let left = cursor.placed(Kind::OpenParen)?;
+    let left = cursor.expect_span(Kind::OpenParen)?;
     let all = bind_list(alloc, cursor)?;
     cursor.expect(Kind::CloseParen)?;
     Ok((left, all))
@@ -77,7 +77,7 @@ fn bind_list(alloc: Global, cursor: &mut Cursor<'_>) -> Result<Vec<Bind>, Stuck>
     'more: while cursor.is_next(Kind::Comma) {
         push(&mut all, comma_bind(cursor)?)?;
     }
-    Ok(fitted(all))
+    Ok(shrink(all))
 }
 
 /// "," bind
@@ -97,12 +97,9 @@ fn bind(cursor: &mut Cursor<'_>) -> Result<Bind, Stuck>
         let behind = maybe_typed(cursor)?;
         Ok(bind_of(first, behind))
     } else {
-        let kind = Type::from(scalar_type(cursor)?);
+        let ty = Type::from(scalar_type(cursor)?);
         let name = cursor.name()?;
-        Ok(Bind {
-            kind: Some(kind),
-            name,
-        })
+        Ok(Bind { ty: Some(ty), name })
     }
 }
 
@@ -112,11 +109,11 @@ fn bind_of(first: Span, behind: Option<(NamedTail, Span)>) -> Bind
 {
     match behind {
         Some((tail, name)) => Bind {
-            kind: Some(Type::from(NamedType { name: first, tail })),
+            ty: Some(Type::from(NamedType { name: first, tail })),
             name,
         },
         None => Bind {
-            kind: None,
+            ty: None,
             name: first,
         },
     }

@@ -13,7 +13,7 @@ ghost use Rattle.syntax.specs.ClassParts.{result_at};
 
 use crate::access::access;
 use crate::cursor::{Cursor, Stuck};
-use crate::fitted::{fitted, push};
+use crate::fitted::{push, shrink};
 use crate::statements::block;
 use crate::types::value_type;
 use source::{Kind, Span};
@@ -41,7 +41,7 @@ fn methods(alloc: Global, cursor: &mut Cursor<'_>) -> Result<(Vec<Method>, Span)
 {
     cursor.expect(Kind::OpenBrace)?;
     let all = method_row(alloc, cursor)?;
-    let close = cursor.placed(Kind::CloseBrace)?;
+    let close = cursor.expect_span(Kind::CloseBrace)?;
     Ok((all, close))
 }
 
@@ -102,7 +102,7 @@ fn result_type(cursor: &mut Cursor<'_>) -> Result<Option<Type>, Stuck>
 fn parameters(alloc: Global, cursor: &mut Cursor<'_>) -> Result<(Span, Vec<Parameter>), Stuck>
     ensures { ReadsEnded (λ p. (p.0, p.1.items)) (parens (listed parameter)) cursor.old cursor.new result }
 {
-    let left = cursor.placed(Kind::OpenParen)?;
+    let left = cursor.expect_span(Kind::OpenParen)?;
     let all = parameter_list(alloc, cursor)?;
     cursor.expect(Kind::CloseParen)?;
     Ok((left, all))
@@ -131,7 +131,7 @@ fn parameter_list(alloc: Global, cursor: &mut Cursor<'_>) -> Result<Vec<Paramete
     'more: while cursor.is_next(Kind::Comma) {
         push(&mut all, comma_parameter(cursor)?)?;
     }
-    Ok(fitted(all))
+    Ok(shrink(all))
 }
 
 /// "," parameter
@@ -147,9 +147,9 @@ fn parameter(cursor: &mut Cursor<'_>) -> Result<Parameter, Stuck>
     ensures { ReadsEnded (λ x. x) parameter cursor.old cursor.new result }
 {
     let claims = maybe_claims(cursor)?;
-    let kind = value_type(cursor)?;
+    let ty = value_type(cursor)?;
     let name = cursor.name()?;
-    Ok(Parameter { claims, kind, name })
+    Ok(Parameter { claims, ty, name })
 }
 
 /// [ claims ]

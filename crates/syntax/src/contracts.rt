@@ -27,7 +27,7 @@ pub fn contract(alloc: Global, cursor: &mut Cursor<'_>) -> Result<Contract, Stuc
     let messages = messages(alloc, cursor)?;
     let state = state(alloc, cursor)?;
     let members = members(alloc, cursor)?;
-    let close = cursor.placed(Kind::CloseBrace)?;
+    let close = cursor.expect_span(Kind::CloseBrace)?;
     Ok(Contract {
         name,
         messages,

@@ -69,7 +69,7 @@ impl<'a> Cursor<'a> {
 
 impl Cursor<'_> {
     /// How many tokens are left.
-    pub fn left(&self) -> usize
+    pub fn tokens_left(&self) -> usize
         ensures { result + 1 ≡ length self.now }
     {
         self.tokens.len() - self.next
@@ -127,7 +127,7 @@ impl Cursor<'_> {
     }
 
     /// Takes a token of this kind, and answers where it lies.
-    pub fn placed(&mut self, kind: Kind) -> Result<Span, Stuck>
+    pub fn expect_span(&mut self, kind: Kind) -> Result<Span, Stuck>
         requires { is_placed kind ≡ true }
         ensures { ReadsEnded (λ x. x) (placed kind) self.old self.new result }
     {

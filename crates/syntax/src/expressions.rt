@@ -17,7 +17,7 @@ ghost use Rattle.tree.specs.ExpressionTrees.{relation_tree, relation_step_tree, 
 ghost use Rattle.tree.specs.ExpressionTrees.{unmarked};
 
 use crate::cursor::{Cursor, Stuck};
-use crate::fitted::{fitted, push};
+use crate::fitted::{push, shrink};
 use crate::operators::{
     equality_operator, factor_operator, goes_on_behind_sum, is_equality, is_factor, is_prefix,
     is_relation, prefix, relation_operator,
@@ -97,7 +97,7 @@ fn conjunctions(alloc: Global, cursor: &mut Cursor<'_>) -> Result<Vec<Conjunctio
     'each: while cursor.is_next(Kind::OrOr) {
         push(&mut all, or_conjunction(alloc, cursor)?)?;
     }
-    Ok(fitted(all))
+    Ok(shrink(all))
 }
 
 /// "||" conjunction
@@ -133,7 +133,7 @@ fn equalities(alloc: Global, cursor: &mut Cursor<'_>) -> Result<Vec<Equality>, S
     'each: while cursor.is_next(Kind::AndAnd) {
         push(&mut all, and_equality(alloc, cursor)?)?;
     }
-    Ok(fitted(all))
+    Ok(shrink(all))
 }
 
 /// "&&" equality
@@ -168,7 +168,7 @@ fn equality_steps(alloc: Global, cursor: &mut Cursor<'_>) -> Result<Vec<Equality
     'each: while is_equality(cursor.peek()) {
         push(&mut all, equality_step(alloc, cursor)?)?;
     }
-    Ok(fitted(all))
+    Ok(shrink(all))
 }
 
 /// ( "==" | "!=" ) relation
@@ -204,7 +204,7 @@ fn relation_steps(alloc: Global, cursor: &mut Cursor<'_>) -> Result<Vec<Relation
     'each: while is_relation(cursor.peek()) {
         push(&mut all, relation_step(alloc, cursor)?)?;
     }
-    Ok(fitted(all))
+    Ok(shrink(all))
 }
 
 /// ( "<" | "<=" | ">" | ">=" ) sum
@@ -255,7 +255,7 @@ fn factors(alloc: Global, cursor: &mut Cursor<'_>) -> Result<Vec<Factor>, Stuck>
     'each: while is_factor(cursor.peek()) {
         push(&mut all, read_factor(alloc, cursor)?)?;
     }
-    Ok(fitted(all))
+    Ok(shrink(all))
 }
 
 /// ( "+" | "-" | "*" ) unary
@@ -277,7 +277,7 @@ fn prefixes(alloc: Global, cursor: &mut Cursor<'_>) -> Result<Vec<Prefix>, Stuck
     'each: while is_prefix(cursor.peek()) {
         push(&mut all, prefix(cursor)?)?;
     }
-    Ok(fitted(all))
+    Ok(shrink(all))
 }
 
 /// unary = { "!" | "-" } atom .
@@ -312,7 +312,7 @@ fn read_atom(alloc: Global, cursor: &mut Cursor<'_>) -> Result<Atom, Stuck>
     } else if cursor.is_next(Kind::False) {
         Ok(Atom::False(cursor.skip()))
     } else {
-        Ok(Atom::Number(cursor.placed(Kind::Number)?))
+        Ok(Atom::Number(cursor.expect_span(Kind::Number)?))
     }
 }
 
@@ -321,7 +321,7 @@ fn read_atom(alloc: Global, cursor: &mut Cursor<'_>) -> Result<Atom, Stuck>
 pub fn read_parens(alloc: Global, cursor: &mut Cursor<'_>) -> Result<(Span, Expression), Stuck>
     ensures { ReadsEnded (λ p. (p.0, expression_tree p.1)) (parens expression) cursor.old cursor.new result }
 {
-    let left = cursor.placed(Kind::OpenParen)?;
+    let left = cursor.expect_span(Kind::OpenParen)?;
     let inner = read_expression(alloc, cursor)?;
     cursor.expect(Kind::CloseParen)?;
     Ok((left, inner))

@@ -16,7 +16,7 @@ pub(crate) fn push<T: Drop>(all: &mut Vec<T>, item: T) -> Result<(), AllocError>
 }
 
 /// The list without room for more items. A list makes room for four with its second item, and most have one or two.
-pub(crate) fn fitted<T>(mut all: Vec<T>) -> Vec<T>
+pub(crate) fn shrink<T>(mut all: Vec<T>) -> Vec<T>
     ensures { result.items ≡ all.items }
 {
     all.shrink_to_fit();

@@ -66,7 +66,7 @@ pub fn message(alloc: Global, cursor: &mut Cursor<'_>) -> Result<Message, Stuck>
 fn params(alloc: Global, cursor: &mut Cursor<'_>) -> Result<(Span, Vec<Param>), Stuck>
     ensures { ReadsEnded (λ p. (p.0, p.1.items)) (parens (listed param)) cursor.old cursor.new result }
 {
-    let left = cursor.placed(Kind::OpenParen)?;
+    let left = cursor.expect_span(Kind::OpenParen)?;
     let all = param_list(alloc, cursor)?;
     cursor.expect(Kind::CloseParen)?;
     Ok((left, all))
@@ -100,7 +100,7 @@ fn comma_param(cursor: &mut Cursor<'_>) -> Result<Param, Stuck>
 fn param(cursor: &mut Cursor<'_>) -> Result<Param, Stuck>
     ensures { ReadsEnded (λ x. x) param cursor.old cursor.new result }
 {
-    let kind = value_type(cursor)?;
+    let ty = value_type(cursor)?;
     let name = cursor.name()?;
-    Ok(Param { kind, name })
+    Ok(Param { ty, name })
 }

@@ -104,7 +104,7 @@ fn sum_operator(cursor: &mut Cursor<'_>) -> Result<SumOperator, Stuck>
     ensures { ReadsEnded (λ x. x) sum_operator cursor.old cursor.new result }
 {
     if cursor.is_next(Kind::Minus) {
-        Ok(SumOperator::Minus(cursor.placed(Kind::Minus)?))
+        Ok(SumOperator::Minus(cursor.expect_span(Kind::Minus)?))
     } else {
         cursor.expect(Kind::Plus)?;
         Ok(SumOperator::Plus)
@@ -137,6 +137,6 @@ pub fn prefix(cursor: &mut Cursor<'_>) -> Result<Prefix, Stuck>
     let Some(operator) = prefix_of(cursor.peek()) else {
         return Err(Stuck::Unexpected);
     };
-    let place = cursor.skip();
-    Ok(Prefix { operator, place })
+    let span = cursor.skip();
+    Ok(Prefix { operator, span })
 }

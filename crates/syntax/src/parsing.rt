@@ -31,14 +31,14 @@ pub fn parse(alloc: Global, tokens: &Tokens) -> Result<Tree, SyntaxFault>
     let mut cursor = Cursor::new(list);
     match items(alloc, &mut cursor) {
         Ok(items) => {
-            let left = cursor.left();
+            let left = cursor.tokens_left();
             if left == 0 {
                 Ok(Tree { items })
             } else {
                 Err(SyntaxFault::At(list.len() - left))
             }
         }
-        Err(Stuck::Unexpected) => Err(SyntaxFault::At(list.len() - cursor.left())),
+        Err(Stuck::Unexpected) => Err(SyntaxFault::At(list.len() - cursor.tokens_left())),
         Err(Stuck::Memory) => Err(SyntaxFault::Memory),
     }
 }

@@ -36,9 +36,9 @@ pub fn simple_statement(
             after_name(alloc, cursor, name)
         }
         Simple::Scalar => {
-            let kind = Type::from(scalar_type(cursor)?);
+            let ty = Type::from(scalar_type(cursor)?);
             let (name, value) = declared(alloc, cursor)?;
-            let declare = Box::new(alloc, Declare { kind, name, value })?;
+            let declare = Box::new(alloc, Declare { ty, name, value })?;
             Ok(Statement::Declare(declare))
         }
         Simple::Start => {
@@ -63,9 +63,9 @@ fn after_name(alloc: Global, cursor: &mut Cursor<'_>, first: Span) -> Result<Sta
 {
     if cursor.is_next(Kind::Star) {
         let bang = pointer_tail(cursor)?;
-        let kind = Type::Heap(Heap::Pointer { name: first, bang });
+        let ty = Type::Heap(Heap::Pointer { name: first, bang });
         let (name, value) = declared(alloc, cursor)?;
-        let declare = Box::new(alloc, Declare { kind, name, value })?;
+        let declare = Box::new(alloc, Declare { ty, name, value })?;
         Ok(Statement::Declare(declare))
     } else if cursor.take_if(Kind::Dot) {
         after_dot(alloc, cursor, first)
@@ -113,7 +113,7 @@ fn after_dot(alloc: Global, cursor: &mut Cursor<'_>, first: Span) -> Result<Stat
 {
     if is_side(cursor.peek()) {
         let end = endpoint_end(cursor)?;
-        let kind = Type::Heap(Heap::Endpoint {
+        let ty = Type::Heap(Heap::Endpoint {
             contract: first,
             side: end.side,
             state: end.state,
@@ -121,7 +121,7 @@ fn after_dot(alloc: Global, cursor: &mut Cursor<'_>, first: Span) -> Result<Stat
             in_heap: end.in_heap,
         });
         let (name, value) = declared(alloc, cursor)?;
-        let declare = Box::new(alloc, Declare { kind, name, value })?;
+        let declare = Box::new(alloc, Declare { ty, name, value })?;
         Ok(Statement::Declare(declare))
     } else if cursor.is_next(Kind::NewChannel) {
         let ends = channel_ends(cursor)?;

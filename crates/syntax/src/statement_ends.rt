@@ -83,8 +83,8 @@ pub struct ChannelEnds {
 pub fn channel_ends(cursor: &mut Cursor<'_>) -> Result<ChannelEnds, Stuck>
     ensures { ReadsEnded (λ x. x) channel_ends cursor.old cursor.new result }
 {
-    let word = cursor.placed(Kind::NewChannel)?;
-    let open = cursor.placed(Kind::OpenParen)?;
+    let word = cursor.expect_span(Kind::NewChannel)?;
+    let open = cursor.expect_span(Kind::OpenParen)?;
     cursor.expect(Kind::Out)?;
     let first = cursor.name()?;
     cursor.expect(Kind::Comma)?;
@@ -105,7 +105,7 @@ pub fn jump(cursor: &mut Cursor<'_>, kind: Kind) -> Result<Span, Stuck>
     requires { is_placed kind ≡ true }
     ensures { ReadsEnded (λ x. x) (jump kind) cursor.old cursor.new result }
 {
-    let word = cursor.placed(kind)?;
+    let word = cursor.expect_span(kind)?;
     cursor.expect(Kind::Semicolon)?;
     Ok(word)
 }
@@ -124,8 +124,8 @@ pub fn delete(cursor: &mut Cursor<'_>) -> Result<Span, Stuck>
 pub fn exchange(cursor: &mut Cursor<'_>) -> Result<Exchange, Stuck>
     ensures { ReadsEnded (λ x. x) exchange cursor.old cursor.new result }
 {
-    let word = cursor.placed(Kind::Exchange)?;
-    let open = cursor.placed(Kind::OpenParen)?;
+    let word = cursor.expect_span(Kind::Exchange)?;
+    let open = cursor.expect_span(Kind::OpenParen)?;
     let holder = cursor.name()?;
     cursor.expect(Kind::Dot)?;
     let field = cursor.name()?;
@@ -146,7 +146,7 @@ pub fn exchange(cursor: &mut Cursor<'_>) -> Result<Exchange, Stuck>
 pub fn start(alloc: Global, cursor: &mut Cursor<'_>) -> Result<(Span, Call), Stuck>
     ensures { ReadsEnded (λ p. (p.0, call_tree p.1)) start cursor.old cursor.new result }
 {
-    let word = cursor.placed(Kind::Start)?;
+    let word = cursor.expect_span(Kind::Start)?;
     let call = call(alloc, cursor)?;
     cursor.expect(Kind::Semicolon)?;
     Ok((word, call))
@@ -185,7 +185,7 @@ pub fn return_statement(
 ) -> Result<(Span, Option<Box<Expression>>), Stuck>
     ensures { ReadsEnded (λ p. (p.0, option_map (λ e. expression_tree e.value) p.1)) return_parts cursor.old cursor.new result }
 {
-    let word = cursor.placed(Kind::Return)?;
+    let word = cursor.expect_span(Kind::Return)?;
     let value = maybe_expression(alloc, cursor)?;
     cursor.expect(Kind::Semicolon)?;
     Ok((word, value))

@@ -13,7 +13,7 @@ ghost use Rattle.syntax.specs.StatementParts.{if_parts, if_at, switch_parts};
 use crate::cases::case_front;
 use crate::cursor::{Cursor, Stuck};
 use crate::expressions::read_parens;
-use crate::fitted::{fitted, push};
+use crate::fitted::{push, shrink};
 use crate::leads::{Lead, lead_of};
 use crate::simple::simple_statement;
 use source::Kind;
@@ -30,7 +30,7 @@ fn statements(alloc: Global, cursor: &mut Cursor<'_>) -> Result<Vec<Statement>, 
     'each: while let Some(lead) = lead_of(cursor.peek()) {
         push(&mut all, statement(alloc, cursor, lead)?)?;
     }
-    Ok(fitted(all))
+    Ok(shrink(all))
 }
 
 /// statement = block | if | "while" test | switch | simple statement .
@@ -58,7 +58,7 @@ pub fn block(alloc: Global, cursor: &mut Cursor<'_>) -> Result<Block, Stuck>
 {
     cursor.expect(Kind::OpenBrace)?;
     let statements = statements(alloc, cursor)?;
-    let close = cursor.placed(Kind::CloseBrace)?;
+    let close = cursor.expect_span(Kind::CloseBrace)?;
     Ok(Block { statements, close })
 }
 
@@ -68,7 +68,7 @@ fn test(alloc: Global, cursor: &mut Cursor<'_>, kind: Kind) -> Result<Test, Stuc
     requires { is_placed kind ≡ true }
     ensures { ReadsEnded test_tree (test kind) cursor.old cursor.new result }
 {
-    let word = cursor.placed(kind)?;
+    let word = cursor.expect_span(kind)?;
     let (open, test) = read_parens(alloc, cursor)?;
     let body = block(alloc, cursor)?;
     Ok(Test {
@@ -109,12 +109,12 @@ fn if_statement(alloc: Global, cursor: &mut Cursor<'_>) -> Result<If, Stuck>
 fn switch(alloc: Global, cursor: &mut Cursor<'_>) -> Result<Switch, Stuck>
     ensures { ReadsEnded switch_tree switch_parts cursor.old cursor.new result }
 {
-    let word = cursor.placed(Kind::Switch)?;
+    let word = cursor.expect_span(Kind::Switch)?;
     cursor.expect(Kind::Receive)?;
     cursor.expect(Kind::OpenBrace)?;
     let first = case(alloc, cursor)?;
     let others = cases(alloc, cursor)?;
-    let close = cursor.placed(Kind::CloseBrace)?;
+    let close = cursor.expect_span(Kind::CloseBrace)?;
     Ok(Switch {
         word,
         first,
@@ -132,7 +132,7 @@ fn cases(alloc: Global, cursor: &mut Cursor<'_>) -> Result<Vec<Case>, Stuck>
     'each: while cursor.is_next(Kind::Case) {
         push(&mut all, case(alloc, cursor)?)?;
     }
-    Ok(fitted(all))
+    Ok(shrink(all))
 }
 
 /// case = case_front { statement } .

@@ -62,7 +62,7 @@ fn lines(alloc: Global, cursor: &mut Cursor<'_>) -> Result<(Vec<Path>, Span), St
 {
     cursor.expect(Kind::OpenBrace)?;
     let paths = line_row(alloc, cursor)?;
-    let close = cursor.placed(Kind::CloseBrace)?;
+    let close = cursor.expect_span(Kind::CloseBrace)?;
     Ok((paths, close))
 }
 

@@ -38,7 +38,7 @@ fn fields(alloc: Global, cursor: &mut Cursor<'_>) -> Result<(Vec<Field>, Span), 
 {
     cursor.expect(Kind::OpenBrace)?;
     let all = field_row(alloc, cursor)?;
-    let close = cursor.placed(Kind::CloseBrace)?;
+    let close = cursor.expect_span(Kind::CloseBrace)?;
     Ok((all, close))
 }
 
@@ -66,8 +66,8 @@ fn field(cursor: &mut Cursor<'_>) -> Result<Field, Stuck>
     ensures { ReadsEnded (λ x. x) field cursor.old cursor.new result }
 {
     let access = access(cursor);
-    let kind = value_type(cursor)?;
+    let ty = value_type(cursor)?;
     let name = cursor.name()?;
     cursor.expect(Kind::Semicolon)?;
-    Ok(Field { access, kind, name })
+    Ok(Field { access, ty, name })
 }

@@ -16,7 +16,7 @@ use crate::cursor::{Cursor, Stuck};
 use crate::expressions::{
     dot_name, expression_from, is_expression, read_expression, read_index, target_from,
 };
-use crate::fitted::{fitted, push};
+use crate::fitted::{push, shrink};
 use crate::types::scalar;
 use program::Scalar;
 use source::{Kind, Span};
@@ -117,7 +117,7 @@ pub fn call_from(
 fn read_new(alloc: Global, cursor: &mut Cursor<'_>) -> Result<New, Stuck>
     ensures { ReadsEnded new_tree new_spelling cursor.old cursor.new result }
 {
-    let word = cursor.placed(Kind::New)?;
+    let word = cursor.expect_span(Kind::New)?;
     cursor.expect(Kind::OpenBracket)?;
     cursor.expect(Kind::ExHeap)?;
     cursor.expect(Kind::CloseBracket)?;
@@ -171,7 +171,7 @@ pub fn read_arguments(
 ) -> Result<(Span, Vec<Expression>), Stuck>
     ensures { ReadsEnded (λ p. (p.0, map expression_tree p.1.items)) arguments cursor.old cursor.new result }
 {
-    let left = cursor.placed(Kind::OpenParen)?;
+    let left = cursor.expect_span(Kind::OpenParen)?;
     let all = expression_list(alloc, cursor)?;
     cursor.expect(Kind::CloseParen)?;
     Ok((left, all))
@@ -190,7 +190,7 @@ fn expression_list(alloc: Global, cursor: &mut Cursor<'_>) -> Result<Vec<Express
     'more: while cursor.is_next(Kind::Comma) {
         push(&mut all, comma_expression(alloc, cursor)?)?;
     }
-    Ok(fitted(all))
+    Ok(shrink(all))
 }
 
 /// "," expression

@@ -37,17 +37,17 @@ impl Bucket {
         }
     }
 
-    /// Gives a free seat to the last name of the list, which has this place and this mark, and says whether there was one.
-    pub(crate) fn take(&mut self, place: usize, mark: u8) -> bool
-        ensures seated { (names : List (Bor (List ℕ))) (q : List ℕ) → IsTrue result → mark ≡ mark_of q → place_of names q place ≡ Some place
-            → NoneOr place (seated_by names q self.old) → seated_by names q self.new ≡ Some place }
-        ensures kept { (names : List (Bor (List ℕ))) (q : List ℕ) → length names ≤ place + 1 → place_of names q place ≡ None
+    /// Gives a free seat to the last name of the list, which has this index and this mark, and says whether there was one.
+    pub(crate) fn take(&mut self, index: usize, mark: u8) -> bool
+        ensures seated { (names : List (Bor (List ℕ))) (q : List ℕ) → IsTrue result → mark ≡ mark_of q → place_of names q index ≡ Some index
+            → NoneOr index (seated_by names q self.old) → seated_by names q self.new ≡ Some index }
+        ensures kept { (names : List (Bor (List ℕ))) (q : List ℕ) → length names ≤ index + 1 → place_of names q index ≡ None
             → seated_by names q self.new ≡ seated_by names q self.old }
-        ensures below { (n : ℕ) → place < n → IsBelow n self.old → IsBelow n self.new }
+        ensures below { (n : ℕ) → index < n → IsBelow n self.old → IsBelow n self.new }
         ensures full { result ≡ false → self.new ≡ self.old }
         ensures crowded { self.new.crowded ≡ self.old.crowded }
     {
-        let Ok(seat) = u32::try_from(place) else {
+        let Ok(seat) = u32::try_from(index) else {
             return false;
         };
         if self.taken < 1 || seat <= self.first {
@@ -124,9 +124,9 @@ fn last_eight_of(name: &[u8]) -> u64
     }
 }
 
-/// The byte at a place, and 0 past the end.
-fn byte_at(name: &[u8], place: usize) -> u8
-    ensures { result ≡ slice_index name.now place }
+/// The byte at an index, and 0 past the end.
+fn byte_at(name: &[u8], index: usize) -> u8
+    ensures { result ≡ slice_index name.now index }
 {
-    name.get(place).copied().unwrap_or(0)
+    name.get(index).copied().unwrap_or(0)
 }

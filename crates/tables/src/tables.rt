@@ -128,20 +128,20 @@ impl<'a> Table<'a> {
         }
     }
 
-    /// Gives a free seat to the last name, which has this place and this number, and says whether there was one; if not, its bucket is
+    /// Gives a free seat to the last name, which has this index and this number, and says whether there was one; if not, its bucket is
     /// crowded from now on.
-    fn seat(&mut self, place: usize, number: u32) -> bool
+    fn seat(&mut self, index: usize, number: u32) -> bool
         ensures names { self.new.names ≡ self.old.names }
         ensures others { self.new.others ≡ self.old.others }
         ensures apart { self.new.apart ≡ self.old.apart }
         ensures seated { (names : List (Bor (List ℕ))) (q : List ℕ) → IsTrue result → number ≡ number_of q
-            → place_of names q place ≡ Some place → NoneOr place (seated_in names self.old.buckets.items q)
-            → seated_in names self.new.buckets.items q ≡ Some place }
-        ensures kept { (names : List (Bor (List ℕ))) (q : List ℕ) → length names ≤ place + 1 → place_of names q place ≡ None
+            → place_of names q index ≡ Some index → NoneOr index (seated_in names self.old.buckets.items q)
+            → seated_in names self.new.buckets.items q ≡ Some index }
+        ensures kept { (names : List (Bor (List ℕ))) (q : List ℕ) → length names ≤ index + 1 → place_of names q index ≡ None
             → seated_in names self.new.buckets.items q ≡ seated_in names self.old.buckets.items q }
         ensures full { (names : List (Bor (List ℕ))) (q : List ℕ) → result ≡ false
             → seated_in names self.new.buckets.items q ≡ seated_in names self.old.buckets.items q }
-        ensures behind { place + 1 ≤ length self.old.names.items → Behind self.old → Behind self.new }
+        ensures behind { index + 1 ≤ length self.old.names.items → Behind self.old → Behind self.new }
         ensures crowded { (q : List ℕ) → number ≡ number_of q → result ≡ false → crowded_in self.new.buckets.items q ≡ true }
         ensures uncrowded { (q : List ℕ) → crowded_in self.new.buckets.items q ≡ false → crowded_in self.old.buckets.items q ≡ false }
     {
@@ -149,7 +149,7 @@ impl<'a> Table<'a> {
         let Some(mut bucket) = self.buckets.get(home).copied() else {
             return false;
         };
-        let seated = bucket.take(place, mark_of(number));
+        let seated = bucket.take(index, mark_of(number));
         bucket.crowded |= !seated;
         self.buckets[home] = bucket;
         seated
@@ -221,13 +221,13 @@ impl<'a> Table<'a> {
     }
 
     /// The place in a seat, if that may be the name's and this is the name there.
-    fn place_in(&self, may: bool, seat: u32, name: &[u8]) -> Option<usize>
-        ensures { result ≡ place_in self.now.names.items name.now may seat }
+    fn place_in(&self, may: bool, at: u32, name: &[u8]) -> Option<usize>
+        ensures { result ≡ place_in self.now.names.items name.now may at }
     {
         if !may {
             return None;
         }
-        let place = seat as usize;
+        let place = at as usize;
         let there = self.names.get(place)?;
         if name == *there { Some(place) } else { None }
     }

@@ -4,11 +4,11 @@ use Rattle.std.specs.List.{All, AllZip, flat_map, list_all}
 use Rattle.std.proofs.lemmas.List.Elements.{All-cons, All-nil}
 use Rattle.std.proofs.lemmas.Option.{slice_get_within}
 use Rattle.std.proofs.lemmas.List.{drop_all, map-append}
-use Rattle.program.specs.Methods.{MethodSeen}
-use Rattle.program.specs.Programs.{ProgramSeen}
+use Rattle.program.specs.Methods.{MethodModel}
+use Rattle.program.specs.Programs.{ProgramModel}
 use Rattle.source.specs.declared.place.Place.{Place}
-use Rattle.flow.specs.Cases.{EntranceSeen}
-use Rattle.flow.specs.Graphs.{Instruction, instruction_seen}
+use Rattle.flow.specs.Cases.{EntranceModel}
+use Rattle.flow.specs.Graphs.{Instruction, instruction_model}
 use Rattle.flow.specs.Lowering.{graph_of}
 use Rattle.flow.specs.declared.graph.Instr.{Instr}
 use Rattle.flow.specs.declared.graph.Instr.TheVariants as instr
@@ -22,12 +22,12 @@ use Rattle.analyse.specs.Fronts.{Visit}
 use Rattle.analyse.specs.Trails.{AreTrails}
 use Rattle.analyse.specs.declared.trail.Trails.{Trails}
 use Rattle.analyse.proofs.SearchLemmas.{view_at}
-use Rattle.traces.specs.Lines.{LineSeen, came_at, case_line, case_lines, change, changes, choice, keeps, line, path_lines, step_lines, takes}
+use Rattle.traces.specs.Lines.{LineModel, came_at, case_line, case_lines, change, changes, choice, keeps, line, path_lines, step_lines, takes}
 use Rattle.traces.specs.Steps.{first_place}
 
 -- what an instruction that is no move changes
-pub changes_of_others : (p : ProgramSeen) (m : MethodSeen) (came : Place) (i : Instr) (watched : List ℕ) (before after : List Leaf) → ((target source : Mention) (next : ℕ) → i ≡ instr.Move target source next → ⊥)
-    → changes p m came (instruction_seen i) watched before after ≡ flat_map (λ v. if keeps before after v then [] else change p m came (instruction_seen i) v (leaf_at after v)) watched
+pub changes_of_others : (p : ProgramModel) (m : MethodModel) (came : Place) (i : Instr) (watched : List ℕ) (before after : List Leaf) → ((target source : Mention) (next : ℕ) → i ≡ instr.Move target source next → ⊥)
+    → changes p m came (instruction_model i) watched before after ≡ flat_map (λ v. if keeps before after v then [] else change p m came (instruction_model i) v (leaf_at after v)) watched
 changes_of_others p m came (instr.Use at next) watched before after other = refl
 changes_of_others p m came (instr.New target arguments next) watched before after other = refl
 changes_of_others p m came (instr.Move target source next) watched before after other = absurd (other target source next refl)
@@ -43,26 +43,26 @@ changes_of_others p m came (instr.Start s) watched before after other = refl
 changes_of_others p m came (instr.Return r) watched before after other = refl
 changes_of_others p m came (instr.Stop place) watched before after other = refl
 
-module _ (p : ProgramSeen) (m : MethodSeen) where
+module _ (p : ProgramModel) (m : MethodModel) where
   -- one more case
-  pub lines_first : (taken : List EntranceSeen) (c : EntranceSeen) → first_place taken ≡ None → case_lines p m (taken ++ c ∷ []) ≡ case_lines p m taken ++ case_line p m (codes "case ") c ∷ []
+  pub lines_first : (taken : List EntranceModel) (c : EntranceModel) → first_place taken ≡ None → case_lines p m (taken ++ c ∷ []) ≡ case_lines p m taken ++ case_line p m (codes "case ") c ∷ []
   lines_first [] c e = refl
   lines_first (d ∷ taken) c e = cc
 
-  pub lines_later : (taken : List EntranceSeen) (c : EntranceSeen) (at : Place) → first_place taken ≡ Some at → case_lines p m (taken ++ c ∷ []) ≡ case_lines p m taken ++ case_line p m (codes "or case ") c ∷ []
+  pub lines_later : (taken : List EntranceModel) (c : EntranceModel) (at : Place) → first_place taken ≡ Some at → case_lines p m (taken ++ c ∷ []) ≡ case_lines p m taken ++ case_line p m (codes "or case ") c ∷ []
   lines_later [] c at e = cc
   lines_later (d ∷ taken) c at e = ap (λ ls. case_line p m (codes "case ") d ∷ ls) (map-append (case_line p m (codes "or case ")) taken (c ∷ []))
 
-pub place_first : (taken : List EntranceSeen) (c : EntranceSeen) → first_place taken ≡ None → first_place (taken ++ c ∷ []) ≡ Some c.endpoint.place
+pub place_first : (taken : List EntranceModel) (c : EntranceModel) → first_place taken ≡ None → first_place (taken ++ c ∷ []) ≡ Some c.endpoint.place
 place_first [] c e = refl
 place_first (d ∷ taken) c e = cc
 
-pub place_later : (taken : List EntranceSeen) (c : EntranceSeen) (at : Place) → first_place taken ≡ Some at → first_place (taken ++ c ∷ []) ≡ Some at
+pub place_later : (taken : List EntranceModel) (c : EntranceModel) (at : Place) → first_place taken ≡ Some at → first_place (taken ++ c ∷ []) ≡ Some at
 place_later [] c at e = cc
 place_later (d ∷ taken) c at e = e
 
 -- the lines of a step are its choice, and what it changes
-pub step_is : (p : ProgramSeen) (m : MethodSeen) (at : Option Instruction) (instruction : Instruction) (watched : List ℕ) (before after : Pair) (came : Place) (old mid new : List LineSeen) → at ≡ Some instruction → mid ≡ old ++ choice p m instruction before after
+pub step_is : (p : ProgramModel) (m : MethodModel) (at : Option Instruction) (instruction : Instruction) (watched : List ℕ) (before after : Pair) (came : Place) (old mid new : List LineModel) → at ≡ Some instruction → mid ≡ old ++ choice p m instruction before after
     → came ≡ came_at p m instruction before after → new ≡ mid ++ changes p m came instruction watched before.1 after.1 → new ≡ old ++ step_lines p m at watched before after
 step_is p m at instruction watched before after came old mid new is chose place changed =
     changed ∙ ap (λ ls. ls ++ changes p m came instruction watched before.1 after.1) chose
@@ -98,7 +98,7 @@ pub one_pair : (a b : Pair) → Path (_) (Some a) (Some b) → a ≡ b
 one_pair a b e = cc
 
 -- one step further along a path
-pub path_step : (p : ProgramSeen) (m : MethodSeen) (watched : List ℕ) (a b c : Pair) (rest now : List Pair) (old new whole : List LineSeen) → now ≡ b ∷ rest → b ≡ c → new ≡ old ++ step_lines p m (slice_get (graph_of m).instructions a.0) watched a c
+pub path_step : (p : ProgramModel) (m : MethodModel) (watched : List ℕ) (a b c : Pair) (rest now : List Pair) (old new whole : List LineModel) → now ≡ b ∷ rest → b ≡ c → new ≡ old ++ step_lines p m (slice_get (graph_of m).instructions a.0) watched a c
     → old ++ path_lines p m watched (a ∷ now) ≡ whole → new ++ path_lines p m watched (c ∷ rest) ≡ whole
 path_step p m watched a b c rest now old new whole is same added before =
     ap (λ ls. ls ++ path_lines p m watched (c ∷ rest)) added
@@ -113,12 +113,12 @@ all_inside pairs (place ∷ places) [] zip = absurd zip
 all_inside pairs (place ∷ places) (x ∷ steps) zip = All-cons (λ place. place < length pairs) place places (slice_get_within pairs place x zip.0) (all_inside pairs places steps zip.1)
 
 -- what a move changes
-pub changes_of_move : (p : ProgramSeen) (m : MethodSeen) (came : Place) (i : Instr) (watched : List ℕ) (before after : List Leaf) (target source : Mention) (next : ℕ) (kept : Bool) → i ≡ instr.Move target source next → list_all (keeps before after) watched ≡ kept
-    → changes p m came (instruction_seen i) watched before after ≡ (if kept then [] else (line target.place (takes (name_of m target.variable.0) (name_of m source.variable.0)) ∷ []))
+pub changes_of_move : (p : ProgramModel) (m : MethodModel) (came : Place) (i : Instr) (watched : List ℕ) (before after : List Leaf) (target source : Mention) (next : ℕ) (kept : Bool) → i ≡ instr.Move target source next → list_all (keeps before after) watched ≡ kept
+    → changes p m came (instruction_model i) watched before after ≡ (if kept then [] else (line target.place (takes (name_of m target.variable.0) (name_of m source.variable.0)) ∷ []))
 changes_of_move p m came i watched before after target source next kept is same =
-    ap (λ j. changes p m came (instruction_seen j) watched before after) is
+    ap (λ j. changes p m came (instruction_model j) watched before after) is
     ∙ ap (λ b. if b then [] else (line target.place (takes (name_of m target.variable.0) (name_of m source.variable.0)) ∷ [])) same
 
 -- the first pair that was seen is the entry
-pub first_seen : (p : ProgramSeen) (method : ℕ) (pairs : List Pair) (t : Trails) → AreTrails p method pairs t → slice_get pairs 0 ≡ Some (entry_of p method)
+pub first_seen : (p : ProgramModel) (method : ℕ) (pairs : List Pair) (t : Trails) → AreTrails p method pairs t → slice_get pairs 0 ≡ Some (entry_of p method)
 first_seen p method pairs t are = ap (λ l. slice_get l 0) are.are ∙ view_at (λ (v : Visit Pair). v.at) are.visits 0 _ are.spread.tree.first

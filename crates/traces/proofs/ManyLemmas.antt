@@ -5,9 +5,9 @@ use Rattle.source.specs.Findings.{FindingParts, IsFinding, finding_parts}
 use Rattle.source.specs.declared.finding.Finding.{Finding}
 use Rattle.source.specs.declared.finding.Code.TheVariants.{A14}
 use Rattle.source.specs.declared.place.Place.{Place}
-use Rattle.program.specs.Programs.{ProgramSeen}
+use Rattle.program.specs.Programs.{ProgramModel}
 use Rattle.analyse.specs.Verdicts.{HasTooMany, IsMethodVerdict, place_of_method, too_many_pairs}
-use Rattle.traces.specs.Lines.{line, line_seen}
+use Rattle.traces.specs.Lines.{line, line_model}
 use Rattle.traces.specs.declared.line.Line.{Line}
 use Rattle.analyse.proofs.ListLemmas.{has_here, only_one}
 
@@ -15,7 +15,7 @@ pub parts_of : (finding : Finding) (place : Place) → IsFinding place A14 (code
 parts_of finding place is = λ i. record { place = is.place i; code = is.code i; text = is.text i }
 
 -- that alone is the verdict
-pub one_verdict : (p : ProgramSeen) (method : ℕ) → HasTooMany p method → (found : List FindingParts) → found ≡ too_many_pairs (place_of_method p method) ∷ [] → IsMethodVerdict p method found
+pub one_verdict : (p : ProgramModel) (method : ℕ) → HasTooMany p method → (found : List FindingParts) → found ≡ too_many_pairs (place_of_method p method) ∷ [] → IsMethodVerdict p method found
 one_verdict p method many found is = record {
   exactly = λ f. (
     λ h. inl (many, sym (only_one (too_many_pairs (place_of_method p method)) f (subst (λ l. Contains l f) is h))),
@@ -35,5 +35,5 @@ all_one {X} P xs x is h = subst (All P) (sym is) (λ k d lt. first k d lt)
     first (suc k) d lt = absurd (omega (arith, lt))
 
 -- a line by its parts
-pub is_line : (l : Line) (place : Place) (text : List ℕ) → l.place ≡ place → l.text.items ≡ text → line_seen l ≡ line place text
+pub is_line : (l : Line) (place : Place) (text : List ℕ) → l.place ≡ place → l.text.items ≡ text → line_model l ≡ line place text
 is_line l place text at says = λ i. record { place = at i; text = says i }

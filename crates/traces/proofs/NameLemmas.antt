@@ -3,17 +3,17 @@ use Rattle.std.proofs.Common.{◌≡◌, ℕ, zero, suc, ◌<◌, ◌≤◌, Lis
 use Rattle.std.specs.Option.{option_map, option_map_or}
 use Rattle.std.proofs.lemmas.List.{length-map}
 use Rattle.std.proofs.lemmas.Option.{slice_get-get_or, slice_get-map}
-use Rattle.flow.specs.Graphs.{Instruction, instruction_seen}
+use Rattle.flow.specs.Graphs.{Instruction, instruction_model}
 use Rattle.flow.specs.declared.graph.Instr.{Instr}
-use Rattle.program.specs.Methods.{MethodSeen, method_seen}
+use Rattle.program.specs.Methods.{MethodModel, method_model}
 use Rattle.program.specs.declared.method.Method.{Method}
 use Rattle.contracts.specs.Leaving.{name_among}
 use Rattle.contracts.specs.Sounds.{sound_parts}
 use Rattle.contracts.specs.declared.sound.Sound.{Sound}
-use Rattle.program.specs.Parts.{ContractSeen}
-use Rattle.program.specs.Programs.{ProgramSeen}
-use Rattle.program.specs.declared.kind.Kind.{Kind}
-use Rattle.program.specs.declared.kind.Kind.TheVariants.{Endpoint}
+use Rattle.program.specs.Parts.{ContractModel}
+use Rattle.program.specs.Programs.{ProgramModel}
+use Rattle.program.specs.declared.kind.HeapKind.{HeapKind}
+use Rattle.program.specs.declared.kind.HeapKind.TheVariants.{Endpoint}
 use Rattle.program.specs.declared.kind.Side.{Side}
 use Rattle.program.specs.declared.number.ContractId.{ContractId}
 use Rattle.program.specs.declared.number.StateId.{StateId}
@@ -25,12 +25,12 @@ mapped f g d (x ∷ xs) zero = refl
 mapped f g d (x ∷ xs) (suc n) = mapped f g d xs n
 
 -- the name of a message along an endpoint is that in its contract
-pub name_along : (p : ProgramSeen) (kind : Option Kind) (contract : ContractId) (side : Side) (state : StateId) (sounds : List Sound) (message : ℕ) → Some (Endpoint contract side state) ≡ kind → map sound_parts sounds ≡ map (λ c. c.parts) p.contracts
+pub name_along : (p : ProgramModel) (kind : Option HeapKind) (contract : ContractId) (side : Side) (state : StateId) (sounds : List Sound) (message : ℕ) → Some (Endpoint contract side state) ≡ kind → map sound_parts sounds ≡ map (λ c. c.parts) p.contracts
     → option_map_or (λ s. name_among (sound_parts s).messages message) (slice_get sounds contract.0) [] ≡ message_name p kind message
 name_along p kind contract side state sounds message is same =
     mapped sound_parts (λ parts. name_among parts.messages message) [] sounds contract.0
     ∙ ap (λ l. option_map_or (λ parts. name_among parts.messages message) (slice_get l contract.0) []) same
-    ∙ sym (mapped (λ (c : ContractSeen). c.parts) (λ parts. name_among parts.messages message) [] p.contracts contract.0)
+    ∙ sym (mapped (λ (c : ContractModel). c.parts) (λ parts. name_among parts.messages message) [] p.contracts contract.0)
     ∙ ap (λ k. message_name p k message) is
 
 pub nothing_past : {X : Type 0} (xs : List X) (n : ℕ) → length xs ≤ n → slice_get xs n ≡ None
@@ -39,14 +39,14 @@ nothing_past (x ∷ xs) zero past = absurd (omega (arith, past))
 nothing_past (x ∷ xs) (suc n) past = nothing_past xs n (omega (arith, past))
 
 -- a method by its number
-pub method_at : (methods : List Method) (seen : List MethodSeen) (n : ℕ) (m : Method) → map method_seen methods ≡ seen → n < length seen → m ≡ get_or methods n m → slice_get seen n ≡ Some (method_seen m)
+pub method_at : (methods : List Method) (seen : List MethodModel) (n : ℕ) (m : Method) → map method_model methods ≡ seen → n < length seen → m ≡ get_or methods n m → slice_get seen n ≡ Some (method_model m)
 method_at methods seen n m is there at =
-    let inside : n < length methods = let same = ap length is in omega (arith, there, same, length-map methods method_seen) in
-    ap (λ l. slice_get l n) (sym is) ∙ slice_get-map method_seen methods n ∙ ap (option_map method_seen) (slice_get-get_or methods n m inside ∙ ap Some (sym at))
+    let inside : n < length methods = let same = ap length is in omega (arith, there, same, length-map methods method_model) in
+    ap (λ l. slice_get l n) (sym is) ∙ slice_get-map method_model methods n ∙ ap (option_map method_model) (slice_get-get_or methods n m inside ∙ ap Some (sym at))
 
 -- an instruction by its point
-pub instruction_there : (items : List Instr) (seen : List Instruction) (n : ℕ) (i : Instr) → map instruction_seen items ≡ seen → n < length items → i ≡ get_or items n i → Some (instruction_seen i) ≡ slice_get seen n
-instruction_there items seen n i is there at = sym (ap (λ l. slice_get l n) (sym is) ∙ slice_get-map instruction_seen items n ∙ ap (option_map instruction_seen) (slice_get-get_or items n i there ∙ ap Some (sym at)))
+pub instruction_there : (items : List Instr) (seen : List Instruction) (n : ℕ) (i : Instr) → map instruction_model items ≡ seen → n < length items → i ≡ get_or items n i → Some (instruction_model i) ≡ slice_get seen n
+instruction_there items seen n i is there at = sym (ap (λ l. slice_get l n) (sym is) ∙ slice_get-map instruction_model items n ∙ ap (option_map instruction_model) (slice_get-get_or items n i there ∙ ap Some (sym at)))
 
-pub no_instruction : (items : List Instr) (seen : List Instruction) (n : ℕ) → map instruction_seen items ≡ seen → length items ≤ n → None ≡ slice_get seen n
-no_instruction items seen n is past = sym (ap (λ l. slice_get l n) (sym is) ∙ slice_get-map instruction_seen items n ∙ ap (option_map instruction_seen) (nothing_past items n past))
+pub no_instruction : (items : List Instr) (seen : List Instruction) (n : ℕ) → map instruction_model items ≡ seen → length items ≤ n → None ≡ slice_get seen n
+no_instruction items seen n is past = sym (ap (λ l. slice_get l n) (sym is) ∙ slice_get-map instruction_model items n ∙ ap (option_map instruction_model) (nothing_past items n past))

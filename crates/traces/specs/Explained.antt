@@ -4,8 +4,8 @@ use Rattle.std.specs.Fmt.{decimal}
 use Rattle.source.specs.Findings.{FindingParts, finding_parts}
 use Rattle.source.specs.contracts.place.PlacePartialEq.TheImpl.{eq-value as same_place}
 use Rattle.source.specs.declared.place.Place.{Place}
-use Rattle.program.specs.Methods.{MethodSeen}
-use Rattle.program.specs.Programs.{ProgramSeen}
+use Rattle.program.specs.Methods.{MethodModel}
+use Rattle.program.specs.Programs.{ProgramModel}
 use Rattle.flow.specs.Lowering.{graph_of}
 use Rattle.rules.specs.Breaches.{breach_in}
 use Rattle.rules.specs.Outcomes.{Pair}
@@ -14,30 +14,30 @@ use Rattle.rules.specs.declared.breach.Breach.{Breach}
 use Rattle.analyse.specs.Traces.{IsTrace}
 use Rattle.analyse.specs.Verdicts.{HasTooMany, place_of_method, too_many_pairs}
 use Rattle.analyse.specs.declared.analysing.TheConstants.{MOST_PAIRS}
-use Rattle.traces.specs.Lines.{LineSeen, line, line_seen, path_lines, start_lines}
+use Rattle.traces.specs.Lines.{LineModel, line, line_model, path_lines, start_lines}
 use Rattle.traces.specs.Watched.{watched}
 use Rattle.traces.specs.declared.line.Explained.{Explained}
 use Rattle.traces.specs.declared.line.Line.{Line}
 
 -- a finding, and what is told of it
-pub record ExplainedSeen : Type 0 where
+pub record ExplainedModel : Type 0 where
   pub finding : FindingParts
-  pub lines : List LineSeen
+  pub lines : List LineModel
 
-abbrev pub explained_as : FindingParts → List Line → ExplainedSeen
-explained_as finding lines = record { finding = finding; lines = map line_seen lines }
+abbrev pub explained_as : FindingParts → List Line → ExplainedModel
+explained_as finding lines = record { finding = finding; lines = map line_model lines }
 
-abbrev pub explained_seen : Explained → ExplainedSeen
-explained_seen e = explained_as (finding_parts e.finding) e.lines.items
+abbrev pub explained_model : Explained → ExplainedModel
+explained_model e = explained_as (finding_parts e.finding) e.lines.items
 
 -- the lines of a path from the first pair to where a step of the method fails so
-abbrev pub trace_lines : ProgramSeen → MethodSeen → Breach → (first : Pair) → (steps : List Pair) → (at : Pair) → List LineSeen
+abbrev pub trace_lines : ProgramModel → MethodModel → Breach → (first : Pair) → (steps : List Pair) → (at : Pair) → List LineModel
 trace_lines p m breach first steps at =
     let about = watched breach.reason (slice_get (graph_of m).instructions at.0) in
     start_lines p m about first.1 ++ path_lines p m about (first ∷ steps)
 
 -- a shortest path leads to where a step fails with the finding, and its lines are told
-pub record HasTrace (p : ProgramSeen) (method : ℕ) (e : ExplainedSeen) : Type 0 where
+pub record HasTrace (p : ProgramModel) (method : ℕ) (e : ExplainedModel) : Type 0 where
   pub breach : Breach
   pub says : breach_in p method breach ≡ e.finding
   pub steps : List Pair
@@ -45,15 +45,15 @@ pub record HasTrace (p : ProgramSeen) (method : ℕ) (e : ExplainedSeen) : Type 
   pub told : IsSomeAnd (slice_get p.methods method) (λ m. e.lines ≡ trace_lines p m breach (entry_of p method) steps trace.at)
 
 -- that too many pairs are reached has no path: how many may be is told at the method's name
-abbrev pub many_lines : ProgramSeen → ℕ → List LineSeen
+abbrev pub many_lines : ProgramModel → ℕ → List LineModel
 many_lines p method = line (place_of_method p method) (codes "more than " ++ (decimal MOST_PAIRS ++ codes " pairs are reached")) ∷ []
 
-pub record HasNoTrace (p : ProgramSeen) (method : ℕ) (e : ExplainedSeen) : Type 0 where
+pub record HasNoTrace (p : ProgramModel) (method : ℕ) (e : ExplainedModel) : Type 0 where
   pub many : HasTooMany p method
   pub is : e.finding ≡ too_many_pairs (place_of_method p method)
   pub told : e.lines ≡ many_lines p method
 
-pub data IsExplained (p : ProgramSeen) (method : ℕ) (e : ExplainedSeen) : Type 0 where
+pub data IsExplained (p : ProgramModel) (method : ℕ) (e : ExplainedModel) : Type 0 where
   ByTrace : HasTrace p method e → IsExplained p method e
   ByCount : HasNoTrace p method e → IsExplained p method e
 
@@ -63,6 +63,6 @@ is_asked None place = true
 is_asked (Some named) place = same_place.it named place
 
 -- a finding is explained if that is asked for, and has no lines otherwise
-pub record IsExplainedIf (named : Option Place) (p : ProgramSeen) (method : ℕ) (e : ExplainedSeen) : Type 0 where
+pub record IsExplainedIf (named : Option Place) (p : ProgramModel) (method : ℕ) (e : ExplainedModel) : Type 0 where
   pub asked : is_asked named e.finding.place ≡ true → IsExplained p method e
   pub other : is_asked named e.finding.place ≡ false → e.lines ≡ []

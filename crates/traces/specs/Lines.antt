@@ -4,16 +4,16 @@ use Rattle.std.specs.Prelude.{slice_get, codes, if◌then◌else◌}
 use Rattle.std.specs.List.{list_all}
 use Rattle.std.specs.Option.{option_map_or}
 use Rattle.source.specs.declared.place.Place.{Place}
-use Rattle.program.specs.Methods.{MethodSeen}
+use Rattle.program.specs.Methods.{MethodModel}
 use Rattle.program.specs.Parts.{Parts}
-use Rattle.program.specs.Programs.{ProgramSeen}
-use Rattle.program.specs.declared.kind.Kind.{Kind}
-use Rattle.program.specs.declared.kind.Kind.TheVariants.{Endpoint}
+use Rattle.program.specs.Programs.{ProgramModel}
+use Rattle.program.specs.declared.kind.HeapKind.{HeapKind}
+use Rattle.program.specs.declared.kind.HeapKind.TheVariants.{Endpoint}
 use Rattle.program.specs.declared.statement.Awaited.{Awaited}
 use Rattle.program.specs.declared.statement.Awaited.TheVariants.{Message, Closed}
 use Rattle.program.specs.declared.statement.Mention.{Mention}
 use Rattle.contracts.specs.Leaving.{end_on}
-use Rattle.flow.specs.Cases.{EntranceSeen, first_mentions}
+use Rattle.flow.specs.Cases.{EntranceModel, first_mentions}
 use Rattle.flow.specs.Graphs.{Instruction, New, Move, Delete, Exchange, NewChannel, Send, Switch, Branch, Call, Start}
 use Rattle.flow.specs.Lowering.{graph_of}
 use Rattle.flow.specs.declared.graph.Branches.{Branches}
@@ -28,21 +28,21 @@ use Rattle.rules.specs.declared.row.Leaf.TheVariants.{Nothing, Block, CutOff, St
 use Rattle.traces.specs.declared.line.Line.{Line}
 
 -- a line: a place, and what is said there
-pub record LineSeen : Type 0 where
+pub record LineModel : Type 0 where
   pub place : Place
   pub text : List ℕ
 
-abbrev pub line_seen : Line → LineSeen
-line_seen l = record { place = l.place; text = l.text.items }
+abbrev pub line_model : Line → LineModel
+line_model l = record { place = l.place; text = l.text.items }
 
-abbrev pub line : Place → List ℕ → LineSeen
+abbrev pub line : Place → List ℕ → LineModel
 line place text = record { place = place; text = text }
 
 abbrev pub takes : (who what : List ℕ) → List ℕ
 takes who what = who ++ (codes " takes " ++ what)
 
 -- where a condition went on, unless it goes on at one point in any case
-abbrev pub branch_lines : Place → Branches → ℕ → List LineSeen
+abbrev pub branch_lines : Place → Branches → ℕ → List LineModel
 branch_lines place (Only point) next = []
 branch_lines place (Either inside past) next =
     if inside == past then [] else (line place (if next == inside then codes "condition true" else codes "condition false") ∷ [])
@@ -52,7 +52,7 @@ abbrev pub name_of_state : Parts → ℕ → List ℕ
 name_of_state parts q = option_map_or (λ s. s.name) (slice_get parts.states (q - parts.first.0)) []
 
 -- the same of the contract of an endpoint
-abbrev pub state_name : ProgramSeen → Option Kind → ℕ → List ℕ
+abbrev pub state_name : ProgramModel → Option HeapKind → ℕ → List ℕ
 state_name p (Some (Endpoint contract side state)) q =
     option_map_or (λ c. name_of_state c.parts q) (slice_get p.contracts contract.0) []
 state_name p _ q = []
@@ -61,7 +61,7 @@ state_name p _ q = []
 abbrev pub keeps : (before after : List Leaf) → ℕ → Bool
 keeps before after v = same_leaf.it (leaf_at before v) (leaf_at after v)
 
-module _ (p : ProgramSeen) (m : MethodSeen) where
+module _ (p : ProgramModel) (m : MethodModel) where
   abbrev pub name : Mention → List ℕ
   name x = name_of m x.variable.0
 
@@ -73,7 +73,7 @@ module _ (p : ProgramSeen) (m : MethodSeen) where
   has v (State q) = name_of m v ++ (codes " in " ++ state_name p (kind_of m v) q)
 
   -- what an instruction does to a variable that has this behind it; of a switch it is told where its case stands
-  abbrev pub change : (came : Place) → Instruction → ℕ → Leaf → List LineSeen
+  abbrev pub change : (came : Place) → Instruction → ℕ → Leaf → List LineModel
   change came (New at arguments next) v Nothing = line at.place (takes (name at) (name_of m v)) ∷ []
   change came (New at arguments next) v leaf = line at.place (name_of m v ++ codes " new") ∷ []
   change came (Delete at next) v leaf = line at.place (name_of m v ++ codes " deleted") ∷ []
@@ -90,7 +90,7 @@ module _ (p : ProgramSeen) (m : MethodSeen) where
   change came _ v leaf = []
 
   -- A line for each watched variable that has something else behind the instruction; but one for a move, which changes two.
-  abbrev pub changes : (came : Place) → Instruction → (watched : List ℕ) → (before after : List Leaf) → List LineSeen
+  abbrev pub changes : (came : Place) → Instruction → (watched : List ℕ) → (before after : List Leaf) → List LineModel
   changes came (Move target source next) watched before after =
       if list_all (keeps before after) watched then [] else (line target.place (takes (name target) (name source)) ∷ [])
   changes came instruction watched before after =
@@ -103,7 +103,7 @@ module _ (p : ProgramSeen) (m : MethodSeen) where
 
   -- Whether a step led to this pair by the case: it goes on there, its endpoint has what its message or close leaves, and the other
   -- endpoints have what they had.
-  abbrev pub came_by : List Mention → (before after : Pair) → EntranceSeen → Bool
+  abbrev pub came_by : List Mention → (before after : Pair) → EntranceModel → Bool
   came_by endpoints before after c =
       (c.next == after.0)
       && (same_leaf.it (awaited_leaf c.endpoint.variable.0 c.awaited (leaf_at before.1 c.endpoint.variable.0))
@@ -114,25 +114,25 @@ module _ (p : ProgramSeen) (m : MethodSeen) where
   awaited_name e Closed = codes "ChannelClosed"
   awaited_name e (Message id) = message_name p (kind_of m e) id.0
 
-  abbrev pub case_line : (front : List ℕ) → EntranceSeen → LineSeen
+  abbrev pub case_line : (front : List ℕ) → EntranceModel → LineModel
   case_line front c = line c.endpoint.place (front ++ (name c.endpoint ++ (codes "." ++ awaited_name c.endpoint.variable.0 c.awaited)))
 
   -- the case by which a step led on; where several lead to one pair, all of them
-  abbrev pub case_lines : List EntranceSeen → List LineSeen
+  abbrev pub case_lines : List EntranceModel → List LineModel
   case_lines [] = []
   case_lines (c ∷ cases) = case_line (codes "case ") c ∷ map (case_line (codes "or case ")) cases
 
   -- the cases by which a step of a switch led on
-  abbrev pub cases_taken : List EntranceSeen → (before after : Pair) → List EntranceSeen
+  abbrev pub cases_taken : List EntranceModel → (before after : Pair) → List EntranceModel
   cases_taken cases before after = filter (came_by (first_mentions [] cases) before after) cases
 
   -- where the first of them stands
-  abbrev pub case_place : Place → List EntranceSeen → Place
+  abbrev pub case_place : Place → List EntranceModel → Place
   case_place place [] = place
   case_place place (c ∷ cases) = c.endpoint.place
 
   -- the choice that a step makes
-  abbrev pub choice : Instruction → (before after : Pair) → List LineSeen
+  abbrev pub choice : Instruction → (before after : Pair) → List LineModel
   choice (Branch place branches) before after = branch_lines place branches after.0
   choice (Switch place cases) before after = case_lines (cases_taken cases before after)
   choice _ before after = []
@@ -142,18 +142,18 @@ module _ (p : ProgramSeen) (m : MethodSeen) where
   came_at (Switch place cases) before after = case_place place (cases_taken cases before after)
   came_at _ before after = m.close
 
-  abbrev pub step_lines : Option Instruction → (watched : List ℕ) → (before after : Pair) → List LineSeen
+  abbrev pub step_lines : Option Instruction → (watched : List ℕ) → (before after : Pair) → List LineModel
   step_lines None watched before after = []
   step_lines (Some instruction) watched before after =
       choice instruction before after ++ changes (came_at instruction before after) instruction watched before.1 after.1
 
   -- the lines of a path, from its first pair on
-  abbrev pub path_lines : (watched : List ℕ) → List Pair → List LineSeen
+  abbrev pub path_lines : (watched : List ℕ) → List Pair → List LineModel
   path_lines watched [] = []
   path_lines watched (a ∷ []) = []
   path_lines watched (a ∷ b ∷ pairs) =
       step_lines (slice_get (graph_of m).instructions a.0) watched a b ++ path_lines watched (b ∷ pairs)
 
   -- a line for each watched variable that has something where the method begins
-  abbrev pub start_lines : (watched : List ℕ) → List Leaf → List LineSeen
+  abbrev pub start_lines : (watched : List ℕ) → List Leaf → List LineModel
   start_lines watched row = flat_map (λ v. if is_owned row v then (line m.name (has v (leaf_at row v)) ∷ []) else []) watched

@@ -11,8 +11,8 @@ use Rattle.program.specs.declared.contract.Sign.TheVariants.{Send, Receive}
 use Rattle.source.specs.declared.finding.Code.{Code}
 use Rattle.source.specs.declared.finding.Code.TheVariants.{C01, C02, C03, C04}
 use Rattle.source.specs.declared.place.Place.{Place}
-use Rattle.traces.specs.Explained.{ExplainedSeen, is_asked}
-use Rattle.traces.specs.Lines.{LineSeen, line, name_of_state}
+use Rattle.traces.specs.Explained.{ExplainedModel, is_asked}
+use Rattle.traces.specs.Lines.{LineModel, line, name_of_state}
 
 -- messages are numbered in a row, from the first one on
 abbrev pub name_of_message : Parts → ℕ → List ℕ
@@ -24,7 +24,7 @@ sign_text Send = codes "!"
 sign_text Receive = codes "?"
 
 -- `M! -> S`, at the message
-abbrev pub edge_line : Parts → Edge → LineSeen
+abbrev pub edge_line : Parts → Edge → LineModel
 edge_line parts e = line e.place (name_of_message parts e.message.0 ++ (sign_text e.sign ++ (codes " -> " ++ name_of_state parts e.to.0)))
 
 -- the message of the edge at the place has this direction
@@ -43,7 +43,7 @@ taken In = codes "an in message takes ?"
 taken Out = codes "an out message takes !"
 
 -- it is said which sign the message of the edge at the place takes
-abbrev pub HasDirection : Parts → Place → List LineSeen → Type 0
+abbrev pub HasDirection : Parts → Place → List LineModel → Type 0
 HasDirection parts place lines = (direction : Direction) × IsDirectionAt parts place direction × (lines ≡ line place (taken direction) ∷ [])
 
 -- the edge at the place has the message of an earlier one of its state: that is shown
@@ -92,13 +92,13 @@ pub data Shows (parts : Parts) (code : Code) (place : Place) (shown : List Edge)
   Round : code ≡ C04 → ShowsRound parts place shown → Shows parts code place shown
 
 -- edges that show the finding, each as a line
-pub record HasEdges (parts : Parts) (e : ExplainedSeen) : Type 0 where
+pub record HasEdges (parts : Parts) (e : ExplainedModel) : Type 0 where
   pub shown : List Edge
   pub show : Shows parts e.finding.code e.finding.place shown
   pub lines : e.lines ≡ map (edge_line parts) shown
 
 -- A finding of a contract has no lines; or it is asked for, and its lines say the sign that its message takes, or are edges that show it.
-pub data IsShown (named : Option Place) (parts : Parts) (e : ExplainedSeen) : Type 0 where
+pub data IsShown (named : Option Place) (parts : Parts) (e : ExplainedModel) : Type 0 where
   Bare : e.lines ≡ [] → IsShown named parts e
   BySign : is_asked named e.finding.place ≡ true → e.finding.code ≡ C01 → HasDirection parts e.finding.place e.lines → IsShown named parts e
   ByEdges : is_asked named e.finding.place ≡ true → HasEdges parts e → IsShown named parts e

@@ -1,12 +1,12 @@
 -- For proofs within the crate: the pairs of a step, and the cases of a switch that were told.
 use Rattle.std.specs.Prelude.{◌≡◌, List, [], ◌∷◌, ◌++◌, Option, Some, None, map}
-use Rattle.flow.specs.Cases.{EntranceSeen}
-use Rattle.program.specs.Methods.{MethodSeen}
-use Rattle.program.specs.Programs.{ProgramSeen}
+use Rattle.flow.specs.Cases.{EntranceModel}
+use Rattle.program.specs.Methods.{MethodModel}
+use Rattle.program.specs.Programs.{ProgramModel}
 use Rattle.rules.specs.Outcomes.{Pair}
 use Rattle.rules.specs.Rows.{leaves_of}
 use Rattle.source.specs.declared.place.Place.{Place}
-use Rattle.traces.specs.Lines.{LineSeen, case_lines, line_seen}
+use Rattle.traces.specs.Lines.{LineModel, case_lines, line_model}
 use Rattle.traces.specs.declared.line.Line.{Line}
 use Rattle.traces.specs.declared.step.Step.{Step}
 
@@ -17,12 +17,12 @@ abbrev pub step_after : Step → Pair
 step_after s = (s.next, leaves_of s.after.now)
 
 -- where the first of some cases stands, if there is one
-abbrev pub first_place : List EntranceSeen → Option Place
+abbrev pub first_place : List EntranceModel → Option Place
 first_place [] = None
 first_place (c ∷ cases) = Some c.endpoint.place
 
 -- behind these lines these cases were told, the first of which stands there
-pub record HasCases (p : ProgramSeen) (m : MethodSeen) (before : List LineSeen) (taken : List EntranceSeen) (place : Option Place)
+pub record HasCases (p : ProgramModel) (m : MethodModel) (before : List LineModel) (taken : List EntranceModel) (place : Option Place)
     (added : List Line) : Type 0 where
-  pub lines : map line_seen added ≡ before ++ case_lines p m taken
+  pub lines : map line_model added ≡ before ++ case_lines p m taken
   pub first : place ≡ first_place taken

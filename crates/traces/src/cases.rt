@@ -1,12 +1,12 @@
 //! The choices that steps make.
 
 ghost use Rattle.std.specs.Prelude.{◌≡◌, ◌++◌, ◌∷◌, [], IfOk, List, OnOk, map};
-ghost use Rattle.flow.specs.Cases.{EntranceSeen, entrance_seen};
-ghost use Rattle.flow.specs.Graphs.{cases_seen, instruction_seen};
-ghost use Rattle.program.specs.Methods.{method_seen};
-ghost use Rattle.rules.specs.Programs.{seen_of};
+ghost use Rattle.flow.specs.Cases.{EntranceModel, entrance_model};
+ghost use Rattle.flow.specs.Graphs.{cases_model, instruction_model};
+ghost use Rattle.program.specs.Methods.{method_model};
+ghost use Rattle.rules.specs.Programs.{model_of};
 ghost use Rattle.traces.specs.Lines as told;
-ghost use Rattle.traces.specs.Lines.{LineSeen, line_seen};
+ghost use Rattle.traces.specs.Lines.{LineModel, line_model};
 ghost use Rattle.traces.specs.Steps.{HasCases, step_after, step_before};
 
 use crate::changes::leaf_of;
@@ -25,11 +25,11 @@ impl Teller<'_> {
         step: &Step<'_>,
         lines: &mut Vec<Line>,
     ) -> Result<Place, Memory>
-        ensures lines { OnOk result (map line_seen lines.new.items ≡ map line_seen lines.old.items
-            ++ told.choice (seen_of self.now.program.now) (method_seen self.now.method.now) (instruction_seen instr.now)
+        ensures lines { OnOk result (map line_model lines.new.items ≡ map line_model lines.old.items
+            ++ told.choice (model_of self.now.program.now) (method_model self.now.method.now) (instruction_model instr.now)
             (step_before step.now) (step_after step.now)) }
-        ensures came { IfOk result (λ came. came ≡ told.came_at (seen_of self.now.program.now) (method_seen self.now.method.now)
-            (instruction_seen instr.now) (step_before step.now) (step_after step.now)) }
+        ensures came { IfOk result (λ came. came ≡ told.came_at (model_of self.now.program.now) (method_model self.now.method.now)
+            (instruction_model instr.now) (step_before step.now) (step_after step.now)) }
     {
         match instr {
             Instr::Branch { place, branches } => {
@@ -52,7 +52,7 @@ impl Teller<'_> {
         next: usize,
         lines: &mut Vec<Line>,
     ) -> Result<(), Memory>
-        ensures { OnOk result (map line_seen lines.new.items ≡ map line_seen lines.old.items ++ told.branch_lines place branches next) }
+        ensures { OnOk result (map line_model lines.new.items ≡ map line_model lines.old.items ++ told.branch_lines place branches next) }
     {
         let Branches::Either { inside, past } = branches else {
             return Ok(());
@@ -74,12 +74,12 @@ impl Teller<'_> {
         step: &Step<'_>,
         lines: &mut Vec<Line>,
     ) -> Result<Place, Memory>
-        ensures lines { OnOk result (map line_seen lines.new.items ≡ map line_seen lines.old.items
-            ++ told.case_lines (seen_of self.now.program.now) (method_seen self.now.method.now)
-            (told.cases_taken (seen_of self.now.program.now) (method_seen self.now.method.now) (cases_seen cases.now)
+        ensures lines { OnOk result (map line_model lines.new.items ≡ map line_model lines.old.items
+            ++ told.case_lines (model_of self.now.program.now) (method_model self.now.method.now)
+            (told.cases_taken (model_of self.now.program.now) (method_model self.now.method.now) (cases_model cases.now)
             (step_before step.now) (step_after step.now))) }
-        ensures place { IfOk result (λ at. at ≡ told.case_place (seen_of self.now.program.now) (method_seen self.now.method.now) place
-            (told.cases_taken (seen_of self.now.program.now) (method_seen self.now.method.now) (cases_seen cases.now)
+        ensures place { IfOk result (λ at. at ≡ told.case_place (model_of self.now.program.now) (method_model self.now.method.now) place
+            (told.cases_taken (model_of self.now.program.now) (method_model self.now.method.now) (cases_model cases.now)
             (step_before step.now) (step_after step.now))) }
     {
         let mut first = None;
@@ -99,9 +99,9 @@ impl Teller<'_> {
         first: &mut Option<Place>,
         lines: &mut Vec<Line>,
     ) -> Result<(), Memory>
-        ensures { OnOk result ((before : List LineSeen) (taken : List EntranceSeen)
-            → HasCases (seen_of self.now.program.now) (method_seen self.now.method.now) before taken first.old lines.old.items
-            → HasCases (seen_of self.now.program.now) (method_seen self.now.method.now) before (taken ++ entrance_seen case.now ∷ [])
+        ensures { OnOk result ((before : List LineModel) (taken : List EntranceModel)
+            → HasCases (model_of self.now.program.now) (method_model self.now.method.now) before taken first.old lines.old.items
+            → HasCases (model_of self.now.program.now) (method_model self.now.method.now) before (taken ++ entrance_model case.now ∷ [])
             first.new lines.new.items) }
     {
         match first {
@@ -116,8 +116,8 @@ impl Teller<'_> {
 
     /// Adds a case.
     fn add_case(&self, front: &[u8], case: &Entrance, lines: &mut Vec<Line>) -> Result<(), Memory>
-        ensures { OnOk result (map line_seen lines.new.items ≡ map line_seen lines.old.items
-            ++ told.case_line (seen_of self.now.program.now) (method_seen self.now.method.now) front.now (entrance_seen case.now) ∷ []) }
+        ensures { OnOk result (map line_model lines.new.items ≡ map line_model lines.old.items
+            ++ told.case_line (model_of self.now.program.now) (method_model self.now.method.now) front.now (entrance_model case.now) ∷ []) }
     {
         let endpoint = case.endpoint;
         let mut text = Vec::new(self.alloc);
@@ -134,7 +134,7 @@ impl Teller<'_> {
 
     /// How what is awaited at an endpoint is written.
     fn awaited_name(&self, endpoint: VarId, awaited: Awaited) -> &[u8]
-        ensures { result.now ≡ told.awaited_name (seen_of self.now.program.now) (method_seen self.now.method.now) endpoint.0 awaited }
+        ensures { result.now ≡ told.awaited_name (model_of self.now.program.now) (method_model self.now.method.now) endpoint.0 awaited }
     {
         match awaited {
             Awaited::Message(message) => self.message_name(endpoint, message),
@@ -145,8 +145,8 @@ impl Teller<'_> {
     /// Whether a step led on by a case: it goes on there, the case's endpoint has what its message or close leaves, and the other
     /// endpoints have what they had.
     fn came_by(&self, endpoints: &[Mention], step: &Step<'_>, case: &Entrance) -> bool
-        ensures { result ≡ told.came_by (seen_of self.now.program.now) (method_seen self.now.method.now) endpoints.now
-            (step_before step.now) (step_after step.now) (entrance_seen case.now) }
+        ensures { result ≡ told.came_by (model_of self.now.program.now) (method_model self.now.method.now) endpoints.now
+            (step_before step.now) (step_after step.now) (entrance_model case.now) }
     {
         if case.next != step.next {
             return false;

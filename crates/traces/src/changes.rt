@@ -1,14 +1,14 @@
 //! What instructions change of the variables that are watched.
 
 ghost use Rattle.std.specs.Prelude.{◌≡◌, ◌++◌, ◌∷◌, [], IfOk, None, OnOk, map};
-ghost use Rattle.flow.specs.Graphs.{Call, New, instruction_seen};
+ghost use Rattle.flow.specs.Graphs.{Call, New, instruction_model};
 ghost use Rattle.flow.specs.declared.graph.Instr.TheVariants as instr;
-ghost use Rattle.program.specs.Methods.{method_seen};
-ghost use Rattle.rules.specs.Programs.{seen_of};
+ghost use Rattle.program.specs.Methods.{method_model};
+ghost use Rattle.rules.specs.Programs.{model_of};
 ghost use Rattle.rules.specs.Rows.{leaf_at, leaves_of};
 ghost use Rattle.rules.specs.declared.row.Leaf.TheVariants.{Nothing};
 ghost use Rattle.traces.specs.Lines as told;
-ghost use Rattle.traces.specs.Lines.{line, line_seen};
+ghost use Rattle.traces.specs.Lines.{line, line_model};
 ghost use Rattle.traces.specs.Steps.{step_after, step_before};
 
 use crate::line::{Line, line_of};
@@ -32,8 +32,8 @@ pub(crate) fn leaf_of(leaves: &[Leaf], variable: VarId) -> Leaf
 impl Teller<'_> {
     /// That a variable has this, at a place.
     pub(crate) fn has(&self, place: Place, variable: VarId, leaf: Leaf) -> Result<Line, Memory>
-        ensures { IfOk result (λ it. line_seen it
-            ≡ line place (told.has (seen_of self.now.program.now) (method_seen self.now.method.now) variable.0 leaf)) }
+        ensures { IfOk result (λ it. line_model it
+            ≡ line place (told.has (model_of self.now.program.now) (method_model self.now.method.now) variable.0 leaf)) }
     {
         let name = self.name_of(variable);
         match leaf {
@@ -54,15 +54,15 @@ impl Teller<'_> {
 
     /// That the one takes the other, at a place.
     fn takes(&self, place: Place, who: &[u8], what: &[u8]) -> Result<Line, Memory>
-        ensures { IfOk result (λ it. line_seen it ≡ line place (told.takes who.now what.now)) }
+        ensures { IfOk result (λ it. line_model it ≡ line place (told.takes who.now what.now)) }
     {
         line_of(self.alloc, place, who, b" takes ", what)
     }
 
     /// What comes of a variable that has this behind a new block for the target.
     fn line_of_new(&self, target: Mention, variable: VarId, leaf: Leaf) -> Result<Line, Memory>
-        ensures { IfOk result (λ it. line_seen it ∷ []
-            ≡ told.change (seen_of self.now.program.now) (method_seen self.now.method.now) target.place
+        ensures { IfOk result (λ it. line_model it ∷ []
+            ≡ told.change (model_of self.now.program.now) (method_model self.now.method.now) target.place
             (New target [] 0) variable.0 leaf) }
     {
         let name = self.name_of(variable);
@@ -76,8 +76,8 @@ impl Teller<'_> {
 
     /// What comes of a variable that has this behind a send.
     fn line_of_send(&self, sending: &Sending, variable: VarId, leaf: Leaf) -> Result<Line, Memory>
-        ensures { IfOk result (λ it. line_seen it ∷ [] ≡ told.change (seen_of self.now.program.now) (method_seen self.now.method.now)
-            sending.now.place (instruction_seen (instr.Send sending.now)) variable.0 leaf) }
+        ensures { IfOk result (λ it. line_model it ∷ [] ≡ told.change (model_of self.now.program.now) (method_model self.now.method.now)
+            sending.now.place (instruction_model (instr.Send sending.now)) variable.0 leaf) }
     {
         match leaf {
             Leaf::Nothing => self.goes(sending, variable),
@@ -89,8 +89,8 @@ impl Teller<'_> {
 
     /// That a variable goes with a message.
     fn goes(&self, sending: &Sending, variable: VarId) -> Result<Line, Memory>
-        ensures { IfOk result (λ it. line_seen it ∷ [] ≡ told.change (seen_of self.now.program.now) (method_seen self.now.method.now)
-            sending.now.place (instruction_seen (instr.Send sending.now)) variable.0 Nothing) }
+        ensures { IfOk result (λ it. line_model it ∷ [] ≡ told.change (model_of self.now.program.now) (method_model self.now.method.now)
+            sending.now.place (instruction_model (instr.Send sending.now)) variable.0 Nothing) }
     {
         let endpoint = sending.endpoint.variable;
         let mut text = Vec::new(self.alloc);
@@ -107,7 +107,7 @@ impl Teller<'_> {
 
     /// What comes of a variable that has this behind a call.
     fn line_of_call(&self, place: Place, variable: VarId, leaf: Leaf) -> Result<Line, Memory>
-        ensures { IfOk result (λ it. line_seen it ∷ [] ≡ told.change (seen_of self.now.program.now) (method_seen self.now.method.now)
+        ensures { IfOk result (λ it. line_model it ∷ [] ≡ told.change (model_of self.now.program.now) (method_model self.now.method.now)
             place (Call place (record { 0 = 0 }) [] None 0) variable.0 leaf) }
     {
         match leaf {
@@ -125,9 +125,9 @@ impl Teller<'_> {
         leaf: Leaf,
         lines: &mut Vec<Line>,
     ) -> Result<(), Memory>
-        ensures { OnOk result (map line_seen lines.new.items ≡ map line_seen lines.old.items
-            ++ told.change (seen_of self.now.program.now) (method_seen self.now.method.now) came
-            (instruction_seen instr.now) variable.0 leaf) }
+        ensures { OnOk result (map line_model lines.new.items ≡ map line_model lines.old.items
+            ++ told.change (model_of self.now.program.now) (method_model self.now.method.now) came
+            (instruction_model instr.now) variable.0 leaf) }
     {
         let name = self.name_of(variable);
         let line = match instr {
@@ -155,8 +155,8 @@ impl Teller<'_> {
         step: &Step<'_>,
         lines: &mut Vec<Line>,
     ) -> Result<(), Memory>
-        ensures { OnOk result (map line_seen lines.new.items ≡ map line_seen lines.old.items
-            ++ told.changes (seen_of self.now.program.now) (method_seen self.now.method.now) came (instruction_seen instr.now)
+        ensures { OnOk result (map line_model lines.new.items ≡ map line_model lines.old.items
+            ++ told.changes (model_of self.now.program.now) (method_model self.now.method.now) came (instruction_model instr.now)
             (map (λ v. v.0) watched.now) (step_before step.now).1 (step_after step.now).1) }
     {
         if let Instr::Move { target, source, .. } = instr {
@@ -183,8 +183,8 @@ impl Teller<'_> {
         first: &Row,
         lines: &mut Vec<Line>,
     ) -> Result<(), Memory>
-        ensures { OnOk result (map line_seen lines.new.items ≡ map line_seen lines.old.items
-            ++ told.start_lines (seen_of self.now.program.now) (method_seen self.now.method.now)
+        ensures { OnOk result (map line_model lines.new.items ≡ map line_model lines.old.items
+            ++ told.start_lines (model_of self.now.program.now) (method_model self.now.method.now)
             (map (λ v. v.0) watched.now) (leaves_of first.now)) }
     {
         for variable in watched {

@@ -4,8 +4,8 @@ ghost use Rattle.std.specs.Prelude.{◌≡◌, ◌≢◌, ◌∷◌, [], true, A
 ghost use Rattle.contracts.specs.Walks.{HasSign, IsWalk};
 ghost use Rattle.program.specs.Parts.{contract_parts};
 ghost use Rattle.source.specs.Findings.{finding_parts};
-ghost use Rattle.traces.specs.Explained.{explained_as, explained_seen};
-ghost use Rattle.traces.specs.Lines.{line_seen};
+ghost use Rattle.traces.specs.Explained.{explained_as, explained_model};
+ghost use Rattle.traces.specs.Lines.{line_model};
 ghost use Rattle.traces.specs.Shown.{HasDirection, IsDirectionAt, IsShown, Shows, ShowsBoth, ShowsEarlier, ShowsRound};
 
 use crate::edges::{edge_from, edge_lines, round_of};
@@ -28,7 +28,7 @@ pub fn show_faults(
     named: Option<Place>,
 ) -> Result<Vec<Explained>, Memory>
     ensures same { IfOk result (λ shown. map (λ e. finding_parts e.finding) shown.items ≡ map finding_parts found.items) }
-    ensures shown { IfOk result (λ shown. All (λ e. IsShown named (contract_parts contract.now) (explained_seen e)) shown.items) }
+    ensures shown { IfOk result (λ shown. All (λ e. IsShown named (contract_parts contract.now) (explained_model e)) shown.items) }
 {
     let faults = Faults {
         alloc,
@@ -73,7 +73,7 @@ impl Faults<'_> {
     /// The line that says which sign the message of the edge at this place takes.
     fn direction_lines(&self, place: Place) -> Result<Vec<Line>, Memory>
         ensures { IfOk result (λ lines. lines.items ≢ []
-            → HasDirection (contract_parts self.now.contract.now) place (map line_seen lines.items)) }
+            → HasDirection (contract_parts self.now.contract.now) place (map line_model lines.items)) }
     {
         let mut lines = Vec::new(self.alloc);
         if let Some(direction) = self.direction(place) {

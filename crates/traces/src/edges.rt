@@ -3,7 +3,7 @@
 ghost use Rattle.std.specs.Prelude.{◌≡◌, ◌≢◌, [], Contains, IfOk, IfSome, map};
 ghost use Rattle.contracts.specs.Walks.{HasSign, IsWalk};
 ghost use Rattle.program.specs.Parts.{contract_parts};
-ghost use Rattle.traces.specs.Lines.{line_seen, name_of_state};
+ghost use Rattle.traces.specs.Lines.{line_model, name_of_state};
 ghost use Rattle.traces.specs.Shown.{edge_line, name_of_message, sign_text};
 
 use crate::line::{Line, line_of};
@@ -55,7 +55,7 @@ pub(crate) fn edge_lines(
     contract: &Contract,
     edges: &[Edge],
 ) -> Result<Vec<Line>, Memory>
-    ensures { IfOk result (λ lines. map line_seen lines.items ≡ map (edge_line (contract_parts contract.now)) edges.now) }
+    ensures { IfOk result (λ lines. map line_model lines.items ≡ map (edge_line (contract_parts contract.now)) edges.now) }
 {
     let mut lines = Vec::new(alloc);
     for edge in edges {
@@ -66,7 +66,7 @@ pub(crate) fn edge_lines(
 
 /// `M! -> S`, at the message of the edge.
 fn edge_line(alloc: Global, contract: &Contract, edge: Edge) -> Result<Line, Memory>
-    ensures { IfOk result (λ line. line_seen line ≡ edge_line (contract_parts contract.now) edge) }
+    ensures { IfOk result (λ line. line_model line ≡ edge_line (contract_parts contract.now) edge) }
 {
     let arrow = match edge.sign {
         Sign::Send => b"! -> ".as_slice(),

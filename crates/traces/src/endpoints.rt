@@ -2,21 +2,21 @@
 
 ghost use Rattle.std.specs.Prelude.{◌≡◌, ℕ, option_map};
 ghost use Rattle.contracts.specs.Leaving.{end_on};
-ghost use Rattle.program.specs.Methods.{method_seen};
-ghost use Rattle.program.specs.Programs.{ProgramSeen};
+ghost use Rattle.program.specs.Methods.{method_model};
+ghost use Rattle.program.specs.Programs.{ProgramModel};
 ghost use Rattle.rules.specs.Endpoints as table;
 ghost use Rattle.rules.specs.Mentions as mentioned;
-ghost use Rattle.rules.specs.Programs.{seen_of};
+ghost use Rattle.rules.specs.Programs.{model_of};
 ghost use Rattle.traces.specs.Lines as told;
 
 use crate::teller::Teller;
-use program::{Awaited, Kind, MessageId, Side, StateId, VarId};
+use program::{Awaited, HeapKind, MessageId, Side, StateId, VarId};
 use rules::Leaf;
 
 impl Teller<'_> {
     /// The name of a variable: none, where there is no such variable.
     pub(crate) fn name_of(&self, variable: VarId) -> &[u8]
-        ensures { result.now ≡ mentioned.name_of (method_seen self.now.method.now) variable.0 }
+        ensures { result.now ≡ mentioned.name_of (method_model self.now.method.now) variable.0 }
     {
         match self.method.variables.get(variable.0) {
             Some(variable) => &variable.name,
@@ -25,8 +25,8 @@ impl Teller<'_> {
     }
 
     /// What a variable holds, if there is such a variable.
-    fn kind_of(&self, variable: VarId) -> Option<Kind>
-        ensures { result ≡ table.kind_of (method_seen self.now.method.now) variable.0 }
+    fn kind_of(&self, variable: VarId) -> Option<HeapKind>
+        ensures { result ≡ table.kind_of (method_model self.now.method.now) variable.0 }
     {
         match self.method.variables.get(variable.0) {
             Some(variable) => Some(variable.kind),
@@ -36,10 +36,10 @@ impl Teller<'_> {
 
     /// The name of a message of the contract of an endpoint.
     pub(crate) fn message_name(&self, endpoint: VarId, message: MessageId) -> &[u8]
-        ensures { result.now ≡ table.message_name (seen_of self.now.program.now)
-            (table.kind_of (method_seen self.now.method.now) endpoint.0) message.0 }
+        ensures { result.now ≡ table.message_name (model_of self.now.program.now)
+            (table.kind_of (method_model self.now.method.now) endpoint.0) message.0 }
     {
-        let Some(Kind::Endpoint { contract, .. }) = self.kind_of(endpoint) else {
+        let Some(HeapKind::Endpoint { contract, .. }) = self.kind_of(endpoint) else {
             return &[];
         };
         match self.program.sounds().get(contract.0 as usize) {
@@ -50,10 +50,10 @@ impl Teller<'_> {
 
     /// How a state of the contract of an endpoint is printed.
     pub(crate) fn state_name(&self, endpoint: VarId, state: u32) -> &[u8]
-        ensures { result.now ≡ told.state_name (seen_of self.now.program.now)
-            (table.kind_of (method_seen self.now.method.now) endpoint.0) state }
+        ensures { result.now ≡ told.state_name (model_of self.now.program.now)
+            (table.kind_of (method_model self.now.method.now) endpoint.0) state }
     {
-        let Some(Kind::Endpoint { contract, .. }) = self.kind_of(endpoint) else {
+        let Some(HeapKind::Endpoint { contract, .. }) = self.kind_of(endpoint) else {
             return &[];
         };
         let Some(contract) = self.program.contracts().get(contract.0 as usize) else {
@@ -68,7 +68,7 @@ impl Teller<'_> {
 
     /// What an endpoint that has this has behind what is awaited there.
     pub(crate) fn awaited_leaf(&self, endpoint: VarId, awaited: Awaited, before: Leaf) -> Leaf
-        ensures { result ≡ told.awaited_leaf (seen_of self.now.program.now) (method_seen self.now.method.now) endpoint.0 awaited before }
+        ensures { result ≡ told.awaited_leaf (model_of self.now.program.now) (method_model self.now.method.now) endpoint.0 awaited before }
     {
         let Awaited::Message(message) = awaited else {
             return Leaf::CutOff;
@@ -84,37 +84,37 @@ impl Teller<'_> {
 
     /// Where an endpoint is behind a message that it receives in a state, if it may receive it there.
     fn next_state(&self, endpoint: VarId, state: u32, message: MessageId) -> Option<StateId>
-        ensures { option_map (λ q. q.0) result ≡ end_on (table.edges_in (seen_of self.now.program.now)
-            (table.kind_of (method_seen self.now.method.now) endpoint.0) state) message.0 }
+        ensures { option_map (λ q. q.0) result ≡ end_on (table.edges_in (model_of self.now.program.now)
+            (table.kind_of (method_model self.now.method.now) endpoint.0) state) message.0 }
     {
         self.program
-            .sent(across(self.kind_of(endpoint)), state, message)
+            .state_after_send(across(self.kind_of(endpoint)), state, message)
     }
 }
 
 /// What is at the other end of an endpoint: what it sends is what this one receives.
-fn across(kind: Option<Kind>) -> Option<Kind>
-    ensures { (p : ProgramSeen) (state : ℕ) → table.edges_out p result state ≡ table.edges_in p kind state }
+fn across(kind: Option<HeapKind>) -> Option<HeapKind>
+    ensures { (p : ProgramModel) (state : ℕ) → table.edges_out p result state ≡ table.edges_in p kind state }
 {
     match kind? {
-        Kind::Endpoint {
+        HeapKind::Endpoint {
             contract,
             side: Side::Imp,
             state,
-        } => Some(Kind::Endpoint {
+        } => Some(HeapKind::Endpoint {
             contract,
             side: Side::Exp,
             state,
         }),
-        Kind::Endpoint {
+        HeapKind::Endpoint {
             contract,
             side: Side::Exp,
             state,
-        } => Some(Kind::Endpoint {
+        } => Some(HeapKind::Endpoint {
             contract,
             side: Side::Imp,
             state,
         }),
-        Kind::Struct(_) | Kind::Array(_) => None,
+        HeapKind::Struct(_) | HeapKind::Array(_) => None,
     }
 }

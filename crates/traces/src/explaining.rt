@@ -2,18 +2,18 @@
 
 ghost use Rattle.std.specs.Prelude.{◌≡◌, ◌<◌, ◌∷◌, [], true, false, All, Contains, IfOk, IsSomeAnd, List, length, map, slice_get};
 ghost use Rattle.source.specs.Findings.{finding_parts};
-ghost use Rattle.flow.specs.Graphs.{graph_seen};
+ghost use Rattle.flow.specs.Graphs.{graph_model};
 ghost use Rattle.flow.specs.Lowering.{graph_of};
-ghost use Rattle.program.specs.Methods.{method_seen};
+ghost use Rattle.program.specs.Methods.{method_model};
 ghost use Rattle.rules.specs.Breaches.{breach_in};
-ghost use Rattle.rules.specs.Outcomes.{Pair as PairSeen};
-ghost use Rattle.rules.specs.Programs.{seen_of};
+ghost use Rattle.rules.specs.Outcomes.{Pair as PairModel};
+ghost use Rattle.rules.specs.Programs.{model_of};
 ghost use Rattle.analyse.specs.Reach.{Differ};
 ghost use Rattle.analyse.specs.Trails.{AreTrails, failures_of, says_all};
 ghost use Rattle.analyse.specs.Verdicts.{HasTooMany, IsMethodVerdict, place_of_method};
 ghost use Rattle.analyse.specs.Workers.{HasSeen, IsWorkerOf, own_of};
-ghost use Rattle.traces.specs.Explained.{HasTrace, IsExplainedIf, explained_as, explained_seen, is_asked, many_lines};
-ghost use Rattle.traces.specs.Lines.{line_seen};
+ghost use Rattle.traces.specs.Explained.{HasTrace, IsExplainedIf, explained_as, explained_model, is_asked, many_lines};
+ghost use Rattle.traces.specs.Lines.{line_model};
 
 use crate::line::{Explained, Line, is_asked, line_of};
 use crate::teller::Teller;
@@ -38,13 +38,13 @@ pub fn explain(
     rows: &Rows,
     worker: &mut Worker,
 ) -> Result<Vec<Explained>, Memory>
-    requires there { method.0 < length (seen_of program.now).methods }
+    requires there { method.0 < length (model_of program.now).methods }
     requires worker { IsWorkerOf rows.now worker.old }
     ensures worker { IsWorkerOf rows.now worker.new }
     ensures verdict { IfOk result (λ found.
-        IsMethodVerdict (seen_of program.now) method.0 (map (λ e. finding_parts e.finding) found.items)) }
+        IsMethodVerdict (model_of program.now) method.0 (map (λ e. finding_parts e.finding) found.items)) }
     ensures explained { IfOk result (λ found.
-        All (λ e. IsExplainedIf named (seen_of program.now) method.0 (explained_seen e)) found.items) }
+        All (λ e. IsExplainedIf named (model_of program.now) method.0 (explained_model e)) found.items) }
 {
     let found = trails_of(alloc, program, method, rows, worker)?;
     let site = Site {
@@ -73,20 +73,20 @@ struct Site<'a> {
 impl Site<'_> {
     /// Where the name of the method stands.
     fn place(&self) -> Place
-        requires there { self.now.method.0 < length (seen_of self.now.program.now).methods }
-        ensures { result ≡ place_of_method (seen_of self.now.program.now) self.now.method.0 }
+        requires there { self.now.method.0 < length (model_of self.now.program.now).methods }
+        ensures { result ≡ place_of_method (model_of self.now.program.now) self.now.method.0 }
     {
         self.program.methods()[self.method.0 as usize].name
     }
 
     /// That too many pairs are reached.
     fn explain_too_many(&self) -> Result<Vec<Explained>, Memory>
-        requires there { self.now.method.0 < length (seen_of self.now.program.now).methods }
-        requires many { HasTooMany (seen_of self.now.program.now) self.now.method.0 }
-        ensures verdict { IfOk result (λ found. IsMethodVerdict (seen_of self.now.program.now) self.now.method.0
+        requires there { self.now.method.0 < length (model_of self.now.program.now).methods }
+        requires many { HasTooMany (model_of self.now.program.now) self.now.method.0 }
+        ensures verdict { IfOk result (λ found. IsMethodVerdict (model_of self.now.program.now) self.now.method.0
             (map (λ e. finding_parts e.finding) found.items)) }
         ensures explained { IfOk result (λ found.
-            All (λ e. IsExplainedIf self.now.named (seen_of self.now.program.now) self.now.method.0 (explained_seen e)) found.items) }
+            All (λ e. IsExplainedIf self.now.named (model_of self.now.program.now) self.now.method.0 (explained_model e)) found.items) }
     {
         let place = self.place();
         let lines = self.count_lines(place)?;
@@ -98,9 +98,9 @@ impl Site<'_> {
 
     /// The line that says how many pairs may be reached, if it is asked for.
     fn count_lines(&self, place: Place) -> Result<Vec<Line>, Memory>
-        requires { place ≡ place_of_method (seen_of self.now.program.now) self.now.method.0 }
+        requires { place ≡ place_of_method (model_of self.now.program.now) self.now.method.0 }
         ensures asked { IfOk result (λ lines. is_asked self.now.named place ≡ true
-            → map line_seen lines.items ≡ many_lines (seen_of self.now.program.now) self.now.method.0) }
+            → map line_model lines.items ≡ many_lines (model_of self.now.program.now) self.now.method.0) }
         ensures other { IfOk result (λ lines. is_asked self.now.named place ≡ false → lines.items ≡ []) }
     {
         let mut lines = Vec::new(self.alloc);
@@ -112,8 +112,8 @@ impl Site<'_> {
 
     /// The line that says how many pairs may be reached.
     fn count_line(&self, place: Place) -> Result<Line, Memory>
-        requires { place ≡ place_of_method (seen_of self.now.program.now) self.now.method.0 }
-        ensures { IfOk result (λ line. line_seen line ∷ [] ≡ many_lines (seen_of self.now.program.now) self.now.method.0) }
+        requires { place ≡ place_of_method (model_of self.now.program.now) self.now.method.0 }
+        ensures { IfOk result (λ line. line_model line ∷ [] ≡ many_lines (model_of self.now.program.now) self.now.method.0) }
     {
         let mut digits = Buffer::new();
         let most = digits.format(MOST_PAIRS);
@@ -133,16 +133,16 @@ impl Site<'_> {
         trails: &Trails,
         worker: &mut Worker,
     ) -> Result<Vec<Explained>, Memory>
-        requires there { self.now.method.0 < length (seen_of self.now.program.now).methods }
+        requires there { self.now.method.0 < length (model_of self.now.program.now).methods }
         requires worker { IsWorkerOf self.now.rows.now worker.old }
         requires differ { Differ (own_of worker.old) }
-        requires trails { (pairs : List PairSeen) × HasSeen worker.old pairs
-            × AreTrails (seen_of self.now.program.now) self.now.method.0 pairs trails.now }
+        requires trails { (pairs : List PairModel) × HasSeen worker.old pairs
+            × AreTrails (model_of self.now.program.now) self.now.method.0 pairs trails.now }
         ensures worker { IsWorkerOf self.now.rows.now worker.new }
         ensures found { IfOk result (λ found. map (λ e. finding_parts e.finding) found.items
-            ≡ says_all (breach_in (seen_of self.now.program.now) self.now.method.0) trails.now) }
+            ≡ says_all (breach_in (model_of self.now.program.now) self.now.method.0) trails.now) }
         ensures explained { IfOk result (λ found.
-            All (λ e. IsExplainedIf self.now.named (seen_of self.now.program.now) self.now.method.0 (explained_seen e)) found.items) }
+            All (λ e. IsExplainedIf self.now.named (model_of self.now.program.now) self.now.method.0 (explained_model e)) found.items) }
     {
         let mut found = Vec::new(self.alloc);
         for failure in trails.failures() {
@@ -158,19 +158,19 @@ impl Site<'_> {
         failure: Failure,
         worker: &mut Worker,
     ) -> Result<Explained, Memory>
-        requires there { self.now.method.0 < length (seen_of self.now.program.now).methods }
+        requires there { self.now.method.0 < length (model_of self.now.program.now).methods }
         requires worker { IsWorkerOf self.now.rows.now worker.old }
         requires differ { Differ (own_of worker.old) }
-        requires trails { (pairs : List PairSeen) × HasSeen worker.old pairs
-            × AreTrails (seen_of self.now.program.now) self.now.method.0 pairs trails.now }
+        requires trails { (pairs : List PairModel) × HasSeen worker.old pairs
+            × AreTrails (model_of self.now.program.now) self.now.method.0 pairs trails.now }
         requires known { Contains (failures_of trails.now) failure }
         ensures worker { IsWorkerOf self.now.rows.now worker.new }
         ensures differ { Differ (own_of worker.new) }
-        ensures seen { (pairs : List PairSeen) → HasSeen worker.old pairs → HasSeen worker.new pairs }
+        ensures seen { (pairs : List PairModel) → HasSeen worker.old pairs → HasSeen worker.new pairs }
         ensures finding { IfOk result (λ e. finding_parts e.finding
-            ≡ breach_in (seen_of self.now.program.now) self.now.method.0 failure.breach) }
+            ≡ breach_in (model_of self.now.program.now) self.now.method.0 failure.breach) }
         ensures explained { IfOk result (λ e.
-            IsExplainedIf self.now.named (seen_of self.now.program.now) self.now.method.0 (explained_seen e)) }
+            IsExplainedIf self.now.named (model_of self.now.program.now) self.now.method.0 (explained_model e)) }
     {
         let finding = self
             .program
@@ -190,17 +190,17 @@ impl Site<'_> {
         failure: Failure,
         worker: &mut Worker,
     ) -> Result<Vec<Line>, Memory>
-        requires there { self.now.method.0 < length (seen_of self.now.program.now).methods }
+        requires there { self.now.method.0 < length (model_of self.now.program.now).methods }
         requires worker { IsWorkerOf self.now.rows.now worker.old }
         requires differ { Differ (own_of worker.old) }
-        requires trails { (pairs : List PairSeen) × HasSeen worker.old pairs
-            × AreTrails (seen_of self.now.program.now) self.now.method.0 pairs trails.now }
+        requires trails { (pairs : List PairModel) × HasSeen worker.old pairs
+            × AreTrails (model_of self.now.program.now) self.now.method.0 pairs trails.now }
         requires known { Contains (failures_of trails.now) failure }
         ensures worker { IsWorkerOf self.now.rows.now worker.new }
         ensures differ { Differ (own_of worker.new) }
-        ensures seen { (pairs : List PairSeen) → HasSeen worker.old pairs → HasSeen worker.new pairs }
-        ensures trace { IfOk result (λ lines. HasTrace (seen_of self.now.program.now) self.now.method.0
-            (explained_as (breach_in (seen_of self.now.program.now) self.now.method.0 failure.breach) lines.items)) }
+        ensures seen { (pairs : List PairModel) → HasSeen worker.old pairs → HasSeen worker.new pairs }
+        ensures trace { IfOk result (λ lines. HasTrace (model_of self.now.program.now) self.now.method.0
+            (explained_as (breach_in (model_of self.now.program.now) self.now.method.0 failure.breach) lines.items)) }
     {
         let teller = Teller {
             alloc: self.alloc,

@@ -2,16 +2,16 @@
 
 ghost use Rattle.std.specs.Prelude.{◌≡◌, ◌<◌, ◌++◌, ◌∷◌, [], All, IfOk, List, OnOk, Some, length, map, option_map, slice_get};
 ghost use Rattle.std.specs.List.{AllZip};
-ghost use Rattle.flow.specs.Graphs.{graph_seen, instruction_seen};
+ghost use Rattle.flow.specs.Graphs.{graph_model, instruction_model};
 ghost use Rattle.flow.specs.Lowering.{graph_of};
-ghost use Rattle.program.specs.Methods.{method_seen};
-ghost use Rattle.rules.specs.Outcomes.{Pair as PairSeen};
-ghost use Rattle.rules.specs.Programs.{seen_of};
+ghost use Rattle.program.specs.Methods.{method_model};
+ghost use Rattle.rules.specs.Outcomes.{Pair as PairModel};
+ghost use Rattle.rules.specs.Programs.{model_of};
 ghost use Rattle.analyse.specs.Noted.{pairs_of};
 ghost use Rattle.analyse.specs.Reach.{Differ};
 ghost use Rattle.analyse.specs.Workers.{HasSeen, IsWorkerOf, own_of};
 ghost use Rattle.traces.specs.Lines as told;
-ghost use Rattle.traces.specs.Lines.{line_seen};
+ghost use Rattle.traces.specs.Lines.{line_model};
 ghost use Rattle.traces.specs.Steps.{step_after, step_before};
 
 use crate::line::Line;
@@ -27,9 +27,9 @@ use source::Memory;
 impl Teller<'_> {
     /// The instruction at a point, if there is one.
     pub(crate) fn instruction_at(&self, point: usize) -> Option<&Instr>
-        requires graph { graph_seen self.now.graph.now ≡ graph_of (method_seen self.now.method.now) }
-        ensures { option_map (λ i. instruction_seen i.now) result
-            ≡ slice_get (graph_of (method_seen self.now.method.now)).instructions point }
+        requires graph { graph_model self.now.graph.now ≡ graph_of (method_model self.now.method.now) }
+        ensures { option_map (λ i. instruction_model i.now) result
+            ≡ slice_get (graph_of (method_model self.now.method.now)).instructions point }
     {
         match self.graph.instructions.get(point) {
             Some(instr) => Some(instr),
@@ -44,10 +44,10 @@ impl Teller<'_> {
         step: &Step<'_>,
         lines: &mut Vec<Line>,
     ) -> Result<(), Memory>
-        requires graph { graph_seen self.now.graph.now ≡ graph_of (method_seen self.now.method.now) }
-        ensures { OnOk result (map line_seen lines.new.items ≡ map line_seen lines.old.items
-            ++ told.step_lines (seen_of self.now.program.now) (method_seen self.now.method.now)
-            (slice_get (graph_of (method_seen self.now.method.now)).instructions step.now.point) (map (λ v. v.0) watched.now)
+        requires graph { graph_model self.now.graph.now ≡ graph_of (method_model self.now.method.now) }
+        ensures { OnOk result (map line_model lines.new.items ≡ map line_model lines.old.items
+            ++ told.step_lines (model_of self.now.program.now) (method_model self.now.method.now)
+            (slice_get (graph_of (method_model self.now.method.now)).instructions step.now.point) (map (λ v. v.0) watched.now)
             (step_before step.now) (step_after step.now)) }
     {
         let Some(instr) = self.instruction_at(step.point) else {
@@ -67,20 +67,20 @@ impl Teller<'_> {
         rows: &Rows,
         worker: &mut Worker,
     ) -> Result<Vec<Line>, Memory>
-        requires graph { graph_seen self.now.graph.now ≡ graph_of (method_seen self.now.method.now) }
+        requires graph { graph_model self.now.graph.now ≡ graph_of (method_model self.now.method.now) }
         requires worker { IsWorkerOf rows.now worker.old }
         requires differ { Differ (own_of worker.old) }
-        requires seen { (pairs : List PairSeen) × HasSeen worker.old pairs }
+        requires seen { (pairs : List PairModel) × HasSeen worker.old pairs }
         requires some { 0 < length (pairs_of worker.old.seen) }
         requires there { All (λ place. place < length (pairs_of worker.old.seen)) places.now }
         ensures worker { IsWorkerOf rows.now worker.new }
         ensures differ { Differ (own_of worker.new) }
-        ensures seen { (pairs : List PairSeen) → HasSeen worker.old pairs → HasSeen worker.new pairs }
-        ensures lines { IfOk result (λ lines. (pairs steps : List PairSeen) (first : PairSeen) → HasSeen worker.old pairs
+        ensures seen { (pairs : List PairModel) → HasSeen worker.old pairs → HasSeen worker.new pairs }
+        ensures lines { IfOk result (λ lines. (pairs steps : List PairModel) (first : PairModel) → HasSeen worker.old pairs
             → slice_get pairs 0 ≡ Some first → AllZip (λ place x. slice_get pairs place ≡ Some x) places.now steps
-            → map line_seen lines.items ≡ told.start_lines (seen_of self.now.program.now) (method_seen self.now.method.now)
+            → map line_model lines.items ≡ told.start_lines (model_of self.now.program.now) (method_model self.now.method.now)
             (map (λ v. v.0) watched.now) first.1
-            ++ told.path_lines (seen_of self.now.program.now) (method_seen self.now.method.now)
+            ++ told.path_lines (model_of self.now.program.now) (method_model self.now.method.now)
             (map (λ v. v.0) watched.now) (first ∷ steps)) }
     {
         let mut before = Row::empty(self.alloc);

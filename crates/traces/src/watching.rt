@@ -1,7 +1,7 @@
 //! The variables that a finding is about.
 
 ghost use Rattle.std.specs.Prelude.{◌≡◌, ◌++◌, IfOk, OnOk, map, option_map};
-ghost use Rattle.flow.specs.Graphs.{instruction_seen};
+ghost use Rattle.flow.specs.Graphs.{instruction_model};
 ghost use Rattle.traces.specs.Watched as about;
 
 use flow::Instr;
@@ -18,7 +18,7 @@ pub(crate) fn watched_variables(
     reason: Reason,
     at: Option<&Instr>,
 ) -> Result<Vec<VarId>, Memory>
-    ensures { IfOk result (λ them. map (λ v. v.0) them.items ≡ about.watched reason (option_map (λ i. instruction_seen i.now) at.entry)) }
+    ensures { IfOk result (λ them. map (λ v. v.0) them.items ≡ about.watched reason (option_map (λ i. instruction_model i.now) at.entry)) }
 {
     let mut variables = Vec::new(alloc);
     match reason {
@@ -48,7 +48,7 @@ pub(crate) fn watched_variables(
 /// Adds the endpoints of a switch.
 fn add_endpoints(at: Option<&Instr>, variables: &mut Vec<VarId>) -> Result<(), Memory>
     ensures { OnOk result (map (λ v. v.0) variables.new.items ≡ map (λ v. v.0) variables.old.items
-        ++ about.endpoints_at (option_map (λ i. instruction_seen i.now) at.entry)) }
+        ++ about.endpoints_at (option_map (λ i. instruction_model i.now) at.entry)) }
 {
     let Some(Instr::Switch { cases, .. }) = at else {
         return Ok(());

@@ -21,50 +21,50 @@ use Rattle.tree.specs.declared.expression.Sum as sums
 use Rattle.tree.specs.declared.expression.Sum.TheVariants as sum_variants
 use Rattle.tree.specs.declared.expression.Atom.TheOpen as layer
 
-pub disjunction_seen : (x : disjunctions.Disjunction) → disjunction_tree x ≡ Chain Or (conjunction_tree (disjunctions.out-Disjunction x).first) (step_row Or (map (unmarked conjunction_tree) (disjunctions.out-Disjunction x).others.items))
-disjunction_seen x =
+pub disjunction_model : (x : disjunctions.Disjunction) → disjunction_tree x ≡ Chain Or (conjunction_tree (disjunctions.out-Disjunction x).first) (step_row Or (map (unmarked conjunction_tree) (disjunctions.out-Disjunction x).others.items))
+disjunction_model x =
     disjunctions.fold_out-Disjunction AtomTree (LevelTree (Joined Or)) (LevelTree (Joined Add)) TargetTree (LevelTree Single) (LevelTree (Joined And)) (LevelTree (Joined Or)) (Span × LevelTree (Joined Or)) (LevelTree (Joined Equal)) (StepOf Equal) FactorTree (LevelTree (Joined Add)) (LevelTree Single) (LevelTree (Joined Compare)) (StepOf Compare)
     atom_of expression_of sum_of target_of unary_of conjunction_of disjunction_of element_target_of equality_of equality_step_of factor_of factors_of prefixed_of relation_of relation_step_of x
     ∙ ap (λ ps. Chain Or (conjunction_tree (disjunctions.out-Disjunction x).first) (step_row Or ps)) (map-map (λ y. (tt, y)) conjunction_tree (disjunctions.out-Disjunction x).others.items)
 
-pub conjunction_seen : (x : conjunctions.Conjunction) → conjunction_tree x ≡ Chain And (equality_tree (conjunctions.out-Conjunction x).first) (step_row And (map (unmarked equality_tree) (conjunctions.out-Conjunction x).others.items))
-conjunction_seen x =
+pub conjunction_model : (x : conjunctions.Conjunction) → conjunction_tree x ≡ Chain And (equality_tree (conjunctions.out-Conjunction x).first) (step_row And (map (unmarked equality_tree) (conjunctions.out-Conjunction x).others.items))
+conjunction_model x =
     conjunctions.fold_out-Conjunction AtomTree (LevelTree (Joined Or)) (LevelTree (Joined Add)) TargetTree (LevelTree Single) (LevelTree (Joined And)) (LevelTree (Joined Or)) (Span × LevelTree (Joined Or)) (LevelTree (Joined Equal)) (StepOf Equal) FactorTree (LevelTree (Joined Add)) (LevelTree Single) (LevelTree (Joined Compare)) (StepOf Compare)
     atom_of expression_of sum_of target_of unary_of conjunction_of disjunction_of element_target_of equality_of equality_step_of factor_of factors_of prefixed_of relation_of relation_step_of x
     ∙ ap (λ ps. Chain And (equality_tree (conjunctions.out-Conjunction x).first) (step_row And ps)) (map-map (λ y. (tt, y)) equality_tree (conjunctions.out-Conjunction x).others.items)
 
-pub equality_seen : (x : equalitys.Equality) → equality_tree x ≡ Chain Equal (relation_tree (equalitys.out-Equality x).first) (step_row Equal (map equality_step_tree (equalitys.out-Equality x).others.items))
-equality_seen =
+pub equality_model : (x : equalitys.Equality) → equality_tree x ≡ Chain Equal (relation_tree (equalitys.out-Equality x).first) (step_row Equal (map equality_step_tree (equalitys.out-Equality x).others.items))
+equality_model =
     equalitys.fold_out-Equality AtomTree (LevelTree (Joined Or)) (LevelTree (Joined Add)) TargetTree (LevelTree Single) (LevelTree (Joined And)) (LevelTree (Joined Or)) (Span × LevelTree (Joined Or)) (LevelTree (Joined Equal)) (StepOf Equal) FactorTree (LevelTree (Joined Add)) (LevelTree Single) (LevelTree (Joined Compare)) (StepOf Compare)
     atom_of expression_of sum_of target_of unary_of conjunction_of disjunction_of element_target_of equality_of equality_step_of factor_of factors_of prefixed_of relation_of relation_step_of
 
-pub relation_seen : (x : relations.Relation) → relation_tree x ≡ Chain Compare (sum_tree (relations.out-Relation x).first) (step_row Compare (map relation_step_tree (relations.out-Relation x).others.items))
-relation_seen =
+pub relation_model : (x : relations.Relation) → relation_tree x ≡ Chain Compare (sum_tree (relations.out-Relation x).first) (step_row Compare (map relation_step_tree (relations.out-Relation x).others.items))
+relation_model =
     relations.fold_out-Relation AtomTree (LevelTree (Joined Or)) (LevelTree (Joined Add)) TargetTree (LevelTree Single) (LevelTree (Joined And)) (LevelTree (Joined Or)) (Span × LevelTree (Joined Or)) (LevelTree (Joined Equal)) (StepOf Equal) FactorTree (LevelTree (Joined Add)) (LevelTree Single) (LevelTree (Joined Compare)) (StepOf Compare)
     atom_of expression_of sum_of target_of unary_of conjunction_of disjunction_of element_target_of equality_of equality_step_of factor_of factors_of prefixed_of relation_of relation_step_of
 
-pub equality_step_seen : (x : equalitysteps.EqualityStep) → equality_step_tree x ≡ ((equalitysteps.out-EqualityStep x).operator, relation_tree (equalitysteps.out-EqualityStep x).relation)
-equality_step_seen =
+pub equality_step_model : (x : equalitysteps.EqualityStep) → equality_step_tree x ≡ ((equalitysteps.out-EqualityStep x).operator, relation_tree (equalitysteps.out-EqualityStep x).relation)
+equality_step_model =
     equalitysteps.fold_out-EqualityStep AtomTree (LevelTree (Joined Or)) (LevelTree (Joined Add)) TargetTree (LevelTree Single) (LevelTree (Joined And)) (LevelTree (Joined Or)) (Span × LevelTree (Joined Or)) (LevelTree (Joined Equal)) (StepOf Equal) FactorTree (LevelTree (Joined Add)) (LevelTree Single) (LevelTree (Joined Compare)) (StepOf Compare)
     atom_of expression_of sum_of target_of unary_of conjunction_of disjunction_of element_target_of equality_of equality_step_of factor_of factors_of prefixed_of relation_of relation_step_of
 
-pub relation_step_seen : (x : relationsteps.RelationStep) → relation_step_tree x ≡ ((relationsteps.out-RelationStep x).operator, sum_tree (relationsteps.out-RelationStep x).sum)
-relation_step_seen =
+pub relation_step_model : (x : relationsteps.RelationStep) → relation_step_tree x ≡ ((relationsteps.out-RelationStep x).operator, sum_tree (relationsteps.out-RelationStep x).sum)
+relation_step_model =
     relationsteps.fold_out-RelationStep AtomTree (LevelTree (Joined Or)) (LevelTree (Joined Add)) TargetTree (LevelTree Single) (LevelTree (Joined And)) (LevelTree (Joined Or)) (Span × LevelTree (Joined Or)) (LevelTree (Joined Equal)) (StepOf Equal) FactorTree (LevelTree (Joined Add)) (LevelTree Single) (LevelTree (Joined Compare)) (StepOf Compare)
     atom_of expression_of sum_of target_of unary_of conjunction_of disjunction_of element_target_of equality_of equality_step_of factor_of factors_of prefixed_of relation_of relation_step_of
 
-pub prefixed_seen : (x : prefixeds.Prefixed) → prefixed_tree x ≡ Unary (prefixeds.out-Prefixed x).prefixes.items (atom_tree (prefixeds.out-Prefixed x).atom)
-prefixed_seen =
+pub prefixed_model : (x : prefixeds.Prefixed) → prefixed_tree x ≡ Unary (prefixeds.out-Prefixed x).prefixes.items (atom_tree (prefixeds.out-Prefixed x).atom)
+prefixed_model =
     prefixeds.fold_out-Prefixed AtomTree (LevelTree (Joined Or)) (LevelTree (Joined Add)) TargetTree (LevelTree Single) (LevelTree (Joined And)) (LevelTree (Joined Or)) (Span × LevelTree (Joined Or)) (LevelTree (Joined Equal)) (StepOf Equal) FactorTree (LevelTree (Joined Add)) (LevelTree Single) (LevelTree (Joined Compare)) (StepOf Compare)
     atom_of expression_of sum_of target_of unary_of conjunction_of disjunction_of element_target_of equality_of equality_step_of factor_of factors_of prefixed_of relation_of relation_step_of
 
-pub factor_seen : (x : factors.Factor) → factor_tree x ≡ ((factors.out-Factor x).operator, unary_tree (factors.out-Factor x).unary)
-factor_seen =
+pub factor_model : (x : factors.Factor) → factor_tree x ≡ ((factors.out-Factor x).operator, unary_tree (factors.out-Factor x).unary)
+factor_model =
     factors.fold_out-Factor AtomTree (LevelTree (Joined Or)) (LevelTree (Joined Add)) TargetTree (LevelTree Single) (LevelTree (Joined And)) (LevelTree (Joined Or)) (Span × LevelTree (Joined Or)) (LevelTree (Joined Equal)) (StepOf Equal) FactorTree (LevelTree (Joined Add)) (LevelTree Single) (LevelTree (Joined Compare)) (StepOf Compare)
     atom_of expression_of sum_of target_of unary_of conjunction_of disjunction_of element_target_of equality_of equality_step_of factor_of factors_of prefixed_of relation_of relation_step_of
 
-pub factors_seen : (x : factor_rows.Factors) → factors_tree x ≡ gathered (unary_tree (factor_rows.out-Factors x).first) (factor_tree (factor_rows.out-Factors x).second ∷ map factor_tree (factor_rows.out-Factors x).others.items)
-factors_seen =
+pub factors_model : (x : factor_rows.Factors) → factors_tree x ≡ gathered (unary_tree (factor_rows.out-Factors x).first) (factor_tree (factor_rows.out-Factors x).second ∷ map factor_tree (factor_rows.out-Factors x).others.items)
+factors_model =
     factor_rows.fold_out-Factors AtomTree (LevelTree (Joined Or)) (LevelTree (Joined Add)) TargetTree (LevelTree Single) (LevelTree (Joined And)) (LevelTree (Joined Or)) (Span × LevelTree (Joined Or)) (LevelTree (Joined Equal)) (StepOf Equal) FactorTree (LevelTree (Joined Add)) (LevelTree Single) (LevelTree (Joined Compare)) (StepOf Compare)
     atom_of expression_of sum_of target_of unary_of conjunction_of disjunction_of element_target_of equality_of equality_step_of factor_of factors_of prefixed_of relation_of relation_step_of
 

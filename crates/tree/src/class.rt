@@ -17,7 +17,7 @@ pub struct Struct {
 #[derive(Clone, Copy)]
 pub struct Field {
     pub access: Option<Access>,
-    pub kind: Type,
+    pub ty: Type,
     pub name: Span,
 }
 
@@ -45,6 +45,6 @@ pub struct Method {
 #[derive(Clone, Copy)]
 pub struct Parameter {
     pub claims: bool,
-    pub kind: Type,
+    pub ty: Type,
     pub name: Span,
 }

@@ -33,7 +33,7 @@ pub struct Message {
 /// A parameter of a message: type ID .
 #[derive(Drop)]
 pub struct Param {
-    pub kind: Type,
+    pub ty: Type,
     pub name: Span,
 }
 

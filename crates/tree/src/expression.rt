@@ -138,7 +138,7 @@ pub struct Prefixed {
 #[derive(Clone, Copy)]
 pub struct Prefix {
     pub operator: PrefixOperator,
-    pub place: Span,
+    pub span: Span,
 }
 
 /// "!" | "-"

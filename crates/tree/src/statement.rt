@@ -50,7 +50,7 @@ pub enum Statement {
 /// declare = type ID [ "=" value ] ";" .
 #[derive(Drop)]
 pub struct Declare {
-    pub kind: Type,
+    pub ty: Type,
     pub name: Span,
     pub value: Option<Value>,
 }
@@ -133,6 +133,6 @@ pub enum Awaited {
 /// bind = [ type ] ID .
 #[derive(Clone, Copy)]
 pub struct Bind {
-    pub kind: Option<Type>,
+    pub ty: Option<Type>,
     pub name: Span,
 }

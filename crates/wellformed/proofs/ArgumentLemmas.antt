@@ -14,9 +14,9 @@ use Rattle.names.specs.Shapes.{shape}
 use Rattle.names.specs.Values.{argument_mistakes, asked_mistakes, parameter_kinds}
 use Rattle.names.specs.Variables as names
 use Rattle.declarations.specs.declared.kinds as declared
-use Rattle.program.specs.Methods.{VariableSeen}
+use Rattle.program.specs.Methods.{VariableModel}
 use Rattle.program.specs.declared.call.Argument.{Argument}
-use Rattle.program.specs.declared.kind.Kind.{Kind}
+use Rattle.program.specs.declared.kind.HeapKind.{HeapKind}
 use Rattle.program.specs.declared.method.Role.{Role}
 use Rattle.program.specs.declared.method.Role.TheVariants as role
 use Rattle.program.specs.declared.statement.Mention.{Mention}
@@ -38,20 +38,20 @@ use Rattle.wellformed.proofs.MentionLemmas.{scalar_not_mentioned}
 use Rattle.wellformed.proofs.KindLemmas.{type_known, agree_alike, alike_block, alike_held, scalar_holds, block_holds, Holding}
 
 -- an argument for each of these headings, of its type, and claimed where the parameter is
-abbrev pub GivenFor : Setting → List (Kind × Role) → List Argument → Type 0
+abbrev pub GivenFor : Setting → List (HeapKind × Role) → List Argument → Type 0
 GivenFor s [] [] = Unit {0}
 GivenFor s [] (a ∷ given) = ⊥
 GivenFor s (h ∷ headings) [] = ⊥
 GivenFor s (h ∷ headings) (a ∷ given) = (Holds s h.0 a.mention.variable × (a.claimed ≡ is_claimed h.1)) × GivenFor s headings given
 
-given_rows : (s : Setting) (vs : List VariableSeen) (given : List Argument) → GivenFor s (map (λ v. (v.kind, v.role)) vs) given → AreGiven s vs given
+given_rows : (s : Setting) (vs : List VariableModel) (given : List Argument) → GivenFor s (map (λ v. (v.kind, v.role)) vs) given → AreGiven s vs given
 given_rows s [] [] h = tt
 given_rows s [] (a ∷ given) h = h
 given_rows s (v ∷ vs) [] h = h
 given_rows s (v ∷ vs) (a ∷ given) h = (h.0, given_rows s vs given h.1)
 
 -- they are given for parameters that have these headings
-pub given_parameters : (s : Setting) (vs : List VariableSeen) (headings : List (Kind × Role)) (given : List Argument) → map (λ v. (v.kind, v.role)) vs ≡ headings
+pub given_parameters : (s : Setting) (vs : List VariableModel) (headings : List (HeapKind × Role)) (given : List Argument) → map (λ v. (v.kind, v.role)) vs ≡ headings
     → GivenFor s headings given → AreGiven s vs given
 given_parameters s vs headings given is h = given_rows s vs given (subst (λ x. GivenFor s x given) (sym is) h)
 
@@ -59,21 +59,21 @@ given_parameters s vs headings given is h = given_rows s vs given (subst (λ x. 
 lone_of : (p : Program) (class : ℕ) (f : Frame) (e : ExpressionTree) (o : Option Span) → lone_name e ≡ o → lone p class f e ≡ option_and_then (mention p.text f.locals) o
 lone_of p class f e o is = ap (option_and_then (mention p.text f.locals)) is
 
-scalar_name : (p : Program) (class : ℕ) (vs : List VariableSeen) (f : Frame) (g : names.Frame) → AreStanding p vs f g → (e : ExpressionTree) (o : Option Span) → lone_name e ≡ o
+scalar_name : (p : Program) (class : ℕ) (vs : List VariableModel) (f : Frame) (g : names.Frame) → AreStanding p vs f g → (e : ExpressionTree) (o : Option Span) → lone_name e ≡ o
     → whole_mistakes (scope_of p g) (shape e) ≡ [] → is_block (kind_of (scope_of p g) (shape e)) ≡ false → lone p class f e ≡ None
 scalar_name p class vs f g standing e None is none scalar = lone_of p class f e None is
 scalar_name p class vs f g standing e (Some name) is none scalar =
     let shaped = lone_shape e name is in
     lone_of p class f e (Some name) is ∙ scalar_not_mentioned p vs f g name standing (subst (λ x. whole_mistakes (scope_of p g) x ≡ []) shaped none) (subst (λ x. is_block (kind_of (scope_of p g) x) ≡ false) shaped scalar)
 
-pub scalar_lone : (p : Program) (class : ℕ) (vs : List VariableSeen) (f : Frame) (g : names.Frame) → AreStanding p vs f g → (e : ExpressionTree)
+pub scalar_lone : (p : Program) (class : ℕ) (vs : List VariableModel) (f : Frame) (g : names.Frame) → AreStanding p vs f g → (e : ExpressionTree)
     → whole_mistakes (scope_of p g) (shape e) ≡ [] → is_block (kind_of (scope_of p g) (shape e)) ≡ false → lone p class f e ≡ None
 scalar_lone p class vs f g standing e none scalar = scalar_name p class vs f g standing e (lone_name e) refl none scalar
 
 -- an expression of a kind of the exchange heap is a variable that holds what the kind says
 pub record IsGiven (p : Program) (class : ℕ) (s : Setting) (f : Frame) (g : names.Frame) (e : ExpressionTree) : Type 0 where
   pub mention : Mention
-  pub variable : VariableSeen
+  pub variable : VariableModel
   pub is : lone p class f e ≡ Some mention
   pub there : slice_get s.variables mention.variable.0 ≡ Some variable
   pub holds : IsHeld p (kind_of (scope_of p g) (shape e)) variable.kind
@@ -91,15 +91,15 @@ block_given p class s f g standing e none block =
     }
 
 -- a variable that is there holds a block of a type
-pub holds_there : (s : Setting) (k : Kind) (m : Mention) (v : VariableSeen) → slice_get s.variables m.variable.0 ≡ Some v → same_type v.kind k ≡ true → Holds s k m.variable
+pub holds_there : (s : Setting) (k : HeapKind) (m : Mention) (v : VariableModel) → slice_get s.variables m.variable.0 ≡ Some v → same_type v.kind k ≡ true → Holds s k m.variable
 holds_there s k m v there same = subst (λ o. IsSomeAnd o (λ x. same_type x.kind k ≡ true)) (sym there) same
 
 -- an expression of which a kind is asked
-pub record IsAsked (p : Program) (g : names.Frame) (k : declared.Kind.Kind) (e : ExpressionTree) : Type 0 where
+pub record IsAsked (p : Program) (g : names.Frame) (k : declared.ValueKind.ValueKind) (e : ExpressionTree) : Type 0 where
   pub whole : whole_mistakes (scope_of p g) (shape e) ≡ []
   pub like : alike (kind_of (scope_of p g) (shape e)) k ≡ true
 
-pub asked_known : (p : Program) (vs : List VariableSeen) (f : Frame) (g : names.Frame) → AreStanding p vs f g → (k : declared.Kind.Kind) (e : ExpressionTree) → IsKnown p k
+pub asked_known : (p : Program) (vs : List VariableModel) (f : Frame) (g : names.Frame) → AreStanding p vs f g → (k : declared.ValueKind.ValueKind) (e : ExpressionTree) → IsKnown p k
     → asked_mistakes (scope_of p g) k (shape e) ≡ [] → IsAsked p g k e
 asked_known p vs f g standing k e known none =
     let both = both_none (whole_mistakes (scope_of p g) (shape e)) (unless (agree (kind_of (scope_of p g) (shape e)) k) (place_of (shape e)) _) none in
@@ -109,17 +109,17 @@ asked_known p vs f g standing k e known none =
     }
 
 -- a scalar for a scalar: nothing is given
-pub asked_scalar : (p : Program) (class : ℕ) (vs : List VariableSeen) (f : Frame) (g : names.Frame) → AreStanding p vs f g → (k : declared.Kind.Kind) (e : ExpressionTree)
+pub asked_scalar : (p : Program) (class : ℕ) (vs : List VariableModel) (f : Frame) (g : names.Frame) → AreStanding p vs f g → (k : declared.ValueKind.ValueKind) (e : ExpressionTree)
     → IsAsked p g k e → is_block k ≡ false → lone p class f e ≡ None
 asked_scalar p class vs f g standing k e asked scalar = scalar_lone p class vs f g standing e asked.whole (alike_block (kind_of (scope_of p g) (shape e)) k asked.like ∙ scalar)
 
 -- a block for a block: a variable that holds one of its type
-pub record IsBlockGiven (p : Program) (class : ℕ) (s : Setting) (f : Frame) (held : Kind) (e : ExpressionTree) : Type 0 where
+pub record IsBlockGiven (p : Program) (class : ℕ) (s : Setting) (f : Frame) (held : HeapKind) (e : ExpressionTree) : Type 0 where
   pub mention : Mention
   pub is : lone p class f e ≡ Some mention
   pub holds : Holds s held mention.variable
 
-pub asked_block : (p : Program) (class : ℕ) (s : Setting) (f : Frame) (g : names.Frame) → AreStanding p s.variables f g → (k : declared.Kind.Kind) (held : Kind) (e : ExpressionTree)
+pub asked_block : (p : Program) (class : ℕ) (s : Setting) (f : Frame) (g : names.Frame) → AreStanding p s.variables f g → (k : declared.ValueKind.ValueKind) (held : HeapKind) (e : ExpressionTree)
     → IsAsked p g k e → is_block k ≡ true → IsHeld p k held → IsBlockGiven p class s f held e
 asked_block p class s f g standing k held e asked block is =
     let given = block_given p class s f g standing e asked.whole (alike_block (kind_of (scope_of p g) (shape e)) k asked.like ∙ block) in
@@ -133,8 +133,8 @@ claimed_role : (b : Bool) → b ≡ is_claimed (if b then role.Claimed else role
 claimed_role true = refl
 claimed_role false = refl
 
-given_with : (p : Program) (class : ℕ) (s : Setting) (f : Frame) (x : Parameter) (e : ExpressionTree) (o : Option Kind) (m : Option Mention) (hs : List (Kind × Role)) (gs : List Argument)
-    → type_held p x.kind ≡ o → lone p class f e ≡ m → GivenFor s (option_map_or (λ k. (k, role_of x) ∷ []) o [] ++ hs) (given x m ++ gs)
+given_with : (p : Program) (class : ℕ) (s : Setting) (f : Frame) (x : Parameter) (e : ExpressionTree) (o : Option HeapKind) (m : Option Mention) (hs : List (HeapKind × Role)) (gs : List Argument)
+    → type_held p x.ty ≡ o → lone p class f e ≡ m → GivenFor s (option_map_or (λ k. (k, role_of x) ∷ []) o [] ++ hs) (given x m ++ gs)
     → GivenFor s (heading p x ++ hs) (given x (lone p class f e) ++ gs)
 given_with p class s f x e o m hs gs held lone_is h =
     subst (λ y. GivenFor s (option_map_or (λ k. (k, role_of x) ∷ []) y [] ++ hs) (given x (lone p class f e) ++ gs)) (sym held)
@@ -142,25 +142,25 @@ given_with p class s f x e o m hs gs held lone_is h =
 
 -- what is given for one parameter, and then what is given for others
 one_given : (p : Program) (class : ℕ) (s : Setting) (f : Frame) (g : names.Frame) → AreStanding p s.variables f g → (x : Parameter) (e : ExpressionTree)
-    → type_unknown p x.kind ≡ [] → IsAsked p g (type_kind p x.kind) e → (b : Bool) → is_block (type_kind p x.kind) ≡ b
-    → (hs : List (Kind × Role)) (gs : List Argument) → GivenFor s hs gs → GivenFor s (heading p x ++ hs) (given x (lone p class f e) ++ gs)
+    → type_unknown p x.ty ≡ [] → IsAsked p g (type_kind p x.ty) e → (b : Bool) → is_block (type_kind p x.ty) ≡ b
+    → (hs : List (HeapKind × Role)) (gs : List Argument) → GivenFor s hs gs → GivenFor s (heading p x ++ hs) (given x (lone p class f e) ++ gs)
 one_given p class s f g standing x e known asked false scalar hs gs rest =
-    given_with p class s f x e None None hs gs (scalar_holds p (type_kind p x.kind) (state_in x.kind) scalar) (asked_scalar p class s.variables f g standing (type_kind p x.kind) e asked scalar) rest
+    given_with p class s f x e None None hs gs (scalar_holds p (type_kind p x.ty) (state_in x.ty) scalar) (asked_scalar p class s.variables f g standing (type_kind p x.ty) e asked scalar) rest
 one_given p class s f g standing x e known asked true block hs gs rest =
-    let h : Holding p (type_kind p x.kind) (state_in x.kind) = block_holds p (type_kind p x.kind) (state_in x.kind) (type_known p x.kind known) block in
-    let b = asked_block p class s f g standing (type_kind p x.kind) h.held e asked block (record { state = state_in x.kind; is = h.is }) in
+    let h : Holding p (type_kind p x.ty) (state_in x.ty) = block_holds p (type_kind p x.ty) (state_in x.ty) (type_known p x.ty known) block in
+    let b = asked_block p class s f g standing (type_kind p x.ty) h.held e asked block (record { state = state_in x.ty; is = h.is }) in
     given_with p class s f x e (Some h.held) (Some b.mention) hs gs h.is b.is ((b.holds, claimed_role x.claims), rest)
 
 -- what is given for the parameters of a method
 pub arguments_given : (p : Program) (class : ℕ) (s : Setting) (f : Frame) (g : names.Frame) → AreStanding p s.variables f g → (params : List Parameter) (es : List ExpressionTree)
-    → Each (λ x. type_unknown p x.kind ≡ []) params → length params ≡ length es → argument_mistakes (scope_of p g) (parameter_kinds p params) (map shape es) ≡ []
+    → Each (λ x. type_unknown p x.ty ≡ []) params → length params ≡ length es → argument_mistakes (scope_of p g) (parameter_kinds p params) (map shape es) ≡ []
     → GivenFor s (flat_map (heading p) params) (arguments p class f params es)
 arguments_given p class s f g standing [] es known many none = tt
 arguments_given p class s f g standing (x ∷ params) [] known many none = cc
 arguments_given p class s f g standing (x ∷ params) (e ∷ es) known many none =
-    let k = type_kind p x.kind in
+    let k = type_kind p x.ty in
     let both = both_none (asked_mistakes (scope_of p g) k (shape e)) (argument_mistakes (scope_of p g) (parameter_kinds p params) (map shape es)) none in
-    let asked = asked_known p s.variables f g standing k e (type_known p x.kind known.0) both.0 in
+    let asked = asked_known p s.variables f g standing k e (type_known p x.ty known.0) both.0 in
     let rest = arguments_given p class s f g standing params es known.1 (omega (arith, many)) both.1 in
     one_given p class s f g standing x e known.0 asked (is_block k) refl (flat_map (heading p) params) (arguments p class f params es) rest
 
@@ -170,33 +170,33 @@ reads_mentioned p class s f g standing [] = tt
 reads_mentioned p class s f g standing (e ∷ es) = each_append (IsMention s) (reads p.text f.locals e) (argument_reads p class f es) (reads_within p s.variables f g standing e) (reads_mentioned p class s f g standing es)
 
 -- what is given for one parameter of a message, and then what is given for others
-payload_with : (p : Program) (class : ℕ) (s : Setting) (f : Frame) (x : Param) (e : ExpressionTree) (o : Option Kind) (m : Option Mention) (ks : List Kind) (ms : List Mention)
-    → type_held p x.kind ≡ o → lone p class f e ≡ m → HoldAll s (held_listed o ++ ks) (map (λ y. y.variable) (listed m ++ ms))
-    → HoldAll s (held_listed (type_held p x.kind) ++ ks) (map (λ y. y.variable) (listed (lone p class f e) ++ ms))
+payload_with : (p : Program) (class : ℕ) (s : Setting) (f : Frame) (x : Param) (e : ExpressionTree) (o : Option HeapKind) (m : Option Mention) (ks : List HeapKind) (ms : List Mention)
+    → type_held p x.ty ≡ o → lone p class f e ≡ m → HoldAll s (held_listed o ++ ks) (map (λ y. y.variable) (listed m ++ ms))
+    → HoldAll s (held_listed (type_held p x.ty) ++ ks) (map (λ y. y.variable) (listed (lone p class f e) ++ ms))
 payload_with p class s f x e o m ks ms held lone_is h =
     subst (λ y. HoldAll s (held_listed y ++ ks) (map (λ z. z.variable) (listed (lone p class f e) ++ ms))) (sym held)
     (subst (λ y. HoldAll s (held_listed o ++ ks) (map (λ z. z.variable) (listed y ++ ms))) (sym lone_is) h)
 
 one_payload : (p : Program) (class : ℕ) (s : Setting) (f : Frame) (g : names.Frame) → AreStanding p s.variables f g → (x : Param) (e : ExpressionTree)
-    → type_unknown p x.kind ≡ [] → IsAsked p g (type_kind p x.kind) e → (b : Bool) → is_block (type_kind p x.kind) ≡ b
-    → (ks : List Kind) (ms : List Mention) → HoldAll s ks (map (λ y. y.variable) ms) → HoldAll s (held_listed (type_held p x.kind) ++ ks) (map (λ y. y.variable) (listed (lone p class f e) ++ ms))
+    → type_unknown p x.ty ≡ [] → IsAsked p g (type_kind p x.ty) e → (b : Bool) → is_block (type_kind p x.ty) ≡ b
+    → (ks : List HeapKind) (ms : List Mention) → HoldAll s ks (map (λ y. y.variable) ms) → HoldAll s (held_listed (type_held p x.ty) ++ ks) (map (λ y. y.variable) (listed (lone p class f e) ++ ms))
 one_payload p class s f g standing x e known asked false scalar ks ms rest =
-    payload_with p class s f x e None None ks ms (scalar_holds p (type_kind p x.kind) (state_in x.kind) scalar) (asked_scalar p class s.variables f g standing (type_kind p x.kind) e asked scalar) rest
+    payload_with p class s f x e None None ks ms (scalar_holds p (type_kind p x.ty) (state_in x.ty) scalar) (asked_scalar p class s.variables f g standing (type_kind p x.ty) e asked scalar) rest
 one_payload p class s f g standing x e known asked true block ks ms rest =
-    let h : Holding p (type_kind p x.kind) (state_in x.kind) = block_holds p (type_kind p x.kind) (state_in x.kind) (type_known p x.kind known) block in
-    let b = asked_block p class s f g standing (type_kind p x.kind) h.held e asked block (record { state = state_in x.kind; is = h.is }) in
+    let h : Holding p (type_kind p x.ty) (state_in x.ty) = block_holds p (type_kind p x.ty) (state_in x.ty) (type_known p x.ty known) block in
+    let b = asked_block p class s f g standing (type_kind p x.ty) h.held e asked block (record { state = state_in x.ty; is = h.is }) in
     payload_with p class s f x e (Some h.held) (Some b.mention) ks ms h.is b.is (b.holds, rest)
 
 -- what is given for the parameters of a message
 pub payloads_given : (p : Program) (class : ℕ) (s : Setting) (f : Frame) (g : names.Frame) → AreStanding p s.variables f g → (params : List Param) (es : List ExpressionTree)
-    → Each (λ x. type_unknown p x.kind ≡ []) params → length params ≡ length es → argument_mistakes (scope_of p g) (map (λ x. type_kind p x.kind) params) (map shape es) ≡ []
+    → Each (λ x. type_unknown p x.ty ≡ []) params → length params ≡ length es → argument_mistakes (scope_of p g) (map (λ x. type_kind p x.ty) params) (map shape es) ≡ []
     → HoldAll s (params_held p params) (map (λ y. y.variable) (payloads p class f es))
 payloads_given p class s f g standing [] [] known many none = tt
 payloads_given p class s f g standing [] (e ∷ es) known many none = cc
 payloads_given p class s f g standing (x ∷ params) [] known many none = cc
 payloads_given p class s f g standing (x ∷ params) (e ∷ es) known many none =
-    let k = type_kind p x.kind in
-    let both = both_none (asked_mistakes (scope_of p g) k (shape e)) (argument_mistakes (scope_of p g) (map (λ y. type_kind p y.kind) params) (map shape es)) none in
-    let asked = asked_known p s.variables f g standing k e (type_known p x.kind known.0) both.0 in
+    let k = type_kind p x.ty in
+    let both = both_none (asked_mistakes (scope_of p g) k (shape e)) (argument_mistakes (scope_of p g) (map (λ y. type_kind p y.ty) params) (map shape es)) none in
+    let asked = asked_known p s.variables f g standing k e (type_known p x.ty known.0) both.0 in
     let rest = payloads_given p class s f g standing params es known.1 (omega (arith, many)) both.1 in
     one_payload p class s f g standing x e known.0 asked (is_block k) refl (params_held p params) (payloads p class f es) rest

@@ -15,8 +15,8 @@ use Rattle.declarations.specs.Kinds.{agree, is_heap, type_kind, type_unknown, un
 use Rattle.declarations.specs.Program.{Program}
 use Rattle.names.specs.Variables as names
 use Rattle.names.specs.Variables.{declared_variable}
-use Rattle.declarations.specs.declared.kinds.Kind.{Kind}
-use Rattle.program.specs.Methods.{VariableSeen}
+use Rattle.declarations.specs.declared.kinds.ValueKind.{ValueKind}
+use Rattle.program.specs.Methods.{VariableModel}
 use Rattle.program.specs.declared.kind as held
 use Rattle.program.specs.declared.method.Role.TheVariants.{Local}
 use Rattle.program.specs.declared.number.VarId.{VarId}
@@ -33,13 +33,13 @@ use Rattle.wellformed.proofs.ScopeLemmas.{declared_inner, declared_local, declar
 use Rattle.wellformed.proofs.Standing.{AreStanding, Within, declares, last_of}
 
 -- what is bound comes into scope in turn
-pub record Binding (p : Program) (vs : List VariableSeen) (f after : Frame) (behind : names.Frame) (bound : List VarId) : Type 0 where
+pub record Binding (p : Program) (vs : List VariableModel) (f after : Frame) (behind : names.Frame) (bound : List VarId) : Type 0 where
   pub standing : AreStanding p vs after behind
   pub inner : LeadsOut vs (last_of after) (last_of f)
   pub turn : InTurn vs (last_of f) bound (last_of after)
 
 -- what is bound behind a variable, with this one before it
-next_bound : (p : Program) (vs : List VariableSeen) (name : Span) (kind : Kind) (held : Option held.Kind.Kind) (f after : Frame) (behind : names.Frame) (bound : List VarId)
+next_bound : (p : Program) (vs : List VariableModel) (name : Span) (kind : ValueKind) (held : Option held.HeapKind.HeapKind) (f after : Frame) (behind : names.Frame) (bound : List VarId)
     → Within vs (declares p.text name kind held Local f) → Binding p vs (declares p.text name kind held Local f) after behind bound → Binding p vs f after behind (one_number (next_number held f) ++ bound)
 next_bound p vs name kind None f after behind bound within rest = record { standing = rest.standing; inner = rest.inner; turn = rest.turn }
 next_bound p vs name kind (Some held) f after behind bound within rest =
@@ -50,15 +50,15 @@ next_bound p vs name kind (Some held) f after behind bound within rest =
       turn = (declared_local p vs name kind held f within, rest.turn);
     }
 
-bind_bound : (p : Program) (vs : List VariableSeen) (param : Option Param) (name : Span) (kind : Option type_nodes.Type.Type) (f after : Frame) (behind : names.Frame) (bound : List VarId)
+bind_bound : (p : Program) (vs : List VariableModel) (param : Option Param) (name : Span) (kind : Option type_nodes.Type.Type) (f after : Frame) (behind : names.Frame) (bound : List VarId)
     → Within vs (declared p.text (bound_as p param name kind) f) → Binding p vs (declared p.text (bound_as p param name kind) f) after behind bound
     → Binding p vs f after behind (one_number (next_number (bound_as p param name kind).held f) ++ bound)
 bind_bound p vs param name (Some t) f after behind bound within rest = next_bound p vs name (type_kind p t) (type_held p t) f after behind bound within rest
 bind_bound p vs param name None f after behind bound within rest = next_bound p vs name (brought_kind p param) (kind_held p (brought_kind p param) None) f after behind bound within rest
 
 -- A name that a case binds comes into scope. What the message brings for it counts where it is of the exchange heap.
-bind_stands : (p : Program) (vs : List VariableSeen) (x : Param) (name : Span) (kind : Option type_nodes.Type.Type) (f : Frame) (g : names.Frame)
-    → type_unknown p x.kind ≡ [] → AreStanding p vs f g → Within vs (declared p.text (bound_as p (Some x) name kind) f) → (typed_turn p (Some x) name kind g).found ≡ []
+bind_stands : (p : Program) (vs : List VariableModel) (x : Param) (name : Span) (kind : Option type_nodes.Type.Type) (f : Frame) (g : names.Frame)
+    → type_unknown p x.ty ≡ [] → AreStanding p vs f g → Within vs (declared p.text (bound_as p (Some x) name kind) f) → (typed_turn p (Some x) name kind g).found ≡ []
     → AreStanding p vs (declared p.text (bound_as p (Some x) name kind) f) (typed_turn p (Some x) name kind g).frame
 bind_stands p vs x name (Some t) f g brought standing within none =
     let fits = unless (agree (type_kind p t) (brought_kind p (Some x))) name.place (Given (demand.Kind (brought_kind p (Some x))) (type_kind p t)) in
@@ -68,11 +68,11 @@ bind_stands p vs x name (Some t) f g brought standing within none =
     let known = type_known p t sure.0 in
     declared_stands p vs name (type_kind p t) (type_held p t) Local (is_heap t) f g (heap_block p t sure.0) known (held_as p (type_kind p t) (state_in t) known) standing within clean.1
 bind_stands p vs x name None f g brought standing within none =
-    let known = type_known p x.kind brought in
-    declared_stands p vs name (type_kind p x.kind) (kind_held p (type_kind p x.kind) None) Local (is_heap x.kind) f g (heap_block p x.kind brought) known (held_as p (type_kind p x.kind) None known) standing within none
+    let known = type_known p x.ty brought in
+    declared_stands p vs name (type_kind p x.ty) (kind_held p (type_kind p x.ty) None) Local (is_heap x.ty) f g (heap_block p x.ty brought) known (held_as p (type_kind p x.ty) None known) standing within none
 
-pub binds_stand : (p : Program) (vs : List VariableSeen) (params : List Param) (binds : List made.Bind.Bind) (f : Frame) (g : names.Frame)
-    → AreStanding p vs f g → Within vs (binds_told p params binds f).frame → Each (λ x. type_unknown p x.kind ≡ []) params → length params ≡ length binds
+pub binds_stand : (p : Program) (vs : List VariableModel) (params : List Param) (binds : List made.Bind.Bind) (f : Frame) (g : names.Frame)
+    → AreStanding p vs f g → Within vs (binds_told p params binds f).frame → Each (λ x. type_unknown p x.ty ≡ []) params → length params ≡ length binds
     → (binds_turn p params binds g).found ≡ []
     → Binding p vs f (binds_told p params binds f).frame (binds_turn p params binds g).frame (binds_told p params binds f).what
 binds_stand p vs params [] f g standing within known many none = record { standing = standing; inner = leads_here vs (last_of f); turn = refl }
@@ -82,6 +82,6 @@ binds_stand p vs (x ∷ params) (b ∷ binds) f g standing within known many non
     let turned = bind_turn p (Some x) b g in
     let here = within_before p next (binds_told p params binds next).frame vs (binds_grow p params binds next) within in
     let clean = both_none turned.found (binds_turn p params binds turned.frame).found none in
-    let stands = bind_stands p vs x b.name b.kind f g known.0 standing here clean.0 in
+    let stands = bind_stands p vs x b.name b.ty f g known.0 standing here clean.0 in
     let fewer : length params ≡ length binds = omega arith in
-    bind_bound p vs (Some x) b.name b.kind f _ _ _ here (binds_stand p vs params binds next turned.frame stands within known.1 fewer clean.1)
+    bind_bound p vs (Some x) b.name b.ty f _ _ _ here (binds_stand p vs params binds next turned.frame stands within known.1 fewer clean.1)

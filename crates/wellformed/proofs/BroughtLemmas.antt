@@ -16,8 +16,8 @@ use Rattle.declarations.specs.Program.{Program}
 use Rattle.declarations.specs.Resolution.{resolved_contracts}
 use Rattle.names.specs.Variables as names
 use Rattle.tables.specs.Words.{word_at}
-use Rattle.declarations.specs.declared.kinds.Kind.{Kind}
-use Rattle.program.specs.Methods.{VariableSeen}
+use Rattle.declarations.specs.declared.kinds.ValueKind.{ValueKind}
+use Rattle.program.specs.Methods.{VariableModel}
 use Rattle.program.specs.declared.kind as held
 use Rattle.program.specs.declared.method.Role.TheVariants.{Local}
 use Rattle.program.specs.declared.number.VarId.{VarId}
@@ -35,21 +35,21 @@ use Rattle.wellformed.proofs.PlaceLemmas.{at_seam}
 use Rattle.wellformed.proofs.Standing.{IsKnown, Within, declares}
 
 -- a variable that is declared takes its number
-declared_at : (p : Program) (s : Setting) (name : Span) (kind : Kind) (x : held.Kind.Kind) (k : held.Kind.Kind) (f : Frame) → same_type x k ≡ true → Within s.variables (declares p.text name kind (Some x) Local f)
+declared_at : (p : Program) (s : Setting) (name : Span) (kind : ValueKind) (x : held.HeapKind.HeapKind) (k : held.HeapKind.HeapKind) (f : Frame) → same_type x k ≡ true → Within s.variables (declares p.text name kind (Some x) Local f)
     → Holds s k (number_of (length f.variables))
 declared_at p s name kind x k f same within =
-    let v : VariableSeen = record { name = word_at p.text name; kind = x; role = Local; outer = option_map number_of f.last } in
+    let v : VariableModel = record { name = word_at p.text name; kind = x; role = Local; outer = option_map number_of f.last } in
     let there = ap (λ vs. slice_get vs (length f.variables)) within.is ∙ at_seam f.variables within.rest v in
     subst (λ o. IsSomeAnd o (λ y. same_type y.kind k ≡ true)) (sym there) same
 
 -- one name for one parameter, and then others for others
-one_with : (p : Program) (s : Setting) (name : Span) (kind : Kind) (f : Frame) (o x : Option held.Kind.Kind) (h y : Option held.Kind.Kind) (ks : List held.Kind.Kind) (vs : List VarId) → o ≡ h → x ≡ y
+one_with : (p : Program) (s : Setting) (name : Span) (kind : ValueKind) (f : Frame) (o x : Option held.HeapKind.HeapKind) (h y : Option held.HeapKind.HeapKind) (ks : List held.HeapKind.HeapKind) (vs : List VarId) → o ≡ h → x ≡ y
     → HoldAll s (held_listed y ++ ks) (one_number (next_number h f) ++ vs) → HoldAll s (held_listed x ++ ks) (one_number (next_number o f) ++ vs)
 one_with p s name kind f o x h y ks vs own asked all =
     subst (λ z. HoldAll s (held_listed z ++ ks) (one_number (next_number o f) ++ vs)) (sym asked) (subst (λ z. HoldAll s (held_listed y ++ ks) (one_number (next_number z f) ++ vs)) (sym own) all)
 
-one_holds : (p : Program) (s : Setting) (name : Span) (a k : Kind) (own asked : Option Span) (f : Frame) (b : Bool) → is_block k ≡ b → alike a k ≡ true → IsKnown p a → IsKnown p k
-    → Within s.variables (declares p.text name a (kind_held p a own) Local f) → (ks : List held.Kind.Kind) (vs : List VarId) → HoldAll s ks vs
+one_holds : (p : Program) (s : Setting) (name : Span) (a k : ValueKind) (own asked : Option Span) (f : Frame) (b : Bool) → is_block k ≡ b → alike a k ≡ true → IsKnown p a → IsKnown p k
+    → Within s.variables (declares p.text name a (kind_held p a own) Local f) → (ks : List held.HeapKind.HeapKind) (vs : List VarId) → HoldAll s ks vs
     → HoldAll s (held_listed (kind_held p k asked) ++ ks) (one_number (next_number (kind_held p a own) f) ++ vs)
 one_holds p s name a k own asked f false scalar like sure known within ks vs rest =
     one_with p s name a f (kind_held p a own) (kind_held p k asked) None None ks vs (scalar_holds p a own (alike_block a k like ∙ scalar)) (scalar_holds p k asked scalar) rest
@@ -61,23 +61,23 @@ one_holds p s name a k own asked f true block like sure known within ks vs rest 
     one_with p s name a f (kind_held p a own) (kind_held p k asked) (Some x.held) (Some y.held) ks vs x.is y.is (declared_at p s name a x.held y.held f same here, rest)
 
 -- a name that a case binds for this parameter
-bound_holds : (p : Program) (s : Setting) (x : Param) (name : Span) (kind : Option type_nodes.Type.Type) (f : Frame) (g : names.Frame) → IsKnown p (type_kind p x.kind)
-    → Within s.variables (declared p.text (bound_as p (Some x) name kind) f) → (typed_turn p (Some x) name kind g).found ≡ [] → (ks : List held.Kind.Kind) (vs : List VarId) → HoldAll s ks vs
-    → HoldAll s (held_listed (type_held p x.kind) ++ ks) (one_number (next_number (bound_as p (Some x) name kind).held f) ++ vs)
+bound_holds : (p : Program) (s : Setting) (x : Param) (name : Span) (kind : Option type_nodes.Type.Type) (f : Frame) (g : names.Frame) → IsKnown p (type_kind p x.ty)
+    → Within s.variables (declared p.text (bound_as p (Some x) name kind) f) → (typed_turn p (Some x) name kind g).found ≡ [] → (ks : List held.HeapKind.HeapKind) (vs : List VarId) → HoldAll s ks vs
+    → HoldAll s (held_listed (type_held p x.ty) ++ ks) (one_number (next_number (bound_as p (Some x) name kind).held f) ++ vs)
 bound_holds p s x name (Some t) f g known within none ks vs rest =
-    let k = type_kind p x.kind in
+    let k = type_kind p x.ty in
     let fits = unless (agree (type_kind p t) k) name.place (Given (demand.Kind k) (type_kind p t)) in
     let clean = both_none (type_unknown p t) fits (both_none (type_unknown p t ++ fits) _ none).0 in
     let sure = type_known p t clean.0 in
     let like = agree_alike p (type_kind p t) k sure known (unless_none _ (agree (type_kind p t) k) name.place clean.1) in
-    one_holds p s name (type_kind p t) k (state_in t) (state_in x.kind) f (is_block k) refl like sure known within ks vs rest
+    one_holds p s name (type_kind p t) k (state_in t) (state_in x.ty) f (is_block k) refl like sure known within ks vs rest
 bound_holds p s x name None f g known within none ks vs rest =
-    let k = type_kind p x.kind in
-    one_holds p s name k k None (state_in x.kind) f (is_block k) refl (alike_self p k known) known known within ks vs rest
+    let k = type_kind p x.ty in
+    one_holds p s name k k None (state_in x.ty) f (is_block k) refl (alike_self p k known) known known within ks vs rest
 
 -- what a case binds takes what its message brings
 pub binds_hold : (p : Program) (s : Setting) (params : List Param) (binds : List made.Bind.Bind) (f : Frame) (g : names.Frame)
-    → Within s.variables (binds_told p params binds f).frame → Each (λ x. type_unknown p x.kind ≡ []) params → length params ≡ length binds
+    → Within s.variables (binds_told p params binds f).frame → Each (λ x. type_unknown p x.ty ≡ []) params → length params ≡ length binds
     → (binds_turn p params binds g).found ≡ [] → HoldAll s (params_held p params) (binds_told p params binds f).what
 binds_hold p s [] [] f g within known many none = tt
 binds_hold p s (x ∷ params) [] f g within known many none = absurd (omega arith)
@@ -89,17 +89,17 @@ binds_hold p s (x ∷ params) (b ∷ binds) f g within known many none =
     let here = within_before p next (binds_told p params binds next).frame s.variables (binds_grow p params binds next) within in
     let fewer : length params ≡ length binds = omega arith in
     let rest = binds_hold p s params binds next turned.frame within known.1 fewer clean.1 in
-    bound_holds p s x b.name b.kind f g (type_known p x.kind known.0) here clean.0 (params_held p params) (binds_told p params binds next).what rest
+    bound_holds p s x b.name b.ty f g (type_known p x.ty known.0) here clean.0 (params_held p params) (binds_told p params binds next).what rest
 
 -- what is of a type of the exchange heap stands for something
-pub type_kinds : (p : Program) (t : type_nodes.Type.Type) (o : Option held.Kind.Kind) → type_held p t ≡ o → Each (IsKind (resolved_contracts p.text (contracts_of p.items))) (held_listed o)
+pub type_kinds : (p : Program) (t : type_nodes.Type.Type) (o : Option held.HeapKind.HeapKind) → type_held p t ≡ o → Each (IsKind (resolved_contracts p.text (contracts_of p.items))) (held_listed o)
 type_kinds p t None is = tt
 type_kinds p t (Some h) is = (held_kind p (type_kind p t) h (record { state = state_in t; is = is }), tt)
 
 -- so does what messages bring
 params_kinds : (p : Program) (params : List Param) → Each (IsKind (resolved_contracts p.text (contracts_of p.items))) (params_held p params)
 params_kinds p [] = tt
-params_kinds p (x ∷ params) = each_append (IsKind (resolved_contracts p.text (contracts_of p.items))) (held_listed (type_held p x.kind)) (params_held p params) (type_kinds p x.kind (type_held p x.kind) refl) (params_kinds p params)
+params_kinds p (x ∷ params) = each_append (IsKind (resolved_contracts p.text (contracts_of p.items))) (held_listed (type_held p x.ty)) (params_held p params) (type_kinds p x.ty (type_held p x.ty) refl) (params_kinds p params)
 
 messages_kinds : (p : Program) (messages : List MessageTree) → Each (Each (IsKind (resolved_contracts p.text (contracts_of p.items)))) (map (brought p) messages)
 messages_kinds p [] = tt

@@ -18,9 +18,9 @@ use Rattle.declarations.specs.declared.mistake.Mistake.TheVariants.{LacksClosed}
 use Rattle.declarations.specs.Program.{Program}
 use Rattle.names.specs.Variables as names
 use Rattle.tables.specs.Words.{same_word, word_at, words_at}
-use Rattle.declarations.specs.declared.kinds.Kind.{Kind}
-use Rattle.declarations.specs.declared.kinds.Kind.TheVariants as kind
-use Rattle.program.specs.Methods.{VariableSeen}
+use Rattle.declarations.specs.declared.kinds.ValueKind.{ValueKind}
+use Rattle.declarations.specs.declared.kinds.ValueKind.TheVariants as kind
+use Rattle.program.specs.Methods.{VariableModel}
 use Rattle.resolving.specs.Locals.{Frame, Local, mention_of}
 use Rattle.resolving.specs.Told.{Staying, behind_case, case_endpoint, case_told, cases_told}
 use Rattle.program.specs.Lists.{Each, is_among}
@@ -72,12 +72,12 @@ named_closes text all (x ∷ before) name close named = ⊎_elim
     (λ later. named_closes text all before name close.1 later)
     (or_cases (same_name text x.endpoint name) (names_endpoint text name before) named)
 
-other_wrong : (k : Kind) (h : Head) (a : Awaited) → other_awaited_mistakes k h a ≡ [] → ⊥
+other_wrong : (k : ValueKind) (h : Head) (a : Awaited) → other_awaited_mistakes k h a ≡ [] → ⊥
 other_wrong k h (Message word) none = cc
 other_wrong k h (Closed word) none = cc
 
 -- a head with which nothing is wrong names an endpoint, and this does not lack its close
-no_lack : (p : Program) (s : InScope) (all before : List Head) (h : Head) (k : Kind) → IsKnown p k → kind_head_mistakes s all before k h ≡ [] → lack_mistakes s all before h ≡ []
+no_lack : (p : Program) (s : InScope) (all before : List Head) (h : Head) (k : ValueKind) → IsKnown p k → kind_head_mistakes s all before k h ≡ [] → lack_mistakes s all before h ≡ []
 no_lack p s all before h (kind.Endpoint end n) known none = (both_none (endpoint_head_mistakes s before (kind.Endpoint end n) end h) (lack_mistakes s all before h) none).1
 no_lack p s all before h (kind.Scalar t) known none = absurd (other_wrong (kind.Scalar t) h h.awaited none)
 no_lack p s all before h (kind.Array element) known none = absurd (other_wrong (kind.Array element) h h.awaited none)
@@ -89,7 +89,7 @@ nothing_lacks : (b : Bool) (x : Mistake) → (if b then [] else x ∷ []) ≡ []
 nothing_lacks true x none = refl
 nothing_lacks false x none = cc
 
-heads_close : (p : Program) (vs : List VariableSeen) (f : Frame) (g : names.Frame) (all before heads : List Head) → AreStanding p vs f g → Each (HasClose p.text all) before
+heads_close : (p : Program) (vs : List VariableModel) (f : Frame) (g : names.Frame) (all before heads : List Head) → AreStanding p vs f g → Each (HasClose p.text all) before
     → HeadsClean p g all before heads → Each (HasClose p.text all) heads
 heads_close p vs f g all before [] standing close clean = tt
 heads_close p vs f g all before (h ∷ heads) standing close clean =
@@ -150,7 +150,7 @@ ends_close p class stays (MoreCases (Case word endpoint awaited left binds state
 )
 
 -- then each endpoint has a case for its close
-pub all_close : (p : Program) (class : ℕ) (vs : List VariableSeen) (stays : Staying) (first : CaseTree) (cases : CaseTrees) (close : Place) (f : Frame) (g : names.Frame) → AreStanding p vs f g
+pub all_close : (p : Program) (class : ℕ) (vs : List VariableModel) (stays : Staying) (first : CaseTree) (cases : CaseTrees) (close : Place) (f : Frame) (g : names.Frame) → AreStanding p vs f g
     → HeadsClean p g (head_of first ∷ heads_of cases) [] (head_of first ∷ heads_of cases)
     → Each (λ e. is_among (closes (cases_told p class stays (MoreCases first cases) close f).what) e ≡ true) (endpoints (cases_told p class stays (MoreCases first cases) close f).what)
 all_close p class vs stays first cases close f g standing clean =

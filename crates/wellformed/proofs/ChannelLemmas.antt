@@ -16,9 +16,9 @@ use Rattle.declarations.specs.Program.{Numbered, Program}
 use Rattle.declarations.specs.Program as items
 use Rattle.names.specs.Variables as names
 use Rattle.declarations.specs.declared.kinds as declared
-use Rattle.declarations.specs.declared.kinds.Kind.TheVariants as kind
-use Rattle.program.specs.declared.kind.Kind.{Kind}
-use Rattle.program.specs.declared.kind.Kind.TheVariants.{Endpoint}
+use Rattle.declarations.specs.declared.kinds.ValueKind.TheVariants as kind
+use Rattle.program.specs.declared.kind.HeapKind.{HeapKind}
+use Rattle.program.specs.declared.kind.HeapKind.TheVariants.{Endpoint}
 use Rattle.program.specs.declared.statement.Action.TheVariants as does
 use Rattle.resolving.specs.Kinds.{contract_named, contract_number, number_at}
 use Rattle.resolving.specs.Locals.{number_of, Frame, mention, mention_of}
@@ -33,11 +33,11 @@ use Rattle.wellformed.proofs.ListLemmas.{both_none}
 use Rattle.wellformed.proofs.Standing.{AreStanding, Around, IsHeld, IsKnown, last_of, scope_of}
 
 -- a kind that is that of an end of this contract
-record IsEndKind (n : ℕ) (k : declared.Kind.Kind) : Type 0 where
+record IsEndKind (n : ℕ) (k : declared.ValueKind.ValueKind) : Type 0 where
   pub side : Side
   pub is : k ≡ kind.Endpoint side n
 
-end_kind : (p : Program) (n : ℕ) (k : declared.Kind.Kind) → IsKnown p k → (is_silent k || is_end_of n k) ≡ true → IsEndKind n k
+end_kind : (p : Program) (n : ℕ) (k : declared.ValueKind.ValueKind) → IsKnown p k → (is_silent k || is_end_of n k) ≡ true → IsEndKind n k
 end_kind p n (kind.Endpoint side m) known fits = record { side = side; is = ap (λ x. kind.Endpoint side x) (sym (eqb-true n m fits)) }
 end_kind p n (kind.Scalar x) known fits = cc
 end_kind p n (kind.Array x) known fits = cc
@@ -63,7 +63,7 @@ right_of false true c quiet h = h
 right_of false false c quiet h = cc
 
 -- two variables that hold ends of a contract, and not the same one
-ends_fit : (p : Program) (n : ℕ) (a b : Side) (x y : Kind) → HoldsEnd p n a x → HoldsEnd p n b y → not (is_end_of n (kind.Endpoint a n) && same_end (kind.Endpoint a n) (kind.Endpoint b n)) ≡ true
+ends_fit : (p : Program) (n : ℕ) (a b : Side) (x y : HeapKind) → HoldsEnd p n a x → HoldsEnd p n b y → not (is_end_of n (kind.Endpoint a n) && same_end (kind.Endpoint a n) (kind.Endpoint b n)) ≡ true
     → are_ends (contract_number p n).0 x y ≡ true
 ends_fit p n a b x y left right differ =
     let k = contract_number p n in

@@ -9,7 +9,7 @@ use Rattle.source.specs.declared.token.Span.{Span}
 use Rattle.tree.specs.Trees.{Class, Contract, ContractTree, DefinitionTree, ItemTree, MessageTree, Struct, contract_of, contracts_of}
 use Rattle.declarations.specs.Declarations.{messages_of, names_of_messages, states_of}
 use Rattle.tables.specs.Firsts.{first_of}
-use Rattle.program.specs.Parts.{StateParts, ContractSeen}
+use Rattle.program.specs.Parts.{StateParts, ContractModel}
 use Rattle.declarations.specs.Places.{message_at, message_place, state_place}
 use Rattle.declarations.specs.Program.{Program, as_contract, item_at}
 use Rattle.declarations.specs.Resolution.{each_behind, message_count, messages_from, named_state, numbered_message, numbered_state, resolved_contract, state_count}
@@ -49,7 +49,7 @@ added_by adds before (x ∷ xs) zero y is = record { before = before; by = x; is
 added_by adds before (x ∷ xs) (suc k) y is = added_by adds (before ++ x ∷ []) xs k y is
 
 -- a contract with its names resolved, where these stand before it
-abbrev pub seen : List ℕ → List ContractTree → ContractTree → ContractSeen
+abbrev pub seen : List ℕ → List ContractTree → ContractTree → ContractModel
 seen text before c = resolved_contract text (message_count before) (state_count before) c.name (messages_of c) (states_of c)
 
 passed_over : (d : DefinitionTree) (front rest : List ContractTree) → slice_get (contract_of d ++ rest) (length (contract_of d ++ front)) ≡ slice_get rest (length front)
@@ -85,20 +85,20 @@ contract_is_at p n c there =
 first_state_of : (text : List ℕ) (before : List ContractTree) (c : ContractTree) → IsStateOf (seen text before c) (seen text before c).parts.first
 first_state_of text before c = record { place = 0; state = numbered_state (state_count before) (named_state text c.state.name); there = refl; is = refl }
 
-state_at : (r : ContractSeen) (place : ℕ) (o : Option StateParts) → slice_get r.parts.states place ≡ o → IsStateOf r r.parts.first → IsStateOf r (option_map_or (λ s. s) (option_map (λ s. s.id) o) r.parts.first)
+state_at : (r : ContractModel) (place : ℕ) (o : Option StateParts) → slice_get r.parts.states place ≡ o → IsStateOf r r.parts.first → IsStateOf r (option_map_or (λ s. s) (option_map (λ s. s.id) o) r.parts.first)
 state_at r place None is first = first
 state_at r place (Some s) is first = record { place = place; state = s; there = is; is = refl }
 
-state_placed : (r : ContractSeen) (o : Option ℕ) → IsStateOf r r.parts.first → IsStateOf r (option_map_or (λ s. s) (option_map (λ s. s.id) (option_and_then (slice_get r.parts.states) o)) r.parts.first)
+state_placed : (r : ContractModel) (o : Option ℕ) → IsStateOf r r.parts.first → IsStateOf r (option_map_or (λ s. s) (option_map (λ s. s.id) (option_and_then (slice_get r.parts.states) o)) r.parts.first)
 state_placed r None first = first
 state_placed r (Some place) first = state_at r place (slice_get r.parts.states place) refl first
 
-state_meant : (p : Program) (n : ℕ) (r : ContractSeen) (state : Option Span) → IsStateOf r r.parts.first → IsStateOf r (state_of p n r state)
+state_meant : (p : Program) (n : ℕ) (r : ContractModel) (state : Option Span) → IsStateOf r r.parts.first → IsStateOf r (state_of p n r state)
 state_meant p n r None first = first
 state_meant p n r (Some name) first = state_placed r (state_place p n name) first
 
 -- the state of an endpoint's type is one of its contract
-pub state_there : (p : Program) (n : ℕ) (r : ContractSeen) (state : Option Span) → contract_at p n ≡ Some r → IsStateOf r (state_of p n r state)
+pub state_there : (p : Program) (n : ℕ) (r : ContractModel) (state : Option Span) → contract_at p n ≡ Some r → IsStateOf r (state_of p n r state)
 state_there p n r state is =
     let added : AddedBy (seen p.text) r = added_by (seen p.text) [] (contracts_of p.items) (contracts_before p.items n) r is in
     state_meant p n r state (subst (λ c. IsStateOf c c.parts.first) (sym added.is) (first_state_of p.text added.before added.by))
@@ -108,7 +108,7 @@ pub record AnswersMessage (p : Program) (n : ℕ) (o : Option Meant) (m : Messag
   pub meant : Meant
   pub is : o ≡ Some meant
   pub message : meant.message ≡ m
-  pub of : (r : ContractSeen) → contract_at p n ≡ Some r → IsMessageOf r meant.id
+  pub of : (r : ContractModel) → contract_at p n ≡ Some r → IsMessageOf r meant.id
   pub brings : slice_get (messages_told p) meant.id.0 ≡ Some (brought p m)
 
 -- what it brings stands at its number
@@ -143,9 +143,9 @@ message_is_there p n c k m there at =
     let first = message_count contract.before in
     let numbered : IsNumbered p.text first (messages_of c) k m = numbered_at p.text first (messages_of c) k m at in
     let id : MessageId = record { 0 = first + k } in
-    let resolved : ContractSeen = seen p.text contract.before c in
+    let resolved : ContractModel = seen p.text contract.before c in
     let numbers : message_number p n k ≡ Some id =
-    ap (λ o. option_map (λ x. x.id) (option_and_then (λ (x : ContractSeen). slice_get x.parts.messages k) o)) contract.is ∙ ap (option_map (λ x. x.id)) numbered.is in
+    ap (λ o. option_map (λ x. x.id) (option_and_then (λ (x : ContractModel). slice_get x.parts.messages k) o)) contract.is ∙ ap (option_map (λ x. x.id)) numbered.is in
     let message_is : message_at p n k ≡ Some m = ap (option_and_then (λ x. slice_get (messages_of x.1) k)) there ∙ at in
     let its_own : IsMessageOf resolved id = record { place = k; message = numbered_message p.text (first + k) m; there = numbered.is; is = refl } in
     record {

@@ -18,12 +18,12 @@ use Rattle.declarations.specs.Kinds.{agree, is_block, is_silent, type_kind, type
 use Rattle.declarations.specs.Program.{Program, as_struct, item_at}
 use Rattle.names.specs.Variables as names
 use Rattle.declarations.specs.declared.kinds as declared
-use Rattle.declarations.specs.declared.kinds.Kind.TheVariants as kind
+use Rattle.declarations.specs.declared.kinds.ValueKind.TheVariants as kind
 use Rattle.program.specs.Lists.{Each}
-use Rattle.program.specs.Methods.{VariableSeen}
+use Rattle.program.specs.Methods.{VariableModel}
 use Rattle.program.specs.Scopes.{IsInScope}
 use Rattle.program.specs.WellFormed.{Holds, IsAction, Setting, field_kinds, same_type}
-use Rattle.program.specs.declared.kind.Kind.{Kind}
+use Rattle.program.specs.declared.kind.HeapKind.{HeapKind}
 use Rattle.program.specs.declared.statement.Action.TheVariants as does
 use Rattle.program.specs.declared.statement.Mention.{Mention}
 use Rattle.resolving.specs.Counts.{structs_before}
@@ -45,33 +45,33 @@ record IsField (p : Program) (s : StructTree) (field : Span) : Type 0 where
   tree : Field
   first : first_among p.text (map (λ (f : Field). f.name) s.fields) field ≡ Some place
   at : slice_get s.fields place ≡ Some tree
-  holding : Holding p (type_kind p tree.kind) (state_in tree.kind)
-  known : IsKnown p (type_kind p tree.kind)
+  holding : Holding p (type_kind p tree.ty) (state_in tree.ty)
+  known : IsKnown p (type_kind p tree.ty)
 
 -- the field of a name
-named_field : (p : Program) (g : names.Frame) (s : StructTree) (field : Span) (place : Option ℕ) (f : Option Field) → Each (λ x. type_unknown p x.kind ≡ []) s.fields
+named_field : (p : Program) (g : names.Frame) (s : StructTree) (field : Span) (place : Option ℕ) (f : Option Field) → Each (λ x. type_unknown p x.ty ≡ []) s.fields
     → first_among p.text (map (λ (x : Field). x.name) s.fields) field ≡ place → option_and_then (slice_get s.fields) place ≡ f → is_some f ≡ true
     → (is_silent (struct_field_kind (scope_of p g) f) || is_block (struct_field_kind (scope_of p g) f)) ≡ true → IsField p s field
 named_field p g s field None f known first at there fits = cc
 named_field p g s field (Some k) None known first at there fits = cc
 named_field p g s field (Some k) (Some f) known first at there fits =
-    let sure = type_known p f.kind (each_there (λ x. type_unknown p x.kind ≡ []) s.fields k f known at) in
-    let block = loud_left (is_silent (type_kind p f.kind)) (is_block (type_kind p f.kind)) (known_loud p (type_kind p f.kind) sure) fits in
-    record { place = k; tree = f; first = first; at = at; holding = block_holds p (type_kind p f.kind) (state_in f.kind) sure block; known = sure }
+    let sure = type_known p f.ty (each_there (λ x. type_unknown p x.ty ≡ []) s.fields k f known at) in
+    let block = loud_left (is_silent (type_kind p f.ty)) (is_block (type_kind p f.ty)) (known_loud p (type_kind p f.ty) sure) fits in
+    record { place = k; tree = f; first = first; at = at; holding = block_holds p (type_kind p f.ty) (state_in f.ty) sure block; known = sure }
 
 -- so where nothing is wrong with what is exchanged, the variable before the dot has a pointer, and the field owns
-record IsHolder (p : Program) (g : names.Frame) (k : declared.Kind.Kind) (field : Span) : Type 0 where
+record IsHolder (p : Program) (g : names.Frame) (k : declared.ValueKind.ValueKind) (field : Span) : Type 0 where
   number : ℕ
   tree : StructTree
   is : k ≡ kind.Pointer number
   there : item_at as_struct p number ≡ Some (number, tree)
   of : IsField p tree field
-  exchanged : exchanged_kind (scope_of p g) k field ≡ type_kind p of.tree.kind
+  exchanged : exchanged_kind (scope_of p g) k field ≡ type_kind p of.tree.ty
 
 struct_field : (p : Program) (g : names.Frame) (s : StructTree) (field : Span) (f : IsField p s field) → option_and_then (slice_get s.fields) (first_among p.text (map (λ (x : Field). x.name) s.fields) field) ≡ Some f.tree
 struct_field p g s field f = ap (option_and_then (slice_get s.fields)) f.first ∙ f.at
 
-pointer_holder : (p : Program) (g : names.Frame) (n : ℕ) (name field : Span) → (clean : (s : StructTree) → item_at as_struct p n ≡ Some (n, s) → Each (λ f. type_unknown p f.kind ≡ []) s.fields)
+pointer_holder : (p : Program) (g : names.Frame) (n : ℕ) (name field : Span) → (clean : (s : StructTree) → item_at as_struct p n ≡ Some (n, s) → Each (λ f. type_unknown p f.ty ≡ []) s.fields)
     → IsKnown p (kind.Pointer n) → field_mistakes (scope_of p g) (kind.Pointer n) name field ≡ []
     → (is_silent (field_kind (scope_of p g) (kind.Pointer n) field) || is_block (field_kind (scope_of p g) (kind.Pointer n) field)) ≡ true → IsHolder p g (kind.Pointer n) field
 pointer_holder p g n name field clean known none fits =
@@ -92,7 +92,7 @@ pointer_holder p g n name field clean known none fits =
       exchanged = kind_is ∙ ap (struct_field_kind (scope_of p g)) (struct_field p g s field f);
     }
 
-holder_is : (p : Program) (g : names.Frame) (k : declared.Kind.Kind) (name field : Span) → (clean : (n : ℕ) (s : StructTree) → item_at as_struct p n ≡ Some (n, s) → Each (λ f. type_unknown p f.kind ≡ []) s.fields)
+holder_is : (p : Program) (g : names.Frame) (k : declared.ValueKind.ValueKind) (name field : Span) → (clean : (n : ℕ) (s : StructTree) → item_at as_struct p n ≡ Some (n, s) → Each (λ f. type_unknown p f.ty ≡ []) s.fields)
     → IsKnown p k → holder_mistakes (scope_of p g) k name field ≡ [] → IsHolder p g k field
 holder_is p g (kind.Pointer n) name field clean known none =
     let x = exchanged_kind (scope_of p g) (kind.Pointer n) field in
@@ -128,7 +128,7 @@ held_block p t h = by (is_block (type_kind p t)) refl
         absurd (cc)
 
 -- what an exchange comes to
-exchange_is : (p : Program) (class : ℕ) (f : Frame) (g : names.Frame) (vs : List VariableSeen) (e : made.Exchange.Exchange) → AreStanding p vs f g → variable_mistakes (scope_of p g) e.holder ≡ [] → (n number : ℕ)
+exchange_is : (p : Program) (class : ℕ) (f : Frame) (g : names.Frame) (vs : List VariableModel) (e : made.Exchange.Exchange) → AreStanding p vs f g → variable_mistakes (scope_of p g) e.holder ≡ [] → (n number : ℕ)
     → held (meant (scope_of p g) e.holder) ≡ kind.Pointer n → field_number p (kind.Pointer n) e.field ≡ Some number → (v w : Mention) → mention p.text f.locals e.holder ≡ Some v → mention p.text f.locals e.given ≡ Some w
     → exchange_found p class f e ≡ Some (exchange_of p class f e number v w)
 exchange_is p class f g vs e standing none n number is numbered v w holder given =
@@ -142,7 +142,7 @@ exchange_is p class f g vs e standing none n number is numbered v w holder given
     ∙ ap (option_map (exchange_of p class f e number v)) given
 
 -- an exchange of a variable and of what a field holds, which are of one type
-action_fits : (p : Program) (class : ℕ) (s : Setting) (f : Frame) (e : made.Exchange.Exchange) (number : ℕ) (inside : Kind) (v w : ℕ) (x y : VariableSeen)
+action_fits : (p : Program) (class : ℕ) (s : Setting) (f : Frame) (e : made.Exchange.Exchange) (number : ℕ) (inside : HeapKind) (v w : ℕ) (x y : VariableModel)
     → exchange_found p class f e ≡ Some (exchange_of p class f e number (mention_of e.holder v) (mention_of e.given w)) → slice_get s.variables v ≡ Some x → slice_get s.variables w ≡ Some y
     → IsInScope s.variables s.scope (number_of w) → slice_get (field_kinds s.structs x.kind) number ≡ Some inside → same_type y.kind inside ≡ true → IsAction s (exchanged p class f e)
 action_fits p class s f e number inside v w x y found holder given scope kinds same =
@@ -165,13 +165,13 @@ exchange_fits p t class result s f g e around here standing none =
     let third = both_none (variable_mistakes (scope_of p g) e.given) fits second.1 in
     let holder = holder_is p g k e.holder e.field (λ n x. fields_clean p n x around.clean) (held_known p s.variables f g e.holder standing first.0) second.0 in
     let part = holder.of in
-    let field_kind_is = type_kind p part.tree.kind in
+    let field_kind_is = type_kind p part.tree.ty in
     let agreed = subst (λ x. agree a x ≡ true) holder.exchanged (unless_none _ (agree a asked) e.given.place third.1) in
     let like = agree_alike p a field_kind_is (held_known p s.variables f g e.given standing third.0) part.known agreed in
     let v = block_mentioned p s.variables f g e.holder standing first.0 (ap is_block holder.is) in
     let block = alike_block a field_kind_is like in
-    let w = block_mentioned p s.variables f g e.given standing third.0 (block ∙ held_block p part.tree.kind part.holding) in
-    let same = alike_held p a field_kind_is w.variable.kind part.holding.held like w.holds (record { state = state_in part.tree.kind; is = part.holding.is }) in
+    let w = block_mentioned p s.variables f g e.given standing third.0 (block ∙ held_block p part.tree.ty part.holding) in
+    let same = alike_held p a field_kind_is w.variable.kind part.holding.held like w.holds (record { state = state_in part.tree.ty; is = part.holding.is }) in
     let number = length (fields_held p (take part.place holder.tree.fields)) in
     let struct_is = pointer_held p holder.number v.variable.kind (subst (λ x. IsHeld p x v.variable.kind) holder.is v.holds) in
     let kinds = ap (λ l. slice_get (field_kinds l v.variable.kind) number) around.structs_are

@@ -41,7 +41,7 @@ use Rattle.wellformed.proofs.ProgramLemmas.{item_clean, items_clean}
 
 -- what is wrong with the types of the fields of a struct
 abbrev pub types_unknown : Program → List Field → List Mistake
-types_unknown p fields = flat_map (λ f. type_unknown p f.kind) fields
+types_unknown p fields = flat_map (λ f. type_unknown p f.ty) fields
 
 -- nothing is wrong with the structs among items
 struct_none : (p : Program) (d : DefinitionTree) → definition_mistakes p d ≡ [] → Each (λ s. struct_mistakes p s ≡ []) (struct_among d)
@@ -58,7 +58,7 @@ structs_none p (i ∷ items) none =
 
 -- a struct with which nothing is wrong has few fields that own, and their types are known
 record IsStruct (p : Program) (s : StructTree) : Type 0 where
-  known : Each (λ f. type_unknown p f.kind ≡ []) s.fields
+  known : Each (λ f. type_unknown p f.ty ≡ []) s.fields
   few : length (owning_fields s) ≤ MOST_FIELDS
 
 struct_is : (p : Program) (s : StructTree) → struct_mistakes p s ≡ [] → IsStruct p s
@@ -68,31 +68,31 @@ struct_is p s none =
     let both = both_none (types_unknown p s.fields) (past_limit limit.Fields names) behind.1 in
     let few = not_past limit.Fields names both.1 in
     record {
-      known = each_none (λ f. type_unknown p f.kind) s.fields both.0;
+      known = each_none (λ f. type_unknown p f.ty) s.fields both.0;
       few = omega (arith, few, length-map (owning_fields s) (λ (f : Field). f.name));
     }
 
 -- no more hold something than are of types of the exchange heap
-listed_few : (o : Option held.Kind.Kind) (n m : ℕ) → n ≤ m → length (held_listed o) + n ≤ suc m
+listed_few : (o : Option held.HeapKind.HeapKind) (n m : ℕ) → n ≤ m → length (held_listed o) + n ≤ suc m
 listed_few None n m le = omega (arith, le)
 listed_few (Some h) n m le = omega (arith, le)
 
-held_few : (p : Program) (fields : List Field) → length (fields_held p fields) ≤ length (filter (λ f. is_heap f.kind) fields)
+held_few : (p : Program) (fields : List Field) → length (fields_held p fields) ≤ length (filter (λ f. is_heap f.ty) fields)
 held_few p [] = omega arith
-held_few p (f ∷ fields) = by f.access f.kind f.name (held_few p fields)
+held_few p (f ∷ fields) = by f.access f.ty f.name (held_few p fields)
   where
-    by : (a : Option Access) (t : type_nodes.Type.Type) (n : Span) → length (fields_held p fields) ≤ length (filter (λ g. is_heap g.kind) fields)
-        → length (held_listed (type_held p t) ++ fields_held p fields) ≤ length (filter (λ g. is_heap g.kind) (record { access = a; kind = t; name = n } ∷ fields))
+    by : (a : Option Access) (t : type_nodes.Type.Type) (n : Span) → length (fields_held p fields) ≤ length (filter (λ g. is_heap g.ty) fields)
+        → length (held_listed (type_held p t) ++ fields_held p fields) ≤ length (filter (λ g. is_heap g.ty) (record { access = a; ty = t; name = n } ∷ fields))
     by a (type.Scalar s) n le = le
     by a (type.Heap h) n le =
-        let more = listed_few (type_held p (type.Heap h)) (length (fields_held p fields)) (length (filter (λ g. is_heap g.kind) fields)) le in
+        let more = listed_few (type_held p (type.Heap h)) (length (fields_held p fields)) (length (filter (λ g. is_heap g.ty) fields)) le in
         omega (arith, more, length-append (held_listed (type_held p (type.Heap h))) (fields_held p fields))
 
 -- what a struct has in its fields that own stands for something
 held_kinds : (p : Program) (fields : List Field) → Each (IsKind (resolved_contracts p.text (contracts_of p.items))) (fields_held p fields)
 held_kinds p [] = tt
-held_kinds p (f ∷ fields) = each_append (IsKind (resolved_contracts p.text (contracts_of p.items))) (held_listed (type_held p f.kind)) (fields_held p fields)
-    (type_kinds p f.kind (type_held p f.kind) refl) (held_kinds p fields)
+held_kinds p (f ∷ fields) = each_append (IsKind (resolved_contracts p.text (contracts_of p.items))) (held_listed (type_held p f.ty)) (fields_held p fields)
+    (type_kinds p f.ty (type_held p f.ty) refl) (held_kinds p fields)
 
 structs_kinds : (p : Program) (structs : List StructTree) → Each (λ s. struct_mistakes p s ≡ []) structs
     → Each (AreFields (resolved_contracts p.text (contracts_of p.items))) (map (λ s. fields_held p s.fields) structs)
@@ -107,7 +107,7 @@ fields_kinds p clean = structs_kinds p (structs_of p.items) (structs_none p p.it
 
 -- the types of the fields of a struct are known
 pub fields_clean : (p : Program) (n : ℕ) (s : StructTree) → program_mistakes p ≡ [] → item_at as_struct p n ≡ Some (n, s)
-    → Each (λ f. type_unknown p f.kind ≡ []) s.fields
+    → Each (λ f. type_unknown p f.ty ≡ []) s.fields
 fields_clean p n s clean there =
     let is = struct_is p s (item_clean p n (trees.Struct s) clean (struct_item p n s there)) in
     is.known
@@ -130,49 +130,49 @@ pub kinds_of_struct : (p : Program) (n : ℕ) (s : StructTree) → item_at as_st
 kinds_of_struct p n s there =
     let d : Declares (slice_get p.items n) (trees.Struct s) = struct_item p n s there in
     let told = struct_there p.items n d.item s d.at d.is in
-    ap (λ (o : Option (List held.Kind.Kind)). option_map_or (λ kinds. kinds) o [])
+    ap (λ (o : Option (List held.HeapKind.HeapKind)). option_map_or (λ kinds. kinds) o [])
     (slice_get-map (λ x. fields_held p x.fields) (structs_of p.items) (structs_before p.items n) ∙ ap (option_map (λ (x : StructTree). fields_held p x.fields)) told)
 
 -- A field as a parameter of a message: what is given for fields is what is given for these.
 abbrev pub as_param : Field → Param
-as_param f = record { kind = f.kind; name = f.name }
+as_param f = record { ty = f.ty; name = f.name }
 
 abbrev pub as_params : StructTree → List Param
 as_params s = map as_param (owning_fields s)
 
-pub params_are : (p : Program) (fields : List Field) → params_held p (map as_param (filter (λ f. is_heap f.kind) fields)) ≡ fields_held p fields
+pub params_are : (p : Program) (fields : List Field) → params_held p (map as_param (filter (λ f. is_heap f.ty) fields)) ≡ fields_held p fields
 params_are p [] = refl
-params_are p (f ∷ fields) = by f.access f.kind f.name (params_are p fields)
+params_are p (f ∷ fields) = by f.access f.ty f.name (params_are p fields)
   where
-    by : (a : Option Access) (t : type_nodes.Type.Type) (n : Span) → params_held p (map as_param (filter (λ g. is_heap g.kind) fields)) ≡ fields_held p fields
-        → params_held p (map as_param (filter (λ g. is_heap g.kind) (record { access = a; kind = t; name = n } ∷ fields))) ≡ held_listed (type_held p t) ++ fields_held p fields
+    by : (a : Option Access) (t : type_nodes.Type.Type) (n : Span) → params_held p (map as_param (filter (λ g. is_heap g.ty) fields)) ≡ fields_held p fields
+        → params_held p (map as_param (filter (λ g. is_heap g.ty) (record { access = a; ty = t; name = n } ∷ fields))) ≡ held_listed (type_held p t) ++ fields_held p fields
     by a (type.Scalar s) n more = more
-    by a (type.Heap h) n more = ap (λ (ks : List held.Kind.Kind). held_listed (type_held p (type.Heap h)) ++ ks) more
+    by a (type.Heap h) n more = ap (λ (ks : List held.HeapKind.HeapKind). held_listed (type_held p (type.Heap h)) ++ ks) more
 
-pub asked_are : (p : Program) (fields : List Field) → map (λ x. type_kind p x.kind) (map as_param fields) ≡ map (λ f. type_kind p f.kind) fields
+pub asked_are : (p : Program) (fields : List Field) → map (λ x. type_kind p x.ty) (map as_param fields) ≡ map (λ f. type_kind p f.ty) fields
 asked_are p [] = refl
-asked_are p (f ∷ fields) = ap (λ (ks : List names.Kind.Kind). type_kind p f.kind ∷ ks) (asked_are p fields)
+asked_are p (f ∷ fields) = ap (λ (ks : List names.ValueKind.ValueKind). type_kind p f.ty ∷ ks) (asked_are p fields)
 
-pub params_known : (p : Program) (fields : List Field) → Each (λ f. type_unknown p f.kind ≡ []) fields
-    → Each (λ x. type_unknown p x.kind ≡ []) (map as_param (filter (λ f. is_heap f.kind) fields))
+pub params_known : (p : Program) (fields : List Field) → Each (λ f. type_unknown p f.ty ≡ []) fields
+    → Each (λ x. type_unknown p x.ty ≡ []) (map as_param (filter (λ f. is_heap f.ty) fields))
 params_known p [] known = tt
-params_known p (f ∷ fields) known = by f.access f.kind f.name known.0 (params_known p fields known.1)
+params_known p (f ∷ fields) known = by f.access f.ty f.name known.0 (params_known p fields known.1)
   where
-    by : (a : Option Access) (t : type_nodes.Type.Type) (n : Span) → type_unknown p t ≡ [] → Each (λ x. type_unknown p x.kind ≡ []) (map as_param (filter (λ g. is_heap g.kind) fields))
-        → Each (λ x. type_unknown p x.kind ≡ []) (map as_param (filter (λ g. is_heap g.kind) (record { access = a; kind = t; name = n } ∷ fields)))
+    by : (a : Option Access) (t : type_nodes.Type.Type) (n : Span) → type_unknown p t ≡ [] → Each (λ x. type_unknown p x.ty ≡ []) (map as_param (filter (λ g. is_heap g.ty) fields))
+        → Each (λ x. type_unknown p x.ty ≡ []) (map as_param (filter (λ g. is_heap g.ty) (record { access = a; ty = t; name = n } ∷ fields)))
     by a (type.Scalar s) n known more = more
     by a (type.Heap h) n known more = (known, more)
 
 -- What stands in a field of this place is told at the number of those before it that own.
-pub field_at : (p : Program) (fields : List Field) (k : ℕ) (f : Field) (h : held.Kind.Kind) → slice_get fields k ≡ Some f
-    → type_held p f.kind ≡ Some h → slice_get (fields_held p fields) (length (fields_held p (take k fields))) ≡ Some h
+pub field_at : (p : Program) (fields : List Field) (k : ℕ) (f : Field) (h : held.HeapKind.HeapKind) → slice_get fields k ≡ Some f
+    → type_held p f.ty ≡ Some h → slice_get (fields_held p fields) (length (fields_held p (take k fields))) ≡ Some h
 field_at p [] k f h there is = cc
 field_at p (g ∷ fields) zero f h there is =
-    let same : type_held p g.kind ≡ Some h = ap (λ (o : Option Field). option_map_or (λ x. type_held p x.kind) o None) there ∙ is in
-    ap (λ (o : Option held.Kind.Kind). slice_get (held_listed o ++ fields_held p fields) 0) same
-field_at p (g ∷ fields) (suc k) f h there is = by (field_at p fields k f h there is) (type_held p g.kind)
+    let same : type_held p g.ty ≡ Some h = ap (λ (o : Option Field). option_map_or (λ x. type_held p x.ty) o None) there ∙ is in
+    ap (λ (o : Option held.HeapKind.HeapKind). slice_get (held_listed o ++ fields_held p fields) 0) same
+field_at p (g ∷ fields) (suc k) f h there is = by (field_at p fields k f h there is) (type_held p g.ty)
   where
-    by : slice_get (fields_held p fields) (length (fields_held p (take k fields))) ≡ Some h → (o : Option held.Kind.Kind)
+    by : slice_get (fields_held p fields) (length (fields_held p (take k fields))) ≡ Some h → (o : Option held.HeapKind.HeapKind)
         → slice_get (held_listed o ++ fields_held p fields) (length (held_listed o ++ fields_held p (take k fields))) ≡ Some h
     by more None = more
     by more (Some x) = more

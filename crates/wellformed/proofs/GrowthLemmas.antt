@@ -11,8 +11,8 @@ use Rattle.tree.specs.declared.types as type_nodes
 use Rattle.declarations.specs.Kinds.{brought_kind}
 use Rattle.declarations.specs.Kinds.{type_kind}
 use Rattle.declarations.specs.Program.{Program}
-use Rattle.declarations.specs.declared.kinds.Kind.{Kind}
-use Rattle.program.specs.Methods.{VariableSeen}
+use Rattle.declarations.specs.declared.kinds.ValueKind.{ValueKind}
+use Rattle.program.specs.Methods.{VariableModel}
 use Rattle.program.specs.declared.kind as held
 use Rattle.program.specs.declared.method.Role.{Role}
 use Rattle.program.specs.declared.method.Role.TheVariants.{Local}
@@ -43,19 +43,19 @@ numbered n None below = tt
 numbered n (Some k) below = below
 
 -- what lies below a number lies below a greater one
-pub still_below : (xs more ys : List VariableSeen) (last : Option ℕ) → ys ≡ xs ++ more → IfSome last (λ n. n < length xs) → IfSome last (λ n. n < length ys)
+pub still_below : (xs more ys : List VariableModel) (last : Option ℕ) → ys ≡ xs ++ more → IfSome last (λ n. n < length xs) → IfSome last (λ n. n < length ys)
 still_below xs more ys None is below = tt
 still_below xs more ys (Some k) is below = let long = ap length is in omega (arith, length-append xs more)
 
 -- a variable that is declared is the last one
-pub declared_nests : (text : List ℕ) (name : Span) (kind : Kind) (held : Option held.Kind.Kind) (role : Role) (f : Frame) → Nests f → Nests (declares text name kind held role f)
+pub declared_nests : (text : List ℕ) (name : Span) (kind : ValueKind) (held : Option held.HeapKind.HeapKind) (role : Role) (f : Frame) → Nests f → Nests (declares text name kind held role f)
 declared_nests text name kind None role f n = record { nested = n.nested; last = n.last }
 declared_nests text name kind (Some held) role f n = record {
   nested = record { all = one_more (λ k v. IfSome v.outer (λ o. o.0 < k)) f.variables _ n.nested.all (numbered (length f.variables) f.last n.last) };
-  last = omega (arith, length-append {A = VariableSeen});
+  last = omega (arith, length-append {A = VariableModel});
 }
 
-pub declared_within : (text : List ℕ) (name : Span) (kind : Kind) (held : Option held.Kind.Kind) (role : Role) (f : Frame) (vs : List VariableSeen) → Within vs (declares text name kind held role f) → Within vs f
+pub declared_within : (text : List ℕ) (name : Span) (kind : ValueKind) (held : Option held.HeapKind.HeapKind) (role : Role) (f : Frame) (vs : List VariableModel) → Within vs (declares text name kind held role f) → Within vs f
 declared_within text name kind None role f vs within = record { rest = within.rest; is = within.is }
 declared_within text name kind (Some held) role f vs within = record { rest = _; is = within.is ∙ append_assoc f.variables _ within.rest }
 
@@ -67,7 +67,7 @@ grows_then p f g h first second = record {
 }
 
 -- what holds of a later frame holds of an earlier one
-pub within_before : (p : Program) (f g : Frame) (vs : List VariableSeen) → Grows p f g → Within vs g → Within vs f
+pub within_before : (p : Program) (f g : Frame) (vs : List VariableModel) → Grows p f g → Within vs g → Within vs f
 within_before p f g vs grows within = record { rest = grows.more ++ within.rest; is = within.is ∙ ap (λ l. l ++ within.rest) grows.is ∙ append_assoc f.variables grows.more within.rest }
 
 -- no variable is declared
@@ -75,7 +75,7 @@ same_grows : (p : Program) (f g : Frame) → g.variables ≡ f.variables → Gro
 same_grows p f g same = record { more = []; is = same ∙ sym (append-nil f.variables); local = tt }
 
 -- one that is no parameter is declared
-held_grows : (p : Program) (name : Span) (kind : Kind) (state : Option Span) (held : Option held.Kind.Kind) → kind_held p kind state ≡ held → (f : Frame) → Grows p f (declares p.text name kind held Local f)
+held_grows : (p : Program) (name : Span) (kind : ValueKind) (state : Option Span) (held : Option held.HeapKind.HeapKind) → kind_held p kind state ≡ held → (f : Frame) → Grows p f (declares p.text name kind held Local f)
 held_grows p name kind state None is f = same_grows p f _ refl
 held_grows p name kind state (Some held) is f = record { more = _ ∷ []; is = refl; local = (record { is = refl; kind = kind; held = record { state = state; is = is } }, tt) }
 
@@ -85,8 +85,8 @@ bind_grows p param name None f = held_grows p name (brought_kind p param) None (
 
 pub binds_grow : (p : Program) (params : List contract_nodes.Param.Param) (binds : List made.Bind.Bind) (f : Frame) → Grows p f (binds_told p params binds f).frame
 binds_grow p params [] f = same_grows p f f refl
-binds_grow p [] (b ∷ binds) f = grows_then p f _ _ (bind_grows p None b.name b.kind f) (binds_grow p [] binds (bind_told p None b f).frame)
-binds_grow p (x ∷ params) (b ∷ binds) f = grows_then p f _ _ (bind_grows p (Some x) b.name b.kind f) (binds_grow p params binds (bind_told p (Some x) b f).frame)
+binds_grow p [] (b ∷ binds) f = grows_then p f _ _ (bind_grows p None b.name b.ty f) (binds_grow p [] binds (bind_told p None b f).frame)
+binds_grow p (x ∷ params) (b ∷ binds) f = grows_then p f _ _ (bind_grows p (Some x) b.name b.ty f) (binds_grow p params binds (bind_told p (Some x) b f).frame)
 
 bind_nests : (p : Program) (param : Option contract_nodes.Param.Param) (name : Span) (kind : Option type_nodes.Type.Type) (f : Frame) → Nests f → Nests (declared p.text (bound_as p param name kind) f)
 bind_nests p param name (Some t) f n = declared_nests p.text name (type_kind p t) (type_held p t) Local f n
@@ -94,8 +94,8 @@ bind_nests p param name None f n = declared_nests p.text name (brought_kind p pa
 
 binds_nest : (p : Program) (params : List contract_nodes.Param.Param) (binds : List made.Bind.Bind) (f : Frame) → Nests f → Nests (binds_told p params binds f).frame
 binds_nest p params [] f n = n
-binds_nest p [] (b ∷ binds) f n = binds_nest p [] binds (bind_told p None b f).frame (bind_nests p None b.name b.kind f n)
-binds_nest p (x ∷ params) (b ∷ binds) f n = binds_nest p params binds (bind_told p (Some x) b f).frame (bind_nests p (Some x) b.name b.kind f n)
+binds_nest p [] (b ∷ binds) f n = binds_nest p [] binds (bind_told p None b f).frame (bind_nests p None b.name b.ty f n)
+binds_nest p (x ∷ params) (b ∷ binds) f n = binds_nest p params binds (bind_told p (Some x) b f).frame (bind_nests p (Some x) b.name b.ty f n)
 
 -- behind a block, the last one in scope is again the one before it
 closed_nests : (p : Program) (f after : Frame) → Nests f → Grows p f after → Nests after → Nests (closed f after)
@@ -105,7 +105,7 @@ module _ (p : Program) (class : ℕ) where
   mutual
     pub statement_grows : (stays : Staying) (x : StatementTree) (f : Frame) → Grows p f (statement_told p class stays x f).frame
     statement_grows stays (trees.Block b) f = block_grows stays b f
-    statement_grows stays (trees.Declare d) f = held_grows p d.name (type_kind p d.kind) (state_in d.kind) (type_held p d.kind) refl f
+    statement_grows stays (trees.Declare d) f = held_grows p d.name (type_kind p d.ty) (state_in d.ty) (type_held p d.ty) refl f
     statement_grows stays (trees.Assign a) f = same_grows p f _ refl
     statement_grows stays (trees.Call c) f = same_grows p f _ refl
     statement_grows stays (trees.Start word c) f = same_grows p f _ refl
@@ -149,7 +149,7 @@ module _ (p : Program) (class : ℕ) where
   mutual
     statement_nests : (stays : Staying) (x : StatementTree) (f : Frame) → Nests f → Nests (statement_told p class stays x f).frame
     statement_nests stays (trees.Block b) f n = block_nests stays b f n
-    statement_nests stays (trees.Declare d) f n = declared_nests p.text d.name (type_kind p d.kind) (type_held p d.kind) Local f n
+    statement_nests stays (trees.Declare d) f n = declared_nests p.text d.name (type_kind p d.ty) (type_held p d.ty) Local f n
     statement_nests stays (trees.Assign a) f n = n
     statement_nests stays (trees.Call c) f n = n
     statement_nests stays (trees.Start word c) f n = n

@@ -15,14 +15,14 @@ use Rattle.declarations.specs.Declarations.{bound_params}
 use Rattle.names.specs.Expressions.{held, meant, variable_mistakes}
 use Rattle.declarations.specs.Kinds.{is_block, type_unknown, unless}
 use Rattle.declarations.specs.Program.{Program, as_contract, item_at}
-use Rattle.program.specs.Parts.{ContractSeen}
+use Rattle.program.specs.Parts.{ContractModel}
 use Rattle.declarations.specs.Named.{message_written}
 use Rattle.names.specs.Values.{number_of_arguments, receives}
 use Rattle.names.specs.Variables as names
 use Rattle.tables.specs.Words.{word_at}
 use Rattle.declarations.specs.declared.kinds as declared
-use Rattle.declarations.specs.declared.kinds.Kind.TheVariants as kind
-use Rattle.program.specs.Methods.{VariableSeen}
+use Rattle.declarations.specs.declared.kinds.ValueKind.TheVariants as kind
+use Rattle.program.specs.Methods.{VariableModel}
 use Rattle.program.specs.declared.statement.Awaited.TheVariants.{Message, Closed}
 use Rattle.program.specs.declared.number.VarId.{VarId}
 use Rattle.resolving.specs.Brought.{brought, params_held}
@@ -45,14 +45,14 @@ use Rattle.wellformed.proofs.Standing.{Around, AreStanding, IsHeld, IsKnown, sco
 pub record HeadFits (p : Program) (s : Setting) (f : Frame) (g : names.Frame) (h : Head) : Type 0 where
   pub end : IsEnd s (IsAwaited s (awaited_as h.awaited (awaited_message p f h.endpoint h.awaited))) (case_endpoint p f h.endpoint)
   pub params : awaited_params (awaited_message p f h.endpoint h.awaited) ≡ params_of_case (scope_of p g) h
-  pub known : Each (λ x. type_unknown p x.kind ≡ []) (awaited_params (awaited_message p f h.endpoint h.awaited))
+  pub known : Each (λ x. type_unknown p x.ty ≡ []) (awaited_params (awaited_message p f h.endpoint h.awaited))
   pub many : length (awaited_params (awaited_message p f h.endpoint h.awaited)) ≡ length h.binds
   pub brings : (bound : List VarId) → HoldAll s (params_held p (awaited_params (awaited_message p f h.endpoint h.awaited))) bound → IsBrought s (awaited_as h.awaited (awaited_message p f h.endpoint h.awaited)) bound
 
 -- the endpoint of a case is one of a contract that is there
-end_fits : (p : Program) (t : ClassTree) (class : ℕ) (result : Option type_nodes.Type.Type) (s : Setting) (f : Frame) (g : names.Frame) (name : Span) (n : ℕ) (side : Side) (P : ContractSeen → Type 0)
+end_fits : (p : Program) (t : ClassTree) (class : ℕ) (result : Option type_nodes.Type.Type) (s : Setting) (f : Frame) (g : names.Frame) (name : Span) (n : ℕ) (side : Side) (P : ContractModel → Type 0)
     → Around p t class result s → AreStanding p s.variables f g → variable_mistakes (scope_of p g) name ≡ [] → held (meant (scope_of p g) name) ≡ kind.Endpoint side n
-    → ((r : ContractSeen) → contract_at p n ≡ Some r → P r) → IsEnd s P (case_endpoint p f name)
+    → ((r : ContractModel) → contract_at p n ≡ Some r → P r) → IsEnd s P (case_endpoint p f name)
 end_fits p t class result s f g name n side P around standing none is each =
     let c = contract_known p n side (subst (IsKnown p) is (held_known p s.variables f g name standing none)) in
     let m = block_mentioned p s.variables f g name standing none (ap is_block is) in
@@ -60,7 +60,7 @@ end_fits p t class result s f g name n side P around standing none is each =
     subst (IsEnd s P) (sym endpoint) (is_end p s n side c.tree P (mention_of name m.number) m.variable around.contracts_are c.is m.there (subst (λ k. IsHeld p k m.variable.kind) is m.holds) each)
 
 -- what its case awaits is looked up in that contract
-message_looked : (p : Program) (vs : List VariableSeen) (f : Frame) (g : names.Frame) (name : Span) (n : ℕ) (side : Side) (word : Span) → AreStanding p vs f g
+message_looked : (p : Program) (vs : List VariableModel) (f : Frame) (g : names.Frame) (name : Span) (n : ℕ) (side : Side) (word : Span) → AreStanding p vs f g
     → variable_mistakes (scope_of p g) name ≡ [] → held (meant (scope_of p g) name) ≡ kind.Endpoint side n → awaited_message p f name (waits.Message word) ≡ message_named p n word
 message_looked p vs f g name n side word standing none is =
     let m = meant_stands p vs f g name standing none in
@@ -102,14 +102,14 @@ message_fits p t class result s f g name word binds n side c (Some m) around sta
       end = subst (λ x. IsEnd s (IsAwaited s (awaited_as (waits.Message word) x)) (case_endpoint p f name)) (sym means)
           (end_fits p t class result s f g name n side (IsAwaited s (Message a.meant.id)) around standing none is a.of);
       params = params ∙ sym bound;
-      known = subst (Each (λ x. type_unknown p x.kind ≡ [])) (sym params) (message_clean p n c (word_at p.text word) m around.clean there written);
+      known = subst (Each (λ x. type_unknown p x.ty ≡ [])) (sym params) (message_clean p n c (word_at p.text word) m around.clean there written);
       many = ap length params ∙ as_many m.params binds word.place many.1;
       brings = message_brings p s f name word n m a bring params means;
     }
 
 -- a head by the kind of its endpoint
 head_by : (p : Program) (t : ClassTree) (class : ℕ) (result : Option type_nodes.Type.Type) (s : Setting) (f : Frame) (g : names.Frame) (all before : List Head) (name : Span) (awaited : made.Awaited.Awaited)
-    (binds : List made.Bind.Bind) (k : declared.Kind.Kind)
+    (binds : List made.Bind.Bind) (k : declared.ValueKind.ValueKind)
     → Around p t class result s → AreStanding p s.variables f g → variable_mistakes (scope_of p g) name ≡ [] → held (meant (scope_of p g) name) ≡ k → IsKnown p k
     → kind_head_mistakes (scope_of p g) all before k (record { endpoint = name; awaited = awaited; binds = binds }) ≡ [] → HeadFits p s f g (record { endpoint = name; awaited = awaited; binds = binds })
 head_by p t class result s f g all before name (waits.Closed word) binds (kind.Endpoint side n) around standing none is known found =

@@ -15,13 +15,13 @@ use Rattle.tree.specs.declared.types.Type.TheVariants as type
 use Rattle.declarations.specs.Kinds.{agree, alike, counts, is_silent, is_block, is_heap, is_unknown, type_kind, type_unknown}
 use Rattle.program.specs.Kinds.{same_scalar, same_side}
 use Rattle.declarations.specs.Program.{Program, as_contract, as_struct, contract_named, item_at, struct_named}
-use Rattle.program.specs.Parts.{ContractSeen}
+use Rattle.program.specs.Parts.{ContractModel}
 use Rattle.declarations.specs.Resolution.{resolved_contracts}
 use Rattle.declarations.specs.declared.kinds as declared
-use Rattle.declarations.specs.declared.kinds.Kind.TheVariants as kind
+use Rattle.declarations.specs.declared.kinds.ValueKind.TheVariants as kind
 use Rattle.program.specs.declared.number.StateId.{StateId}
-use Rattle.program.specs.declared.kind.Kind.{Kind}
-use Rattle.program.specs.declared.kind.Kind.TheVariants as holds
+use Rattle.program.specs.declared.kind.HeapKind.{HeapKind}
+use Rattle.program.specs.declared.kind.HeapKind.TheVariants as holds
 use Rattle.resolving.specs.Counts.{contracts_before, structs_before}
 use Rattle.resolving.specs.Kinds.{contract_at, contract_number, kind_held, state_of}
 use Rattle.program.specs.WellFormed.{IsKind, IsStateOf, same_type, contract_held}
@@ -29,12 +29,12 @@ use Rattle.wellformed.proofs.ContractLemmas.{contract_is_at, state_there}
 use Rattle.wellformed.proofs.Standing.{IsKnown, IsHeld, IsHeldAs}
 use Rattle.wellformed.proofs.TypeLemmas.{item_number, pointer_known, endpoint_known, pointer_block, endpoint_block}
 
-pub known_loud : (p : Program) (k : declared.Kind.Kind) → IsKnown p k → is_silent k ≡ false
+pub known_loud : (p : Program) (k : declared.ValueKind.ValueKind) → IsKnown p k → is_silent k ≡ false
 known_loud p kind.Missing known = absurd known
 known_loud p kind.Unknown known = absurd known
 known_loud p k known = refl
 
-pub known_certain : (p : Program) (k : declared.Kind.Kind) → IsKnown p k → is_unknown k ≡ false
+pub known_certain : (p : Program) (k : declared.ValueKind.ValueKind) → IsKnown p k → is_unknown k ≡ false
 known_certain p kind.Missing known = absurd known
 known_certain p kind.Unknown known = absurd known
 known_certain p k known = refl
@@ -80,7 +80,7 @@ pub struct_known : (p : Program) (n : ℕ) → IsKnown p (kind.Pointer n) → Ha
 struct_known p n known = struct_has p n (item_at as_struct p n) refl known
 
 -- a variable of a scalar kind holds nothing of the exchange heap
-pub scalar_holds : (p : Program) (k : declared.Kind.Kind) (state : Option Span) → is_block k ≡ false → kind_held p k state ≡ None
+pub scalar_holds : (p : Program) (k : declared.ValueKind.ValueKind) (state : Option Span) → is_block k ≡ false → kind_held p k state ≡ None
 scalar_holds p (kind.Scalar s) state scalar = refl
 scalar_holds p (kind.Array element) state scalar = cc
 scalar_holds p (kind.Pointer n) state scalar = cc
@@ -89,22 +89,22 @@ scalar_holds p kind.Missing state scalar = refl
 scalar_holds p kind.Unknown state scalar = refl
 
 -- a variable of another kind does
-pub record Holding (p : Program) (k : declared.Kind.Kind) (state : Option Span) : Type 0 where
-  pub held : Kind
+pub record Holding (p : Program) (k : declared.ValueKind.ValueKind) (state : Option Span) : Type 0 where
+  pub held : HeapKind
   pub is : kind_held p k state ≡ Some held
 
 -- a struct by its number
-abbrev pub struct_of : ℕ → Kind
+abbrev pub struct_of : ℕ → HeapKind
 struct_of n = holds.Struct (record { 0 = n })
 
 pointer_holds : (p : Program) (n : ℕ) (state : Option Span) (o : Option ItemTree) → slice_get p.items n ≡ o → IsSomeAnd {T = ℕ × StructTree} (option_and_then (λ i. option_map (λ x. (n, x)) (as_struct i.definition)) o) (λ s. Unit {0}) → Holding p (kind.Pointer n) state
 pointer_holds p n state None is known = absurd known
 pointer_holds p n state (Some i) is known = record { held = _; is = ap (option_map (λ j. struct_of (structs_before p.items n))) is }
 
-endpoint_holds : (p : Program) (n : ℕ) (end : Side) (state : Option Span) (c : ContractSeen) → contract_at p n ≡ Some c → Holding p (kind.Endpoint end n) state
+endpoint_holds : (p : Program) (n : ℕ) (end : Side) (state : Option Span) (c : ContractModel) → contract_at p n ≡ Some c → Holding p (kind.Endpoint end n) state
 endpoint_holds p n end state c is = record { held = _; is = ap (option_map (λ x. holds.Endpoint (contract_number p n) end (state_of p n x state))) is }
 
-pub block_holds : (p : Program) (k : declared.Kind.Kind) (state : Option Span) → IsKnown p k → is_block k ≡ true → Holding p k state
+pub block_holds : (p : Program) (k : declared.ValueKind.ValueKind) (state : Option Span) → IsKnown p k → is_block k ≡ true → Holding p k state
 block_holds p (kind.Scalar s) state known block = cc
 block_holds p (kind.Array element) state known block = record { held = holds.Array element; is = refl }
 block_holds p (kind.Pointer n) state known block = pointer_holds p n state (slice_get p.items n) refl known
@@ -114,16 +114,16 @@ block_holds p (kind.Endpoint end n) state known block =
 block_holds p kind.Missing state known block = absurd known
 block_holds p kind.Unknown state known block = absurd known
 
-as_held : (p : Program) (k : declared.Kind.Kind) (state : Option Span) (o : Option Kind) → kind_held p k state ≡ o → (o ≡ None → is_block k ≡ false) → IsHeldAs p k o
+as_held : (p : Program) (k : declared.ValueKind.ValueKind) (state : Option Span) (o : Option HeapKind) → kind_held p k state ≡ o → (o ≡ None → is_block k ≡ false) → IsHeldAs p k o
 as_held p k state None is scalar = scalar refl
 as_held p k state (Some held) is scalar = record { state = state; is = is }
 
-held_none : (p : Program) (k : declared.Kind.Kind) (state : Option Span) (b : Bool) → is_block k ≡ b → IsKnown p k → kind_held p k state ≡ None → is_block k ≡ false
+held_none : (p : Program) (k : declared.ValueKind.ValueKind) (state : Option Span) (b : Bool) → is_block k ≡ b → IsKnown p k → kind_held p k state ≡ None → is_block k ≡ false
 held_none p k state false is known none = is
 held_none p k state true is known none = let holding = block_holds p k state known is in let here = holding.is in cc
 
 -- a kind is of the exchange heap exactly where a variable of it holds something
-pub held_as : (p : Program) (k : declared.Kind.Kind) (state : Option Span) → IsKnown p k → IsHeldAs p k (kind_held p k state)
+pub held_as : (p : Program) (k : declared.ValueKind.ValueKind) (state : Option Span) → IsKnown p k → IsHeldAs p k (kind_held p k state)
 held_as p k state known = as_held p k state (kind_held p k state) refl (held_none p k state (is_block k) refl known)
 
 pub loud_left : (a b : Bool) → a ≡ false → (a || b) ≡ true → b ≡ true
@@ -131,11 +131,11 @@ loud_left true b loud fits = cc
 loud_left false b loud fits = fits
 
 -- kinds that agree are alike
-pub agree_alike : (p : Program) (a b : declared.Kind.Kind) → IsKnown p a → IsKnown p b → agree a b ≡ true → alike a b ≡ true
+pub agree_alike : (p : Program) (a b : declared.ValueKind.ValueKind) → IsKnown p a → IsKnown p b → agree a b ≡ true → alike a b ≡ true
 agree_alike p a b known asked fits =
     loud_left (is_silent b) (alike a b) (known_loud p b asked) (loud_left (is_silent a) (is_silent b || alike a b) (known_loud p a known) fits)
 
-pub alike_block : (a b : declared.Kind.Kind) → alike a b ≡ true → is_block a ≡ is_block b
+pub alike_block : (a b : declared.ValueKind.ValueKind) → alike a b ≡ true → is_block a ≡ is_block b
 alike_block (kind.Scalar s) (kind.Scalar t) fits = refl
 alike_block (kind.Pointer m) (kind.Pointer n) fits = refl
 alike_block (kind.Array s) (kind.Array t) fits = refl
@@ -146,26 +146,26 @@ mapped_is : {X Y : Type 0} (y z : Y) (o : Option X) → option_map (λ x. y) o �
 mapped_is y z None is = cc
 mapped_is y z (Some x) is = sym (same_Some y z is)
 
-pub pointer_held : (p : Program) (n : ℕ) (held : Kind) → IsHeld p (kind.Pointer n) held → held ≡ struct_of (structs_before p.items n)
+pub pointer_held : (p : Program) (n : ℕ) (held : HeapKind) → IsHeld p (kind.Pointer n) held → held ≡ struct_of (structs_before p.items n)
 pointer_held p n held is = mapped_is (struct_of (structs_before p.items n)) held (slice_get p.items n) is.is
 
-pub array_held : (p : Program) (element : Scalar) (held : Kind) → IsHeld p (kind.Array element) held → held ≡ holds.Array element
+pub array_held : (p : Program) (element : Scalar) (held : HeapKind) → IsHeld p (kind.Array element) held → held ≡ holds.Array element
 array_held p element held is = sym (same_Some (holds.Array element) held is.is)
 
 -- what an end of a channel holds
-pub record HoldsEnd (p : Program) (n : ℕ) (side : Side) (held : Kind) : Type 0 where
+pub record HoldsEnd (p : Program) (n : ℕ) (side : Side) (held : HeapKind) : Type 0 where
   pub state : StateId
   pub is : held ≡ holds.Endpoint (contract_number p n) side state
 
 -- the state is one of its contract
-record HoldsState (p : Program) (n : ℕ) (end : Side) (held : Kind) : Type 0 where
-  contract : ContractSeen
+record HoldsState (p : Program) (n : ℕ) (end : Side) (held : HeapKind) : Type 0 where
+  contract : ContractModel
   state : StateId
   there : contract_at p n ≡ Some contract
   of : IsStateOf contract state
   is : held ≡ holds.Endpoint (contract_number p n) end state
 
-state_holds : (p : Program) (n : ℕ) (end : Side) (held : Kind) (state : Option Span) (o : Option ContractSeen) → contract_at p n ≡ o
+state_holds : (p : Program) (n : ℕ) (end : Side) (held : HeapKind) (state : Option Span) (o : Option ContractModel) → contract_at p n ≡ o
     → option_map (λ c. holds.Endpoint (contract_number p n) end (state_of p n c state)) o ≡ Some held → HoldsState p n end held
 state_holds p n end held state None there is = cc
 state_holds p n end held state (Some c) there is = record {
@@ -176,14 +176,14 @@ state_holds p n end held state (Some c) there is = record {
   is = sym (same_Some (holds.Endpoint (contract_number p n) end (state_of p n c state)) held is);
 }
 
-end_state : (p : Program) (n : ℕ) (end : Side) (held : Kind) → IsHeld p (kind.Endpoint end n) held → HoldsState p n end held
+end_state : (p : Program) (n : ℕ) (end : Side) (held : HeapKind) → IsHeld p (kind.Endpoint end n) held → HoldsState p n end held
 end_state p n end held is = state_holds p n end held is.state (contract_at p n) refl is.is
 
-pub end_holds : (p : Program) (n : ℕ) (side : Side) (held : Kind) → IsHeld p (kind.Endpoint side n) held → HoldsEnd p n side held
+pub end_holds : (p : Program) (n : ℕ) (side : Side) (held : HeapKind) → IsHeld p (kind.Endpoint side n) held → HoldsEnd p n side held
 end_holds p n side held is = let h : HoldsState p n side held = end_state p n side held is in record { state = h.state; is = h.is }
 
 -- variables of like kinds hold blocks of one type
-pub alike_held : (p : Program) (a b : declared.Kind.Kind) (x y : Kind) → alike a b ≡ true → IsHeld p a x → IsHeld p b y → same_type x y ≡ true
+pub alike_held : (p : Program) (a b : declared.ValueKind.ValueKind) (x y : HeapKind) → alike a b ≡ true → IsHeld p a x → IsHeld p b y → same_type x y ≡ true
 alike_held p (kind.Scalar s) (kind.Scalar t) x y fits left right = let none = left.is in cc
 alike_held p (kind.Pointer m) (kind.Pointer n) x y fits left right =
     ap (λ z. same_type z y) (pointer_held p m x left) ∙ ap (same_type (struct_of (structs_before p.items m))) (pointer_held p n y right)
@@ -203,7 +203,7 @@ some_and : {X : Type 0} (P : X → Type 0) (o : Option X) (x : X) → o ≡ Some
 some_and P o x is holds = subst (λ q. IsSomeAnd q P) (sym is) holds
 
 -- the numbers in what a variable holds stand for something
-pub held_kind : (p : Program) (k : declared.Kind.Kind) (held : Kind) → IsHeld p k held → IsKind (resolved_contracts p.text (contracts_of p.items)) held
+pub held_kind : (p : Program) (k : declared.ValueKind.ValueKind) (held : HeapKind) → IsHeld p k held → IsKind (resolved_contracts p.text (contracts_of p.items)) held
 held_kind p (kind.Scalar s) held is = let none = is.is in cc
 held_kind p (kind.Array element) held is = subst (IsKind (resolved_contracts p.text (contracts_of p.items))) (sym (array_held p element held is)) tt
 held_kind p (kind.Pointer n) held is = subst (IsKind (resolved_contracts p.text (contracts_of p.items))) (sym (pointer_held p n held is)) tt
@@ -214,7 +214,7 @@ held_kind p kind.Missing held is = let none = is.is in cc
 held_kind p kind.Unknown held is = let none = is.is in cc
 
 -- the contract of an endpoint
-pub end_held : (p : Program) (n : ℕ) (side : Side) (held : Kind) → IsHeld p (kind.Endpoint side n) held
+pub end_held : (p : Program) (n : ℕ) (side : Side) (held : HeapKind) → IsHeld p (kind.Endpoint side n) held
     → contract_held (resolved_contracts p.text (contracts_of p.items)) held ≡ contract_at p n
 end_held p n side held is = ap (contract_held (resolved_contracts p.text (contracts_of p.items))) (end_holds p n side held is).is
 
@@ -232,7 +232,7 @@ side_self side.Imp = refl
 side_self side.Exp = refl
 
 -- variables of one kind hold blocks of one type, and a kind is like itself
-pub alike_self : (p : Program) (k : declared.Kind.Kind) → IsKnown p k → alike k k ≡ true
+pub alike_self : (p : Program) (k : declared.ValueKind.ValueKind) → IsKnown p k → alike k k ≡ true
 alike_self p (kind.Scalar s) known = count_self (counts s)
 alike_self p (kind.Array element) known = scalar_self element
 alike_self p (kind.Pointer n) known = eq-eqb n n refl
@@ -257,7 +257,7 @@ side_sym side.Imp side.Imp fits = refl
 side_sym side.Exp side.Exp fits = refl
 side_sym s t fits = cc
 
-pub alike_sym : (a b : declared.Kind.Kind) → alike a b ≡ true → alike b a ≡ true
+pub alike_sym : (a b : declared.ValueKind.ValueKind) → alike a b ≡ true → alike b a ≡ true
 alike_sym (kind.Scalar s) (kind.Scalar t) fits = count_sym (counts s) (counts t) fits
 alike_sym (kind.Pointer m) (kind.Pointer n) fits = eq-eqb n m (sym (eqb-true m n fits))
 alike_sym (kind.Array s) (kind.Array t) fits = scalar_sym s t fits

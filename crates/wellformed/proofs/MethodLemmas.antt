@@ -12,12 +12,12 @@ use Rattle.names.specs.Findings.{program_mistakes}
 use Rattle.declarations.specs.Kinds.{is_heap, type_kind, type_unknown}
 use Rattle.names.specs.Methods.{parameter_turn, parameters_turn, result_unknown}
 use Rattle.declarations.specs.Program.{Program, as_class, item_at}
-use Rattle.program.specs.Parts.{ContractSeen}
+use Rattle.program.specs.Parts.{ContractModel}
 use Rattle.declarations.specs.Resolution.{resolved_contracts}
 use Rattle.names.specs.Variables as names
 use Rattle.declarations.specs.declared.kinds as declared_kinds
-use Rattle.program.specs.Methods.{VariableSeen}
-use Rattle.program.specs.declared.kind.Kind.{Kind}
+use Rattle.program.specs.Methods.{VariableModel}
+use Rattle.program.specs.declared.kind.HeapKind.{HeapKind}
 use Rattle.program.specs.declared.method.Role.{Role}
 use Rattle.resolving.specs.Brought.{messages_told}
 use Rattle.resolving.specs.Fields.{structs_told}
@@ -44,34 +44,34 @@ use Rattle.wellformed.proofs.Standing.{Around, AreStanding, AreStaying, Grows, I
 use Rattle.wellformed.proofs.StatementLemmas.{statements_go}
 
 -- the parameters of a method come into scope
-params_within : (p : Program) (params : List Parameter) (f : Frame) (vs : List VariableSeen) → Within vs (parameters_frame p params f) → Within vs f
+params_within : (p : Program) (params : List Parameter) (f : Frame) (vs : List VariableModel) → Within vs (parameters_frame p params f) → Within vs f
 params_within p [] f vs within = within
-params_within p (x ∷ params) f vs within = declared_within p.text x.name (type_kind p x.kind) (type_held p x.kind) (role_of x) f vs (params_within p params (declared p.text (parameter_declaration p x) f) vs within)
+params_within p (x ∷ params) f vs within = declared_within p.text x.name (type_kind p x.ty) (type_held p x.ty) (role_of x) f vs (params_within p params (declared p.text (parameter_declaration p x) f) vs within)
 
 params_nest : (p : Program) (params : List Parameter) (f : Frame) → Nests f → Nests (parameters_frame p params f)
 params_nest p [] f n = n
-params_nest p (x ∷ params) f n = params_nest p params (declared p.text (parameter_declaration p x) f) (declared_nests p.text x.name (type_kind p x.kind) (type_held p x.kind) (role_of x) f n)
+params_nest p (x ∷ params) f n = params_nest p params (declared p.text (parameter_declaration p x) f) (declared_nests p.text x.name (type_kind p x.ty) (type_held p x.ty) (role_of x) f n)
 
-params_stand : (p : Program) (params : List Parameter) (vs : List VariableSeen) (f : Frame) (g : names.Frame) → AreStanding p vs f g → Within vs (parameters_frame p params f)
+params_stand : (p : Program) (params : List Parameter) (vs : List VariableModel) (f : Frame) (g : names.Frame) → AreStanding p vs f g → Within vs (parameters_frame p params f)
     → (parameters_turn p params g).found ≡ [] → AreStanding p vs (parameters_frame p params f) (parameters_turn p params g).frame
 params_stand p [] vs f g standing within none = standing
 params_stand p (x ∷ params) vs f g standing within none =
     let d = parameter_declaration p x in
     let next = parameter_turn p x g in
     let both = both_none next.found (parameters_turn p params next.frame).found none in
-    let unknown = both_none (type_unknown p x.kind) (names.declared_variable p.text x.name (type_kind p x.kind) (is_heap x.kind) g).found both.0 in
-    let known = type_known p x.kind unknown.0 in
-    let after = declared_stands p vs x.name (type_kind p x.kind) (type_held p x.kind) (role_of x) (is_heap x.kind) f g (heap_block p x.kind unknown.0) known (held_as p (type_kind p x.kind) (state_in x.kind) known) standing (params_within p params (declared p.text d f) vs within) unknown.1 in
+    let unknown = both_none (type_unknown p x.ty) (names.declared_variable p.text x.name (type_kind p x.ty) (is_heap x.ty) g).found both.0 in
+    let known = type_known p x.ty unknown.0 in
+    let after = declared_stands p vs x.name (type_kind p x.ty) (type_held p x.ty) (role_of x) (is_heap x.ty) f g (heap_block p x.ty unknown.0) known (held_as p (type_kind p x.ty) (state_in x.ty) known) standing (params_within p params (declared p.text d f) vs within) unknown.1 in
     params_stand p params vs (declared p.text d f) next.frame after within both.1
 
 -- what a program's variables hold stands for something
-abbrev contracts : Program → List ContractSeen
+abbrev contracts : Program → List ContractModel
 contracts p = resolved_contracts p.text (contracts_of p.items)
 
-abbrev AreKinds : Program → List VariableSeen → Type 0
+abbrev AreKinds : Program → List VariableModel → Type 0
 AreKinds p vs = Each (λ v. IsKind (contracts p) v.kind) vs
 
-declared_kind : (p : Program) (name : Span) (k : declared_kinds.Kind.Kind) (role : Role) (state : Option Span) (o : Option Kind) (f : Frame) → kind_held p k state ≡ o → AreKinds p f.variables
+declared_kind : (p : Program) (name : Span) (k : declared_kinds.ValueKind.ValueKind) (role : Role) (state : Option Span) (o : Option HeapKind) (f : Frame) → kind_held p k state ≡ o → AreKinds p f.variables
     → AreKinds p (declared_as p.text (record { name = name; kind = k; held = o; role = role }) o f).variables
 declared_kind p name k role state None f is all = all
 declared_kind p name k role state (Some held) f is all = each_append (λ v. IsKind (contracts p) v.kind) f.variables _ all (held_kind p k held (record { state = state; is = is }), tt)
@@ -80,9 +80,9 @@ params_kinds : (p : Program) (params : List Parameter) (f : Frame) → AreKinds 
 params_kinds p [] f all = all
 params_kinds p (x ∷ params) f all =
     let d = parameter_declaration p x in
-    params_kinds p params (declared p.text d f) (declared_kind p x.name (type_kind p x.kind) (role_of x) (state_in x.kind) (type_held p x.kind) f refl all)
+    params_kinds p params (declared p.text d f) (declared_kind p x.name (type_kind p x.ty) (role_of x) (state_in x.ty) (type_held p x.ty) f refl all)
 
-local_kinds : (p : Program) (vs : List VariableSeen) → Each (IsLocal p) vs → AreKinds p vs
+local_kinds : (p : Program) (vs : List VariableModel) → Each (IsLocal p) vs → AreKinds p vs
 local_kinds p [] all = tt
 local_kinds p (v ∷ vs) all = (held_kind p all.0.kind v.kind all.0.held, local_kinds p vs all.1)
 
@@ -112,10 +112,10 @@ body_fits p c class result s (trees.Braces statements close) f g around staying 
     record { statements = r.fits; few = r.standing.few }
 
 -- the parameters of a method are in scope behind them
-abbrev AllInScope : List VariableSeen → Frame → Type 0
+abbrev AllInScope : List VariableModel → Frame → Type 0
 AllInScope vs f = (n : ℕ) → n < length f.variables → IsInScope vs (last_of f) (number_of n)
 
-newest_or : (p : Program) (vs : List VariableSeen) (name : Span) (kind : declared_kinds.Kind.Kind) (held : Kind) (role : Role) (f : Frame) → Within vs (declares p.text name kind (Some held) role f)
+newest_or : (p : Program) (vs : List VariableModel) (name : Span) (kind : declared_kinds.ValueKind.ValueKind) (held : HeapKind) (role : Role) (f : Frame) → Within vs (declares p.text name kind (Some held) role f)
     → AllInScope vs f → (n : ℕ) (b : Bool) → (n == length f.variables) ≡ b → n < length (declares p.text name kind (Some held) role f).variables
     → IsInScope vs (last_of (declares p.text name kind (Some held) role f)) (number_of n)
 newest_or p vs name kind held role f within all n true newest below =
@@ -123,34 +123,34 @@ newest_or p vs name kind held role f within all n true newest below =
     subst (λ k. IsInScope vs (last_of (declares p.text name kind (Some held) role f)) (number_of k)) (sym same) (leads_here vs (last_of (declares p.text name kind (Some held) role f)))
 newest_or p vs name kind held role f within all n false older below =
     let differ : n ≢ length f.variables = λ same. (let equal = eq-eqb n (length f.variables) same in cc) in
-    let before : n < length f.variables = omega (arith, length-append {A = VariableSeen}) in
+    let before : n < length f.variables = omega (arith, length-append {A = VariableModel}) in
     leads_then vs (last_of (declares p.text name kind (Some held) role f)) (last_of f) (Some (number_of n)) (declared_inner p vs name kind (Some held) role f within) (all n before)
 
-declared_in_scope : (p : Program) (vs : List VariableSeen) (name : Span) (kind : declared_kinds.Kind.Kind) (held : Option Kind) (role : Role) (f : Frame) → Within vs (declares p.text name kind held role f)
+declared_in_scope : (p : Program) (vs : List VariableModel) (name : Span) (kind : declared_kinds.ValueKind.ValueKind) (held : Option HeapKind) (role : Role) (f : Frame) → Within vs (declares p.text name kind held role f)
     → AllInScope vs f → AllInScope vs (declares p.text name kind held role f)
 declared_in_scope p vs name kind None role f within all = all
 declared_in_scope p vs name kind (Some held) role f within all = λ n below. newest_or p vs name kind held role f within all n (n == length f.variables) refl below
 
-params_in_scope : (p : Program) (params : List Parameter) (vs : List VariableSeen) (f : Frame) → Within vs (parameters_frame p params f) → AllInScope vs f → AllInScope vs (parameters_frame p params f)
+params_in_scope : (p : Program) (params : List Parameter) (vs : List VariableModel) (f : Frame) → Within vs (parameters_frame p params f) → AllInScope vs f → AllInScope vs (parameters_frame p params f)
 params_in_scope p [] vs f within all = all
 params_in_scope p (x ∷ params) vs f within all =
     let d = parameter_declaration p x in
-    let next = declared_in_scope p vs x.name (type_kind p x.kind) (type_held p x.kind) (role_of x) f (params_within p params (declared p.text d f) vs within) all in
+    let next = declared_in_scope p vs x.name (type_kind p x.ty) (type_held p x.ty) (role_of x) f (params_within p params (declared p.text d f) vs within) all in
     params_in_scope p params vs (declared p.text d f) within next
 
 -- what stands behind the parameters of a method is none
-no_parameter : (p : Program) (more : List VariableSeen) (n : ℕ) (v : VariableSeen) → Each (IsLocal p) more → slice_get more n ≡ Some v → is_parameter v.role ≡ true → ⊥
+no_parameter : (p : Program) (more : List VariableModel) (n : ℕ) (v : VariableModel) → Each (IsLocal p) more → slice_get more n ≡ Some v → is_parameter v.role ≡ true → ⊥
 no_parameter p [] n v local at param = cc
 no_parameter p (x ∷ more) zero v local at param = let same : x ≡ v = cc in let is : v.role ≡ role.Local = ap (λ y. y.role) (sym same) ∙ local.0.is in let none = ap is_parameter is in cc
 no_parameter p (x ∷ more) (suc n) v local at param = no_parameter p more n v local.1 at param
 
-parameter_before : (p : Program) (first more : List VariableSeen) (n : ℕ) (v : VariableSeen) → Each (IsLocal p) more → slice_get (first ++ more) n ≡ Some v → is_parameter v.role ≡ true → n < length first
+parameter_before : (p : Program) (first more : List VariableModel) (n : ℕ) (v : VariableModel) → Each (IsLocal p) more → slice_get (first ++ more) n ≡ Some v → is_parameter v.role ≡ true → n < length first
 parameter_before p [] more n v local at param = absurd (no_parameter p more n v local at param)
 parameter_before p (x ∷ first) more zero v local at param = omega arith
 parameter_before p (x ∷ first) more (suc n) v local at param = let before = parameter_before p first more n v local at param in omega arith
 
 -- a method without parameters has none of the exchange heap
-no_parameters : (p : Program) (class : ℕ) (params : List Parameter) (b : BlockTree) (n : ℕ) (v : VariableSeen) (is : Bool) → takes_some params ≡ false
+no_parameters : (p : Program) (class : ℕ) (params : List Parameter) (b : BlockTree) (n : ℕ) (v : VariableModel) (is : Bool) → takes_some params ≡ false
     → slice_get (body_told p class b (parameters_frame p params no_variables)).frame.variables n ≡ Some v → is_parameter v.role ≡ is → is ≡ false
 no_parameters p class params b n v false none there is = refl
 no_parameters p class (x ∷ params) b n v true none there is = cc
@@ -162,7 +162,7 @@ no_parameters p class [] b n v true none there is =
 pub all_bare : (p : Program) → Each IsBare (methods_told p)
 all_bare p = every_method IsBare p (λ class c m place there at. λ none n v is. no_parameters p class m.params m.body n v (is_parameter v.role) none is refl)
 
-result_kind : (p : Program) (t : Option tree.Type.Type) (o : Option Kind) → result_held p t ≡ o → IfSome o (IsKind (contracts p))
+result_kind : (p : Program) (t : Option tree.Type.Type) (o : Option HeapKind) → result_held p t ≡ o → IfSome o (IsKind (contracts p))
 result_kind p t None is = tt
 result_kind p None (Some held) is = cc
 result_kind p (Some t) (Some held) is = held_kind p (type_kind p t) held (record { state = state_in t; is = is })

@@ -10,7 +10,7 @@ use Rattle.declarations.specs.Declarations.{first_among}
 use Rattle.declarations.specs.ItemMistakes.{methods_in}
 use Rattle.declarations.specs.Program.{Program, Numbered, as_class, as_contract, as_struct, class_named, item_at, item_names}
 use Rattle.declarations.specs.Named.{method_named}
-use Rattle.program.specs.Methods.{MethodSeen}
+use Rattle.program.specs.Methods.{MethodModel}
 use Rattle.resolving.specs.Callees.{Callee, all_methods, method_at, method_of, methods_before, numbered}
 use Rattle.resolving.specs.Methods.{item_told, methods_told, method_told}
 use Rattle.program.specs.Lists.{Each}
@@ -84,7 +84,7 @@ class_at p n c None h = cc
 class_at p n c (Some k) h = subst (λ x. item_at as_class p x ≡ Some (n, c)) (same_place as_class k n c (slice_get p.items k) h) h
 
 -- the methods of items that stand behind others
-abbrev told_from : Program → ℕ → List ItemTree → List MethodSeen
+abbrev told_from : Program → ℕ → List ItemTree → List MethodModel
 told_from p n items = flat_map (item_told p) (enumerate_from n items)
 
 -- a method of an item, among those of all items
@@ -154,7 +154,7 @@ member_answers p class name n c m named found =
     record { number = a.number; is = ap (option_and_then (λ x. method_at p x.0 name)) named ∙ a.is; method = a.method }
 
 -- what holds of the methods of each item holds of all methods
-each_told : (P : MethodSeen → Type 0) (p : Program) (n : ℕ) (items : List ItemTree) → ((class : ℕ) (i : ItemTree) → slice_get items class ≡ Some i → Each P (item_told p (n + class, i)))
+each_told : (P : MethodModel → Type 0) (p : Program) (n : ℕ) (items : List ItemTree) → ((class : ℕ) (i : ItemTree) → slice_get items class ≡ Some i → Each P (item_told p (n + class, i)))
     → Each P (told_from p n items)
 each_told P p n [] each = tt
 each_told P p n (x ∷ items) each =
@@ -164,7 +164,7 @@ each_told P p n (x ∷ items) each =
     (each_told P p (n + 1) items (λ class i at. let on : n + suc class ≡ n + 1 + class = omega arith in subst (λ k. Each P (item_told p (k, i))) on (each (suc class) i at)))
 
 -- the methods of an item
-item_methods : (P : MethodSeen → Type 0) (p : Program) (class : ℕ) (i : ItemTree) (d : DefinitionTree)
+item_methods : (P : MethodModel → Type 0) (p : Program) (class : ℕ) (i : ItemTree) (d : DefinitionTree)
     → ((c : ClassTree) (m : MethodTree) (place : ℕ) → item_at as_class p class ≡ Some (class, c) → slice_get c.methods place ≡ Some m → P (method_told p class m))
     → slice_get p.items class ≡ Some i → i.definition ≡ d → Each P (map (method_told p class) (methods_in d))
 item_methods P p class i (Contract c) each at is = tt
@@ -174,7 +174,7 @@ item_methods P p class i (Class c) each at is =
     each_mapped P (method_told p class) c.methods (each_placed (λ m. P (method_told p class m)) c.methods (λ place m. each c m place there))
 
 -- each method of a program is a method of a class
-pub every_method : (P : MethodSeen → Type 0) (p : Program)
+pub every_method : (P : MethodModel → Type 0) (p : Program)
     → ((class : ℕ) (c : ClassTree) (m : MethodTree) (place : ℕ) → item_at as_class p class ≡ Some (class, c) → slice_get c.methods place ≡ Some m → P (method_told p class m))
     → Each P (methods_told p)
 every_method P p each = each_told P p 0 p.items (λ class i at.

@@ -14,8 +14,8 @@ use Rattle.tree.specs.declared.types.Type.TheVariants as type
 use Rattle.declarations.specs.Kinds.{is_heap, type_unknown}
 use Rattle.declarations.specs.Program.{Program}
 use Rattle.declarations.specs.Owning.{any_lent, is_lent}
-use Rattle.program.specs.Methods.{VariableSeen}
-use Rattle.program.specs.declared.kind.Kind.{Kind}
+use Rattle.program.specs.Methods.{VariableModel}
+use Rattle.program.specs.declared.kind.HeapKind.{HeapKind}
 use Rattle.program.specs.declared.method.Role.{Role}
 use Rattle.program.specs.declared.method.Role.TheVariants as role
 use Rattle.resolving.specs.Kinds.{type_held}
@@ -30,13 +30,13 @@ use Rattle.wellformed.proofs.PlaceLemmas.{mapped_each}
 use Rattle.wellformed.proofs.Standing.{IsLocal, heading}
 
 -- the parameters among variables, and what they hold with how the method comes to it
-abbrev passed : List VariableSeen → List VariableSeen
+abbrev passed : List VariableModel → List VariableModel
 passed vs = filter (λ v. is_parameter v.role) vs
 
-abbrev headed : List VariableSeen → List (Kind × Role)
+abbrev headed : List VariableModel → List (HeapKind × Role)
 headed vs = map (λ v. (v.kind, v.role)) (passed vs)
 
-headed_append : (vs ws : List VariableSeen) → headed (vs ++ ws) ≡ headed vs ++ headed ws
+headed_append : (vs ws : List VariableModel) → headed (vs ++ ws) ≡ headed vs ++ headed ws
 headed_append vs ws = ap (map (λ v. (v.kind, v.role))) (filter-append (λ v. is_parameter v.role) vs ws) ∙ map-append (λ v. (v.kind, v.role)) (passed vs) (passed ws)
 
 -- the role of a parameter
@@ -44,20 +44,20 @@ abbrev as_role : Bool → Role
 as_role claims = if claims then role.Claimed else role.Lent
 
 -- a variable of such a role is a parameter
-abbrev held_by : Kind → Role → List (Kind × Role)
+abbrev held_by : HeapKind → Role → List (HeapKind × Role)
 held_by k r = (k, r) ∷ []
 
-headed_one : (claims : Bool) (v : VariableSeen) → v.role ≡ as_role claims → headed (v ∷ []) ≡ held_by v.kind (as_role claims)
+headed_one : (claims : Bool) (v : VariableModel) → v.role ≡ as_role claims → headed (v ∷ []) ≡ held_by v.kind (as_role claims)
 headed_one true v is = ap (λ r. map (λ w. (w.kind, w.role)) (cond (is_parameter r) (v ∷ []) [])) is ∙ ap (held_by v.kind) is
 headed_one false v is = ap (λ r. map (λ w. (w.kind, w.role)) (cond (is_parameter r) (v ∷ []) [])) is ∙ ap (held_by v.kind) is
 
 -- those of variables that are no parameters
-headed_none : (p : Program) (vs : List VariableSeen) → Each (IsLocal p) vs → headed vs ≡ []
+headed_none : (p : Program) (vs : List VariableModel) → Each (IsLocal p) vs → headed vs ≡ []
 headed_none p [] all = refl
 headed_none p (v ∷ vs) all = ap (λ r. map (λ w. (w.kind, w.role)) (cond (is_parameter r) (v ∷ passed vs) (passed vs))) all.0.is ∙ headed_none p vs all.1
 
 -- one parameter more
-headed_declared : (p : Program) (x : Parameter) (f : Frame) (o : Option Kind)
+headed_declared : (p : Program) (x : Parameter) (f : Frame) (o : Option HeapKind)
     → headed (declared_as p.text (parameter_declaration p x) o f).variables ≡ headed f.variables ++ option_map_or (λ k. (k, role_of x) ∷ []) o []
 headed_declared p x f None = sym (append-nil (headed f.variables))
 headed_declared p x f (Some held) = headed_append f.variables _ ∙ ap (λ l. headed f.variables ++ l) (headed_one x.claims _ refl)
@@ -67,7 +67,7 @@ headed_all : (p : Program) (params : List Parameter) (f : Frame) → headed (par
 headed_all p [] f = sym (append-nil (headed f.variables))
 headed_all p (x ∷ params) f =
     headed_all p params (declared p.text (parameter_declaration p x) f)
-    ∙ ap (λ l. l ++ flat_map (heading p) params) (headed_declared p x f (type_held p x.kind))
+    ∙ ap (λ l. l ++ flat_map (heading p) params) (headed_declared p x f (type_held p x.ty))
     ∙ append_assoc (headed f.variables) (heading p x) (flat_map (heading p) params)
 
 -- The body of a method declares none.
@@ -80,10 +80,10 @@ pub parameters_are : (p : Program) (class : ℕ) (m : MethodTree) → map (λ v.
 parameters_are p class m = headed_body p class m.body (parameters_frame p m.params no_variables) ∙ headed_all p m.params no_variables
 
 -- a parameter that is not lent is claimed
-abbrev AreClaimed : List (Kind × Role) → Type 0
+abbrev AreClaimed : List (HeapKind × Role) → Type 0
 AreClaimed list = Each (λ q. is_claimed q.1 ≡ true) list
 
-claimed_held : (claims : Bool) (o : Option Kind) → not claims ≡ false → AreClaimed (option_map_or (λ k. (k, as_role claims) ∷ []) o [])
+claimed_held : (claims : Bool) (o : Option HeapKind) → not claims ≡ false → AreClaimed (option_map_or (λ k. (k, as_role claims) ∷ []) o [])
 claimed_held false o none = cc
 claimed_held true None none = tt
 claimed_held true (Some k) none = (refl, tt)
@@ -100,10 +100,10 @@ claimed_all : (p : Program) (params : List Parameter) → any_lent params ≡ fa
 claimed_all p [] none = tt
 claimed_all p (x ∷ params) none =
     let both = either_false (is_lent x) (any_lent params) none in
-    each_append (λ q. is_claimed q.1 ≡ true) (heading p x) (flat_map (heading p) params) (claimed_typed p x.claims x.kind both.0) (claimed_all p params both.1)
+    each_append (λ q. is_claimed q.1 ≡ true) (heading p x) (flat_map (heading p) params) (claimed_typed p x.claims x.ty both.0) (claimed_all p params both.1)
 
 -- where none is lent, all are claimed
-pub all_claimed : (p : Program) (class : ℕ) (m : MethodTree) → Each (λ x. type_unknown p x.kind ≡ []) m.params → any_lent m.params ≡ false
+pub all_claimed : (p : Program) (class : ℕ) (m : MethodTree) → Each (λ x. type_unknown p x.ty ≡ []) m.params → any_lent m.params ≡ false
     → Each (λ v. is_claimed v.role ≡ true) (parameters (method_told p class m))
 all_claimed p class m known none =
     mapped_each (λ q. is_claimed q.1 ≡ true) (λ v. (v.kind, v.role)) (parameters (method_told p class m)) (subst AreClaimed (sym (parameters_are p class m)) (claimed_all p m.params none))

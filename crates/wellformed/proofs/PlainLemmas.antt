@@ -20,8 +20,8 @@ use Rattle.names.specs.Values.{length_mistakes, target_mistakes, target_kind, va
 use Rattle.names.specs.Variables as names
 use Rattle.tables.specs.Words.{word_at}
 use Rattle.declarations.specs.declared.kinds as declared
-use Rattle.program.specs.Methods.{VariableSeen}
-use Rattle.program.specs.declared.kind.Kind.{Kind}
+use Rattle.program.specs.Methods.{VariableModel}
+use Rattle.program.specs.declared.kind.HeapKind.{HeapKind}
 use Rattle.program.specs.declared.method.Role.{Role}
 use Rattle.program.specs.declared.method.Role.TheVariants as role
 use Rattle.program.specs.declared.statement.Mention.{Mention}
@@ -92,30 +92,30 @@ assign_fits p t class result s f g (trees.Element name index) value around here 
     (subst (λ b. IsKnown p (element_kind k b)) (sym certain) scalar.0) (subst (λ b. is_block (element_kind k b) ≡ false) (sym certain) scalar.1) (reads_within p s.variables f g standing index) (name_mentioned p s f g standing name) given
 
 -- a variable that is declared takes its first value
-first_fits : (p : Program) (t : ClassTree) (class : ℕ) (result : Option tree.Type.Type) (s : Setting) (f : Frame) (g : names.Frame) (name : Span) (k : declared.Kind.Kind) (state : Option Span) (role : Role) (value : ValueTree)
-    (o : Option Kind) (rest : List VariableSeen) → kind_held p k state ≡ o → s.variables ≡ (declared_as p.text (record { name = name; kind = k; held = o; role = role }) o f).variables ++ rest → IsHeldAs p k o
+first_fits : (p : Program) (t : ClassTree) (class : ℕ) (result : Option tree.Type.Type) (s : Setting) (f : Frame) (g : names.Frame) (name : Span) (k : declared.ValueKind.ValueKind) (state : Option Span) (role : Role) (value : ValueTree)
+    (o : Option HeapKind) (rest : List VariableModel) → kind_held p k state ≡ o → s.variables ≡ (declared_as p.text (record { name = name; kind = k; held = o; role = role }) o f).variables ++ rest → IsHeldAs p k o
     → s.scope ≡ last_of (declared_as p.text (record { name = name; kind = k; held = o; role = role }) o f) → Around p t class result s → AreStanding p s.variables f g → IsKnown p k
     → value_mistakes (record { scope = scope_of p g; class = t }) k value ≡ [] → IsStatement s (assigned p class f (option_map (mention_of name) (next_number o f)) value)
 first_fits p t class result s f g name k state role value None rest is within holds here around standing known none = scalar_taken_fits p t class result s f g k value around standing known holds none
 first_fits p t class result s f g name k state role value (Some held) rest is within holds here around standing known none =
-    let v : VariableSeen = record { name = word_at p.text name; kind = held; role = role; outer = option_map number_of f.last } in
+    let v : VariableModel = record { name = word_at p.text name; kind = held; role = role; outer = option_map number_of f.last } in
     let there = ap (λ vs. slice_get vs (length f.variables)) within ∙ at_seam f.variables rest v in
     taken_fits p t class result s f g k (mention_of name (length f.variables)) v value around standing known (block_held p k held holds) there holds
     (subst (λ o. IsInScope s.variables o (number_of (length f.variables))) (sym here) (leads_here s.variables (Some (number_of (length f.variables))))) none
 
 value_fits : (p : Program) (t : ClassTree) (class : ℕ) (result : Option tree.Type.Type) (s : Setting) (f : Frame) (g : names.Frame) (d : DeclareTree) (value : Option ValueTree)
-    → s.scope ≡ last_of (frame_behind p class f (stated.Declare d)) → Around p t class result s → AreStanding p s.variables f g → Within s.variables (frame_behind p class f (stated.Declare d)) → type_unknown p d.kind ≡ []
-    → given_mistakes (record { scope = scope_of p g; class = t }) (type_kind p d.kind) value ≡ [] → IsStatement s (first_value p class f d.name (next_number (type_held p d.kind) f) value)
+    → s.scope ≡ last_of (frame_behind p class f (stated.Declare d)) → Around p t class result s → AreStanding p s.variables f g → Within s.variables (frame_behind p class f (stated.Declare d)) → type_unknown p d.ty ≡ []
+    → given_mistakes (record { scope = scope_of p g; class = t }) (type_kind p d.ty) value ≡ [] → IsStatement s (first_value p class f d.name (next_number (type_held p d.ty) f) value)
 value_fits p t class result s f g d None here around standing within known none = (tt, tt)
 value_fits p t class result s f g d (Some value) here around standing within known none =
-    let k = type_kind p d.kind in
-    let sure = type_known p d.kind known in
-    first_fits p t class result s f g d.name k (state_in d.kind) role.Local value (type_held p d.kind) within.rest refl within.is (held_as p k (state_in d.kind) sure) here around standing sure none
+    let k = type_kind p d.ty in
+    let sure = type_known p d.ty known in
+    first_fits p t class result s f g d.name k (state_in d.ty) role.Local value (type_held p d.ty) within.rest refl within.is (held_as p k (state_in d.ty) sure) here around standing sure none
 
 pub declare_fits : (p : Program) (t : ClassTree) (class : ℕ) (result : Option tree.Type.Type) (s : Setting) (f : Frame) (g : names.Frame) (d : DeclareTree)
-    → s.scope ≡ last_of (frame_behind p class f (stated.Declare d)) → Around p t class result s → AreStanding p s.variables f g → Within s.variables (frame_behind p class f (stated.Declare d)) → type_unknown p d.kind ≡ []
-    → given_mistakes (record { scope = scope_of p g; class = t }) (type_kind p d.kind) d.value ≡ []
-    → IsStatement s (first_value p class f d.name (next_number (type_held p d.kind) f) d.value)
+    → s.scope ≡ last_of (frame_behind p class f (stated.Declare d)) → Around p t class result s → AreStanding p s.variables f g → Within s.variables (frame_behind p class f (stated.Declare d)) → type_unknown p d.ty ≡ []
+    → given_mistakes (record { scope = scope_of p g; class = t }) (type_kind p d.ty) d.value ≡ []
+    → IsStatement s (first_value p class f d.name (next_number (type_held p d.ty) f) d.value)
 declare_fits p t class result s f g d here around standing within known none = value_fits p t class result s f g d d.value here around standing within known none
 
 deleted_fits : (s : Setting) (o : Option Mention) → Each (IsMention s) (listed o) → IsAction s (deleted o)

@@ -48,15 +48,15 @@ method_clean p class c m place clean there at =
 pub result_clean : (p : Program) (m : MethodTree) (number : ℕ) → program_mistakes p ≡ [] → IsMethod p m number → result_unknown p m.result ≡ []
 result_clean p m number clean is = (both_none (result_unknown p m.result) _ (method_clean p is.class is.tree m is.place clean is.there is.at)).0
 
-params_known : (p : Program) (params : List Parameter) (f : Frame) → (parameters_turn p params f).found ≡ [] → Each (λ x. type_unknown p x.kind ≡ []) params
+params_known : (p : Program) (params : List Parameter) (f : Frame) → (parameters_turn p params f).found ≡ [] → Each (λ x. type_unknown p x.ty ≡ []) params
 params_known p [] f none = tt
 params_known p (x ∷ params) f none =
     let next = parameter_turn p x f in
     let both = both_none next.found (parameters_turn p params next.frame).found none in
-    let unknown = both_none (type_unknown p x.kind) (declared_variable p.text x.name (type_kind p x.kind) (is_heap x.kind) f).found both.0 in
+    let unknown = both_none (type_unknown p x.ty) (declared_variable p.text x.name (type_kind p x.ty) (is_heap x.ty) f).found both.0 in
     (unknown.0, params_known p params next.frame both.1)
 
-pub parameters_clean : (p : Program) (m : MethodTree) (number : ℕ) → program_mistakes p ≡ [] → IsMethod p m number → Each (λ x. type_unknown p x.kind ≡ []) m.params
+pub parameters_clean : (p : Program) (m : MethodTree) (number : ℕ) → program_mistakes p ≡ [] → IsMethod p m number → Each (λ x. type_unknown p x.ty ≡ []) m.params
 parameters_clean p m number clean is =
     let f : Frame = record { variables = []; heap = 0 } in
     let inner = (both_none (result_unknown p m.result) _ (method_clean p is.class is.tree m is.place clean is.there is.at)).1 in
@@ -79,9 +79,9 @@ messages_clean p messages c is none =
 
 -- the types of the parameters of a message are known
 pub message_clean : (p : Program) (n : ℕ) (c : ContractTree) (word : List ℕ) (m : MessageTree) → program_mistakes p ≡ [] → item_at as_contract p n ≡ Some (n, c)
-    → message_written p.text c word ≡ Some m → Each (λ x. type_unknown p x.kind ≡ []) m.params
+    → message_written p.text c word ≡ Some m → Each (λ x. type_unknown p x.ty ≡ []) m.params
 message_clean p n c word m clean there written =
     let found = item_clean p n (Contract c) clean (contract_item p n c there) in
     let messages = messages_of c in
     let none = message_at p messages m (first_of (words_at p.text (names_of_messages messages)) word) (messages_clean p messages c refl found) written in
-    each_none (λ x. type_unknown p x.kind) m.params (both_none (flat_map (λ x. type_unknown p x.kind) m.params) _ none).0
+    each_none (λ x. type_unknown p x.ty) m.params (both_none (flat_map (λ x. type_unknown p x.ty) m.params) _ none).0

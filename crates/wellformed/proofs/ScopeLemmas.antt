@@ -10,9 +10,9 @@ use Rattle.declarations.specs.Listed.{limit_passed}
 use Rattle.declarations.specs.declared.mistake.Limit.TheVariants as limit
 use Rattle.declarations.specs.Kinds.{is_block}
 use Rattle.names.specs.Variables.{variable_named, declared_variable, past_heap}
-use Rattle.declarations.specs.declared.kinds.Kind.TheVariants as kinds
-use Rattle.declarations.specs.declared.kinds.Kind.{Kind}
-use Rattle.program.specs.Methods.{VariableSeen}
+use Rattle.declarations.specs.declared.kinds.ValueKind.TheVariants as kinds
+use Rattle.declarations.specs.declared.kinds.ValueKind.{ValueKind}
+use Rattle.program.specs.Methods.{VariableModel}
 use Rattle.program.specs.declared.kind as held
 use Rattle.program.specs.declared.method.Role.{Role}
 use Rattle.program.specs.declared.number.VarId.{VarId}
@@ -46,22 +46,22 @@ here_get [] x ys = refl
 here_get (y ∷ xs) x ys = here_get xs x ys
 
 -- the variable that is declared is the method's
-declared_there : (vs xs : List VariableSeen) (x : VariableSeen) (rest : List VariableSeen) → vs ≡ (xs ++ x ∷ []) ++ rest → slice_get vs (length xs) ≡ Some x
+declared_there : (vs xs : List VariableModel) (x : VariableModel) (rest : List VariableModel) → vs ≡ (xs ++ x ∷ []) ++ rest → slice_get vs (length xs) ≡ Some x
 declared_there vs xs x rest is = ap (λ ys. slice_get ys (length xs)) (is ∙ append_assoc xs (x ∷ []) rest) ∙ here_get xs x rest
 
 -- the one before it in scope is the last one that was there
-pub declared_outer : (p : Program) (vs : List VariableSeen) (name : Span) (kind : Kind) (held : held.Kind.Kind) (role : Role) (f : Frame) → Within vs (declares p.text name kind (Some held) role f)
+pub declared_outer : (p : Program) (vs : List VariableModel) (name : Span) (kind : ValueKind) (held : held.HeapKind.HeapKind) (role : Role) (f : Frame) → Within vs (declares p.text name kind (Some held) role f)
     → outer_of vs (number_of (length f.variables)) ≡ last_of f
 declared_outer p vs name kind held role f within = ap (λ x. option_and_then (λ v. v.outer) x) (declared_there vs f.variables _ within.rest within.is)
 
 -- one that is no parameter
-pub declared_local : (p : Program) (vs : List VariableSeen) (name : Span) (kind : Kind) (held : held.Kind.Kind) (f : Frame) → Within vs (declares p.text name kind (Some held) roles.Local f)
+pub declared_local : (p : Program) (vs : List VariableModel) (name : Span) (kind : ValueKind) (held : held.HeapKind.HeapKind) (f : Frame) → Within vs (declares p.text name kind (Some held) roles.Local f)
     → IsLocalBehind vs (number_of (length f.variables)) (λ outer. outer ≡ last_of f)
 declared_local p vs name kind held f within =
     subst (λ o. IsSomeAnd o (λ x. (x.role ≡ roles.Local) × (x.outer ≡ last_of f))) (sym (declared_there vs f.variables _ within.rest within.is)) (refl, refl)
 
 -- the scope grows by it
-pub declared_grows : (p : Program) (vs : List VariableSeen) (name : Span) (kind : Kind) (held : Option held.Kind.Kind) (f : Frame) → Within vs (declares p.text name kind held roles.Local f)
+pub declared_grows : (p : Program) (vs : List VariableModel) (name : Span) (kind : ValueKind) (held : Option held.HeapKind.HeapKind) (f : Frame) → Within vs (declares p.text name kind held roles.Local f)
     → scopes.Grows vs (last_of f) (last_of (declares p.text name kind held roles.Local f))
 declared_grows p vs name kind None f within = grows_none vs (last_of f) (last_of f) refl
 declared_grows p vs name kind (Some held) f within = record {
@@ -70,7 +70,7 @@ declared_grows p vs name kind (Some held) f within = record {
 }
 
 -- it stands right before those that were in scope
-pub declared_inner : (p : Program) (vs : List VariableSeen) (name : Span) (kind : Kind) (held : Option held.Kind.Kind) (role : Role) (f : Frame) → Within vs (declares p.text name kind held role f)
+pub declared_inner : (p : Program) (vs : List VariableModel) (name : Span) (kind : ValueKind) (held : Option held.HeapKind.HeapKind) (role : Role) (f : Frame) → Within vs (declares p.text name kind held role f)
     → LeadsOut vs (last_of (declares p.text name kind held role f)) (last_of f)
 declared_inner p vs name kind None role f within = leads_here vs (last_of f)
 declared_inner p vs name kind (Some held) role f within = record { steps = 1; is = declared_outer p vs name kind held role f within }
@@ -98,17 +98,17 @@ entered_same text name ls vs l same =
     subst (λ xs. map named (if is_some (local_named text ls name) then ls else ls ++ l ∷ []) ≡ (if is_some (variable_named text xs name) then xs else xs ++ named l ∷ [])) same alike
 
 -- what was in scope is in scope behind it
-inside_then : (vs : List VariableSeen) (a b : Option VarId) (o : Option ℕ) → LeadsOut vs b a → IsInside vs a o → IsInside vs b o
+inside_then : (vs : List VariableModel) (a b : Option VarId) (o : Option ℕ) → LeadsOut vs b a → IsInside vs a o → IsInside vs b o
 inside_then vs a b None leads inside = tt
 inside_then vs a b (Some n) leads inside = leads_then vs b a (Some (number_of n)) leads inside
 
-stands_then : (p : Program) (vs : List VariableSeen) (a b : Option VarId) (ls : List Local) → LeadsOut vs b a → Each (Stands p vs a) ls → Each (Stands p vs b) ls
+stands_then : (p : Program) (vs : List VariableModel) (a b : Option VarId) (ls : List Local) → LeadsOut vs b a → Each (Stands p vs a) ls → Each (Stands p vs b) ls
 stands_then p vs a b [] leads all = tt
 stands_then p vs a b (l ∷ ls) leads all =
     (record { known = all.0.known; numbered = all.0.numbered; inside = inside_then vs a b l.number leads all.0.inside }, stands_then p vs a b ls leads all.1)
 
 -- a kind is that of a block where a variable of it holds something
-pub block_held : (p : Program) (k : Kind) (held : held.Kind.Kind) → IsHeld p k held → is_block k ≡ true
+pub block_held : (p : Program) (k : ValueKind) (held : held.HeapKind.HeapKind) → IsHeld p k held → is_block k ≡ true
 block_held p (kinds.Pointer n) held is = refl
 block_held p (kinds.Array element) held is = refl
 block_held p (kinds.Endpoint side n) held is = refl
@@ -124,7 +124,7 @@ not_past : (name : Span) (heap : ℕ) (n : ℕ) → past_heap name heap ≡ [] �
 not_past name heap n none is few = not_most name heap n (heap == MOST_VARIABLES) refl none is few
 
 -- a variable that is declared comes into scope
-pub declared_stands : (p : Program) (vs : List VariableSeen) (name : Span) (kind : Kind) (held : Option held.Kind.Kind) (role : Role) (heap : Bool) (f : Frame) (g : names.Frame)
+pub declared_stands : (p : Program) (vs : List VariableModel) (name : Span) (kind : ValueKind) (held : Option held.HeapKind.HeapKind) (role : Role) (heap : Bool) (f : Frame) (g : names.Frame)
     → heap ≡ is_block kind → IsKnown p kind → IsHeldAs p kind held → AreStanding p vs f g → Within vs (declares p.text name kind held role f)
     → (declared_variable p.text name kind heap g).found ≡ [] → AreStanding p vs (declares p.text name kind held role f) (declared_variable p.text name kind heap g).frame
 declared_stands p vs name kind None role heap f g block known holds standing within none = record {
@@ -148,14 +148,14 @@ declared_stands p vs name kind (Some held) role heap f g block known holds stand
       locals = each_entered (Stands p vs last) (is_some (local_named p.text f.locals name)) f.locals l
           (stands_then p vs (last_of f) last f.locals (declared_inner p vs name kind (Some held) role f within) standing.locals)
           (record { known = known; numbered = there; inside = leads_here vs last });
-      last = omega (arith, length-append {A = VariableSeen});
+      last = omega (arith, length-append {A = VariableModel});
       ends = leads_then vs _ (last_of f) None (declared_inner p vs name kind (Some held) role f within) standing.ends;
-      counted = let same = standing.counted in ap (λ (b : Bool). if b then g.heap + 1 else g.heap) heaped ∙ omega (arith, length-append {A = VariableSeen});
-      few = omega (arith, length-append {A = VariableSeen});
+      counted = let same = standing.counted in ap (λ (b : Bool). if b then g.heap + 1 else g.heap) heaped ∙ omega (arith, length-append {A = VariableModel});
+      few = omega (arith, length-append {A = VariableModel});
     }
 
 -- what was declared since is in scope no more
-pub closed_stands : (p : Program) (vs : List VariableSeen) (f after : Frame) (g behind : names.Frame)
+pub closed_stands : (p : Program) (vs : List VariableModel) (f after : Frame) (g behind : names.Frame)
     → AreStanding p vs f g → Grows p f after → AreStanding p vs after behind → AreStanding p vs (closed f after) (record { variables = g.variables; heap = behind.heap })
 closed_stands p vs f after g behind standing grows inner = record {
   same = standing.same;
@@ -167,5 +167,5 @@ closed_stands p vs f after g behind standing grows inner = record {
 }
 
 -- the last variable in scope is one of the method
-pub last_within : (vs : List VariableSeen) (f : Frame) → Within vs f → IfSome f.last (λ n. n < length f.variables) → IfSome f.last (λ n. n < length vs)
+pub last_within : (vs : List VariableModel) (f : Frame) → Within vs f → IfSome f.last (λ n. n < length f.variables) → IfSome f.last (λ n. n < length vs)
 last_within vs f within last = still_below f.variables within.rest vs f.last within.is last

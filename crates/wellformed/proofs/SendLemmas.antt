@@ -15,7 +15,7 @@ use Rattle.declarations.specs.declared.mistake.Mistake.TheVariants.{Unknown}
 use Rattle.declarations.specs.declared.mistake.NameSort.TheVariants as sort
 use Rattle.declarations.specs.Kinds.{is_block, type_unknown, unless}
 use Rattle.declarations.specs.Program.{Program, as_contract, item_at}
-use Rattle.program.specs.Parts.{ContractSeen}
+use Rattle.program.specs.Parts.{ContractModel}
 use Rattle.declarations.specs.Resolution.{resolved_contracts}
 use Rattle.names.specs.Shapes.{shape}
 use Rattle.names.specs.Values.{argument_mistakes, is_alone, message_mistakes, number_of_arguments, message_kinds, send_mistakes, sends}
@@ -23,9 +23,9 @@ use Rattle.declarations.specs.Named.{message_written, sent_message}
 use Rattle.names.specs.Variables as names
 use Rattle.tables.specs.Words.{same_word, word_at}
 use Rattle.declarations.specs.declared.kinds as declared
-use Rattle.declarations.specs.declared.kinds.Kind.TheVariants as kind
-use Rattle.program.specs.Methods.{VariableSeen}
-use Rattle.program.specs.Statements.{SendSeen}
+use Rattle.declarations.specs.declared.kinds.ValueKind.TheVariants as kind
+use Rattle.program.specs.Methods.{VariableModel}
+use Rattle.program.specs.Statements.{SendModel}
 use Rattle.program.specs.declared.statement.Mention.{Mention}
 use Rattle.resolving.specs.Kinds.{contract_at}
 use Rattle.resolving.specs.Locals.{Local, Frame, local_named, mention_of}
@@ -43,9 +43,9 @@ use Rattle.wellformed.proofs.ProgramLemmas.{message_clean}
 use Rattle.wellformed.proofs.Standing.{Around, AreStanding, IsHeld, IsKnown, named, scope_of}
 
 -- the contract of an endpoint that is there
-pub is_end : (p : Program) (s : Setting) (n : ℕ) (side : Side) (c : ContractTree) (P : ContractSeen → Type 0) (m : Mention) (v : VariableSeen) → s.contracts ≡ resolved_contracts p.text (contracts_of p.items)
+pub is_end : (p : Program) (s : Setting) (n : ℕ) (side : Side) (c : ContractTree) (P : ContractModel → Type 0) (m : Mention) (v : VariableModel) → s.contracts ≡ resolved_contracts p.text (contracts_of p.items)
     → item_at as_contract p n ≡ Some (n, c) → slice_get s.variables m.variable.0 ≡ Some v → IsHeld p (kind.Endpoint side n) v.kind
-    → ((r : ContractSeen) → contract_at p n ≡ Some r → P r) → IsEnd s P m
+    → ((r : ContractModel) → contract_at p n ≡ Some r → P r) → IsEnd s P m
 is_end p s n side c P m v contracts is there holds each =
     let at = contract_is_at p n c is in
     let found = ap (λ cs. contract_held cs v.kind) contracts ∙ end_held p n side v.kind holds ∙ at.is in
@@ -53,7 +53,7 @@ is_end p s n side c P m v contracts is there holds each =
 
 -- a call that sends a message
 pub record SendsMessage (p : Program) (class : ℕ) (s : Setting) (f : Frame) (c : CallTree) : Type 0 where
-  pub send : SendSeen
+  pub send : SendModel
   pub is : send_told p class f c ≡ Some send
   pub fits : IsSend s send
 
@@ -61,7 +61,7 @@ pub record SendsMessage (p : Program) (class : ℕ) (s : Setting) (f : Frame) (c
 record Sending (p : Program) (g : names.Frame) (n : ℕ) (word : Span) (es : List ExpressionTree) : Type 0 where
   pub message : MessageTree
   pub answer : AnswersMessage p n (message_sent p n word) message
-  pub known : Each (λ x. type_unknown p x.kind ≡ []) message.params
+  pub known : Each (λ x. type_unknown p x.ty ≡ []) message.params
   pub many : length message.params ≡ length es
   pub given : argument_mistakes (scope_of p g) (message_kinds p message) (map shape es) ≡ []
 
@@ -121,7 +121,7 @@ end_sends p t class result s f g role c word around standing member l local n si
 
 -- a call by the name of a variable and one of a message
 pub local_call : (p : Program) (t : ClassTree) (class : ℕ) (result : Option type_nodes.Type.Type) (s : Setting) (f : Frame) (g : names.Frame) (role : _) (c : CallTree) (word : Span) → Around p t class result s
-    → AreStanding p s.variables f g → c.member ≡ Some word → (l : Local) → local_named p.text f.locals c.name ≡ Some l → meant (scope_of p g) c.name ≡ Some (named l) → IsKnown p l.kind → (k : declared.Kind.Kind) → l.kind ≡ k
+    → AreStanding p s.variables f g → c.member ≡ Some word → (l : Local) → local_named p.text f.locals c.name ≡ Some l → meant (scope_of p g) c.name ≡ Some (named l) → IsKnown p l.kind → (k : declared.ValueKind.ValueKind) → l.kind ≡ k
     → send_mistakes (scope_of p g) k role c.name word (map shape c.arguments) ≡ [] → (is_alone role ≡ true) × SendsMessage p class s f c
 local_call p t class result s f g role c word around standing member l local meant_is known (kind.Endpoint side n) is none =
     end_sends p t class result s f g role c word around standing member l local n side is (subst (IsKnown p) is known) meant_is none

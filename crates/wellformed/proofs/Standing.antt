@@ -14,9 +14,9 @@ use Rattle.declarations.specs.Program.{Program, as_class, as_contract, as_struct
 use Rattle.declarations.specs.Resolution.{resolved_contracts}
 use Rattle.names.specs.Variables as names
 use Rattle.declarations.specs.declared.kinds as declared
-use Rattle.declarations.specs.declared.kinds.Kind.TheVariants as kind
-use Rattle.program.specs.Methods.{VariableSeen}
-use Rattle.program.specs.declared.kind.Kind.{Kind}
+use Rattle.declarations.specs.declared.kinds.ValueKind.TheVariants as kind
+use Rattle.program.specs.Methods.{VariableModel}
+use Rattle.program.specs.declared.kind.HeapKind.{HeapKind}
 use Rattle.program.specs.declared.method.Role.{Role}
 use Rattle.program.specs.declared.method.Role.TheVariants as role
 use Rattle.program.specs.declared.number.VarId.{VarId}
@@ -35,7 +35,7 @@ use Rattle.program.specs.declared.limits.TheConstants.{MOST_VARIABLES}
 use Rattle.program.specs.WellFormed.{Setting}
 
 -- a kind whose names are declared
-abbrev pub IsKnown : Program → declared.Kind.Kind → Type 0
+abbrev pub IsKnown : Program → declared.ValueKind.ValueKind → Type 0
 IsKnown p (kind.Scalar s) = Unit {0}
 IsKnown p (kind.Array element) = Unit {0}
 IsKnown p (kind.Pointer n) = IsSomeAnd (item_at as_struct p n) (λ s. Unit {0})
@@ -44,26 +44,26 @@ IsKnown p kind.Missing = ⊥
 IsKnown p kind.Unknown = ⊥
 
 -- what a variable of this kind holds, in some state
-pub record IsHeld (p : Program) (k : declared.Kind.Kind) (held : Kind) : Type 0 where
+pub record IsHeld (p : Program) (k : declared.ValueKind.ValueKind) (held : HeapKind) : Type 0 where
   pub state : Option Span
   pub is : kind_held p k state ≡ Some held
 
 -- what a variable of this kind holds, if it is of the exchange heap
-abbrev pub IsHeldAs : Program → declared.Kind.Kind → Option Kind → Type 0
+abbrev pub IsHeldAs : Program → declared.ValueKind.ValueKind → Option HeapKind → Type 0
 IsHeldAs p k None = is_block k ≡ false
 IsHeldAs p k (Some held) = IsHeld p k held
 
 -- a variable in scope has a number where it is of the exchange heap, and of this number the method has one that holds what its kind says
-abbrev pub IsNumbered : Program → List VariableSeen → declared.Kind.Kind → Option ℕ → Type 0
+abbrev pub IsNumbered : Program → List VariableModel → declared.ValueKind.ValueKind → Option ℕ → Type 0
 IsNumbered p vs k None = is_block k ≡ false
 IsNumbered p vs k (Some n) = IsSomeAnd (slice_get vs n) (λ v. IsHeld p k v.kind)
 
 -- it is in scope where this one is the last
-abbrev pub IsInside : List VariableSeen → Option VarId → Option ℕ → Type 0
+abbrev pub IsInside : List VariableModel → Option VarId → Option ℕ → Type 0
 IsInside vs last None = Unit {0}
 IsInside vs last (Some n) = IsInScope vs last (number_of n)
 
-pub record Stands (p : Program) (vs : List VariableSeen) (last : Option VarId) (l : Local) : Type 0 where
+pub record Stands (p : Program) (vs : List VariableModel) (last : Option VarId) (l : Local) : Type 0 where
   pub known : IsKnown p l.kind
   pub numbered : IsNumbered p vs l.kind l.number
   pub inside : IsInside vs last l.number
@@ -78,7 +78,7 @@ last_of f = option_map number_of f.last
 
 -- The variables of a frame are those in scope, and each stands for one of the method. Those of the exchange heap are counted, and
 -- not past their limit.
-pub record AreStanding (p : Program) (vs : List VariableSeen) (f : Frame) (g : names.Frame) : Type 0 where
+pub record AreStanding (p : Program) (vs : List VariableModel) (f : Frame) (g : names.Frame) : Type 0 where
   pub same : map named f.locals ≡ g.variables
   pub locals : Each (Stands p vs (last_of f)) f.locals
   pub last : IfSome f.last (λ n. n < length f.variables)
@@ -87,20 +87,20 @@ pub record AreStanding (p : Program) (vs : List VariableSeen) (f : Frame) (g : n
   pub few : length f.variables ≤ MOST_VARIABLES
 
 -- a variable that is no parameter, and holds what some kind says
-pub record IsLocal (p : Program) (v : VariableSeen) : Type 0 where
+pub record IsLocal (p : Program) (v : VariableModel) : Type 0 where
   pub is : v.role ≡ role.Local
-  pub kind : declared.Kind.Kind
+  pub kind : declared.ValueKind.ValueKind
   pub held : IsHeld p kind v.kind
 
 -- the first frame's variables, and others behind them that are no parameters
 pub record Grows (p : Program) (f g : Frame) : Type 0 where
-  pub more : List VariableSeen
+  pub more : List VariableModel
   pub is : g.variables ≡ f.variables ++ more
   pub local : Each (IsLocal p) more
 
 -- the method's variables begin with those of the frame
-pub record Within (vs : List VariableSeen) (f : Frame) : Type 0 where
-  pub rest : List VariableSeen
+pub record Within (vs : List VariableModel) (f : Frame) : Type 0 where
+  pub rest : List VariableModel
   pub is : vs ≡ f.variables ++ rest
 
 -- the last variable in scope, and what stays in scope at a break and at a continue, which lies outward
@@ -125,7 +125,7 @@ pub record Around (p : Program) (c : ClassTree) (class : ℕ) (result : Option t
   pub nested : AreNested s.variables
 
 -- a variable of this name and kind comes into scope
-abbrev pub declares : List ℕ → Span → declared.Kind.Kind → Option Kind → Role → Frame → Frame
+abbrev pub declares : List ℕ → Span → declared.ValueKind.ValueKind → Option HeapKind → Role → Frame → Frame
 declares text name kind held role f = locals.declared text (record { name = name; kind = kind; held = held; role = role }) f
 
 -- what a frame brings into scope
@@ -133,20 +133,20 @@ abbrev pub scope_of : Program → names.Frame → InScope
 scope_of p g = record { program = p; variables = g.variables }
 
 -- a piece of a method that is well formed, and the frame behind it, in which variables have come into scope
-pub record Goes (p : Program) (vs : List VariableSeen) (X : Type 0) (f after : Frame) (behind : names.Frame) : Type 0 where
+pub record Goes (p : Program) (vs : List VariableModel) (X : Type 0) (f after : Frame) (behind : names.Frame) : Type 0 where
   pub fits : X
   pub standing : AreStanding p vs after behind
   pub grows : scopes.Grows vs (last_of f) (last_of after)
 
 -- the same of a piece that leaves the scope as it is
-pub record Passes (p : Program) (vs : List VariableSeen) (X : Type 0) (f after : Frame) (behind : names.Frame) : Type 0 where
+pub record Passes (p : Program) (vs : List VariableModel) (X : Type 0) (f after : Frame) (behind : names.Frame) : Type 0 where
   pub fits : X
   pub standing : AreStanding p vs after behind
   pub same : last_of after ≡ last_of f
 
 -- what a parameter holds, where it is of the exchange heap, and how the method comes to it
-abbrev pub heading : Program → Parameter → List (Kind × Role)
-heading p x = option_map_or (λ k. (k, role_of x) ∷ []) (type_held p x.kind) []
+abbrev pub heading : Program → Parameter → List (HeapKind × Role)
+heading p x = option_map_or (λ k. (k, role_of x) ∷ []) (type_held p x.ty) []
 
 -- a method of a class, which has this number in the program
 pub record IsMethod (p : Program) (m : MethodTree) (number : ℕ) : Type 0 where

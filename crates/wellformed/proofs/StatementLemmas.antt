@@ -18,11 +18,11 @@ use Rattle.resolving.specs.Kinds.{state_in, type_held}
 use Rattle.resolving.specs.Locals.{Frame, closed, declared, forget, next_number, number_of}
 use Rattle.resolving.specs.Plain.{declaration_of, first_value}
 use Rattle.resolving.specs.Told.{Staying, awaited_message, awaited_params, behind_case, block_told, case_told, cases_told, in_switch, others_told, statement_told, statements_told, stays_here, test_told}
-use Rattle.program.specs.Methods.{VariableSeen}
+use Rattle.program.specs.Methods.{VariableModel}
 use Rattle.program.specs.declared.method.Role.TheVariants as role
 use Rattle.program.specs.Scopes as scopes
 use Rattle.program.specs.Scopes.{GoesBack, InTurn, LeadsOut}
-use Rattle.program.specs.Statements.{StatementSeen}
+use Rattle.program.specs.Statements.{StatementModel}
 use Rattle.program.specs.declared.number.VarId.{VarId}
 use Rattle.program.specs.WellFormed as settings
 use Rattle.program.specs.WellFormed.{AreCases, AreOthers, AreStatements, IsBlock, IsCase, IsStatement, IsTest, Setting, in_loop, reached}
@@ -102,7 +102,7 @@ same_frame : (p : Program) (s : Setting) (X : Type 0) (f : Frame) (g : names.Fra
 same_frame p s X f g fits standing = record { fits = fits; standing = standing; same = refl }
 
 -- a statement that leaves the scope as it is
-statement_passes : (p : Program) (s : Setting) (x : StatementSeen) (f after : Frame) (behind : names.Frame) → s.scope ≡ last_of f → Passes p s.variables (IsStatement s x) f after behind
+statement_passes : (p : Program) (s : Setting) (x : StatementModel) (f after : Frame) (behind : names.Frame) → s.scope ≡ last_of f → Passes p s.variables (IsStatement s x) f after behind
     → Goes p s.variables (IsStatement (reached s (last_of after)) x) f after behind
 statement_passes p s x f after behind here r = record {
   fits = subst (λ o. IsStatement (reached s o) x) (here ∙ sym r.same) r.fits;
@@ -110,31 +110,31 @@ statement_passes p s x f after behind here r = record {
   grows = grows_none s.variables (last_of f) (last_of after) (sym r.same);
 }
 
-stands_still : (p : Program) (s : Setting) (x : StatementSeen) (f : Frame) (g : names.Frame) → s.scope ≡ last_of f → IsStatement s x → AreStanding p s.variables f g
+stands_still : (p : Program) (s : Setting) (x : StatementModel) (f : Frame) (g : names.Frame) → s.scope ≡ last_of f → IsStatement s x → AreStanding p s.variables f g
     → Goes p s.variables (IsStatement (reached s (last_of f)) x) f f g
 stands_still p s x f g here fits standing = statement_passes p s x f f g here (same_frame p s (IsStatement s x) f g fits standing)
 
 -- one piece, and then another
-both_pass : (p : Program) (vs : List VariableSeen) (X Y : Type 0) (f middle after : Frame) (g behind : names.Frame) → Passes p vs X f middle g → Passes p vs Y middle after behind → Passes p vs (X × Y) f after behind
+both_pass : (p : Program) (vs : List VariableModel) (X Y : Type 0) (f middle after : Frame) (g behind : names.Frame) → Passes p vs X f middle g → Passes p vs Y middle after behind → Passes p vs (X × Y) f after behind
 both_pass p vs X Y f middle after g behind first second = record { fits = (first.fits, second.fits); standing = second.standing; same = second.same ∙ first.same }
 
 -- a declaration
 declaration_goes : (m : Surroundings) (class : ℕ) (s : Setting) → InMethod m class s → (d : DeclareTree) (f : Frame) (g : names.Frame) → AreStanding m.program s.variables f g
     → Within s.variables (declared m.program.text (declaration_of m.program d) f) → (bodies.declaration_turn m d g).found ≡ []
-    → Goes m.program s.variables (IsStatement (reached s (last_of (declared m.program.text (declaration_of m.program d) f))) (first_value m.program class f d.name (next_number (type_held m.program d.kind) f) d.value)) f (declared m.program.text (declaration_of m.program d) f) (bodies.declaration_turn m d g).frame
+    → Goes m.program s.variables (IsStatement (reached s (last_of (declared m.program.text (declaration_of m.program d) f))) (first_value m.program class f d.name (next_number (type_held m.program d.ty) f) d.value)) f (declared m.program.text (declaration_of m.program d) f) (bodies.declaration_turn m d g).frame
 declaration_goes m class s around d f g standing within none =
     let p = m.program in
     let after = declared m.program.text (declaration_of m.program d) f in
-    let unknown = type_unknown p d.kind in
-    let given = bodies.given_mistakes (bodies.inside_of m g) (type_kind p d.kind) d.value in
-    let enters = names.declared_variable p.text d.name (type_kind p d.kind) (is_heap d.kind) g in
+    let unknown = type_unknown p d.ty in
+    let given = bodies.given_mistakes (bodies.inside_of m g) (type_kind p d.ty) d.value in
+    let enters = names.declared_variable p.text d.name (type_kind p d.ty) (is_heap d.ty) g in
     let parts = both_none (unknown ++ given) enters.found none in
     let first = both_none unknown given parts.0 in
-    let known = type_known p d.kind first.0 in
+    let known = type_known p d.ty first.0 in
     record {
       fits = declare_fits p m.class class m.result (reached s (last_of after)) f g d refl (around_behind m class s (last_of after) around) standing within first.0 first.1;
-      standing = declared_stands p s.variables d.name (type_kind p d.kind) (type_held p d.kind) role.Local (is_heap d.kind) f g (heap_block p d.kind first.0) known (held_as p (type_kind p d.kind) (state_in d.kind) known) standing within parts.1;
-      grows = declared_grows p s.variables d.name (type_kind p d.kind) (type_held p d.kind) f within;
+      standing = declared_stands p s.variables d.name (type_kind p d.ty) (type_held p d.ty) role.Local (is_heap d.ty) f g (heap_block p d.ty first.0) known (held_as p (type_kind p d.ty) (state_in d.ty) known) standing within parts.1;
+      grows = declared_grows p s.variables d.name (type_kind p d.ty) (type_held p d.ty) f within;
     }
 
 -- a scope that has grown, from where a statement stands

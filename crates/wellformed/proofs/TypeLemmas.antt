@@ -10,7 +10,7 @@ use Rattle.declarations.specs.declared.mistake.Mistake.TheVariants.{Unknown}
 use Rattle.declarations.specs.declared.mistake.NameSort.TheVariants as sort
 use Rattle.declarations.specs.Kinds.{endpoint_kind, endpoint_unknown, is_block, pointer_kind, pointer_unknown}
 use Rattle.declarations.specs.Program.{Numbered, Program, as_contract, as_struct, contract_named, item_at, item_names, struct_named}
-use Rattle.declarations.specs.declared.kinds.Kind.TheVariants as kind
+use Rattle.declarations.specs.declared.kinds.ValueKind.TheVariants as kind
 use Rattle.wellformed.proofs.Standing.{IsKnown}
 
 -- an item of some kind has the number of its place

@@ -19,10 +19,10 @@ use Rattle.names.specs.Values.{argument_mistakes, fields_asked, made_mistakes, m
 use Rattle.declarations.specs.Owning.{owning_fields}
 use Rattle.names.specs.Variables as names
 use Rattle.declarations.specs.declared.kinds as declared
-use Rattle.declarations.specs.declared.kinds.Kind.TheVariants as kind
-use Rattle.program.specs.declared.kind.Kind.{Kind}
+use Rattle.declarations.specs.declared.kinds.ValueKind.TheVariants as kind
+use Rattle.program.specs.declared.kind.HeapKind.{HeapKind}
 use Rattle.program.specs.declared.kind.Scalar.{Scalar}
-use Rattle.program.specs.Methods.{VariableSeen}
+use Rattle.program.specs.Methods.{VariableModel}
 use Rattle.program.specs.Statements.{Call}
 use Rattle.program.specs.declared.statement.Action.TheVariants as does
 use Rattle.program.specs.declared.statement.Mention.{Mention}
@@ -47,11 +47,11 @@ use Rattle.wellformed.proofs.TypeLemmas.{struct_found}
 use Rattle.wellformed.proofs.Standing.{Around, AreStanding, IsHeld, IsKnown, scope_of}
 
 -- whether what a method gives fits a kind that is asked
-abbrev pub gives_asked : Program → Option tree.Type.Type → declared.Kind.Kind → Bool
+abbrev pub gives_asked : Program → Option tree.Type.Type → declared.ValueKind.ValueKind → Bool
 gives_asked p None k = false
 gives_asked p (Some t) k = agree (type_kind p t) k
 
-by_result : (p : Program) (k : declared.Kind.Kind) (F : Option tree.Type.Type → Bool) (result : Option tree.Type.Type) → F result ≡ true → F None ≡ false
+by_result : (p : Program) (k : declared.ValueKind.ValueKind) (F : Option tree.Type.Type → Bool) (result : Option tree.Type.Type) → F result ≡ true → F None ≡ false
     → ((t : tree.Type.Type) → F (Some t) ≡ agree (type_kind p t) k) → gives_asked p result k ≡ true
 by_result p k F None fits none some = cc
 by_result p k F (Some t) fits none some = sym (some t) ∙ fits
@@ -73,7 +73,7 @@ no_send p class s f g Is c alone (inl x) not_alone = x
 no_send p class s f g Is c alone (inr x) not_alone = cc
 
 -- A call as a value gives a block of the kind that is asked.
-block_result : (p : Program) (s : Setting) (k : declared.Kind.Kind) (target : Mention) (v : VariableSeen) (result : Option tree.Type.Type) → result_unknown p result ≡ []
+block_result : (p : Program) (s : Setting) (k : declared.ValueKind.ValueKind) (target : Mention) (v : VariableModel) (result : Option tree.Type.Type) → result_unknown p result ≡ []
     → IsKnown p k → is_block k ≡ true → slice_get s.variables target.variable.0 ≡ Some v → IsHeld p k v.kind → gives_asked p result k ≡ true → IsTaken s (result_held p result) (Some target)
 block_result p s k target v None known asked block there holds fits = cc
 block_result p s k target v (Some t) known asked block there holds fits =
@@ -83,7 +83,7 @@ block_result p s k target v (Some t) known asked block there holds fits =
     subst (λ o. IsTaken s o (Some target)) (sym h.is) (holds_there s h.held target v there same)
 
 -- or nothing, where a scalar is asked
-scalar_result : (p : Program) (k : declared.Kind.Kind) (result : Option tree.Type.Type) → result_unknown p result ≡ [] → IsKnown p k → is_block k ≡ false
+scalar_result : (p : Program) (k : declared.ValueKind.ValueKind) (result : Option tree.Type.Type) → result_unknown p result ≡ [] → IsKnown p k → is_block k ≡ false
     → gives_asked p result k ≡ true → result_held p result ≡ None
 scalar_result p k None known asked scalar fits = refl
 scalar_result p k (Some t) known asked scalar fits =
@@ -112,7 +112,7 @@ alone_call p t class result s f g c around standing x =
     void_call p t class result s f g c [] (λ m. gives_none p m.result ≡ true) around standing x (alone_result p x.method.result x.fits) tt
 
 -- a call as a value: a method that gives the kind that is asked
-asked_call : (p : Program) (t : ClassTree) (class : ℕ) (result : Option tree.Type.Type) (s : Setting) (f : Frame) (g : names.Frame) (k : declared.Kind.Kind) (c : CallTree)
+asked_call : (p : Program) (t : ClassTree) (class : ℕ) (result : Option tree.Type.Type) (s : Setting) (f : Frame) (g : names.Frame) (k : declared.ValueKind.ValueKind) (c : CallTree)
     → Around p t class result s → AreStanding p s.variables f g → value_mistakes (record { scope = scope_of p g; class = t }) k (values.Call c) ≡ []
     → CallsMethod p class f g (λ m. gives_asked p m.result k ≡ true) c
 asked_call p t class result s f g k c around standing none =
@@ -124,21 +124,21 @@ made_within : (p : Program) (class : ℕ) (s : Setting) (f : Frame) (g : names.F
 made_within p class s f g standing (values.Struct name left given) = tt
 made_within p class s f g standing (values.Array element length) = reads_within p s.variables f g standing length
 
-move_fits : (s : Setting) (target : Mention) (v : VariableSeen) (o : Option Mention) (source : Mention) → o ≡ Some source → slice_get s.variables target.variable.0 ≡ Some v → Holds s v.kind source.variable
+move_fits : (s : Setting) (target : Mention) (v : VariableModel) (o : Option Mention) (source : Mention) → o ≡ Some source → slice_get s.variables target.variable.0 ≡ Some v → Holds s v.kind source.variable
     → IsIn s target.variable → IsAction s (moved target o)
 move_fits s target v o source is there holds inside =
     subst (λ x. IsAction s (moved target x)) (sym is) (inside, subst (λ x. IsSomeAnd x (λ w. Holds s w.kind source.variable)) (sym there) holds)
 
 -- what takes a new block is no end of a channel, and what is given is of the kinds that the block has in its fields that own
-abbrev pub IsMade : Setting → Kind → List Mention → Type 0
+abbrev pub IsMade : Setting → HeapKind → List Mention → Type 0
 IsMade s held given = (is_end held ≡ false) × HoldAll s (field_kinds s.structs held) (map (λ m. m.variable) given)
 
 -- a kind that is like a pointer is one to the same struct
-pointer_made : (p : Program) (n : ℕ) (k : declared.Kind.Kind) (held : Kind) → alike (kind.Pointer n) k ≡ true → IsHeld p k held → held ≡ struct_of (structs_before p.items n)
+pointer_made : (p : Program) (n : ℕ) (k : declared.ValueKind.ValueKind) (held : HeapKind) → alike (kind.Pointer n) k ≡ true → IsHeld p k held → held ≡ struct_of (structs_before p.items n)
 pointer_made p n (kind.Pointer m) held fits is = pointer_held p m held is ∙ ap (λ x. struct_of (structs_before p.items x)) (sym (eqb-true n m fits))
 pointer_made p n k held fits is = cc
 
-array_made : (p : Program) (s : Setting) (element : Scalar) (k : declared.Kind.Kind) (held : Kind) → alike (kind.Array element) k ≡ true → IsHeld p k held → IsMade s held []
+array_made : (p : Program) (s : Setting) (element : Scalar) (k : declared.ValueKind.ValueKind) (held : HeapKind) → alike (kind.Array element) k ≡ true → IsHeld p k held → IsMade s held []
 array_made p s element (kind.Array e) held fits is = subst (λ h. IsMade s h []) (sym (array_held p e held is)) (refl, tt)
 array_made p s element k held fits is = cc
 
@@ -150,13 +150,13 @@ given_fits p class s f g x name given clean standing there none =
     let params = as_params x.1 in
     let both = both_none (number_of_arguments asked (map shape given) name.place) (argument_mistakes (scope_of p g) asked (map shape given)) none in
     let many = as_many asked (map shape given) name.place both.0 ∙ length-map given shape in
-    let same : map (λ y. type_kind p y.kind) params ≡ asked = asked_are p (owning_fields x.1) in
-    let as_many_params : length params ≡ length given = sym (length-map params (λ y. type_kind p y.kind)) ∙ ap length same ∙ many in
+    let same : map (λ y. type_kind p y.ty) params ≡ asked = asked_are p (owning_fields x.1) in
+    let as_many_params : length params ≡ length given = sym (length-map params (λ y. type_kind p y.ty)) ∙ ap length same ∙ many in
     let known = params_known p x.1.fields (fields_clean p x.0 x.1 clean there) in
     let found = subst (λ ks. argument_mistakes (scope_of p g) ks (map shape given) ≡ []) (sym same) both.1 in
     subst (λ ks. HoldAll s ks (map (λ m. m.variable) (payloads p class f given))) (params_are p x.1.fields) (payloads_given p class s f g standing params given known as_many_params found)
 
-struct_made : (p : Program) (class : ℕ) (s : Setting) (f : Frame) (g : names.Frame) (k : declared.Kind.Kind) (held : Kind) (o : Option (Numbered StructTree)) (name : Span) (given : List ExpressionTree)
+struct_made : (p : Program) (class : ℕ) (s : Setting) (f : Frame) (g : names.Frame) (k : declared.ValueKind.ValueKind) (held : HeapKind) (o : Option (Numbered StructTree)) (name : Span) (given : List ExpressionTree)
     → program_mistakes p ≡ [] → s.structs ≡ structs_told p → AreStanding p s.variables f g → struct_named p name ≡ o → IsKnown p k → struct_made_mistakes (scope_of p g) o name (map shape given) ≡ []
     → agree (pointer_kind o) k ≡ true → IsHeld p k held → IsMade s held (payloads p class f given)
 struct_made p class s f g k held None name given clean structs standing named known none fits is = cc
@@ -167,7 +167,7 @@ struct_made p class s f g k held (Some x) name given clean structs standing name
     let holds = given_fits p class s f g x name given clean standing there none in
     subst (λ h. IsMade s h (payloads p class f given)) (sym same) (refl, subst (λ ks. HoldAll s ks (map (λ m. m.variable) (payloads p class f given))) (sym kinds) holds)
 
-made_fits : (p : Program) (class : ℕ) (s : Setting) (f : Frame) (g : names.Frame) (k : declared.Kind.Kind) (held : Kind) (m : MadeTree) → program_mistakes p ≡ [] → s.structs ≡ structs_told p
+made_fits : (p : Program) (class : ℕ) (s : Setting) (f : Frame) (g : names.Frame) (k : declared.ValueKind.ValueKind) (held : HeapKind) (m : MadeTree) → program_mistakes p ≡ [] → s.structs ≡ structs_told p
     → AreStanding p s.variables f g → IsKnown p k → made_mistakes (scope_of p g) m ≡ [] → agree (made_kind (scope_of p g) m) k ≡ true → IsHeld p k held → IsMade s held (made_arguments p class f m)
 made_fits p class s f g k held (values.Struct name left given) clean structs standing known none fits is =
     struct_made p class s f g k held (struct_named p name) name given clean structs standing refl known none fits is
@@ -175,7 +175,7 @@ made_fits p class s f g k held (values.Array element length) clean structs stand
     array_made p s element k held (loud_left (is_silent k) (alike (kind.Array element) k) (known_loud p k known) fits) is
 
 -- a variable takes a new block
-new_fits : (p : Program) (t : ClassTree) (class : ℕ) (result : Option tree.Type.Type) (s : Setting) (f : Frame) (g : names.Frame) (k : declared.Kind.Kind) (target : Mention) (v : VariableSeen) (n : NewTree)
+new_fits : (p : Program) (t : ClassTree) (class : ℕ) (result : Option tree.Type.Type) (s : Setting) (f : Frame) (g : names.Frame) (k : declared.ValueKind.ValueKind) (target : Mention) (v : VariableModel) (n : NewTree)
     → Around p t class result s → AreStanding p s.variables f g → IsKnown p k → slice_get s.variables target.variable.0 ≡ Some v → IsHeld p k v.kind
     → IsIn s target.variable → new_mistakes (scope_of p g) k n ≡ [] → IsNew s (new_of p class f target n.made)
 new_fits p t class result s f g k target v n around standing known there holds inside none =
@@ -189,7 +189,7 @@ new_fits p t class result s f g k target v n around standing known there holds i
     }
 
 -- a variable of the exchange heap takes a value
-pub taken_fits : (p : Program) (t : ClassTree) (class : ℕ) (result : Option tree.Type.Type) (s : Setting) (f : Frame) (g : names.Frame) (k : declared.Kind.Kind) (target : Mention) (v : VariableSeen) (value : ValueTree)
+pub taken_fits : (p : Program) (t : ClassTree) (class : ℕ) (result : Option tree.Type.Type) (s : Setting) (f : Frame) (g : names.Frame) (k : declared.ValueKind.ValueKind) (target : Mention) (v : VariableModel) (value : ValueTree)
     → Around p t class result s → AreStanding p s.variables f g → IsKnown p k → is_block k ≡ true → slice_get s.variables target.variable.0 ≡ Some v → IsHeld p k v.kind
     → IsIn s target.variable → value_mistakes (record { scope = scope_of p g; class = t }) k value ≡ [] → IsStatement s (taken p class f target value)
 taken_fits p t class result s f g k target v (values.Expression e) around standing known block there holds inside none =
@@ -202,7 +202,7 @@ taken_fits p t class result s f g k target v (values.Call c) around standing kno
 taken_fits p t class result s f g k target v (values.New n) around standing known block there holds inside none = new_fits p t class result s f g k target v n around standing known there holds inside none
 
 -- a scalar takes a value
-pub scalar_taken_fits : (p : Program) (t : ClassTree) (class : ℕ) (result : Option tree.Type.Type) (s : Setting) (f : Frame) (g : names.Frame) (k : declared.Kind.Kind) (value : ValueTree)
+pub scalar_taken_fits : (p : Program) (t : ClassTree) (class : ℕ) (result : Option tree.Type.Type) (s : Setting) (f : Frame) (g : names.Frame) (k : declared.ValueKind.ValueKind) (value : ValueTree)
     → Around p t class result s → AreStanding p s.variables f g → IsKnown p k → is_block k ≡ false
     → value_mistakes (record { scope = scope_of p g; class = t }) k value ≡ [] → IsStatement s (scalar_taken p class f value)
 scalar_taken_fits p t class result s f g k (values.Expression e) around standing known scalar none = (reads_within p s.variables f g standing e, tt)
@@ -216,7 +216,7 @@ use_fits s None h = tt
 use_fits s (Some m) h = h.0
 
 -- a part of a block takes a value
-pub part_taken_fits : (p : Program) (t : ClassTree) (class : ℕ) (result : Option tree.Type.Type) (s : Setting) (f : Frame) (g : names.Frame) (k : declared.Kind.Kind) (index : List Mention) (whole : Option Mention) (value : ValueTree)
+pub part_taken_fits : (p : Program) (t : ClassTree) (class : ℕ) (result : Option tree.Type.Type) (s : Setting) (f : Frame) (g : names.Frame) (k : declared.ValueKind.ValueKind) (index : List Mention) (whole : Option Mention) (value : ValueTree)
     → Around p t class result s → AreStanding p s.variables f g → IsKnown p k → is_block k ≡ false → Each (IsMention s) index → Each (IsMention s) (listed whole)
     → value_mistakes (record { scope = scope_of p g; class = t }) k value ≡ [] → IsStatement s (part_taken p class f index whole value)
 part_taken_fits p t class result s f g k index whole (values.Expression e) around standing known scalar indices wholes none =

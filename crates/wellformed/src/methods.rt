@@ -1,8 +1,8 @@
 //! The methods of a program, and that they are well formed.
 
 ghost use Rattle.std.specs.Prelude.{◌≡◌, ◌≤◌, ◌<◌, ◌^◌, [], IfOk, length, map};
-ghost use Rattle.program.specs.Parts.{contract_seen};
-ghost use Rattle.program.specs.Programs.{contracts_seen, messages_seen, methods_seen, structs_seen};
+ghost use Rattle.program.specs.Parts.{contract_model};
+ghost use Rattle.program.specs.Programs.{contracts_model, messages_model, methods_model, structs_model};
 ghost use Rattle.tree.specs.Trees.{contracts_of, program_tree};
 ghost use Rattle.names.specs.Findings.{program_mistakes};
 ghost use Rattle.declarations.specs.Program.{program_of};
@@ -30,16 +30,16 @@ pub fn well_formed_methods(
     text: &[u8],
     contracts: Resolved,
 ) -> Result<Methods, Memory>
-    requires contracts { map contract_seen contracts.contracts.items
+    requires contracts { map contract_model contracts.contracts.items
         ≡ resolved_contracts text.now (contracts_of (program_tree tree.now)) }
     requires room { length contracts.contracts.items < 2 ^ 32 }
     requires clean { program_mistakes (program_of text.now tree.now) ≡ [] }
-    ensures contracts { IfOk result (λ m. contracts_seen m ≡ map contract_seen contracts.contracts.items) }
-    ensures messages { IfOk result (λ m. messages_seen m ≡ messages_told (program_of text.now tree.now)) }
-    ensures structs { IfOk result (λ m. structs_seen m ≡ structs_told (program_of text.now tree.now)) }
-    ensures methods { IfOk result (λ m. methods_seen m ≡ methods_told (program_of text.now tree.now)) }
-    ensures bare { IfOk result (λ m. Each IsBare (methods_seen m)) }
-    ensures few { IfOk result (λ m. length (methods_seen m) ≤ MOST_METHODS) }
+    ensures contracts { IfOk result (λ m. contracts_model m ≡ map contract_model contracts.contracts.items) }
+    ensures messages { IfOk result (λ m. messages_model m ≡ messages_told (program_of text.now tree.now)) }
+    ensures structs { IfOk result (λ m. structs_model m ≡ structs_told (program_of text.now tree.now)) }
+    ensures methods { IfOk result (λ m. methods_model m ≡ methods_told (program_of text.now tree.now)) }
+    ensures bare { IfOk result (λ m. Each IsBare (methods_model m)) }
+    ensures few { IfOk result (λ m. length (methods_model m) ≤ MOST_METHODS) }
 {
     let Program {
         messages,

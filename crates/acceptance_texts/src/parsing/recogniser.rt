@@ -139,7 +139,7 @@ pub fn start(alloc: Global) -> Result<Rests, AllocError> {
 }
 
 /// What may come behind this token. Nothing, where it is wrong.
-pub fn step(alloc: Global, mut rests: Rests, token: &str) -> Result<Rests, AllocError> {
+pub fn step(alloc: Global, mut rests: Rests, word: &str) -> Result<Rests, AllocError> {
     let mut after = Vec::new(alloc);
     for _ in 0..1_000_000 {
         let Some(mut rest) = rests.pop() else {
@@ -148,7 +148,7 @@ pub fn step(alloc: Global, mut rests: Rests, token: &str) -> Result<Rests, Alloc
         let Some(part) = rest.pop() else {
             continue;
         };
-        if part == token {
+        if part == word {
             after.push(rest)?;
         } else if part.starts_with("<") {
             expand(&mut rests, &rest, part)?;

@@ -1,7 +1,7 @@
 use Rattle.std.proofs.Common.{◌≡◌, ◌∙◌, ◌++◌, ◌∷◌, [], map, length, ap, sym, subst, rules}
 use Rattle.contracts.specs.Parts.{contract_parts}
 use Rattle.contracts.specs.Sounds.{IsJudged}
-use Rattle.program.specs.Parts.{ContractSeen}
+use Rattle.program.specs.Parts.{ContractModel}
 use Rattle.acceptance_methods.proofs.ContractLemmas.{one_sound, whole_at}
 use Rattle.acceptance_methods.proofs.channels.with_contract.Goals as goal
 
@@ -15,4 +15,4 @@ new-requires c =
     let judged = subst (IsJudged (contract_parts c.edges-contract.result.now)) c.in-Sound.is c.in_ok-sound.ensures in
     let one : length contracts ≡ 1 = search rules in
     let pushed = c.in_ok-push.ensures.items ∙ ap (λ l. l ++ sound ∷ []) c.new-sounds.ensures.items in
-    record { sound = one_sound contracts c.push.new.self.items sound _ one c.edges-contract.ensures judged.0 pushed ∙ ap (map (λ (x : ContractSeen). x.parts)) (sym c.in_ok-methods.ensures.contracts) }
+    record { sound = one_sound contracts c.push.new.self.items sound _ one c.edges-contract.ensures judged.0 pushed ∙ ap (map (λ (x : ContractModel). x.parts)) (sym c.in_ok-methods.ensures.contracts) }

@@ -14,7 +14,7 @@ bounds-preserved c =
     let is = push_back now last.0 new c.in-Some.bound last.1 (c.pop.ensures.rest ∙ ap (λ n. take (n - 1) now) c.bounds.bounds.ok.0) in
     let kept = c.bounds.invariant in
     let fewer = kept.fewer in
-    let less = c.if-bound-place.false in
+    let less = c.if-bound-index.false in
     let shorter = ap length is in
     record {
       right = λ b h. kept.right b (subst (λ l. Contains l b) (sym is) (Contains-append_left new (c.in-Some.bound ∷ []) b h));

@@ -15,8 +15,8 @@ use Rattle.contracts.proofs.sound.sound_of.Goals as goal
 same_numbers : (one other : List Message) → map message_parts one ≡ map message_parts other → map (λ (m : Message). m.id.0) one ≡ map (λ (m : Message). m.id.0) other
 same_numbers one other same = sym (message_numbers_are one) ∙ ap (λ l. map (λ (i : MessageId). i.0) (map (λ (m : MessageParts). m.id) l)) same ∙ message_numbers_are other
 
-pub leaving-requires : goal.leaving-requires
-leaving-requires c =
+pub edges_by_state-requires : goal.edges_by_state-requires
+edges_by_state-requires c =
     let same = c.in_ok-edges.ensures.items_if_clones_equal (λ x y h. h) ∙ c.deref.ensures.value in
     record { listed = subst (EndsListed (listed c.states_of-states.result)) (sym (c.deref-3.ensures.value ∙ same)) (ends_listed c.args.contract.now (listed c.states_of-states.result) c.requires.whole c.states_of-states.ensures) }
 

@@ -4,4 +4,4 @@ use Rattle.declarations.specs.Kinds.{is_heap}
 use Rattle.declarations.proofs.fields.owning_fields.Given as goal
 
 abbrev pub invariant-loop-field : goal.invariant-loop-field
-invariant-loop-field l = l.owning.items ≡ filter (λ f. is_heap f.kind) (take l.field-index l.fields)
+invariant-loop-field l = l.owning.items ≡ filter (λ f. is_heap f.ty) (take l.field-index l.fields)

@@ -7,4 +7,4 @@ use Rattle.declarations.specs.Scopes.{IsScope}
 use Rattle.declarations.proofs.items.judge_types.Given as goal
 
 abbrev pub invariant-loop-field : goal.invariant-loop-field
-invariant-loop-field l = (p : Program) → IsScope p l.scope → Adds l.fn.found.items l.found.items (flat_map (λ x. type_unknown p x.kind) (take l.field-index l.fields))
+invariant-loop-field l = (p : Program) → IsScope p l.scope → Adds l.fn.found.items l.found.items (flat_map (λ x. type_unknown p x.ty) (take l.field-index l.fields))

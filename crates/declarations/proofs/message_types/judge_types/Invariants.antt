@@ -7,4 +7,4 @@ use Rattle.declarations.specs.Scopes.{IsScope}
 use Rattle.declarations.proofs.message_types.judge_types.Given as goal
 
 abbrev pub invariant-loop-param : goal.invariant-loop-param
-invariant-loop-param l = (p : Program) → IsScope p l.scope → Adds l.fn.found.items l.found.items (flat_map (λ x. type_unknown p x.kind) (take l.param-index l.params))
+invariant-loop-param l = (p : Program) → IsScope p l.scope → Adds l.fn.found.items l.found.items (flat_map (λ x. type_unknown p x.ty) (take l.param-index l.params))

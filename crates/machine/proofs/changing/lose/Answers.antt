@@ -1,6 +1,6 @@
 use Rattle.std.proofs.Common.{refl, sym, ap, ◌≡◌, ◌∙◌, ◌++◌, map, take, length, arith, ◌+◌}
 use Rattle.machine.specs.Blocks.{handed}
-use Rattle.machine.specs.BlockViews.{blocks_seen, held_seen}
+use Rattle.machine.specs.BlockViews.{blocks_model, held_model}
 use Rattle.machine.specs.Heaps.{brings}
 use Rattle.machine.specs.World.{changed}
 use Rattle.machine.specs.declared.worlds.Held as made_held
@@ -10,17 +10,17 @@ use Rattle.machine.proofs.CountLemmas.{brings_more}
 use Rattle.machine.proofs.changing.lose.Goals as goal
 
 pub loop-number-init : goal.loop-number-init
-loop-number-init c = record { seen = sym (handed_nothing Channel (blocks_seen c.args.blocks.now.items)); counted = c.requires.counted; listed = refl }
+loop-number-init c = record { seen = sym (handed_nothing Channel (blocks_model c.args.blocks.now.items)); counted = c.requires.counted; listed = refl }
 
 pub loop-number-preserved : goal.loop-number-preserved
 loop-number-preserved c =
-    let old = blocks_seen c.args.blocks.now.items in
+    let old = blocks_model c.args.blocks.now.items in
     let items = c.args.queue.now.items in
     let i = c.loop-number.number in
     let held = c.index.result.now in
-    let so_far = brings (map held_seen (take i items)) in
+    let so_far = brings (map held_model (take i items)) in
     let all : c.len-number-end.result ≡ length items = c.len-number-end.ensures ∙ c.args.queue.now.ok.0 in
-    let next : brings (map held_seen (take (i + 1) items)) ≡ so_far ++ c.deref.result.now =
+    let next : brings (map held_model (take (i + 1) items)) ≡ so_far ++ c.deref.result.now =
     brings_more items i held (omega arith) ∙ ap (λ l. so_far ++ l) (ap (λ (h : made_held.Held). h.payload.items) (sym c.index.ensures) ∙ sym c.deref.ensures.value) in
     record {
       seen = c.hand.ensures.handed

@@ -1,6 +1,6 @@
 use Rattle.std.proofs.Common.{[], ◌∷◌, ◌∙◌, refl, sym, ap, subst}
 use Rattle.machine.specs.Answers.{left_in}
-use Rattle.machine.specs.BlockViews.{blocks_seen}
+use Rattle.machine.specs.BlockViews.{blocks_model}
 use Rattle.machine.specs.Blocks.{handed}
 use Rattle.machine.specs.Heaps.{IsCounted, brings}
 use Rattle.machine.specs.World.{block_at, changed}
@@ -12,14 +12,14 @@ use Rattle.machine.proofs.freeing.free_one.Goals as goal
 pub lose-requires : goal.lose-requires
 lose-requires c = record {
   counted = subst (λ bs. IsCounted bs c.args.counts.now.items) (sym c.take_queue-queue.ensures.left)
-      (counted_kept (left_in c.args.x []) (blocks_seen c.args.blocks.now.items) c.args.counts.now.items (λ j b. refl) c.requires.counted);
+      (counted_kept (left_in c.args.x []) (blocks_model c.args.blocks.now.items) c.args.counts.now.items (λ j b. refl) c.requires.counted);
 }
 
 pub returns-clause-freed : goal.returns-clause-freed
 returns-clause-freed c =
-    let old = blocks_seen c.args.blocks.now.items in
+    let old = blocks_model c.args.blocks.now.items in
     c.hand_one.ensures.handed
     ∙ (ap (changed (handed Freed (c.args.x ∷ []))) (c.lose.ensures.lost
-    ∙ (ap (λ q. changed (handed Channel (brings q)) (blocks_seen c.take_queue-queue.new.blocks.items)) c.take_queue-queue.ensures.taken
+    ∙ (ap (λ q. changed (handed Channel (brings q)) (blocks_model c.take_queue-queue.new.blocks.items)) c.take_queue-queue.ensures.taken
     ∙ ap (changed (handed Channel (brings (block_at old c.args.x).queue))) c.take_queue-queue.ensures.left))
     ∙ freed_is old c.args.x c.requires.brought c.requires.empty)

@@ -2,12 +2,12 @@ use Rattle.std.proofs.Common.{[], Err, sym, subst, take}
 use Rattle.std.specs.Prelude.{get_or}
 use Rattle.std.proofs.lemmas.List.{take_more}
 use Rattle.std.proofs.lemmas.Option.{slice_get-get_or}
-use Rattle.rules.specs.Programs.{seen_of}
+use Rattle.rules.specs.Programs.{model_of}
 use Rattle.machine.specs.Machine.{event_outcome}
 use Rattle.machine.specs.Outcomes.{TellsStep}
 use Rattle.machine.specs.Places.{process_place}
 use Rattle.machine.specs.Runs.{Leads, moves, start_of, stays}
-use Rattle.machine.specs.Views.{world_seen}
+use Rattle.machine.specs.Views.{world_model}
 use Rattle.machine.specs.declared.halts.Event.{Event}
 use Rattle.machine.proofs.replaying.replay.Goals as goal
 
@@ -17,21 +17,21 @@ no_event = record { process = 0; choice = 0 }
 
 pub loop-steps-init : goal.loop-steps-init
 loop-steps-init c = λ bound are.
-    let p = seen_of c.args.program.now in
+    let p = model_of c.args.program.now in
     let begins = start_of p c.args.method.0 in
     subst (λ w. Leads p bound begins [] w) (sym c.in_ok-world.ensures) stays
 
 pub loop-steps-preserved : goal.loop-steps-preserved
 loop-steps-preserved c = λ bound are.
-    let p = seen_of c.args.program.now in
+    let p = model_of c.args.program.now in
     let events = c.args.events.now in
     let n = c.loop-steps.steps in
-    subst (λ es. Leads p bound (start_of p c.args.method.0) es (world_seen c.step.new.self)) (sym (take_more events n no_event c.loop-steps-test.true))
-    (moves (take n events) (world_seen c.loop-steps.world) (world_seen c.step.new.self) (get_or events n no_event) (c.loop-steps.invariant bound are) (c.in-Ok.ensures.tells bound are))
+    subst (λ es. Leads p bound (start_of p c.args.method.0) es (world_model c.step.new.self)) (sym (take_more events n no_event c.loop-steps-test.true))
+    (moves (take n events) (world_model c.loop-steps.world) (world_model c.step.new.self) (get_or events n no_event) (c.loop-steps.invariant bound are) (c.in-Ok.ensures.tells bound are))
 
 pub returns-in-Err : goal.returns-in-Err
 returns-in-Err c = λ bound are.
-    let p = seen_of c.args.program.now in
+    let p = model_of c.args.program.now in
     let events = c.args.events.now in
     let n = c.loop-steps.steps in
     let e = get_or events n no_event in
@@ -41,8 +41,8 @@ returns-in-Err c = λ bound are.
       ends = record {
         event = e;
         there = slice_get-get_or events n no_event c.loop-steps-test.true;
-        tells = subst (λ h. TellsStep {X = Unit {0}} (Err h) (event_outcome p bound (world_seen c.step.new.self) e) (process_place p (world_seen c.step.new.self) e.process) (world_seen c.step.new.self)) (sym c.in_ok-halt-in-Err.ensures.same)
-            (subst (λ w. TellsStep {X = Unit {0}} (Err c.in-Err.halt) (event_outcome p bound w e) (process_place p w e.process) (world_seen c.step.new.self)) same (c.in-Err.ensures.tells bound are));
+        tells = subst (λ h. TellsStep {X = Unit {0}} (Err h) (event_outcome p bound (world_model c.step.new.self) e) (process_place p (world_model c.step.new.self) e.process) (world_model c.step.new.self)) (sym c.in_ok-halt-in-Err.ensures.same)
+            (subst (λ w. TellsStep {X = Unit {0}} (Err c.in-Err.halt) (event_outcome p bound w e) (process_place p w e.process) (world_model c.step.new.self)) same (c.in-Err.ensures.tells bound are));
       };
       known = c.in_ok-halt-in-Err.ensures.known;
     }

@@ -1,13 +1,13 @@
 use Rattle.std.proofs.Common.{◌∙◌, Some, slice_get, refl, sym, ap}
 use Rattle.std.proofs.lemmas.Option.{slice_get_read}
-use Rattle.rules.specs.Programs.{seen_of}
+use Rattle.rules.specs.Programs.{model_of}
 use Rattle.machine.specs.Frames.{method_at}
 use Rattle.machine.proofs.StandLemmas.{standing}
 use Rattle.machine.proofs.standing.instruction_at.Goals as goal
 
 pub returns : goal.returns
 returns c =
-    let p = seen_of c.args.program.now in
+    let p = model_of c.args.program.now in
     let point = c.args.frame.now.point in
     let i = c.in_ok-instruction.instruction.now in
     let look = c.in_ok-instruction.ensures.lookup in

@@ -16,5 +16,5 @@ returns c = λ p f scope frame.
     let args = c.args.arguments.now in
     let es = map shape (map expression_tree args) in
     subst (λ l. OnOk c.judge_arguments.result (Adds c.args.found.now.items c.judge_arguments.new.found.items l))
-    (ap (λ kinds. argument_mistakes s kinds es) (c.deref.ensures.value ∙ c.in_ok-kinds.ensures p scope) ∙ enough_kinds expression_tree (λ (x : Field). type_kind p x.kind) s c.args.fields.now args)
+    (ap (λ kinds. argument_mistakes s kinds es) (c.deref.ensures.value ∙ c.in_ok-kinds.ensures p scope) ∙ enough_kinds expression_tree (λ (x : Field). type_kind p x.ty) s c.args.fields.now args)
     (c.judge_arguments.ensures p f scope frame)

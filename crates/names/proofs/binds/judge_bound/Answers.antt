@@ -8,7 +8,7 @@ use Rattle.names.proofs.TurnLemmas.{goes_on}
 use Rattle.names.proofs.binds.judge_bound.Goals as goal
 
 abbrev no_bind : Bind
-no_bind = record { kind = None; name = record { start = 0; end = 0; place = record { line = 0; col = 0 } } }
+no_bind = record { ty = None; name = record { start = 0; end = 0; place = record { line = 0; col = 0 } } }
 
 pub loop-place-preserved : goal.loop-place-preserved
 loop-place-preserved c = λ p f scope frame.

@@ -30,4 +30,4 @@ returns c = λ p f n here.
     (subst (λ m. Adds old asked (unless c.is_sent-well.result place m)) c.send_mismatch.ensures c.in_ok-ask.ensures))
     (on_adds result asked counted new (number_of_arguments params es place) (argument_mistakes s kinds es)
     (numbered expression_tree params c.len.result args place (omega (arith, c.len.ensures, message.params.ok.0)) c.in_ok-judge_count.ensures)
-    (subst (λ ps. OnOk result (Adds counted new (argument_mistakes s (map (λ x. type_kind p x.kind) ps) es))) c.deref.ensures.value (c.judge_message_arguments.ensures p f here.scope here.frame)))
+    (subst (λ ps. OnOk result (Adds counted new (argument_mistakes s (map (λ x. type_kind p x.ty) ps) es))) c.deref.ensures.value (c.judge_message_arguments.ensures p f here.scope here.frame)))

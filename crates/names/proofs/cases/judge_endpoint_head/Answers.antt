@@ -5,7 +5,7 @@ use Rattle.names.specs.Operands.{in_frame}
 use Rattle.declarations.specs.Mistakes.{Adds}
 use Rattle.declarations.specs.declared.mistake.Mistake.TheVariants.{LacksClosed}
 use Rattle.names.specs.Heads.{IsHeads, case_head, awaiting_of}
-use Rattle.declarations.specs.declared.kinds.Kind.TheVariants as kind
+use Rattle.declarations.specs.declared.kinds.ValueKind.TheVariants as kind
 use Rattle.names.proofs.HeadWords.{told_unless}
 use Rattle.tree.proofs.StatementTwins.{case_is}
 use Rattle.names.specs.Bodies.{head_of}
@@ -20,7 +20,7 @@ returns c = λ p f all scope heads.
     let old = c.args.found.now.items in
     let mid = c.judge_awaited.new.found.items in
     let new = c.judge_lacking.new.found.items in
-    let earlier = take c.args.place all in
+    let earlier = take c.args.index all in
     let tokens = c.args.context.now.scope.now.text.now in
     let own = subst (λ t. IsHeads t all c.args.heads.now) (sym scope.text_is) heads in
     let twice = c.is_twice-twice.ensures all h own (c.awaiting_at.ensures ∙ ap (λ k. awaiting_of (head_of k)) (case_is c.args.case.now)) ∙ ap (λ t. awaits_too t h earlier) scope.text_is in

@@ -17,7 +17,7 @@ returns-in-Endpoint c = λ p f all here heads.
     let old = c.args.found.now.items in
     let mid = c.judge_use.new.found.items in
     let new = c.judge_endpoint_head.new.found.items in
-    let earlier = take c.args.place all in
+    let earlier = take c.args.index all in
     let kind = sym c.in-Endpoint.is ∙ c.kind_held.ensures p f here.scope here.frame in
     on_adds result old mid new (variable_mistakes s h.endpoint) (kind_head_mistakes s all earlier (held (meant s h.endpoint)) h)
     (c.in_ok-judge_use.ensures p f here.scope here.frame)
@@ -31,7 +31,7 @@ returns-in_default c = λ p f all here heads.
     let old = c.args.found.now.items in
     let mid = c.judge_use.new.found.items in
     let new = c.judge_no_endpoint.new.found.items in
-    let earlier = take c.args.place all in
+    let earlier = take c.args.index all in
     on_adds result old mid new (variable_mistakes s h.endpoint) (kind_head_mistakes s all earlier (held (meant s h.endpoint)) h)
     (c.in_ok-judge_use.ensures p f here.scope here.frame)
     (subst (λ k. OnOk result (Adds mid new (kind_head_mistakes s all earlier k h))) (c.kind_held.ensures p f here.scope here.frame)

@@ -5,7 +5,7 @@ use Rattle.names.specs.Cases.{awaited_message, message_case_mistakes, twice_mist
 use Rattle.names.specs.Operands.{in_frame}
 use Rattle.declarations.specs.Mistakes.{Adds}
 use Rattle.names.specs.Heads.{case_head}
-use Rattle.declarations.specs.declared.kinds.Kind.TheVariants as kind
+use Rattle.declarations.specs.declared.kinds.ValueKind.TheVariants as kind
 use Rattle.names.proofs.HeadWords.{told_twice}
 use Rattle.names.proofs.PassLemmas.{on_adds}
 use Rattle.names.proofs.cases.judge_message.Goals as goal

@@ -68,7 +68,7 @@ judge_case-returns t c = λ m f all around frame heads at.
     let first = c.in_ok-judge_binds.ensures m.program f around.scope frame in
     let second = subst (λ xs. Turned text bound new w (statements_turn m (statement_row (map statement_tree xs)) binding.frame)) c.deref.ensures.value (c.in_ok-judge_statements.ensures m binding.frame around first.frame) in
     let both = follow binding (statements_turn m row) in
-    let earlier = take c.args.place all in
+    let earlier = take c.args.index all in
     let inner = leaves f both around.scope.text_is (c.len-outer.ensures text f frame) c.leave.ensures (kept f both.frame (case_extends m params case.binds.items row f)) (turned_then binding (statements_turn m row) first second) in
     let here = c.in_ok-judge_head.ensures m.program f all (c.context.ensures m f around frame) heads in
     subst (λ k. Turned text old new c.leave.new.self (case_turn m all earlier k f)) (sym (case_is case))

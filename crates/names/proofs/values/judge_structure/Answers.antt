@@ -31,7 +31,7 @@ returns-in_ok-judge_field_arguments-in-Some-clause-found c = λ p f here.
     let owning = c.in-Some.owning.now in
     let looked = structured (struct_named p name) c.in-Some.place owning (c.in-Some.ensures p here.scope) in
     let asked = fields_asked p looked.structure in
-    let many : length owning ≡ length asked = omega (arith, ap length looked.owning, length-map (owning_fields looked.structure) (λ (x : made.Field.Field). type_kind p x.kind)) in
+    let many : length owning ≡ length asked = omega (arith, ap length looked.owning, length-map (owning_fields looked.structure) (λ (x : made.Field.Field). type_kind p x.ty)) in
     subst (λ o. Adds old new (struct_made_mistakes s o name es)) (sym looked.is)
     (adds_then (numbered expression_tree asked (length owning) args name.place many c.in_ok-judge_count-in-Some.ensures)
-    (subst (λ xs. Adds counted new (argument_mistakes s (map (λ (x : made.Field.Field). type_kind p x.kind) xs) es)) looked.owning (c.in_ok-judge_field_arguments-in-Some.ensures p f here.scope here.frame)))
+    (subst (λ xs. Adds counted new (argument_mistakes s (map (λ (x : made.Field.Field). type_kind p x.ty) xs) es)) looked.owning (c.in_ok-judge_field_arguments-in-Some.ensures p f here.scope here.frame)))

@@ -19,7 +19,7 @@ returns-clause-one c =
     let same = c.absorb.ensures.same in record {
       old = c.index_mut-owner.result.now;
       new = c.absorb.new.self;
-      was = λ o. get_or_default c.args.owners.now.items c.args.place o c.index_mut-owner.result.now c.requires.place ∙ sym c.index_mut-owner.ensures.value;
+      was = λ o. get_or_default c.args.owners.now.items c.args.index o c.index_mut-owner.result.now c.requires.index ∙ sym c.index_mut-owner.ensures.value;
       now = refl;
       changes = record {
         keeps = record {
@@ -36,6 +36,6 @@ pub returns-clause-taken : goal.returns-clause-taken
 returns-clause-taken c = λ n.
     let one = returns-clause-one c in
     let f = λ (o : Owner). copies n (worker_view o).taken in
-    let sum = sum_one f c.args.place (TookIn c.args.pass) c.args.owners.now.items _ c.requires.place one in
+    let sum = sum_one f c.args.index (TookIn c.args.pass) c.args.owners.now.items _ c.requires.index one in
     let more : f one.new ≡ f one.old + copies n (view c.args.pass).taken = ap (copies n) one.changes.taken ∙ copies-append n (worker_view one.old).taken (view c.args.pass).taken in
     omega arith

@@ -18,7 +18,7 @@ returns c =
     subst (λ (o : Owner). 1 < owner_parts o) (sym c.index_mut-owner.ensures.value) (c.requires.part c.index_mut-owner.result.now) in record {
       old = c.index_mut-owner.result.now;
       new = c.another.new.self;
-      was = λ o. get_or_default c.args.owners.now.items c.args.place o c.index_mut-owner.result.now c.requires.place ∙ sym c.index_mut-owner.ensures.value;
+      was = λ o. get_or_default c.args.owners.now.items c.args.index o c.index_mut-owner.result.now c.requires.index ∙ sym c.index_mut-owner.ensures.value;
       now = refl;
       changes = record {
         keeps = record {

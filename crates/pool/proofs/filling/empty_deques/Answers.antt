@@ -5,7 +5,7 @@ use Rattle.crossbeam_deque.specs.Handles.{worker_view}
 use Rattle.pool.specs.Rule.{copies}
 use Rattle.pool.specs.Counts.{Owner, all_put}
 use Rattle.pool.specs.Owners.{IsWhole, owner_put}
-use Rattle.pool.specs.declared.held.Held.{Held}
+use Rattle.pool.specs.declared.held.HeldTask.{HeldTask}
 use Rattle.pool.specs.declared.held.Hand.{Hand}
 use Rattle.pool.proofs.Shares.{begins}
 use Rattle.pool.proofs.filling.empty_deques.Goals as goal
@@ -19,7 +19,7 @@ loop-preserved g c =
     let o = c.in_ok-fifo_as.field-0 in
     let told = c.in_ok-fifo_as.ensures in
     let items = c.in_ok-push.ensures.items in
-    let Q = λ (x : Owner). All (λ (y : Held). g.J.Job.takes c.args.job.now y.task) (owner_put x) in
+    let Q = λ (x : Owner). All (λ (y : HeldTask). g.J.Job.takes c.args.job.now y.task) (owner_put x) in
     let whole : IsWhole o = record { fifo = told.1; parts = ap (λ (v : Hand). v.parts) told.4; none = ap (λ (v : Hand). v.taken) told.4 } in
     let put : owner_put o ≡ [] = ap (λ (v : Hand). v.put) told.4 in
     record {
@@ -27,7 +27,7 @@ loop-preserved g c =
       filled = record {
         whole = subst (All IsWhole) (sym items) (All-push IsWhole c.loop.owners.items o i.filled.whole whole);
         tasks = subst (All Q) (sym items) (All-push Q c.loop.owners.items o i.filled.tasks
-            (subst (All (λ (y : Held). g.J.Job.takes c.args.job.now y.task)) (sym put) (All-nil (λ (y : Held). g.J.Job.takes c.args.job.now y.task))));
+            (subst (All (λ (y : HeldTask). g.J.Job.takes c.args.job.now y.task)) (sym put) (All-nil (λ (y : HeldTask). g.J.Job.takes c.args.job.now y.task))));
       };
       empty = λ n.
           let e = ap (all_put n) items in

@@ -1,7 +1,7 @@
 use Rattle.std.proofs.Common.{arith, subst, sym, ap, ◌∙◌, All, ◌∷◌, []}
 use Rattle.crossbeam_deque.specs.Handles.{worker_view}
 use Rattle.pool.specs.declared.held.Hand.{Hand}
-use Rattle.pool.specs.declared.held.Held.{Held}
+use Rattle.pool.specs.declared.held.HeldTask.{HeldTask}
 use Rattle.pool.specs.Rule.{copies}
 use Rattle.pool.proofs.Shares.{takes, taken_one}
 use Rattle.pool.proofs.Benches.{does_more, took_more}
@@ -15,7 +15,7 @@ pop_as-requires-clause-lifo g c lifo = let same = c.loop.invariant.took.keeps.fl
 
 pub run_one-requires-clause-task : goal.run_one-requires-clause-task
 run_one-requires-clause-task g c κs within =
-    let P = λ (x : Held). g.J.Job.takes c.args.common.now.job.now x.task in
+    let P = λ (x : HeldTask). g.J.Job.takes c.args.common.now.job.now x.task in
     taken_one P (worker_view c.loop.owner).put c.in-Some-pop_as.held c.in-Some-pop_as.ensures.rule.1
     (subst (All P) (sym c.loop.invariant.took.keeps.put) c.requires.own.tasks)
 

@@ -1,6 +1,6 @@
 use Rattle.std.proofs.Common.{◌≡◌, ◌++◌, map, take}
 use Rattle.std.specs.List.{enumerate_from, flat_map}
-use Rattle.machine.specs.Views.{block_seen}
+use Rattle.machine.specs.Views.{block_model}
 use Rattle.replays.specs.Naming.{words_of}
 use Rattle.replays.specs.WorldLines.{block_line}
 use Rattle.replays.proofs.blocks.add_blocks.Given as goal
@@ -8,4 +8,4 @@ use Rattle.replays.proofs.blocks.add_blocks.Given as goal
 -- the lines of the blocks so far
 abbrev pub invariant-loop-address : goal.invariant-loop-address
 invariant-loop-address l =
-    l.answer.items ≡ l.initial.answer.items ++ flat_map (λ b. block_line (words_of l.naming) b.0 b.1) (enumerate_from 0 (map block_seen (take l.address l.blocks)))
+    l.answer.items ≡ l.initial.answer.items ++ flat_map (λ b. block_line (words_of l.naming) b.0 b.1) (enumerate_from 0 (map block_model (take l.address l.blocks)))

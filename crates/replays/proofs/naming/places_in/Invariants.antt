@@ -1,5 +1,5 @@
 use Rattle.std.proofs.Common.{◌≡◌, length, map, take}
-use Rattle.program.specs.Parts.{contract_seen}
+use Rattle.program.specs.Parts.{contract_model}
 use Rattle.replays.specs.Placed.{ArePlaced}
 use Rattle.replays.proofs.naming.places_in.Given as goal
 
@@ -7,5 +7,5 @@ use Rattle.replays.proofs.naming.places_in.Given as goal
 abbrev pub invariant-loop-contract : goal.invariant-loop-contract
 invariant-loop-contract l = record {
   many : length l.places.items ≡ l.contract-index;
-  placed : ArePlaced (map contract_seen (take l.contract-index l.contracts)) l.places.items;
+  placed : ArePlaced (map contract_model (take l.contract-index l.contracts)) l.places.items;
 }

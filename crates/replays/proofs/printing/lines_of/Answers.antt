@@ -1,9 +1,9 @@
 use Rattle.std.proofs.Common.{◌≡◌, ◌∙◌, ◌++◌, ap, ap₂, map, List, Option, ℕ, map-id}
 use Rattle.std.specs.Prelude.{slice_get, string_bytes}
 use Rattle.std.specs.List.{enumerate_from, flat_map}
-use Rattle.program.specs.Programs.{ProgramSeen}
-use Rattle.rules.specs.Programs.{seen_of}
-use Rattle.machine.specs.Views.{world_seen}
+use Rattle.program.specs.Programs.{ProgramModel}
+use Rattle.rules.specs.Programs.{model_of}
+use Rattle.machine.specs.Views.{world_model}
 use Rattle.machine.specs.World.{Block, Frame}
 use Rattle.machine.specs.declared.halts.Event.{Event}
 use Rattle.replays.specs.Names.{Words}
@@ -12,25 +12,25 @@ use Rattle.replays.proofs.LineLemmas.{four_added}
 use Rattle.replays.proofs.NameLemmas.{got_seen}
 use Rattle.replays.proofs.printing.lines_of.Goals as goal
 
-processes_told : ProgramSeen → List (List Frame) → List ℕ
+processes_told : ProgramModel → List (List Frame) → List ℕ
 processes_told p stacks = flat_map (λ (q : ℕ × List Frame). process_line p q.0 q.1) (enumerate_from 0 stacks)
 
 blocks_told : Words → List Block → List ℕ
 blocks_told w blocks = flat_map (λ (b : ℕ × Block). block_line w b.0 b.1) (enumerate_from 0 blocks)
 
-words : ProgramSeen → List (List ℕ) → Words
+words : ProgramModel → List (List ℕ) → Words
 words p structs = record { program = p; structs = structs }
 
 pub returns : goal.returns
 unfolding processes_told blocks_told words
 returns c =
     let replayed = c.args.replayed.now in
-    let p = seen_of c.args.program.now in
+    let p = model_of c.args.program.now in
     let w = words p (map string_bytes c.args.structs.now) in
     let events = c.args.events.now in
     let event : c.copied.result ≡ slice_get events replayed.steps =
     c.copied.ensures ∙ got_seen (λ (e : Event). e) events replayed.steps c.get.result c.get.ensures.lookup ∙ ap (λ l. slice_get l replayed.steps) (map-id events) in
-    let v = world_seen replayed.world in
+    let v = world_model replayed.world in
     four_added (steps_line replayed.steps) (stop_line (slice_get events replayed.steps) replayed.halt) (processes_told p v.processes) (blocks_told w v.blocks)
     c.new-answer.result.items c.add_steps.new.answer.items c.add_stop.new.answer.items c.add_processes.new.answer.items c.new-answer.ensures.items c.in_ok-add_steps.ensures
     (c.in_ok-add_stop.ensures ∙ ap (λ (e : Option Event). c.add_steps.new.answer.items ++ stop_line e replayed.halt) event)

@@ -3,7 +3,7 @@ use Rattle.std.specs.Global.{Vec}
 use Rattle.tree.specs.Trees.{member_tree}
 use Rattle.tree.specs.declared.contract.Member.{Member}
 use Rattle.declarations.specs.Declarations.{message_among}
-use Rattle.program.specs.declared.kind.Kind.{Kind}
+use Rattle.program.specs.declared.kind.HeapKind.{HeapKind}
 use Rattle.resolving.specs.Brought.{brought, params_held}
 use Rattle.program.specs.Programs.{rows}
 use Rattle.resolving.proofs.BroughtLemmas.{members_all, members_more, rows_more}
@@ -17,10 +17,10 @@ loop-member-preserved c = λ p round.
     let more = members_more p c.args.members.now c.loop-member.member-index c.member-item.result (rows c.args.told.now.items) (rows done) (rows c.match-member.told.items)
     c.loop-member-test.true c.member-item.is (c.loop-member.invariant p round) in
     elim c.match-member.branch [
-      | in-Message+in_ok-params_held+in_ok-push w ↦ more (ap (λ (t : Vec (Vec Kind)). rows t.items) w.told-is
+      | in-Message+in_ok-params_held+in_ok-push w ↦ more (ap (λ (t : Vec (Vec HeapKind)). rows t.items) w.told-is
           ∙ rows_more done w.push.new.self.items w.in_ok-params_held.field-0 (params_held p w.in-Message.message.params.items) w.in_ok-push.ensures.items (w.in_ok-params_held.ensures p round ∙ ap (params_held p) w.deref.ensures.value)
           ∙ ap here (sym w.in-Message.is))
-      | in_default w ↦ more (ap (λ (t : Vec (Vec Kind)). rows t.items) w.told-is ∙ sym (append-nil (rows done)) ∙ ap here (sym w.in_default.is))
+      | in_default w ↦ more (ap (λ (t : Vec (Vec HeapKind)). rows t.items) w.told-is ∙ sym (append-nil (rows done)) ∙ ap here (sym w.in_default.is))
     ]
 
 pub returns : goal.returns

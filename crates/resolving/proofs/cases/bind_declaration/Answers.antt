@@ -3,14 +3,14 @@ use Rattle.std.specs.Prelude.{option_map}
 use Rattle.source.specs.declared.token.Span.{Span}
 use Rattle.tree.specs.declared.contract.Param.{Param}
 use Rattle.declarations.specs.declared.kinds as names
-use Rattle.program.specs.declared.kind.Kind.{Kind}
+use Rattle.program.specs.declared.kind.HeapKind.{HeapKind}
 use Rattle.program.specs.declared.method.Role.TheVariants.{Local}
 use Rattle.resolving.specs.Binds.{bound_as}
 use Rattle.resolving.specs.Kinds.{kind_held}
 use Rattle.resolving.specs.declared.locals.Declaration.{Declaration}
 use Rattle.resolving.proofs.cases.bind_declaration.Goals as goal
 
-abbrev local : Span → names.Kind.Kind → Option Kind → Declaration
+abbrev local : Span → names.ValueKind.ValueKind → Option HeapKind → Declaration
 local name kind held = record { name = name; kind = kind; held = held; role = Local }
 
 pub returns-in-None : goal.returns-in-None

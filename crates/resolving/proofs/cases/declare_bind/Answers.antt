@@ -9,5 +9,5 @@ pub returns : goal.returns
 returns c = λ items own f around frame.
     let p = program_in c.args.text.now items in
     let param = option_map (λ (x : Bor Param). x.now) c.args.param in
-    declared_bound p param c.args.bind f c.bind_declaration-declaration.result c.next_number-number.result c.args.bound.now.items c.add_number.new.bound.items c.declare.new.self c.declare.result
+    declared_bound p param c.args.bind f c.bind_declaration-declaration.result c.next_number-number.result c.args.targets.now.items c.add_number.new.targets.items c.declare.new.self c.declare.result
     (c.bind_declaration-declaration.ensures p own around) (c.next_number-number.ensures p.text f frame) c.in_ok-add_number.ensures (c.declare.ensures f frame)

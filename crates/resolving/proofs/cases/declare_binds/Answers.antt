@@ -8,7 +8,7 @@ use Rattle.resolving.proofs.BindLemmas.{none_bound, more_bound, all_bound}
 use Rattle.resolving.proofs.cases.declare_binds.Goals as goal
 
 abbrev no_bind : Bind
-no_bind = record { kind = None; name = record { start = 0; end = 0; place = record { line = 0; col = 0 } } }
+no_bind = record { ty = None; name = record { start = 0; end = 0; place = record { line = 0; col = 0 } } }
 
 pub loop-place-init : goal.loop-place-init
 loop-place-init c = λ items own f around frame.

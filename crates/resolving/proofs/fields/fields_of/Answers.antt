@@ -6,7 +6,7 @@ use Rattle.tree.specs.Trees.{definition_tree, item_tree}
 use Rattle.tree.specs.declared.item.Definition.{Definition}
 use Rattle.tree.specs.declared.item.Item.{Item}
 use Rattle.program.specs.Programs.{rows}
-use Rattle.program.specs.declared.kind.Kind.{Kind}
+use Rattle.program.specs.declared.kind.HeapKind.{HeapKind}
 use Rattle.resolving.specs.Around.{owning_places, places_held, places_in, program_in}
 use Rattle.resolving.specs.Fields.{fields_held}
 use Rattle.resolving.proofs.BroughtLemmas.{rows_more}
@@ -31,7 +31,7 @@ loop-item-preserved c = λ text h.
           let owning = w.in_ok-owning.owning in
           let fields = w.in-Struct.structure.fields.items in
           let found = w.in_ok-owning.ensures p h in (
-            ap (λ (t : Vec (Vec Kind)). rows t.items) w.structs-is
+            ap (λ (t : Vec (Vec HeapKind)). rows t.items) w.structs-is
                 ∙ rows_more done _ owning.kinds (fields_held p fields) w.in_ok-push.ensures.items (found.0 ∙ ap (fields_held p) w.deref.ensures.value)
                 ∙ ap here (sym w.in-Struct.is) ∙ more,
             ap (λ (t : Vec (Vec ℕ)). map (λ (row : Vec ℕ). row.items) t.items) w.places-is
@@ -40,7 +40,7 @@ loop-item-preserved c = λ text h.
           )
       | in_default+in_ok-push-3 w ↦
           let none = no_struct p item.definition w.in_default.not-Struct in (
-            ap (λ (t : Vec (Vec Kind)). rows t.items) w.structs-is ∙ sym (append-nil (rows done)) ∙ ap (λ l. rows done ++ l) none.0 ∙ more,
+            ap (λ (t : Vec (Vec HeapKind)). rows t.items) w.structs-is ∙ sym (append-nil (rows done)) ∙ ap (λ l. rows done ++ l) none.0 ∙ more,
             ap (λ (t : Vec (Vec ℕ)). map (λ (row : Vec ℕ). row.items) t.items) w.places-is
                 ∙ places _ w.new.result c.loop-item-test.true c.item-item.is so.1 w.in_ok-push-3.ensures.items (w.new.ensures.items ∙ none.1),
           )

@@ -3,7 +3,7 @@ use Rattle.std.specs.Global.{Vec}
 use Rattle.std.proofs.lemmas.List.{take_all}
 use Rattle.tree.specs.declared.class.Field.{Field}
 use Rattle.tree.specs.declared.types.Type.TheVariants.{Scalar}
-use Rattle.program.specs.declared.kind.Kind.{Kind}
+use Rattle.program.specs.declared.kind.HeapKind.{HeapKind}
 use Rattle.program.specs.declared.kind.Scalar.TheVariants.{Int}
 use Rattle.resolving.specs.Around.{places_held}
 use Rattle.resolving.specs.Fields.{fields_held}
@@ -15,7 +15,7 @@ use Rattle.resolving.proofs.fields.owning_among.Goals.{in-Some+in_ok-push+in_ok-
 
 -- what stands past the end of a list
 abbrev past : Field
-past = record { access = None; kind = Scalar Int; name = record { start = 0; end = 0; place = record { line = 0; col = 0 } } }
+past = record { access = None; ty = Scalar Int; name = record { start = 0; end = 0; place = record { line = 0; col = 0 } } }
 
 pub loop-place-preserved : goal.loop-place-preserved
 loop-place-preserved c = λ p h.
@@ -25,16 +25,16 @@ loop-place-preserved c = λ p h.
     let so = c.loop-place.invariant p h in
     let kinds = c.loop-place.kinds.items in
     let places = c.loop-place.places.items in
-    let holds = λ (f : Field). type_held p f.kind in
+    let holds = λ (f : Field). type_held p f.ty in
     elim c.match-type_held.branch [
       | in-Some+in_ok-push+in_ok-push-2 w ↦
           let is = w.in-Some.ensures p h in (
-            ap (λ (k : Vec Kind). k.items) w.kinds-is ∙ w.in_ok-push.ensures.items ∙ held_some holds fields i past w.in-Some.kind kinds lt so.0 is,
+            ap (λ (k : Vec HeapKind). k.items) w.kinds-is ∙ w.in_ok-push.ensures.items ∙ held_some holds fields i past w.in-Some.kind kinds lt so.0 is,
             ap (λ (k : Vec ℕ). k.items) w.places-is ∙ w.in_ok-push-2.ensures.items ∙ place_some p fields i past w.in-Some.kind places lt so.1 is,
           )
       | in_default w ↦
           let is = w.in_default.ensures p h in (
-            ap (λ (k : Vec Kind). k.items) w.kinds-is ∙ held_none holds fields i past kinds lt so.0 is,
+            ap (λ (k : Vec HeapKind). k.items) w.kinds-is ∙ held_none holds fields i past kinds lt so.0 is,
             ap (λ (k : Vec ℕ). k.items) w.places-is ∙ place_none p fields i past places lt so.1 is,
           )
     ]

@@ -1,15 +1,15 @@
 use Rattle.std.proofs.Common.{Some, ap, sym, ◌∙◌}
 use Rattle.std.specs.Prelude.{option_map}
-use Rattle.program.specs.declared.kind.Kind.TheVariants.{Endpoint}
+use Rattle.program.specs.declared.kind.HeapKind.TheVariants.{Endpoint}
 use Rattle.resolving.specs.Kinds.{contract_number, state_of}
 use Rattle.resolving.proofs.kinds.endpoint_held.Goals as goal
 
 pub returns : goal.returns
 returns c = λ p h.
-    let place = c.args.place in
+    let index = c.args.index in
     let side = c.args.side in
     let contract = c.in_ok-contract.ensures p h in
-    let number = c.in_ok-number.ensures p h ∙ ap (option_map (λ k. contract_number p place)) (sym contract) in
+    let number = c.in_ok-number.ensures p h ∙ ap (option_map (λ k. contract_number p index)) (sym contract) in
     ap (option_map (λ n. Endpoint n side c.state_of.result)) number
-    ∙ ap (λ state. Some (Endpoint (contract_number p place) side state)) (c.state_of.ensures p h)
-    ∙ ap (option_map (λ k. Endpoint (contract_number p place) side (state_of p place k c.args.state))) contract
+    ∙ ap (λ state. Some (Endpoint (contract_number p index) side state)) (c.state_of.ensures p h)
+    ∙ ap (option_map (λ k. Endpoint (contract_number p index) side (state_of p index k c.args.state))) contract

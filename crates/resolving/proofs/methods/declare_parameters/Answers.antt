@@ -12,7 +12,7 @@ use Rattle.resolving.proofs.methods.declare_parameters.Goals as goal
 
 -- what stands past the end of a list
 abbrev past : made.Parameter.Parameter
-past = record { claims = false; kind = Scalar Int; name = record { start = 0; end = 0; place = record { line = 0; col = 0 } } }
+past = record { claims = false; ty = Scalar Int; name = record { start = 0; end = 0; place = record { line = 0; col = 0 } } }
 
 pub loop-parameter-preserved : goal.loop-parameter-preserved
 loop-parameter-preserved c = λ items own f round h.

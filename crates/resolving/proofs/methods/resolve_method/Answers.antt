@@ -1,7 +1,7 @@
 use Rattle.std.proofs.Common.{map, refl, subst, ap, ◌∙◌}
 use Rattle.tree.specs.StatementTrees.{statement_tree, statement_row}
 use Rattle.program.specs.Statements as seen
-use Rattle.program.specs.Statements.{statement_seen}
+use Rattle.program.specs.Statements.{statement_model}
 use Rattle.resolving.specs.Around.{program_in}
 use Rattle.resolving.specs.Frames.{IsFrame}
 use Rattle.resolving.specs.Methods.{no_variables, parameters_frame, takes_some}
@@ -18,7 +18,7 @@ returns c = λ items own round.
     let method = c.args.method.now in
     let before = c.declare_parameters.new.locals in
     let after = c.tell_statements.new.locals in
-    let statements = seen.statement_row (map statement_seen c.in_ok-statements.statements.items) in
+    let statements = seen.statement_row (map statement_model c.in_ok-statements.statements.items) in
     let params = subst (λ l. IsFrame text (parameters_frame p l no_variables) before) c.deref.ensures.value (c.in_ok-declare_parameters.ensures items own no_variables round (c.new-locals.ensures text)) in
     let start = parameters_frame p method.params.items no_variables in
     let body = subst (λ l. IsTold text (statements_told p own (stays_here start) (statement_row (map statement_tree l)) start) statements after) c.deref-2.ensures.value

@@ -16,8 +16,8 @@ returns-in-Declare c = λ items own around.
     let p = program_in c.args.text.now items in
     let text = c.args.text.now in
     let locals = c.args.locals.now in
-    told_as text locals c.tell_declare.result (λ f. first_value p own f c.deref.result.now.name (next_number (type_held p c.deref.result.now.kind) f) (option_map value_tree c.deref.result.now.value)) (λ f. plain_told p own f (statement_tree c.args.statement.now))
-    (λ f frame. ap (λ (d : made.Declare.Declare). first_value p own f d.name (next_number (type_held p d.kind) f) (option_map value_tree d.value)) c.deref.ensures ∙ ap (plain_told p own f) (sym (ap statement_tree c.in-Declare.is ∙ of_declare c.in-Declare.declare)))
+    told_as text locals c.tell_declare.result (λ f. first_value p own f c.deref.result.now.name (next_number (type_held p c.deref.result.now.ty) f) (option_map value_tree c.deref.result.now.value)) (λ f. plain_told p own f (statement_tree c.args.statement.now))
+    (λ f frame. ap (λ (d : made.Declare.Declare). first_value p own f d.name (next_number (type_held p d.ty) f) (option_map value_tree d.value)) c.deref.ensures ∙ ap (plain_told p own f) (sym (ap statement_tree c.in-Declare.is ∙ of_declare c.in-Declare.declare)))
     (c.tell_declare.ensures items own around)
 
 pub returns-in-Assign : goal.returns-in-Assign

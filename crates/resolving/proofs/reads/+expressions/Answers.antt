@@ -11,7 +11,7 @@ use Rattle.tree.specs.declared.expression.Factor as factors
 use Rattle.tree.specs.declared.expression.Factors as factor_rows
 use Rattle.tree.specs.declared.expression.Relation as relations
 use Rattle.tree.specs.declared.expression.RelationStep as relation_steps
-use Rattle.tree.proofs.ExpressionTwins.{disjunction_seen, conjunction_seen, equality_seen, equality_step_seen, relation_seen, relation_step_seen, factors_seen, factor_seen}
+use Rattle.tree.proofs.ExpressionTwins.{disjunction_model, conjunction_model, equality_model, equality_step_model, relation_model, relation_step_model, factors_model, factor_model}
 use Rattle.resolving.proofs.FactorLemmas.{row_first, row_more, row_all}
 use Rattle.resolving.proofs.ReadLemmas.{reads_first, reads_more, reads_all}
 use Rattle.resolving.proofs.reads.+expressions.Goals as goal
@@ -26,7 +26,7 @@ add_disjunction-each-preserved t c =
 pub add_disjunction-returns : goal.add_disjunction-returns
 add_disjunction-returns t c =
     let e = c.args.disjunction.now in
-    reads_all c.args.text.now Or (unmarked conjunction_tree) (conjunction_tree (disjunctions.out-Disjunction e).first) c.deref-conjunction-items.result.now (disjunctions.out-Disjunction e).others.items c.each.conjunction-index (disjunction_tree e) c.each-test.false c.deref-conjunction-items.ensures.value (disjunction_seen e) c.each.invariant
+    reads_all c.args.text.now Or (unmarked conjunction_tree) (conjunction_tree (disjunctions.out-Disjunction e).first) c.deref-conjunction-items.result.now (disjunctions.out-Disjunction e).others.items c.each.conjunction-index (disjunction_tree e) c.each-test.false c.deref-conjunction-items.ensures.value (disjunction_model e) c.each.invariant
 
 pub add_conjunction-each-init : goal.add_conjunction-each-init
 add_conjunction-each-init t c = reads_first c.args.text.now And (unmarked equality_tree) (equality_tree (conjunctions.out-Conjunction c.args.conjunction.now).first) c.deref-equality-items.result.now c.in_ok-add_equality.ensures
@@ -38,43 +38,43 @@ add_conjunction-each-preserved t c =
 pub add_conjunction-returns : goal.add_conjunction-returns
 add_conjunction-returns t c =
     let e = c.args.conjunction.now in
-    reads_all c.args.text.now And (unmarked equality_tree) (equality_tree (conjunctions.out-Conjunction e).first) c.deref-equality-items.result.now (conjunctions.out-Conjunction e).others.items c.each.equality-index (conjunction_tree e) c.each-test.false c.deref-equality-items.ensures.value (conjunction_seen e) c.each.invariant
+    reads_all c.args.text.now And (unmarked equality_tree) (equality_tree (conjunctions.out-Conjunction e).first) c.deref-equality-items.result.now (conjunctions.out-Conjunction e).others.items c.each.equality-index (conjunction_tree e) c.each-test.false c.deref-equality-items.ensures.value (conjunction_model e) c.each.invariant
 
 pub add_equality-each-init : goal.add_equality-each-init
 add_equality-each-init t c = reads_first c.args.text.now Equal equality_step_tree (relation_tree (equalitys.out-Equality c.args.equality.now).first) c.deref-step-items.result.now c.in_ok-add_relation.ensures
 
 pub add_equality-each-preserved : goal.add_equality-each-preserved
 add_equality-each-preserved t c =
-    reads_more c.args.text.now Equal equality_step_tree (relation_tree (equalitys.out-Equality c.args.equality.now).first) c.deref-step-items.result.now c.each.step-index c.step-item.result (relation_tree (equality_steps.out-EqualityStep c.step-item.result).relation) c.each-test.true c.step-item.is (ap (λ (p : StepOf Equal). p.1) (equality_step_seen c.step-item.result)) c.each.invariant c.in_ok-add_relation-2.ensures
+    reads_more c.args.text.now Equal equality_step_tree (relation_tree (equalitys.out-Equality c.args.equality.now).first) c.deref-step-items.result.now c.each.step-index c.step-item.result (relation_tree (equality_steps.out-EqualityStep c.step-item.result).relation) c.each-test.true c.step-item.is (ap (λ (p : StepOf Equal). p.1) (equality_step_model c.step-item.result)) c.each.invariant c.in_ok-add_relation-2.ensures
 
 pub add_equality-returns : goal.add_equality-returns
 add_equality-returns t c =
     let e = c.args.equality.now in
-    reads_all c.args.text.now Equal equality_step_tree (relation_tree (equalitys.out-Equality e).first) c.deref-step-items.result.now (equalitys.out-Equality e).others.items c.each.step-index (equality_tree e) c.each-test.false c.deref-step-items.ensures.value (equality_seen e) c.each.invariant
+    reads_all c.args.text.now Equal equality_step_tree (relation_tree (equalitys.out-Equality e).first) c.deref-step-items.result.now (equalitys.out-Equality e).others.items c.each.step-index (equality_tree e) c.each-test.false c.deref-step-items.ensures.value (equality_model e) c.each.invariant
 
 pub add_relation-each-init : goal.add_relation-each-init
 add_relation-each-init t c = reads_first c.args.text.now Compare relation_step_tree (sum_tree (relations.out-Relation c.args.relation.now).first) c.deref-step-items.result.now c.in_ok-add_sum.ensures
 
 pub add_relation-each-preserved : goal.add_relation-each-preserved
 add_relation-each-preserved t c =
-    reads_more c.args.text.now Compare relation_step_tree (sum_tree (relations.out-Relation c.args.relation.now).first) c.deref-step-items.result.now c.each.step-index c.step-item.result (sum_tree (relation_steps.out-RelationStep c.step-item.result).sum) c.each-test.true c.step-item.is (ap (λ (p : StepOf Compare). p.1) (relation_step_seen c.step-item.result)) c.each.invariant c.in_ok-add_sum-2.ensures
+    reads_more c.args.text.now Compare relation_step_tree (sum_tree (relations.out-Relation c.args.relation.now).first) c.deref-step-items.result.now c.each.step-index c.step-item.result (sum_tree (relation_steps.out-RelationStep c.step-item.result).sum) c.each-test.true c.step-item.is (ap (λ (p : StepOf Compare). p.1) (relation_step_model c.step-item.result)) c.each.invariant c.in_ok-add_sum-2.ensures
 
 pub add_relation-returns : goal.add_relation-returns
 add_relation-returns t c =
     let e = c.args.relation.now in
-    reads_all c.args.text.now Compare relation_step_tree (sum_tree (relations.out-Relation e).first) c.deref-step-items.result.now (relations.out-Relation e).others.items c.each.step-index (relation_tree e) c.each-test.false c.deref-step-items.ensures.value (relation_seen e) c.each.invariant
+    reads_all c.args.text.now Compare relation_step_tree (sum_tree (relations.out-Relation e).first) c.deref-step-items.result.now (relations.out-Relation e).others.items c.each.step-index (relation_tree e) c.each-test.false c.deref-step-items.ensures.value (relation_model e) c.each.invariant
 
 pub add_factors-each-init : goal.add_factors-each-init
 add_factors-each-init t c =
     let row = factor_rows.out-Factors c.args.factors.now in
-    row_first c.args.text.now (unary_tree row.first) (unary_tree (factors.out-Factor row.second).unary) (factor_tree row.second) c.deref-factor-items.result.now (ap (λ (f : FactorTree). f.1) (factor_seen row.second)) c.in_ok-add_unary.ensures c.in_ok-add_unary-2.ensures
+    row_first c.args.text.now (unary_tree row.first) (unary_tree (factors.out-Factor row.second).unary) (factor_tree row.second) c.deref-factor-items.result.now (ap (λ (f : FactorTree). f.1) (factor_model row.second)) c.in_ok-add_unary.ensures c.in_ok-add_unary-2.ensures
 
 pub add_factors-each-preserved : goal.add_factors-each-preserved
 add_factors-each-preserved t c =
     let row = factor_rows.out-Factors c.args.factors.now in
-    row_more c.args.text.now (unary_tree row.first) (unary_tree (factors.out-Factor c.factor-item.result).unary) (factor_tree row.second) c.deref-factor-items.result.now c.each.factor-index c.factor-item.result c.each-test.true c.factor-item.is (ap (λ (f : FactorTree). f.1) (factor_seen c.factor-item.result)) c.each.invariant c.in_ok-add_unary-3.ensures
+    row_more c.args.text.now (unary_tree row.first) (unary_tree (factors.out-Factor c.factor-item.result).unary) (factor_tree row.second) c.deref-factor-items.result.now c.each.factor-index c.factor-item.result c.each-test.true c.factor-item.is (ap (λ (f : FactorTree). f.1) (factor_model c.factor-item.result)) c.each.invariant c.in_ok-add_unary-3.ensures
 
 pub add_factors-returns : goal.add_factors-returns
 add_factors-returns t c =
     let row = factor_rows.out-Factors c.args.factors.now in
-    row_all c.args.text.now (unary_tree row.first) (factor_tree row.second) c.deref-factor-items.result.now row.others.items c.each.factor-index (factors_tree c.args.factors.now) c.each-test.false c.deref-factor-items.ensures.value (factors_seen c.args.factors.now) c.each.invariant
+    row_all c.args.text.now (unary_tree row.first) (factor_tree row.second) c.deref-factor-items.result.now row.others.items c.each.factor-index (factors_tree c.args.factors.now) c.each-test.false c.deref-factor-items.ensures.value (factors_model c.args.factors.now) c.each.invariant

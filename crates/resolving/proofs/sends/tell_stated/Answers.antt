@@ -3,7 +3,7 @@ use Rattle.std.specs.Option.{option_map_or}
 use Rattle.std.specs.Prelude.{option_map}
 use Rattle.tree.specs.Values.{call_tree}
 use Rattle.program.specs.Statements as seen
-use Rattle.program.specs.Statements.{SendSeen, send_seen}
+use Rattle.program.specs.Statements.{SendModel, send_model}
 use Rattle.program.specs.declared.call.Send.{Send}
 use Rattle.resolving.specs.Around.{program_in}
 use Rattle.resolving.specs.Plain.{called, stated_call}
@@ -17,8 +17,8 @@ returns-in-Some c = λ items own around. record {
       let p = program_in c.args.text.now items in
       let call = called p own f (call_tree c.args.call.now) None [] in
       sent_is c.in-Some.send
-      ∙ ap (λ (o : Option Send). option_map_or seen.Send (option_map send_seen o) call) (sym c.in-Some.is)
-      ∙ ap (λ (o : Option SendSeen). option_map_or seen.Send o call) ((c.in_ok-send.ensures items own around).all f frame);
+      ∙ ap (λ (o : Option Send). option_map_or seen.Send (option_map send_model o) call) (sym c.in-Some.is)
+      ∙ ap (λ (o : Option SendModel). option_map_or seen.Send o call) ((c.in_ok-send.ensures items own around).all f frame);
 }
 
 pub returns-in-None : goal.returns-in-None
@@ -27,6 +27,6 @@ returns-in-None c = λ items own around.
     let call = call_tree c.args.call.now in
     told_as p.text c.args.locals.now c.tell_call.result (λ f. called p own f call None c.new.result.items) (λ f. stated_call p own f call)
     (λ f frame. ap (called p own f call None) c.new.ensures.items
-    ∙ ap (λ (o : Option Send). option_map_or seen.Send (option_map send_seen o) (called p own f call None [])) (sym c.in-None.is)
-    ∙ ap (λ (o : Option SendSeen). option_map_or seen.Send o (called p own f call None [])) ((c.in_ok-send.ensures items own around).all f frame))
+    ∙ ap (λ (o : Option Send). option_map_or seen.Send (option_map send_model o) (called p own f call None [])) (sym c.in-None.is)
+    ∙ ap (λ (o : Option SendModel). option_map_or seen.Send o (called p own f call None [])) ((c.in_ok-send.ensures items own around).all f frame))
     (c.tell_call.ensures items own around)

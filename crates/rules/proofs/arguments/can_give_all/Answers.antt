@@ -1,23 +1,23 @@
 use Rattle.std.proofs.Common.{◌<◌, ◌≤◌, [], refl, flat_map, length, ap, subst}
-use Rattle.program.specs.Methods.{method_seen}
+use Rattle.program.specs.Methods.{method_model}
 use Rattle.rules.specs.Arguments.{argument_checks}
-use Rattle.rules.specs.Breaches.{breach_seen}
-use Rattle.rules.specs.Programs.{seen_of}
+use Rattle.rules.specs.Breaches.{breach_model}
+use Rattle.rules.specs.Programs.{model_of}
 use Rattle.rules.specs.Rows.{leaves_of}
 use Rattle.rules.proofs.ArgumentLemmas.{again_stands, below_both, left_all, left_found, left_less, left_none, past_one, zip_more, zip_none}
 use Rattle.rules.proofs.arguments.can_give_all.Goals as goal
 
 pub returns-in-Some : goal.returns-in-Some
 returns-in-Some c =
-    let m = method_seen c.args.here.now.method.now in
-    let says = breach_seen (seen_of c.args.here.now.program.now) m in
+    let m = method_model c.args.here.now.method.now in
+    let says = breach_model (model_of c.args.here.now.program.now) m in
     left_found says _ _ _ _ c.gives_none_again.result c.in-Some.breach refl c.in-Some.is
     (again_stands m [] c.args.arguments.now c.args.again says c.gives_none_again.result c.requires c.gives_none_again.ensures) (left_all _)
 
 pub loop-number-init : goal.loop-number-init
 loop-number-init c =
-    let m = method_seen c.args.here.now.method.now in
-    let says = breach_seen (seen_of c.args.here.now.program.now) m in
+    let m = method_model c.args.here.now.method.now in
+    let says = breach_model (model_of c.args.here.now.program.now) m in
     left_less says _ _ _ _ c.gives_none_again.result refl c.in_default.is
     (again_stands m [] c.args.arguments.now c.args.again says c.gives_none_again.result c.requires c.gives_none_again.ensures) (left_all _)
 
@@ -25,19 +25,19 @@ pub returns-in-Some-can_give : goal.returns-in-Some-can_give
 returns-in-Some-can_give c =
     let kinds = c.args.kinds.now in
     let given = c.args.arguments.now in
-    let m = method_seen c.args.here.now.method.now in
+    let m = method_model c.args.here.now.method.now in
     let one = argument_checks m (leaves_of c.args.here.now.row.now) in
     let n = c.loop-number.number in
     let lt = below_both (length kinds) (length given) n (subst (λ end. n < end) c.min-number-end.ensures c.loop-number-test.true) in
-    left_found (breach_seen (seen_of c.args.here.now.program.now) m) _ _ _ _ c.can_give.result c.in-Some-can_give.breach
+    left_found (breach_model (model_of c.args.here.now.program.now) m) _ _ _ _ c.can_give.result c.in-Some-can_give.breach
     (ap (flat_map (λ x. one x.0 x.1)) (zip_more kinds given n _ _ lt.0 lt.1)) c.in-Some-can_give.is c.can_give.ensures c.loop-number.invariant
 
 pub returns : goal.returns
 returns c =
     let kinds = c.args.kinds.now in
     let given = c.args.arguments.now in
-    let m = method_seen c.args.here.now.method.now in
+    let m = method_model c.args.here.now.method.now in
     let one = argument_checks m (leaves_of c.args.here.now.row.now) in
     let n = c.loop-number.number in
-    left_none (breach_seen (seen_of c.args.here.now.program.now) m) _ _
+    left_none (breach_model (model_of c.args.here.now.program.now) m) _ _
     (ap (flat_map (λ x. one x.0 x.1)) (zip_none kinds given n (past_one (length kinds) (length given) n (subst (λ end. end ≤ n) c.min-number-end.ensures c.loop-number-test.false)))) c.loop-number.invariant

@@ -11,7 +11,7 @@ use Rattle.rules.specs.contracts.lowered.Program as program
 use Rattle.rules.specs.contracts.repeats.Repeats as repeats
 use Rattle.contracts.specs.contracts.sound.Sound as sound
 use Rattle.flow.specs.contracts.graph.Graph as graph
-use Rattle.program.specs.contracts.kind.Kind as kind
+use Rattle.program.specs.contracts.kind.HeapKind as kind
 use Rattle.rules.proofs.laws.threads_share_a_program.Goals as goal
 
 -- a list is shared where what stands in it is

@@ -1,8 +1,8 @@
 use Rattle.std.proofs.Common.{◌<◌, length, Some, refl, sym, ap, subst, ◌∙◌}
 use Rattle.std.proofs.lemmas.List.{length-map}
-use Rattle.program.specs.Methods.{method_seen, variable_seen}
-use Rattle.rules.specs.Breaches.{breach_seen}
-use Rattle.rules.specs.Programs.{seen_of}
+use Rattle.program.specs.Methods.{method_model, variable_model}
+use Rattle.rules.specs.Breaches.{breach_model}
+use Rattle.rules.specs.Programs.{model_of}
 use Rattle.rules.specs.Rows.{leaves_of}
 use Rattle.rules.proofs.ArgumentLemmas.{left_found}
 use Rattle.rules.proofs.BackLemmas.{back_more, told_back}
@@ -10,12 +10,12 @@ use Rattle.rules.proofs.returning.are_back.Goals as goal
 
 pub returns-then-is_not_back : goal.returns-then-is_not_back
 returns-then-is_not_back c =
-    let p = seen_of c.args.here.now.program.now in
-    let m = method_seen c.args.here.now.method.now in
-    let says = breach_seen p m in
+    let p = model_of c.args.here.now.program.now in
+    let m = method_model c.args.here.now.method.now in
+    let says = breach_model p m in
     let row = leaves_of c.args.here.now.row.now in
     let v = c.loop-variable.variable in
-    let size = length-map c.args.here.now.method.now.variables.items variable_seen in
+    let size = length-map c.args.here.now.method.now.variables.items variable_model in
     let lt : v < length m.variables = subst (λ n. v < n) (c.len-variable-end.ensures ∙ c.args.here.now.method.now.variables.ok.0 ∙ sym size) c.loop-variable-test.true in
     left_found says _ _ _ _ (Some c.at.result) c.at.result (back_more p m row c.args.place v lt) refl
     (told_back p m row c.args.place v says (Some c.at.result) (sym c.is_not_back.ensures ∙ c.if-is_not_back.true) (ap (λ b. Some (says b)) c.at.ensures)) c.loop-variable.invariant

@@ -1,5 +1,5 @@
-use Rattle.program.specs.Methods.{method_seen}
-use Rattle.rules.specs.Programs.{seen_of}
+use Rattle.program.specs.Methods.{method_model}
+use Rattle.rules.specs.Programs.{model_of}
 use Rattle.rules.specs.Rows.{leaves_of}
 use Rattle.rules.specs.RuleTable.{back_checks}
 use Rattle.rules.proofs.ArgumentLemmas.{Left}
@@ -8,7 +8,7 @@ use Rattle.rules.proofs.returning.are_back.Given as goal
 
 abbrev pub invariant-loop-variable : goal.invariant-loop-variable
 invariant-loop-variable l =
-    let p = seen_of l.here.program.now in
-    let m = method_seen l.here.method.now in
+    let p = model_of l.here.program.now in
+    let m = method_model l.here.method.now in
     let row = leaves_of l.here.row.now in
     Left (back_checks p m row l.place) (back_from p m row l.place l.variable)

@@ -1,8 +1,8 @@
 use Rattle.std.proofs.Common.{[], drop, flat_map}
-use Rattle.program.specs.Methods.{method_seen}
+use Rattle.program.specs.Methods.{method_model}
 use Rattle.flow.specs.Cases.{first_mentions}
-use Rattle.flow.specs.Graphs.{cases_seen}
-use Rattle.rules.specs.Programs.{seen_of}
+use Rattle.flow.specs.Graphs.{cases_model}
+use Rattle.rules.specs.Programs.{model_of}
 use Rattle.rules.specs.Rows.{leaves_of}
 use Rattle.rules.specs.Switches.{covered}
 use Rattle.rules.proofs.ArgumentLemmas.{Left}
@@ -10,6 +10,6 @@ use Rattle.rules.proofs.switching.are_covered.Given as goal
 
 abbrev pub invariant-loop-endpoint : goal.invariant-loop-endpoint
 invariant-loop-endpoint l =
-    let one = covered (seen_of l.here.program.now) (method_seen l.here.method.now) (leaves_of l.here.row.now) (cases_seen l.cases) in
-    let endpoints = first_mentions [] (cases_seen l.cases) in
+    let one = covered (model_of l.here.program.now) (method_model l.here.method.now) (leaves_of l.here.row.now) (cases_model l.cases) in
+    let endpoints = first_mentions [] (cases_model l.cases) in
     Left (flat_map one endpoints) (flat_map one (drop l.endpoint-index endpoints))

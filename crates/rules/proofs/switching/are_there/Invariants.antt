@@ -1,5 +1,5 @@
 use Rattle.std.proofs.Common.{drop, map}
-use Rattle.program.specs.Methods.{method_seen}
+use Rattle.program.specs.Methods.{method_model}
 use Rattle.rules.specs.Mentions.{has_something}
 use Rattle.rules.specs.Rows.{leaves_of}
 use Rattle.rules.proofs.ArgumentLemmas.{Left}
@@ -7,5 +7,5 @@ use Rattle.rules.proofs.switching.are_there.Given as goal
 
 abbrev pub invariant-loop-endpoint : goal.invariant-loop-endpoint
 invariant-loop-endpoint l =
-    let one = has_something (method_seen l.here.method.now) (leaves_of l.here.row.now) in
+    let one = has_something (method_model l.here.method.now) (leaves_of l.here.row.now) in
     Left (map one l.endpoints) (map one (drop l.endpoint-index l.endpoints))

@@ -4,4 +4,4 @@ use Rattle.rules.specs.Switches.{bound_leaves}
 use Rattle.rules.proofs.switching.bind.Given as goal
 
 abbrev pub invariant-loop-number : goal.invariant-loop-number
-invariant-loop-number l = bound_leaves (leaves_of l.row) (drop l.number l.bound) (drop l.number l.kinds) ≡ bound_leaves (leaves_of l.fn.row) l.bound l.kinds
+invariant-loop-number l = bound_leaves (leaves_of l.row) (drop l.number l.targets) (drop l.number l.kinds) ≡ bound_leaves (leaves_of l.fn.row) l.targets l.kinds

@@ -1,7 +1,7 @@
 use Rattle.std.proofs.Common.{drop}
-use Rattle.program.specs.Methods.{method_seen}
-use Rattle.flow.specs.Graphs.{cases_seen}
-use Rattle.rules.specs.Programs.{seen_of}
+use Rattle.program.specs.Methods.{method_model}
+use Rattle.flow.specs.Graphs.{cases_model}
+use Rattle.rules.specs.Programs.{model_of}
 use Rattle.rules.specs.Rows.{leaves_of}
 use Rattle.rules.proofs.ArgumentLemmas.{Left}
 use Rattle.rules.proofs.SwitchLemmas.{edge_checks}
@@ -10,7 +10,7 @@ use Rattle.rules.proofs.switching.is_covered.Given as goal
 
 abbrev pub invariant-loop-edge : goal.invariant-loop-edge
 invariant-loop-edge l =
-    let p = seen_of l.here.program.now in
-    let m = method_seen l.here.method.now in
+    let p = model_of l.here.program.now in
+    let m = method_model l.here.method.now in
     let row = leaves_of l.here.row.now in
-    Left (covered p m row (cases_seen l.cases) l.fn.endpoint) (edge_checks p m (cases_seen l.cases) l.fn.endpoint (drop l.edge-index (awaited_edges p m row l.fn.endpoint)))
+    Left (covered p m row (cases_model l.cases) l.fn.endpoint) (edge_checks p m (cases_model l.cases) l.fn.endpoint (drop l.edge-index (awaited_edges p m row l.fn.endpoint)))

@@ -1,22 +1,22 @@
 use Rattle.std.proofs.Common.{Some, None, [], ◌∷◌, ap, ◌∙◌, subst}
-use Rattle.program.specs.Methods.{method_seen}
+use Rattle.program.specs.Methods.{method_model}
 use Rattle.rules.specs.Arguments.{all_arguments, claimed, given_leaf, target_checks}
-use Rattle.rules.specs.Breaches.{breach_seen}
+use Rattle.rules.specs.Breaches.{breach_model}
 use Rattle.rules.specs.Checks.{StandsFor}
 use Rattle.rules.specs.Endpoints.{parameter_kinds}
 use Rattle.rules.specs.Outcomes.{Goes}
-use Rattle.rules.specs.Programs.{seen_of}
+use Rattle.rules.specs.Programs.{model_of}
 use Rattle.rules.specs.Rows.{leaves_of}
 use Rattle.rules.proofs.CallLemmas.{second_of}
 use Rattle.rules.proofs.table.call.Goals as goal
 
 pub returns-in-Some-can_take-clause-outcome : goal.returns-in-Some-can_take-clause-outcome
 returns-in-Some-can_take-clause-outcome c =
-    let p = seen_of c.args.site.now.program.now in
-    let m = method_seen c.args.site.now.method.now in
+    let p = model_of c.args.site.now.program.now in
+    let m = method_model c.args.site.now.method.now in
     let row = leaves_of c.args.row.now in
     let calling = c.args.calling.now in
-    let says = breach_seen p m in
+    let says = breach_model p m in
     let first =
     subst (λ xs. StandsFor says c.can_give_all.result (all_arguments m row (parameter_kinds p calling.method.0) xs)) c.deref.ensures.value
     (subst (λ ks. StandsFor says c.can_give_all.result (all_arguments m row ks c.deref.result.now)) c.parameter_kinds-kinds.ensures c.can_give_all.ensures) in
@@ -26,11 +26,11 @@ returns-in-Some-can_take-clause-outcome c =
 
 pub returns-clause-outcome : goal.returns-clause-outcome
 returns-clause-outcome c =
-    let p = seen_of c.args.site.now.program.now in
-    let m = method_seen c.args.site.now.method.now in
+    let p = model_of c.args.site.now.program.now in
+    let m = method_model c.args.site.now.method.now in
     let row = leaves_of c.args.row.now in
     let calling = c.args.calling.now in
-    let says = breach_seen p m in
+    let says = breach_model p m in
     let first =
     subst (λ xs. StandsFor says c.can_give_all.result (all_arguments m row (parameter_kinds p calling.method.0) xs)) c.deref.ensures.value
     (subst (λ ks. StandsFor says c.can_give_all.result (all_arguments m row ks c.deref.result.now)) c.parameter_kinds-kinds.ensures c.can_give_all.ensures) in

@@ -1,7 +1,7 @@
 use Rattle.std.proofs.Common.{◌≡◌, ◌≤◌, ◌++◌, ◌∷◌, [], ◌∙◌, length, map, take, ap, subst, sym, arith, rules}
 use Rattle.std.proofs.lemmas.List.{length-append, length-map}
 use Rattle.std.proofs.lemmas.Slice.Zip.{zip_turn, zip_end}
-use Rattle.program.specs.Parts.{ContractSeen, contract_seen}
+use Rattle.program.specs.Parts.{ContractModel, contract_model}
 use Rattle.contracts.specs.Sounds.{sound_parts}
 use Rattle.singcheck.specs.Lines.{ok_line}
 use Rattle.singcheck.proofs.BoundsLemmas.{AddsLines, paired, lines_turn, bounds_are}
@@ -21,8 +21,8 @@ returns c = λ text clean.
     let ss = c.args.clean.now.sounds.items in
     let many = zip_end cs ss c.loop-contract.yielded c.into_iter-contract-iterator.result c.loop-contract.contract-iterator c.next.new.self c.next.result (search rules) (search rules) c.loop-contract.yielded_by c.in-None.is c.next.ensures.steps in
     let sounds = length-map ss sound_parts in
-    let contracts = length-map cs contract_seen in
-    let parts = length-map (map contract_seen cs) (λ (s : ContractSeen). s.parts) in
+    let contracts = length-map cs contract_model in
+    let parts = length-map (map contract_model cs) (λ (s : ContractModel). s.parts) in
     let alike = ap length clean.sounds in
     let whole : length cs ≤ length c.loop-contract.yielded = omega (arith, many, sounds, contracts, parts, alike) in
     let size : c.len.result ≡ length cs = omega (arith, c.len.ensures, c.args.clean.now.resolved.contracts.ok.0) in

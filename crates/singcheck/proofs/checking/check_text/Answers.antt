@@ -1,7 +1,7 @@
 use Rattle.std.proofs.Common.{arith, map, subst}
 use Rattle.std.proofs.lemmas.Result.{IfOk-weaker}
 use Rattle.source.specs.Findings.{finding_parts}
-use Rattle.rules.specs.Programs.{seen_of}
+use Rattle.rules.specs.Programs.{model_of}
 use Rattle.singcheck.specs.Checks.{Before}
 use Rattle.singcheck.specs.Named.{IsBuiltOf}
 use Rattle.singcheck.specs.Safety.{IsSafeText}
@@ -37,7 +37,7 @@ returns-in-Program-clause-report g c =
 pub returns-in-Program-clause-safe : goal.returns-in-Program-clause-safe
 returns-in-Program-clause-safe g c =
     let text = c.args.text.now in
-    let p = seen_of c.in-Program.program in
+    let p = model_of c.in-Program.program in
     let built = subst (IsBuiltOf text) c.in-Program.is c.in_ok-findings.ensures in
     IfOk-weaker c.check_methods.result _ _ (λ r clean empty. safe_text text p (λ q other. c.one_program.ensures text p q built.has other) (clean empty) built.safe) c.check_methods.ensures.clean
 

@@ -1,7 +1,7 @@
 use Rattle.std.proofs.Common.{ap, arith, length}
 use Rattle.tree.specs.Trees.{program_tree}
 use Rattle.declarations.specs.Program.{program_of}
-use Rattle.rules.specs.Programs.{seen_of}
+use Rattle.rules.specs.Programs.{model_of}
 use Rattle.singcheck.specs.Replays.{method_names}
 use Rattle.singcheck.proofs.CheckLemmas.{has_program}
 use Rattle.singcheck.proofs.EntryLemmas.{IsLooked, all_named, looked_at, looked_only}
@@ -25,8 +25,8 @@ returns-in_default c =
     let names = method_names text items in
     let look = looked (goal.at.returns-in_default c).After-entry_place in
     record {
-      program = seen_of c.args.program;
-      has = has_program text items (seen_of c.args.program) c.requires.program c.requires.sound;
+      program = model_of c.args.program;
+      has = has_program text items (model_of c.args.program) c.requires.program c.requires.sound;
       none = λ n at. c.in_default.ensures.none n (looked_only names c.args.entry.now c.entry_place.result n look at.named) at.begins;
     }
 
@@ -38,7 +38,7 @@ returns c =
     let look = looked (goal.at.returns c).After-entry_place in
     record {
       entered = record {
-        has = has_program text items (seen_of c.args.program) c.requires.program c.requires.sound;
+        has = has_program text items (model_of c.args.program) c.requires.program c.requires.sound;
         at = record { named = looked_at names c.args.entry.now c.entry_place.result c.in-Some.method.0 look c.in-Some.ensures.some.0; begins = c.in-Some.ensures.some.1 };
       };
       structs = c.in_ok-structs.ensures;

@@ -5,7 +5,7 @@ use Rattle.source.specs.declared.kind.Kind.{Kind}
 use Rattle.source.specs.declared.place.Place.{Place}
 use Rattle.expected.specs.Expectations.{expectation_of}
 use Rattle.expected.specs.Expected.{IsExpected}
-use Rattle.traces.specs.Lines.{line, line_seen}
+use Rattle.traces.specs.Lines.{line, line_model}
 use Rattle.singcheck.specs.Answers.{wrong_token}
 use Rattle.singcheck.specs.Unexpected.{brace_lines, wrong_span}
 use Rattle.singcheck.proofs.expecting.explain_at.Goals as goal
@@ -28,7 +28,7 @@ returns c = λ text lexed end.
         exact = subst (λ s. (kind : Kind) → Contains kinds kind ↔ IsExpected tokens number s kind) (c.span_at.ensures ∙ ap (λ (p : Place). wrong_span p (slice_get tokens number)) end) c.in_ok-kinds.ensures.exact;
         order = c.in_ok-kinds.ensures.order;
         lines = c.in_ok-add_brace.ensures ∙ ap (λ l. l ++ brace_lines tokens number)
-            (ap (map line_seen) (c.in_ok-push.ensures.items ∙ ap (λ l. l ++ shown ∷ []) c.new-lines.ensures.items)
+            (ap (map line_model) (c.in_ok-push.ensures.items ∙ ap (λ l. l ++ shown ∷ []) c.new-lines.ensures.items)
             ∙ ap (λ x. x ∷ []) (c.in_ok-expectation_line.ensures ∙ ap (λ ks. line c.in_ok-finding.finding.place (expectation_of ks)) c.deref.ensures.value));
       };
     }

@@ -4,9 +4,9 @@ use Rattle.std.proofs.lemmas.List.{length-map, map-append}
 use Rattle.std.proofs.lemmas.List.Elements.{All-append, All-weaker}
 use Rattle.analyse.proofs.FrontLemmas.{contains_at}
 use Rattle.source.specs.Findings.{finding_parts}
-use Rattle.program.specs.Parts.{Parts, contract_parts, contract_seen}
+use Rattle.program.specs.Parts.{Parts, contract_parts, contract_model}
 use Rattle.contracts.specs.Conditions.{AreExactly, IsFault}
-use Rattle.traces.specs.Explained.{explained_seen}
+use Rattle.traces.specs.Explained.{explained_model}
 use Rattle.traces.specs.Shown.{IsShown}
 use Rattle.traces.specs.declared.line.Explained.{Explained}
 use Rattle.singcheck.specs.Explains.{IsShownIn}
@@ -20,16 +20,16 @@ faults-requires c = record { whole = whole_at c.args.resolved.now.contracts.item
 pub loop-number-preserved : goal.loop-number-preserved
 loop-number-preserved c =
     let resolved = c.args.resolved.now.contracts.items in
-    let all = map contract_seen resolved in
+    let all = map contract_model resolved in
     let n = c.loop-number.number in
     let i = c.loop-number.invariant in
     let finding = λ (e : Explained). finding_parts e.finding in
-    let holds = λ (e : Explained). IsShownIn c.args.named all (explained_seen e) in
+    let holds = λ (e : Explained). IsShownIn c.args.named all (explained_model e) in
     let old = c.loop-number.found.items in
     let more = c.in_ok-more.more.items in
     let parts = contract_parts c.edges-contract.result.now in
     let items = c.in_ok-append.ensures.items in
-    let size = length-map resolved contract_seen in
+    let size = length-map resolved contract_model in
     let lt : n < length all = let t = c.loop-number-test.true in let end = c.loop-number.auto.number-end in let len = c.len-number-end.ensures in omega (arith, size, t, end, len) in
     let turn = at_turn all n lt in
     record {
@@ -38,6 +38,6 @@ loop-number-preserved c =
           (subst (AreExactly (IsFault parts)) (sym c.in_ok-more.ensures.same) c.in_ok-broken.ensures.exactly))
           (ap (map finding) items ∙ map-append finding old more);
       each = subst (All holds) (sym items) (All-append holds old more i.each
-          (All-weaker (λ (e : Explained). IsShown c.args.named parts (explained_seen e)) holds
-          (λ e h. (turn.0, contains_at all n turn.0 turn.1, subst (λ (p : Parts). IsShown c.args.named p (explained_seen e)) (sym (parts_at resolved n parts turn.0 c.edges-contract.ensures turn.1)) h)) more c.in_ok-more.ensures.shown));
+          (All-weaker (λ (e : Explained). IsShown c.args.named parts (explained_model e)) holds
+          (λ e h. (turn.0, contains_at all n turn.0 turn.1, subst (λ (p : Parts). IsShown c.args.named p (explained_model e)) (sym (parts_at resolved n parts turn.0 c.edges-contract.ensures turn.1)) h)) more c.in_ok-more.ensures.shown));
     }

@@ -3,8 +3,8 @@ use Rattle.std.specs.Prelude.{All}
 use Rattle.std.proofs.lemmas.List.{length-map}
 use Rattle.std.proofs.lemmas.List.Elements.{All-same}
 use Rattle.source.specs.Findings.{finding_parts}
-use Rattle.program.specs.Parts.{ContractSeen, IsWhole, contract_seen}
-use Rattle.program.specs.Programs.{ProgramSeen, contracts_seen}
+use Rattle.program.specs.Parts.{ContractModel, IsWhole, contract_model}
+use Rattle.program.specs.Programs.{ProgramModel, contracts_model}
 use Rattle.contracts.specs.Conditions.{IsSound}
 use Rattle.contracts.specs.Sounds.{sound_parts}
 use Rattle.singcheck.specs.Entered.{AreCleanSafe}
@@ -14,36 +14,36 @@ use Rattle.singcheck.proofs.programs.judged_program.Goals as goal
 pub judge_contracts-requires : goal.judge_contracts-requires
 judge_contracts-requires c =
     let resolved = c.contracts.result.now.contracts.items in
-    let size = length-map resolved contract_seen in
+    let size = length-map resolved contract_model in
     let same = ap length c.contracts.ensures in
     record {
-      whole = All-same (λ s. IsWhole s.parts) (map contract_seen resolved) (contracts_seen c.args.methods) c.contracts.ensures c.requires.whole;
+      whole = All-same (λ s. IsWhole s.parts) (map contract_model resolved) (contracts_model c.args.methods) c.contracts.ensures c.requires.whole;
       few = omega (arith, size, same, c.requires.few);
     }
 
 pub clean_methods_are_safe-requires : goal.clean_methods_are_safe-requires
 clean_methods_are_safe-requires c =
-    let sounds = subst (IsJudgement (map contract_seen c.contracts.result.now.contracts.items)) c.in-Sounds.is c.in_ok-findings.ensures in
-    record { sound = ap (map sound_parts) c.deref.ensures.value ∙ sounds.kept ∙ ap (map (λ (x : ContractSeen). x.parts)) c.contracts.ensures }
+    let sounds = subst (IsJudgement (map contract_model c.contracts.result.now.contracts.items)) c.in-Sounds.is c.in_ok-findings.ensures in
+    record { sound = ap (map sound_parts) c.deref.ensures.value ∙ sounds.kept ∙ ap (map (λ (x : ContractModel). x.parts)) c.contracts.ensures }
 
 pub new-requires : goal.new-requires
 new-requires c =
-    let sounds = subst (IsJudgement (map contract_seen c.contracts.result.now.contracts.items)) c.in-Sounds.is c.in_ok-findings.ensures in
-    record { sound = sounds.kept ∙ ap (map (λ (x : ContractSeen). x.parts)) c.contracts.ensures }
+    let sounds = subst (IsJudgement (map contract_model c.contracts.result.now.contracts.items)) c.in-Sounds.is c.in_ok-findings.ensures in
+    record { sound = sounds.kept ∙ ap (map (λ (x : ContractModel). x.parts)) c.contracts.ensures }
 
 pub returns-in-Found : goal.returns-in-Found
 returns-in-Found c =
-    let contracts = map contract_seen c.contracts.result.now.contracts.items in
+    let contracts = map contract_model c.contracts.result.now.contracts.items in
     (refl, subst (λ l. AreBroken l (map finding_parts c.in-Found.findings.items)) c.contracts.ensures (subst (IsJudgement contracts) c.in-Found.is c.in_ok-findings.ensures))
 
 pub returns-in_ok-new-in-Sounds : goal.returns-in_ok-new-in-Sounds
 returns-in_ok-new-in-Sounds c =
-    let contracts = map contract_seen c.contracts.result.now.contracts.items in
+    let contracts = map contract_model c.contracts.result.now.contracts.items in
     let sounds = subst (IsJudgement contracts) c.in-Sounds.is c.in_ok-findings.ensures in
     let same = c.in_ok-new-in-Sounds.ensures in
     record {
       same = same;
-      sound = subst (λ (p : ProgramSeen). All (λ (s : ContractSeen). IsSound s.parts) p.contracts) (sym same)
-          (All-same (λ (s : ContractSeen). IsSound s.parts) (contracts_seen c.args.methods) contracts (sym c.contracts.ensures) sounds.sound);
+      sound = subst (λ (p : ProgramModel). All (λ (s : ContractModel). IsSound s.parts) p.contracts) (sym same)
+          (All-same (λ (s : ContractModel). IsSound s.parts) (contracts_model c.args.methods) contracts (sym c.contracts.ensures) sounds.sound);
       safe = subst AreCleanSafe (sym same) c.clean_methods_are_safe.ensures;
     }

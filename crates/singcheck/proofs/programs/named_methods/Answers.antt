@@ -6,7 +6,7 @@ use Rattle.source.specs.Findings.{finding_parts}
 use Rattle.source.specs.declared.finding.Finding.{Finding}
 use Rattle.tree.specs.Trees.{program_tree}
 use Rattle.declarations.specs.Program.{program_of}
-use Rattle.program.specs.Parts.{IsWhole, contract_seen}
+use Rattle.program.specs.Parts.{IsWhole, contract_model}
 use Rattle.singcheck.specs.Answers.{AreFindings, IsProgram}
 use Rattle.singcheck.proofs.FewLemmas.{few_contracts}
 use Rattle.singcheck.proofs.StageLemmas.{explained, misnamed}
@@ -14,7 +14,7 @@ use Rattle.singcheck.proofs.programs.named_methods.Goals as goal
 
 pub well_formed_methods-requires : goal.well_formed_methods-requires
 well_formed_methods-requires c =
-    let few = few_contracts c.args.text.now (program_tree c.args.tree.now) c.in-Ok.resolved.contracts.items contract_seen c.in-Ok.ensures.resolved in
+    let few = few_contracts c.args.text.now (program_tree c.args.tree.now) c.in-Ok.resolved.contracts.items contract_model c.in-Ok.ensures.resolved in
     record {
       contracts = c.in-Ok.ensures.resolved;
       room = omega (arith, few, c.requires.few);
@@ -27,8 +27,8 @@ returns-in_ok-well_formed_methods-in-Ok c =
     let items = program_tree c.args.tree.now in
     let resolved = c.in-Ok.resolved.contracts.items in
     let told = c.in_ok-well_formed_methods-in-Ok.ensures in
-    let few = few_contracts text items resolved contract_seen c.in-Ok.ensures.resolved in
-    let size = length-map resolved contract_seen in
+    let few = few_contracts text items resolved contract_model c.in-Ok.ensures.resolved in
+    let size = length-map resolved contract_model in
     let same = ap length told.contracts in
     record {
       names = record {
@@ -39,7 +39,7 @@ returns-in_ok-well_formed_methods-in-Ok c =
         structs = told.structs;
         methods = told.methods;
       };
-      whole = All-same (λ s. IsWhole s.parts) _ _ told.contracts (All-map (λ s. IsWhole s.parts) contract_seen resolved c.in-Ok.ensures.whole);
+      whole = All-same (λ s. IsWhole s.parts) _ _ told.contracts (All-map (λ s. IsWhole s.parts) contract_model resolved c.in-Ok.ensures.whole);
       room = omega (arith, few, size, same, c.requires.few);
       few = told.few;
     }

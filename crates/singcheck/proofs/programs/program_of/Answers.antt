@@ -1,7 +1,7 @@
 use Rattle.std.proofs.Common.{subst}
 use Rattle.std.proofs.lemmas.Result.{IfOk-weaker}
 use Rattle.tree.specs.Trees.{program_tree}
-use Rattle.program.specs.Programs.{program_seen}
+use Rattle.program.specs.Programs.{program_model}
 use Rattle.singcheck.specs.Named.{IsNamed}
 use Rattle.singcheck.specs.Stages.{IsParsed}
 use Rattle.singcheck.proofs.CheckLemmas.{built_of}
@@ -21,4 +21,4 @@ judged_program-requires c =
 pub returns-in-Methods : goal.returns-in-Methods
 returns-in-Methods c =
     let named = subst (IsNamed c.args.text.now (program_tree c.in-Program.tree)) c.in-Methods.is c.in_ok-named.ensures in
-    IfOk-weaker c.judged_program.result _ _ (built_of c.args.text.now (program_tree c.in-Program.tree) (program_seen c.in-Methods.methods) named) c.judged_program.ensures
+    IfOk-weaker c.judged_program.result _ _ (built_of c.args.text.now (program_tree c.in-Program.tree) (program_model c.in-Methods.methods) named) c.judged_program.ensures

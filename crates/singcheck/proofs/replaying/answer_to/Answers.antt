@@ -1,7 +1,7 @@
 use Rattle.std.proofs.Common.{inr, map, refl, subst}
 use Rattle.std.proofs.lemmas.Result.{IfOk-weaker}
 use Rattle.source.specs.Findings.{finding_parts}
-use Rattle.rules.specs.Programs.{seen_of}
+use Rattle.rules.specs.Programs.{model_of}
 use Rattle.singcheck.specs.Entered.{IsEntered}
 use Rattle.singcheck.specs.Replays.{OfFindings}
 use Rattle.singcheck.specs.Safety.{Reported}
@@ -57,7 +57,7 @@ returns-in-Begun-clause-bounded g c =
 pub returns-in-Begun-clause-untouched : goal.returns-in-Begun-clause-untouched
 returns-in-Begun-clause-untouched g c =
     let begun = subst (IsEntered c.args.text.now c.args.entry.now) c.in-Begun.is c.in_ok-findings.ensures in
-    inr (seen_of c.in-Begun.begun.program, c.in-Begun.begun.method.0, begun.entered)
+    inr (model_of c.in-Begun.begun.program, c.in-Begun.begun.method.0, begun.entered)
 
 pub returns-in_ok-report_of-in-Found-clause-bounded : goal.returns-in_ok-report_of-in-Found-clause-bounded
 returns-in_ok-report_of-in-Found-clause-bounded g c = some_always (g.Q.Source.remaining c.args.schedule.now) _ (λ lines. Reported (record {
@@ -75,7 +75,7 @@ pub returns-in-Begun-clause-line : goal.returns-in-Begun-clause-line
 returns-in-Begun-clause-line g c = λ n told.
     let begun = subst (IsEntered c.args.text.now c.args.entry.now) c.in-Begun.is c.in_ok-findings.ensures in
     some_map (g.Q.Source.remaining c.args.schedule.now) _ _ (λ lines wrong. record {
-      program = seen_of c.in-Begun.begun.program;
+      program = model_of c.in-Begun.begun.program;
       n = c.in-Begun.begun.method.0;
       entered = begun.entered;
       malformed = wrong;

@@ -1,7 +1,7 @@
 use Rattle.std.proofs.Common.{map, take}
-use Rattle.program.specs.Parts.{contract_seen}
+use Rattle.program.specs.Parts.{contract_model}
 use Rattle.singcheck.specs.Stages.{AreJudged}
 use Rattle.singcheck.proofs.soundness.judge_contracts.Given as goal
 
 abbrev pub invariant-loop-number : goal.invariant-loop-number
-invariant-loop-number l = AreJudged (take l.number (map contract_seen l.resolved.contracts.items)) l.judging
+invariant-loop-number l = AreJudged (take l.number (map contract_model l.resolved.contracts.items)) l.judging

@@ -1,17 +1,17 @@
 use Rattle.std.proofs.Common.{map, subst}
 use Rattle.source.specs.Findings.{finding_parts}
-use Rattle.program.specs.Parts.{contract_seen}
+use Rattle.program.specs.Parts.{contract_model}
 use Rattle.singcheck.specs.Stages.{IsJudgement}
 use Rattle.singcheck.proofs.StageLemmas.{unsound}
 use Rattle.singcheck.proofs.stages.staged_contracts.Goals as goal
 
 pub returns-in-Found : goal.returns-in-Found
 returns-in-Found c = λ text resolved.
-    let contracts = map contract_seen c.args.resolved.contracts.items in
+    let contracts = map contract_model c.args.resolved.contracts.items in
     unsound text contracts (map finding_parts c.in-Found.findings.items) resolved (subst (IsJudgement contracts) c.in-Found.is c.in_ok-findings.ensures)
 
 pub returns-in-Sounds : goal.returns-in-Sounds
 returns-in-Sounds c = λ text resolved.
-    let contracts = map contract_seen c.args.resolved.contracts.items in
+    let contracts = map contract_model c.args.resolved.contracts.items in
     let sounds = subst (IsJudgement contracts) c.in-Sounds.is c.in_ok-findings.ensures in
     record { resolved = resolved; sounds = sounds.kept; sound = sounds.sound }

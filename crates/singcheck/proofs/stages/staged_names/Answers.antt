@@ -6,7 +6,7 @@ use Rattle.source.specs.Findings.{finding_parts}
 use Rattle.source.specs.declared.finding.Finding.{Finding}
 use Rattle.tree.specs.Trees.{program_tree}
 use Rattle.declarations.specs.Program.{program_of}
-use Rattle.program.specs.Parts.{IsWhole, contract_seen}
+use Rattle.program.specs.Parts.{IsWhole, contract_model}
 use Rattle.singcheck.specs.Answers.{AreFindings, IsProgram, IsResolved}
 use Rattle.singcheck.proofs.FewLemmas.{few_contracts}
 use Rattle.singcheck.proofs.StageLemmas.{explained, misnamed}
@@ -14,16 +14,16 @@ use Rattle.singcheck.proofs.stages.staged_names.Goals as goal
 
 pub staged_contracts-requires : goal.staged_contracts-requires
 staged_contracts-requires c =
-    let few = few_contracts c.args.text.now (program_tree c.args.tree) c.in-Ok.resolved.contracts.items contract_seen c.in-Ok.ensures.resolved in
+    let few = few_contracts c.args.text.now (program_tree c.args.tree) c.in-Ok.resolved.contracts.items contract_model c.in-Ok.ensures.resolved in
     record {
-      whole = All-map (λ s. IsWhole s.parts) contract_seen c.in-Ok.resolved.contracts.items c.in-Ok.ensures.whole;
+      whole = All-map (λ s. IsWhole s.parts) contract_model c.in-Ok.resolved.contracts.items c.in-Ok.ensures.whole;
       few = omega (arith, few, c.requires.few);
     }
 
 pub returns-in-Ok : goal.returns-in-Ok
 returns-in-Ok c =
     let text = c.args.text.now in
-    let resolved : IsResolved text (map contract_seen c.in-Ok.resolved.contracts.items) = record {
+    let resolved : IsResolved text (map contract_model c.in-Ok.resolved.contracts.items) = record {
       items = program_tree c.args.tree;
       parsed = c.requires.parsed;
       clean = c.in-Ok.ensures.clean;

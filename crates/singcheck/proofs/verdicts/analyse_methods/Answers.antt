@@ -4,7 +4,7 @@ use Rattle.std.proofs.Crossing.{crosses}
 use Rattle.std.proofs.lemmas.Result.{IfOk-weaker}
 use denote.Param.Send.{sendable}
 use Rattle.source.specs.Findings.{finding_parts}
-use Rattle.rules.specs.Programs.{seen_of}
+use Rattle.rules.specs.Programs.{model_of}
 use Rattle.rules.specs.contracts.lowered.Program as program
 use Rattle.intern.specs.contracts.rows.Rows as rows
 use Rattle.shelf.specs.contracts.shelf.Shelf as shelf
@@ -22,7 +22,7 @@ share_out-requires-sync-J g c κs within =
 
 pub returns-in-Ok : goal.returns-in-Ok
 returns-in-Ok g c =
-    let p = seen_of c.args.program.now in
+    let p = model_of c.args.program.now in
     let done = c.deref.result.now in
     IfOk-weaker c.found_in.result _ _
     (λ found of. of_all_methods p (map method_of done) (map finding_parts found.items)

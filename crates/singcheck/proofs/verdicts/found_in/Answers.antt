@@ -1,7 +1,7 @@
 use Rattle.std.proofs.Common.{[], ◌∷◌, ◌++◌, map, take, get_or, sym, ap, ◌∙◌, subst}
 use Rattle.std.proofs.lemmas.List.{take_more, map-append}
 use Rattle.source.specs.Findings.{finding_parts}
-use Rattle.rules.specs.Programs.{seen_of}
+use Rattle.rules.specs.Programs.{model_of}
 use Rattle.analyse.specs.Tasks.{findings_of}
 use Rattle.pool.specs.Counts.{method_of}
 use Rattle.shelf.specs.Shelves.{verdict_of}
@@ -11,7 +11,7 @@ use Rattle.singcheck.proofs.verdicts.found_in.Goals as goal
 
 pub loop-one-preserved : goal.loop-one-preserved
 loop-one-preserved c =
-    let p = seen_of c.args.program.now in
+    let p = model_of c.args.program.now in
     let done = c.args.done.now in
     let at = c.loop-one.one-index in
     let one = c.one-item.result in

@@ -3,8 +3,8 @@ use Rattle.std.proofs.lemmas.List.{length-map}
 use Rattle.std.proofs.lemmas.List.Elements.{All-same}
 use Rattle.std.proofs.lemmas.Result.{IfOk-weaker}
 use Rattle.source.specs.Findings.{finding_parts}
-use Rattle.program.specs.Parts.{IsWhole, contract_seen}
-use Rattle.program.specs.Programs.{contracts_seen}
+use Rattle.program.specs.Parts.{IsWhole, contract_model}
+use Rattle.program.specs.Programs.{contracts_model}
 use Rattle.singcheck.specs.Named.{AreBrokenOf, IsBuiltOf}
 use Rattle.singcheck.proofs.why.why_of.Goals as goal
 
@@ -15,10 +15,10 @@ pub why_contracts-requires : goal.why_contracts-requires
 why_contracts-requires c =
     let built = subst (IsBuiltOf c.args.text.now) c.in-Broken.is c.in_ok-findings.ensures in
     let resolved = c.contracts.result.now.contracts.items in
-    let size = length-map resolved contract_seen in
+    let size = length-map resolved contract_model in
     let same = ap length c.contracts.ensures in
     record {
-      whole = All-same (λ s. IsWhole s.parts) (map contract_seen resolved) (contracts_seen c.in-Broken.methods) c.contracts.ensures built.whole;
+      whole = All-same (λ s. IsWhole s.parts) (map contract_model resolved) (contracts_model c.in-Broken.methods) c.contracts.ensures built.whole;
       few = omega (arith, size, same, built.room);
     }
 

@@ -4,7 +4,7 @@ use Rattle.std.proofs.lemmas.Bool.{eqb-false}
 use Rattle.std.proofs.lemmas.List.{length-map}
 use Rattle.std.proofs.lemmas.Result.{IfOk-weaker}
 use Rattle.source.specs.Findings.{finding_parts}
-use Rattle.traces.specs.Explained.{explained_seen}
+use Rattle.traces.specs.Explained.{explained_model}
 use Rattle.singcheck.proofs.ExplainLemmas.{explains_before}
 use Rattle.singcheck.proofs.why.why_text.Goals as goal
 
@@ -14,8 +14,8 @@ returns-then-is_empty c = explains_before c.args.named c.args.text.now (map find
 pub returns : goal.returns
 returns c =
     let found = c.in_ok-explained.explained in
-    let some : map explained_seen found.items ≢ [] = λ none.
-    let size = length-map found.items explained_seen in
+    let some : map explained_model found.items ≢ [] = λ none.
+    let size = length-map found.items explained_model in
     let differ = eqb-false _ _ (sym c.is_empty.ensures ∙ c.if-is_empty.false) in
     let gone = ap length none in
     omega (arith, size, differ, gone, found.ok.0) in

@@ -233,8 +233,8 @@ pub read_atom-returns-in_err-open : goal.read_atom-returns-in_err-open
 read_atom-returns-in_err-open t c = exits atom_tree atom (level_on Single) atom_at _ _ _ _ _ c.from_residual-in_err-open.ensures.1 c.in_err-open.ensures
     (λ h. form_fails parens_form (kind_leads kind.OpenParen _ (c.is_next-else-is_next.ensures.is.0 c.if-is_next-2.true)) (wide_fails (λ y k. refl) h))
 
-pub read_atom-returns-in_err-placed : goal.read_atom-returns-in_err-placed
-read_atom-returns-in_err-placed t c = exits atom_tree atom (level_on Single) atom_at _ _ _ _ _ c.from_residual-in_err-placed.ensures.1 c.in_err-placed.ensures
+pub read_atom-returns-in_err-expect_span : goal.read_atom-returns-in_err-expect_span
+read_atom-returns-in_err-expect_span t c = exits atom_tree atom (level_on Single) atom_at _ _ _ _ _ c.from_residual-in_err-expect_span.ensures.1 c.in_err-expect_span.ensures
     (λ h. form_fails number_form (number_leads _ c.is_next.ensures.some (iff_false c.is_next.ensures.is c.if-is_next.false) (iff_false c.is_next-else-is_next.ensures.is c.if-is_next-2.false) (iff_false c.is_next-else-is_next-2.ensures.is c.if-is_next-3.false) (iff_false c.is_next-else-is_next-3.ensures.is c.if-is_next-4.false)) (wide_fails (λ y k. refl) h))
 
 pub read_atom-returns-then-is_next-3 : goal.read_atom-returns-then-is_next-3
@@ -243,8 +243,8 @@ read_atom-returns-then-is_next-3 t c = atom_is_read _ _ _ (True c.skip.result) (
 pub read_atom-returns-then-is_next-4 : goal.read_atom-returns-then-is_next-4
 read_atom-returns-then-is_next-4 t c = atom_is_read _ _ _ (False c.skip-then-is_next-4.result) (false_made c.skip-then-is_next-4.result) (c.skip-then-is_next-4.ensures.placed kind.False refl (c.is_next-else-is_next-3.ensures.is.0 c.if-is_next-4.true)) (stops_never _)
 
-pub read_atom-returns-in_ok-placed : goal.read_atom-returns-in_ok-placed
-read_atom-returns-in_ok-placed t c = atom_is_read _ _ _ (Number c.in_ok-placed.field-0) (number_made c.in_ok-placed.field-0) c.in_ok-placed.ensures.0 (stops_never _)
+pub read_atom-returns-in_ok-expect_span : goal.read_atom-returns-in_ok-expect_span
+read_atom-returns-in_ok-expect_span t c = atom_is_read _ _ _ (Number c.in_ok-expect_span.field-0) (number_made c.in_ok-expect_span.field-0) c.in_ok-expect_span.ensures.0 (stops_never _)
 
 pub read_parens-returns-in_err-left : goal.read_parens-returns-in_err-left
 read_parens-returns-in_err-left t c = exits (λ p. (p.0, expression_tree p.1)) (parens expression) never (λ _. never) _ _ _ _ _ c.from_residual.ensures.1 c.in_err-left.ensures

@@ -7,10 +7,10 @@ use Rattle.syntax.proofs.CursorLemmas.{named_piece}
 use Rattle.syntax.proofs.TypeForms.{param_to, param_from, type_piece, type_follows}
 use Rattle.syntax.proofs.messages.param.Goals as goal
 
-pub returns-in_err-kind : goal.returns-in_err-kind
-returns-in_err-kind c = exits (λ x. x) param never (λ _. never) _ _ _ _ _ c.from_residual.ensures.1 c.in_err-kind.ensures
+pub returns-in_err-ty : goal.returns-in_err-ty
+returns-in_err-ty c = exits (λ x. x) param never (λ _. never) _ _ _ _ _ c.from_residual.ensures.1 c.in_err-ty.ensures
     (λ h. via_fails param_to param_from (λ _. refl) (fails_first h named_piece type_follows))
 
 pub returns-in_err-name : goal.returns-in_err-name
 returns-in_err-name c = exits (λ x. x) param never (λ _. never) _ _ _ _ _ c.from_residual-in_err-name.ensures.1 c.in_err-name.ensures
-    (λ h. via_fails param_to param_from (λ _. refl) (fails_second c.in_ok-kind.kind type_piece c.in_ok-kind.ensures type_follows h))
+    (λ h. via_fails param_to param_from (λ _. refl) (fails_second c.in_ok-ty.ty type_piece c.in_ok-ty.ensures type_follows h))

@@ -13,7 +13,7 @@ pub returns-in_default : goal.returns-in_default
 returns-in_default c = via_fails prefix_to prefix_from (λ _. refl) (marks_fails prefix_marks _ c.peek.ensures.some (ap prefix_of (sym c.peek.ensures.kind) ∙ sym c.prefix_of.ensures ∙ c.in_default.is))
 
 pub returns : goal.returns
-returns c = (marks_taken prefix_marks c.in-Some.operator c.skip-place.result _ _ (ap prefix_of (sym c.peek.ensures.kind) ∙ sym c.prefix_of.ensures ∙ c.in-Some.is) (high c.in-Some.operator) c.skip-place.ensures.placed, stops_never _)
+returns c = (marks_taken prefix_marks c.in-Some.operator c.skip-span.result _ _ (ap prefix_of (sym c.peek.ensures.kind) ∙ sym c.prefix_of.ensures ∙ c.in-Some.is) (high c.in-Some.operator) c.skip-span.ensures.placed, stops_never _)
   where
     high : (o : PrefixOperator) → is_placed (prefix_word o) ≡ true
     high prefixes.Not = refl

@@ -8,8 +8,8 @@ use Rattle.syntax.proofs.KindLemmas.{kind_leads, not_leads}
 use Rattle.syntax.proofs.OperatorRules.{minus_form, plus_form}
 use Rattle.syntax.proofs.operators.sum_operator.Goals as goal
 
-pub returns-in_err-placed : goal.returns-in_err-placed
-returns-in_err-placed c = exits (λ x. x) sum_operator never (λ _. never) _ _ _ _ _ c.from_residual.ensures.1 c.in_err-placed.ensures
+pub returns-in_err-expect_span : goal.returns-in_err-expect_span
+returns-in_err-expect_span c = exits (λ x. x) sum_operator never (λ _. never) _ _ _ _ _ c.from_residual.ensures.1 c.in_err-expect_span.ensures
     (λ h. form_fails minus_form (kind_leads kind.Minus _ (c.is_next.ensures.is.0 c.if-is_next.true)) h)
 
 pub returns-in_err-expect : goal.returns-in_err-expect

@@ -10,14 +10,14 @@ use Rattle.syntax.proofs.AccessRules.{access_piece}
 use Rattle.syntax.proofs.StructRules.{named_end_piece, type_ends, field_to, field_from, field_follows}
 use Rattle.syntax.proofs.structs.field.Goals as goal
 
-pub returns-in_err-kind : goal.returns-in_err-kind
-returns-in_err-kind c = exits (λ x. x) field never (λ _. never) _ _ _ _ _ c.from_residual.ensures.1 c.in_err-kind.ensures
+pub returns-in_err-ty : goal.returns-in_err-ty
+returns-in_err-ty c = exits (λ x. x) field never (λ _. never) _ _ _ _ _ c.from_residual.ensures.1 c.in_err-ty.ensures
     (λ h. via_fails field_to field_from (λ _. refl) (fails_second c.access-access.result access_piece c.access-access.ensures field_follows (fails_first h named_end_piece type_ends)))
 
 pub returns-in_err-name : goal.returns-in_err-name
 returns-in_err-name c = exits (λ x. x) field never (λ _. never) _ _ _ _ _ c.from_residual-in_err-name.ensures.1 c.in_err-name.ensures
-    (λ h. via_fails field_to field_from (λ _. refl) (fails_second c.access-access.result access_piece c.access-access.ensures field_follows (fails_second c.in_ok-kind.kind type_piece c.in_ok-kind.ensures type_ends (fails_here h (fixed_piece kind.Semicolon)))))
+    (λ h. via_fails field_to field_from (λ _. refl) (fails_second c.access-access.result access_piece c.access-access.ensures field_follows (fails_second c.in_ok-ty.ty type_piece c.in_ok-ty.ensures type_ends (fails_here h (fixed_piece kind.Semicolon)))))
 
 pub returns-in_err-expect : goal.returns-in_err-expect
 returns-in_err-expect c = exits (λ x. x) field never (λ _. never) _ _ _ _ _ c.from_residual-in_err-expect.ensures.1 c.in_err-expect.ensures
-    (λ h. via_fails field_to field_from (λ _. refl) (fails_second c.access-access.result access_piece c.access-access.ensures field_follows (fails_second c.in_ok-kind.kind type_piece c.in_ok-kind.ensures type_ends (fails_after c.in_ok-name.name named_piece c.in_ok-name.ensures h))))
+    (λ h. via_fails field_to field_from (λ _. refl) (fails_second c.access-access.result access_piece c.access-access.ensures field_follows (fails_second c.in_ok-ty.ty type_piece c.in_ok-ty.ensures type_ends (fails_after c.in_ok-name.name named_piece c.in_ok-name.ensures h))))

@@ -4,7 +4,7 @@ use Rattle.std.proofs.lemmas.List.{map-append}
 use Rattle.std.proofs.lemmas.List.Elements.{All-append, All-cons, All-nil}
 use Rattle.program.specs.Parts.{contract_parts}
 use Rattle.source.specs.Findings.{finding_parts}
-use Rattle.traces.specs.Explained.{explained_seen}
+use Rattle.traces.specs.Explained.{explained_model}
 use Rattle.traces.specs.Shown.{IsShown}
 use Rattle.traces.specs.declared.line.Explained.{Explained}
 use Rattle.traces.proofs.conditions.show_faults.Goals as goal
@@ -12,7 +12,7 @@ use Rattle.traces.proofs.conditions.show_faults.Goals as goal
 pub loop-finding-preserved : goal.loop-finding-preserved
 loop-finding-preserved c =
     let parts = λ (x : Explained). finding_parts x.finding in
-    let holds = λ (x : Explained). IsShown c.args.named (contract_parts c.args.contract.now) (explained_seen x) in
+    let holds = λ (x : Explained). IsShown c.args.named (contract_parts c.args.contract.now) (explained_model x) in
     let old = c.loop-finding.shown.items in
     let e : Explained = record { finding = c.in-Some.finding; lines = c.in_ok-lines.lines } in
     record {

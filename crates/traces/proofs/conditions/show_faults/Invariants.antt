@@ -2,12 +2,12 @@ use Rattle.std.proofs.Common.{◌≡◌, map}
 use Rattle.std.specs.List.{All}
 use Rattle.program.specs.Parts.{contract_parts}
 use Rattle.source.specs.Findings.{finding_parts}
-use Rattle.traces.specs.Explained.{explained_seen}
+use Rattle.traces.specs.Explained.{explained_model}
 use Rattle.traces.specs.Shown.{IsShown}
 use Rattle.traces.proofs.conditions.show_faults.Given as goal
 
 abbrev pub invariant-loop-finding : goal.invariant-loop-finding
 invariant-loop-finding l = record {
   same : map (λ e. finding_parts e.finding) l.shown.items ≡ map finding_parts l.yielded;
-  shown : All (λ e. IsShown l.fn.named (contract_parts l.fn.contract) (explained_seen e)) l.shown.items;
+  shown : All (λ e. IsShown l.fn.named (contract_parts l.fn.contract) (explained_model e)) l.shown.items;
 }

@@ -4,7 +4,7 @@ use Rattle.tree.specs.Expressions.{LevelTree}
 use Rattle.tree.specs.ExpressionTrees.{factor_tree, sum_tree, unary_tree}
 use Rattle.tree.specs.declared.expression.Factors as factor_rows
 use Rattle.tree.specs.Alone.{lone_atom}
-use Rattle.tree.proofs.ExpressionTwins.{of_factors, factors_seen}
+use Rattle.tree.proofs.ExpressionTwins.{of_factors, factors_model}
 use Rattle.tree.proofs.AloneLemmas.{row_is_more}
 use Rattle.tree.proofs.alone.in_sum.Goals as goal
 
@@ -13,4 +13,4 @@ returns-in-Factors c =
     let factors = c.in-Factors.field-0 in
     let row = factor_rows.out-Factors factors.value in
     row_is_more (unary_tree row.first) (factor_tree row.second) (map factor_tree row.others.items)
-    ∙ sym (ap (λ (t : LevelTree (Joined Add)). lone_atom t) (ap sum_tree c.in-Factors.is ∙ of_factors factors ∙ factors_seen factors.value))
+    ∙ sym (ap (λ (t : LevelTree (Joined Add)). lone_atom t) (ap sum_tree c.in-Factors.is ∙ of_factors factors ∙ factors_model factors.value))

@@ -1,7 +1,7 @@
 use Rattle.std.proofs.Common.{◌≡◌, ◌<◌, ◌≤◌, ◌^◌, ◌+◌, [], ◌∷◌, ◌++◌, ◌∙◌, sym, ap, subst, length, arith, map}
 use Rattle.std.specs.Prelude.{get_or}
 use Rattle.std.proofs.lemmas.List.{length_push, map-append}
-use Rattle.machine.specs.BlockViews.{block_seen, blocks_seen, held_seen}
+use Rattle.machine.specs.BlockViews.{block_model, blocks_model, held_model}
 use Rattle.machine.specs.Heaps.{IsBrought, IsCounted, IsHeld, of_process, one_if}
 use Rattle.machine.specs.World.{is_process}
 use Rattle.machine.specs.declared.worlds.Owner.TheVariants.{Process}
@@ -29,14 +29,14 @@ count_more-requires-2-clause-room c = λ q.
 
 pub invariant_of-self-2 : goal.invariant_of-self-2
 invariant_of-self-2 c =
-    let old = blocks_seen c.list.new.self.blocks.items in
+    let old = blocks_model c.list.new.self.blocks.items in
     let counts = c.list.new.self.counts.items in
-    let b = block_seen c.args.first in
-    let d = block_seen c.args.second in
-    let one : blocks_seen c.push.new.self.items ≡ old ++ b ∷ [] =
-    ap blocks_seen (c.in_ok-push.ensures.items ∙ ap (λ l. l ++ c.args.first ∷ []) c.in_ok-reserve.ensures.items) ∙ map-append block_seen c.list.new.self.blocks.items (c.args.first ∷ []) in
-    let two : blocks_seen c.push-2.new.self.items ≡ (old ++ b ∷ []) ++ d ∷ [] =
-    ap blocks_seen c.in_ok-push-2.ensures.items ∙ (map-append block_seen c.push.new.self.items (c.args.second ∷ []) ∙ ap (λ l. l ++ d ∷ []) one) in
+    let b = block_model c.args.first in
+    let d = block_model c.args.second in
+    let one : blocks_model c.push.new.self.items ≡ old ++ b ∷ [] =
+    ap blocks_model (c.in_ok-push.ensures.items ∙ ap (λ l. l ++ c.args.first ∷ []) c.in_ok-reserve.ensures.items) ∙ map-append block_model c.list.new.self.blocks.items (c.args.first ∷ []) in
+    let two : blocks_model c.push-2.new.self.items ≡ (old ++ b ∷ []) ++ d ∷ [] =
+    ap blocks_model c.in_ok-push-2.ensures.items ∙ (map-append block_model c.push.new.self.items (c.args.second ∷ []) ∙ ap (λ l. l ++ d ∷ []) one) in
     record {
       kept = record {
         counted = subst (λ bs. IsCounted bs c.count_more-2.new.counts.items) (sym two)
@@ -45,8 +45,8 @@ invariant_of-self-2 c =
             (λ q. c.count_more.ensures.more q ∙ ap (λ o. get_or counts q 0 + one_if (is_process o q)) (sym c.requires.owner)))
             (λ q. c.count_more-2.ensures.more q ∙ ap (λ o. get_or c.count_more.new.counts.items q 0 + one_if (is_process o q)) (sym c.requires.owner_too)));
         brought = subst IsBrought (sym two)
-            (brought_added (old ++ b ∷ []) d (ap of_process c.requires.owner_too) (ap (map held_seen) c.requires.empty_too)
-            (brought_added old b (ap of_process c.requires.owner) (ap (map held_seen) c.requires.empty) c.list.new.self.kept.brought));
+            (brought_added (old ++ b ∷ []) d (ap of_process c.requires.owner_too) (ap (map held_model) c.requires.empty_too)
+            (brought_added old b (ap of_process c.requires.owner) (ap (map held_model) c.requires.empty) c.list.new.self.kept.brought));
         held = subst IsHeld (sym two)
             (held_added (old ++ b ∷ []) d (ap of_process c.requires.owner_too) c.requires.holds_none_too
             (held_added old b (ap of_process c.requires.owner) c.requires.holds_none c.list.new.self.kept.held));

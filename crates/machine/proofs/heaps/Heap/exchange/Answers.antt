@@ -6,30 +6,30 @@ use Rattle.machine.specs.World.{Block, block_at, changed}
 use Rattle.machine.specs.declared.worlds.Owner.TheVariants.{Process, Inside}
 use Rattle.machine.specs.declared.worlds.Block as made_block
 use Rattle.machine.specs.Answers.{with_field}
-use Rattle.machine.specs.BlockViews.{blocks_seen}
+use Rattle.machine.specs.BlockViews.{blocks_model}
 use Rattle.machine.proofs.CountLemmas.{counted_kept, listed_own}
 use Rattle.machine.proofs.HeldLemmas.{exchange_brought, exchange_holds, exchanged_is}
 use Rattle.machine.proofs.heaps.Heap.exchange.Goals as goal
 
 pub hand_one-requires-clause-counted : goal.hand_one-requires-clause-counted
 hand_one-requires-clause-counted c = subst (λ (bs : List Block). IsCounted bs c.args.self.now.counts.items) (sym c.set_field.ensures)
-    (counted_kept (with_field c.args.at c.args.field c.args.given) (blocks_seen c.args.self.now.blocks.items) c.args.self.now.counts.items
+    (counted_kept (with_field c.args.at c.args.field c.args.given) (blocks_model c.args.self.now.blocks.items) c.args.self.now.counts.items
     (λ j b. refl) c.args.self.now.kept.counted)
 
 pub hand_one-requires-clause-listed : goal.hand_one-requires-clause-listed
 hand_one-requires-clause-listed c =
-    listed_own (blocks_seen c.args.self.now.blocks.items) c.args.self.now.counts.items c.args.at c.args.process c.args.self.now.kept.counted
+    listed_own (blocks_model c.args.self.now.blocks.items) c.args.self.now.counts.items c.args.at c.args.process c.args.self.now.kept.counted
     c.requires.holder
 
 pub invariant_of-self : goal.invariant_of-self
 invariant_of-self c =
-    let old = blocks_seen c.args.self.now.blocks.items in
+    let old = blocks_model c.args.self.now.blocks.items in
     let kept = c.args.self.now.kept in
     let found : slice_get (block_at old c.args.at).fields c.args.field ≡ Some c.in_ok-held.held =
-    ap (λ (items : List made_block.Block). slice_get (block_at (blocks_seen items) c.args.at).fields c.args.field)
+    ap (λ (items : List made_block.Block). slice_get (block_at (blocks_model items) c.args.at).fields c.args.field)
     (sym c.deref.ensures.value)
     ∙ (sym c.field_of.ensures ∙ c.in_ok-held.was) in
-    let now : blocks_seen c.hand_one-2.new.blocks.items
+    let now : blocks_model c.hand_one-2.new.blocks.items
     ≡ changed (exchanged_block c.args.process c.args.at c.args.field c.args.given c.in_ok-held.held) old =
     c.hand_one-2.ensures.handed ∙ (ap (changed (handed (Inside c.args.at) (c.args.given ∷ []))) (c.hand_one.ensures.handed
     ∙ ap (changed (handed (Process c.args.process) (c.in_ok-held.held ∷ []))) c.set_field.ensures)
@@ -46,7 +46,7 @@ invariant_of-self c =
 
 pub returns-clause-exchanged : goal.returns-clause-exchanged
 returns-clause-exchanged c =
-    let old = blocks_seen c.args.self.now.blocks.items in
+    let old = blocks_model c.args.self.now.blocks.items in
     c.hand_one-2.ensures.handed ∙ (ap (changed (handed (Inside c.args.at) (c.args.given ∷ []))) (c.hand_one.ensures.handed
     ∙ ap (changed (handed (Process c.args.process) (c.in_ok-held.held ∷ []))) c.set_field.ensures)
     ∙ exchanged_is c.args.process c.args.at c.args.field c.args.given c.in_ok-held.held old)

@@ -1,5 +1,5 @@
 use Rattle.std.proofs.Common.{sym, subst}
-use Rattle.machine.specs.BlockViews.{blocks_seen}
+use Rattle.machine.specs.BlockViews.{blocks_model}
 use Rattle.machine.specs.Heaps.{IsHeld}
 use Rattle.machine.proofs.Holding.{held_freed}
 use Rattle.machine.proofs.heaps.Heap.free.Goals as goal
@@ -10,6 +10,6 @@ invariant_of-self c = record {
     counted = c.free.ensures.counted;
     brought = c.free.ensures.brought;
     held = subst IsHeld (sym c.free.ensures.freed)
-        (held_freed (blocks_seen c.args.self.now.blocks.items) c.args.a c.args.self.now.kept.held c.requires.owned);
+        (held_freed (blocks_model c.args.self.now.blocks.items) c.args.a c.args.self.now.kept.held c.requires.owned);
   };
 }

@@ -1,5 +1,5 @@
 use Rattle.std.proofs.Common.{refl, sym, subst}
-use Rattle.machine.specs.BlockViews.{blocks_seen}
+use Rattle.machine.specs.BlockViews.{blocks_model}
 use Rattle.machine.specs.Heaps.{IsBrought, IsHeld}
 use Rattle.machine.specs.declared.worlds.Owner.TheVariants.{Process}
 use Rattle.machine.proofs.HeapLemmas.{brought_handed}
@@ -11,8 +11,8 @@ invariant_of-self c = record {
   kept = record {
     counted = c.hand.ensures.counted;
     brought = subst IsBrought (sym c.hand.ensures.handed)
-        (brought_handed (Process c.args.process) (blocks_seen c.args.self.now.blocks.items) c.args.given.now (λ a. refl) c.requires.owned c.args.self.now.kept.brought);
+        (brought_handed (Process c.args.process) (blocks_model c.args.self.now.blocks.items) c.args.given.now (λ a. refl) c.requires.owned c.args.self.now.kept.brought);
     held = subst IsHeld (sym c.hand.ensures.handed)
-        (held_handed (Process c.args.process) (blocks_seen c.args.self.now.blocks.items) c.args.given.now (λ a. refl) c.requires.owned c.args.self.now.kept.held);
+        (held_handed (Process c.args.process) (blocks_model c.args.self.now.blocks.items) c.args.given.now (λ a. refl) c.requires.owned c.args.self.now.kept.held);
   };
 }

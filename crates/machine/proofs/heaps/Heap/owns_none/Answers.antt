@@ -1,7 +1,7 @@
 use Rattle.std.proofs.Common.{◌≡◌, ◌<◌, ◌==◌, ap, sym, ◌∙◌, length, arith}
 use Rattle.std.proofs.lemmas.Bool.{le-leb}
 use Rattle.std.proofs.lemmas.List.{get_or_past, get_or_read}
-use Rattle.machine.specs.BlockViews.{blocks_seen}
+use Rattle.machine.specs.BlockViews.{blocks_model}
 use Rattle.machine.specs.Heaps.{owned_by}
 use Rattle.machine.proofs.ChangeLemmas.{eqb_same}
 use Rattle.machine.proofs.CountLemmas.{none_owned}
@@ -9,7 +9,7 @@ use Rattle.machine.proofs.heaps.Heap.owns_none.Goals as goal
 
 pub returns-then-process-len : goal.returns-then-process-len
 returns-then-process-len c =
-    let bs = blocks_seen c.args.self.now.blocks.items in
+    let bs = blocks_model c.args.self.now.blocks.items in
     let counts = c.args.self.now.counts.items in
     let all : c.len.result ≡ length counts = c.len.ensures ∙ c.args.self.now.counts.ok.0 in
     let none : owned_by bs c.args.process ≡ 0 = sym (c.args.self.now.kept.counted.counts_are c.args.process) ∙ get_or_past counts c.args.process 0 (omega arith) in
@@ -17,7 +17,7 @@ returns-then-process-len c =
 
 pub returns-else-process-len : goal.returns-else-process-len
 returns-else-process-len c =
-    let bs = blocks_seen c.args.self.now.blocks.items in
+    let bs = blocks_model c.args.self.now.blocks.items in
     let counts = c.args.self.now.counts.items in
     let all : c.len.result ≡ length counts = c.len.ensures ∙ c.args.self.now.counts.ok.0 in
     let short : c.args.process < length counts = omega arith in

@@ -5,10 +5,10 @@ use Rattle.names.proofs.HeadWords.{found_twice}
 use Rattle.names.proofs.heads.Heads.is_twice.Goals as goal
 
 pub returns : goal.returns
-returns c = λ all h is case.
+returns c = λ all h is awaiting.
     let text = c.args.text.now in
-    let place = c.args.place in
+    let index = c.args.index in
     c.stands_before.ensures
-    ∙ ap (is_before place) (c.place_of.ensures text all is)
-    ∙ ap (λ k. is_before place (key_at text k all)) (c.key_of.ensures ∙ ap (λ a. (word_at text a.endpoint, awaited_word text a.awaited)) case)
-    ∙ found_twice text all h place
+    ∙ ap (is_before index) (c.place_of.ensures text all is)
+    ∙ ap (λ k. is_before index (key_at text k all)) (c.key_of.ensures ∙ ap (λ a. (word_at text a.endpoint, awaited_word text a.awaited)) awaiting)
+    ∙ found_twice text all h index

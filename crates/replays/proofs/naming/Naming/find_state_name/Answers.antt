@@ -1,19 +1,19 @@
 use Rattle.std.proofs.Common.{◌≡◌, ◌∙◌, List, ℕ, ap, Bor, Option, Some, None, map, refl, sym}
 use Rattle.std.specs.Prelude.{option_and_then, option_map, slice_get, string_bytes}
 use Rattle.std.proofs.lemmas.Option.{slice_get_past, slice_get_read}
-use Rattle.program.specs.Parts.{ContractSeen, StateParts, contract_seen, state_parts}
+use Rattle.program.specs.Parts.{ContractModel, StateParts, contract_model, state_parts}
 use Rattle.program.specs.declared.contract.Contract.{Contract}
-use Rattle.rules.specs.Programs.{seen_of}
+use Rattle.rules.specs.Programs.{model_of}
 use Rattle.replays.specs.Names.{state_of}
 use Rattle.replays.proofs.NameLemmas.{by_place, seen_at, state_placed}
-use Rattle.replays.proofs.naming.Naming.printed.Goals as goal
-use Rattle.replays.proofs.naming.Naming.printed.Goals.{After-place}
+use Rattle.replays.proofs.naming.Naming.find_state_name.Goals as goal
+use Rattle.replays.proofs.naming.Naming.find_state_name.Goals.{After-place}
 
 -- the state stands at the place that the tables have
-by_tables : (c : After-place) → state_of (seen_of c.args.self.now.program.now).contracts c.args.contract.0 c.args.state.0
-    ≡ by_place (seen_of c.args.self.now.program.now).contracts c.args.contract.0 c.place.result
+by_tables : (c : After-place) → state_of (model_of c.args.self.now.program.now).contracts c.args.contract.0 c.args.state.0
+    ≡ by_place (model_of c.args.self.now.program.now).contracts c.args.contract.0 c.place.result
 by_tables c =
-    let contracts = (seen_of c.args.self.now.program.now).contracts in
+    let contracts = (model_of c.args.self.now.program.now).contracts in
     state_placed contracts c.args.self.now.states.items c.args.self.now.placed c.args.contract.0 c.args.state.0 ∙ ap (by_place contracts c.args.contract.0) (sym c.place.ensures)
 
 -- the name of a state, where there is one
@@ -21,25 +21,25 @@ abbrev name_of : Option StateParts → Option (List ℕ)
 name_of s = option_map (λ (x : StateParts). x.name) s
 
 -- the state at a place of a contract, where there is one
-abbrev within : Option ContractSeen → ℕ → Option StateParts
-within contract place = option_and_then (λ (x : ContractSeen). slice_get x.parts.states place) contract
+abbrev within : Option ContractModel → ℕ → Option StateParts
+within contract place = option_and_then (λ (x : ContractModel). slice_get x.parts.states place) contract
 
 -- of a contract that is there, its states
-in_contract : (c : After-place) (place : ℕ) (contract : Contract) → c.place.result ≡ Some place → slice_get (seen_of c.args.self.now.program.now).contracts c.args.contract.0 ≡ Some (contract_seen contract)
-    → state_of (seen_of c.args.self.now.program.now).contracts c.args.contract.0 c.args.state.0 ≡ slice_get (map (state_parts (string_bytes contract.state_names)) contract.states.items) place
-in_contract c place contract was there = by_tables c ∙ ap (by_place (seen_of c.args.self.now.program.now).contracts c.args.contract.0) was ∙ ap (λ o. within o place) there
+in_contract : (c : After-place) (place : ℕ) (contract : Contract) → c.place.result ≡ Some place → slice_get (model_of c.args.self.now.program.now).contracts c.args.contract.0 ≡ Some (contract_model contract)
+    → state_of (model_of c.args.self.now.program.now).contracts c.args.contract.0 c.args.state.0 ≡ slice_get (map (state_parts (string_bytes contract.state_names)) contract.states.items) place
+in_contract c place contract was there = by_tables c ∙ ap (by_place (model_of c.args.self.now.program.now).contracts c.args.contract.0) was ∙ ap (λ o. within o place) there
 
 pub returns-in_err-place : goal.returns-in_err-place
 returns-in_err-place c =
-    let contracts = (seen_of c.args.self.now.program.now).contracts in
+    let contracts = (model_of c.args.self.now.program.now).contracts in
     ap (option_map (λ (b : Bor (List ℕ)). b.now)) c.from_residual.ensures
     ∙ sym (ap name_of (by_tables (goal.at.returns-in_err-place c).After-place ∙ ap (by_place contracts c.args.contract.0) c.in_err-place.was))
 
 pub returns-in_err-within : goal.returns-in_err-within
 returns-in_err-within c =
-    let contracts = (seen_of c.args.self.now.program.now).contracts in
+    let contracts = (model_of c.args.self.now.program.now).contracts in
     let n = c.args.contract.0 in
-    let past = seen_at contract_seen c.contracts.result.now contracts n None c.contracts.ensures (slice_get_past c.contracts.result.now n c.in_err-within.ensures.lookup.3) in
+    let past = seen_at contract_model c.contracts.result.now contracts n None c.contracts.ensures (slice_get_past c.contracts.result.now n c.in_err-within.ensures.lookup.3) in
     ap (option_map (λ (b : Bor (List ℕ)). b.now)) c.from_residual-in_err-within.ensures
     ∙ sym (ap name_of (by_tables (goal.at.returns-in_err-within c).After-place ∙ ap (by_place contracts n) c.in_ok-place.was
     ∙ ap (λ o. within o c.in_ok-place.place) past))
@@ -50,7 +50,7 @@ returns-in_err-there c =
     let x = c.in_ok-within.within.now in
     let view = state_parts (string_bytes x.state_names) in
     let look = c.in_ok-within.ensures.lookup in
-    let there = seen_at contract_seen c.contracts.result.now (seen_of c.args.self.now.program.now).contracts n (Some x) c.contracts.ensures (slice_get_read c.contracts.result.now _ n x refl look.3.0 look.1) in
+    let there = seen_at contract_model c.contracts.result.now (model_of c.args.self.now.program.now).contracts n (Some x) c.contracts.ensures (slice_get_read c.contracts.result.now _ n x refl look.3.0 look.1) in
     ap (option_map (λ (b : Bor (List ℕ)). b.now)) c.from_residual-in_err-there.ensures
     ∙ sym (ap name_of (in_contract (goal.at.returns-in_err-there c).After-place c.in_ok-place.place x c.in_ok-place.was there
     ∙ seen_at view c.deref.result.now _ c.in_ok-place.place None (ap (map view) c.deref.ensures.value) (slice_get_past c.deref.result.now c.in_ok-place.place c.in_err-there.ensures.lookup.3)))
@@ -61,7 +61,7 @@ returns c =
     let x = c.in_ok-within.within.now in
     let view = state_parts (string_bytes x.state_names) in
     let look = c.in_ok-within.ensures.lookup in
-    let there = seen_at contract_seen c.contracts.result.now (seen_of c.args.self.now.program.now).contracts n (Some x) c.contracts.ensures (slice_get_read c.contracts.result.now _ n x refl look.3.0 look.1) in
+    let there = seen_at contract_model c.contracts.result.now (model_of c.args.self.now.program.now).contracts n (Some x) c.contracts.ensures (slice_get_read c.contracts.result.now _ n x refl look.3.0 look.1) in
     let state = c.in_ok-there.field-0.now in
     let at = c.in_ok-there.ensures.lookup in
     ap Some c.state_name.ensures

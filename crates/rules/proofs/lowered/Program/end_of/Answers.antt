@@ -2,13 +2,13 @@ use Rattle.std.proofs.Common.{◌∙◌, Some, slice_get, refl, sym, ap, subst}
 use Rattle.std.proofs.lemmas.Option.{slice_get_read}
 use Rattle.contracts.specs.Sounds.{sound_parts}
 use Rattle.rules.specs.Ends.{IsEndOf}
-use Rattle.rules.specs.Programs.{seen_of}
+use Rattle.rules.specs.Programs.{model_of}
 use Rattle.rules.proofs.EndLemmas.{end_there, parts_there}
 use Rattle.rules.proofs.lowered.Program.end_of.Goals as goal
 
 pub returns-in_ok-sound-in-Endpoint : goal.returns-in_ok-sound-in-Endpoint
 returns-in_ok-sound-in-Endpoint c =
-    let p = seen_of c.args.self.now in
+    let p = model_of c.args.self.now in
     let e = c.in-Endpoint in
     let s = c.in_ok-sound-in-Endpoint.sound.now in
     let look = c.in_ok-sound-in-Endpoint.ensures.lookup in

@@ -3,27 +3,27 @@ use Rattle.std.proofs.lemmas.Option.{slice_get-map, slice_get_past, slice_get_re
 use Rattle.std.specs.Prelude.{All}
 use Rattle.std.specs.Option.{option_map, option_map_or}
 use Rattle.program.specs.WellFormed.{AreFields, field_kinds}
-use Rattle.program.specs.declared.kind.Kind.{Kind}
+use Rattle.program.specs.declared.kind.HeapKind.{HeapKind}
 use Rattle.rules.specs.Endpoints.{declared_leaf}
 use Rattle.rules.specs.Leaves.{IsNumbered}
-use Rattle.rules.specs.Programs.{seen_of}
+use Rattle.rules.specs.Programs.{model_of}
 use Rattle.rules.proofs.EndLemmas.{each_at, kinds_numbered}
 use Rattle.rules.proofs.lowered.Program.field_kinds.Goals as goal
 
 pub returns-in-Some-clause-numbered : goal.returns-in-Some-clause-numbered
 returns-in-Some-clause-numbered c =
-    let p = seen_of c.args.self.now in
+    let p = model_of c.args.self.now in
     let n = c.in-Struct.number.0 in
     let kinds = c.in-Some.kinds.now in
     let look = c.in-Some.ensures.lookup in
     let there = slice_get_read c.structs.result.now _ n kinds refl look.3.0 look.1 in
     let told = ap (λ l. slice_get l n) (sym c.structs.ensures.structs) ∙ slice_get-map (λ kinds. kinds.items) c.structs.result.now n ∙ ap (option_map (λ kinds. kinds.items)) there in
     let fields = each_at (AreFields p.contracts) p.structs n kinds.items c.structs.ensures.kinds told in
-    subst (All (λ (kind : Kind). IsNumbered (declared_leaf kind))) (sym c.as_slice.ensures.value)
+    subst (All (λ (kind : HeapKind). IsNumbered (declared_leaf kind))) (sym c.as_slice.ensures.value)
     (kinds_numbered c.args.self.now.sounds.items p.contracts kinds.items c.args.self.now.sound fields.kinds_are)
 
 pub returns-in-None-clause-kinds : goal.returns-in-None-clause-kinds
 returns-in-None-clause-kinds c =
     let n = c.in-Struct.number.0 in
     let past = ap (λ l. slice_get l n) (sym c.structs.ensures.structs) ∙ slice_get-map (λ kinds. kinds.items) c.structs.result.now n ∙ ap (option_map (λ kinds. kinds.items)) (slice_get_past c.structs.result.now n c.in-None.ensures.lookup.3) in
-    sym (ap (field_kinds (seen_of c.args.self.now).structs) c.in-Struct.is ∙ ap (λ o. option_map_or (λ (x : List Kind). x) o []) past)
+    sym (ap (field_kinds (model_of c.args.self.now).structs) c.in-Struct.is ∙ ap (λ o. option_map_or (λ (x : List HeapKind). x) o []) past)

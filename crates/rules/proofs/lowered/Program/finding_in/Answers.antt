@@ -1,16 +1,16 @@
 use Rattle.std.proofs.Common.{ap, sym, ◌∙◌}
 use Rattle.std.proofs.lemmas.Result.{IfOk-weaker}
-use Rattle.program.specs.Methods.{method_seen}
+use Rattle.program.specs.Methods.{method_model}
 use Rattle.rules.specs.Breaches.{told}
 use Rattle.rules.specs.Mentions.{name_of}
-use Rattle.rules.specs.Programs.{seen_of}
+use Rattle.rules.specs.Programs.{model_of}
 use Rattle.rules.specs.Texts.{wrong_for}
-use Rattle.rules.proofs.lowered.Program.told.Goals as goal
+use Rattle.rules.proofs.lowered.Program.finding_in.Goals as goal
 
 pub returns-in-WrongFor : goal.returns-in-WrongFor
 returns-in-WrongFor c =
-    let p = seen_of c.args.self.now in
-    let m = method_seen c.args.method.now in
+    let p = model_of c.args.self.now in
+    let m = method_model c.args.method.now in
     let place = c.args.breach.place in
     let arm = c.in-WrongFor in
     IfOk-weaker c.in_a_wrong_state_for.result _ _

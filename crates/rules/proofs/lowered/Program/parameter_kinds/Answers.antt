@@ -1,12 +1,12 @@
 use Rattle.std.proofs.Common.{◌∙◌, slice_get, refl, sym, ap}
 use Rattle.std.proofs.lemmas.Option.{slice_get_past, slice_get_read}
-use Rattle.rules.specs.Programs.{seen_of}
+use Rattle.rules.specs.Programs.{model_of}
 use Rattle.rules.proofs.KindLemmas.{kinds_past, kinds_there}
 use Rattle.rules.proofs.lowered.Program.parameter_kinds.Goals as goal
 
 pub returns-in-Some : goal.returns-in-Some
 returns-in-Some c =
-    let p = seen_of c.args.self.now in
+    let p = model_of c.args.self.now in
     let n = c.args.method.0 in
     let kinds = c.in-Some.kinds.now in
     let look = c.in-Some.ensures.lookup in
@@ -15,7 +15,7 @@ returns-in-Some c =
 
 pub returns-in-None : goal.returns-in-None
 returns-in-None c =
-    let p = seen_of c.args.self.now in
+    let p = model_of c.args.self.now in
     let n = c.args.method.0 in
     let past = ap (λ l. slice_get l n) (sym c.deref.ensures.value) ∙ slice_get_past c.deref.result.now n c.in-None.ensures.lookup.3 in
     kinds_past c.args.self.now.parameters.items p.methods n c.args.self.now.asked past

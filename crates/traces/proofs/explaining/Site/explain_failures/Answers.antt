@@ -4,16 +4,16 @@ use Rattle.std.proofs.lemmas.List.{map-append, take_more}
 use Rattle.std.proofs.lemmas.List.Elements.{All-append, All-cons, All-nil}
 use Rattle.source.specs.Findings.{finding_parts}
 use Rattle.rules.specs.Breaches.{breach_in}
-use Rattle.rules.specs.Programs.{seen_of}
+use Rattle.rules.specs.Programs.{model_of}
 use Rattle.analyse.specs.declared.trail.Failure.{Failure}
-use Rattle.traces.specs.Explained.{IsExplainedIf, explained_seen}
+use Rattle.traces.specs.Explained.{IsExplainedIf, explained_model}
 use Rattle.traces.specs.declared.line.Explained.{Explained}
 use Rattle.traces.proofs.explaining.Site.explain_failures.Goals as goal
 
 pub loop-failure-preserved : goal.loop-failure-preserved
 loop-failure-preserved c =
     let i = c.loop-failure.invariant in
-    let p = seen_of c.args.self.now.program.now in
+    let p = model_of c.args.self.now.program.now in
     let n = c.args.self.now.method.0 in
     let at = c.loop-failure.failure-index in
     let items = c.failures-failure-items.result.now in
@@ -21,7 +21,7 @@ loop-failure-preserved c =
     let e = c.in_ok-explain_failure.field-0 in
     let parts = λ (x : Explained). finding_parts x.finding in
     let says = λ (k : Failure). breach_in p n k.breach in
-    let holds = λ (x : Explained). IsExplainedIf c.args.self.now.named p n (explained_seen x) in
+    let holds = λ (x : Explained). IsExplainedIf c.args.self.now.named p n (explained_model x) in
     record {
       worker = c.explain_failure.ensures.worker;
       differ = c.explain_failure.ensures.differ;

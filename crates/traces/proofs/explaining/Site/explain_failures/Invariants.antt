@@ -3,10 +3,10 @@ use Rattle.std.specs.List.{All}
 use Rattle.source.specs.Findings.{finding_parts}
 use Rattle.rules.specs.Breaches.{breach_in}
 use Rattle.rules.specs.Outcomes as outcomes
-use Rattle.rules.specs.Programs.{seen_of}
+use Rattle.rules.specs.Programs.{model_of}
 use Rattle.analyse.specs.Reach.{Differ}
 use Rattle.analyse.specs.Workers.{HasSeen, IsWorkerOf, own_of}
-use Rattle.traces.specs.Explained.{IsExplainedIf, explained_seen}
+use Rattle.traces.specs.Explained.{IsExplainedIf, explained_model}
 use Rattle.traces.proofs.explaining.Site.explain_failures.Given as goal
 
 abbrev pub invariant-loop-failure : goal.invariant-loop-failure
@@ -14,6 +14,6 @@ invariant-loop-failure l = record {
   worker : IsWorkerOf l.self.rows.now l.worker;
   differ : Differ (own_of l.worker);
   seen : (pairs : List outcomes.Pair) → HasSeen l.fn.worker pairs → HasSeen l.worker pairs;
-  found : map (λ e. finding_parts e.finding) l.found.items ≡ map (λ k. breach_in (seen_of l.self.program.now) l.self.method.0 k.breach) (take l.failure-index l.failure-items);
-  explained : All (λ e. IsExplainedIf l.self.named (seen_of l.self.program.now) l.self.method.0 (explained_seen e)) l.found.items;
+  found : map (λ e. finding_parts e.finding) l.found.items ≡ map (λ k. breach_in (model_of l.self.program.now) l.self.method.0 k.breach) (take l.failure-index l.failure-items);
+  explained : All (λ e. IsExplainedIf l.self.named (model_of l.self.program.now) l.self.method.0 (explained_model e)) l.found.items;
 }

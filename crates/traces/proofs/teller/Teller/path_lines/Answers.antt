@@ -1,18 +1,18 @@
 use Rattle.std.proofs.Common.{◌≡◌, suc, ◌+◌, ◌++◌, ◌∷◌, Some, drop, map, slice_get, sym, ap, ◌∙◌, append-nil, arith}
 use Rattle.flow.specs.Lowering.{graph_of}
-use Rattle.program.specs.Methods.{method_seen}
+use Rattle.program.specs.Methods.{method_model}
 use Rattle.program.specs.declared.number.VarId.{VarId}
 use Rattle.rules.specs.Outcomes.{Pair}
-use Rattle.rules.specs.Programs.{seen_of}
+use Rattle.rules.specs.Programs.{model_of}
 use Rattle.rules.specs.Rows.{leaves_of}
-use Rattle.traces.specs.Lines.{line_seen, path_lines, step_lines}
+use Rattle.traces.specs.Lines.{line_model, path_lines, step_lines}
 use Rattle.traces.proofs.LineLemmas.{next_step, no_more_steps, one_pair, path_step}
 use Rattle.traces.proofs.teller.Teller.path_lines.Goals as goal
 
 pub loop-place-preserved : goal.loop-place-preserved
 loop-place-preserved c =
-    let p = seen_of c.args.self.now.program.now in
-    let m = method_seen c.args.self.now.method.now in
+    let p = model_of c.args.self.now.program.now in
+    let m = method_model c.args.self.now.method.now in
     let about = map (λ (v : VarId). v.0) c.args.watched.now in
     let i = c.loop-place.invariant in
     let n = c.loop-place.place-index in
@@ -26,19 +26,19 @@ loop-place-preserved c =
           let here : Pair = (c.loop-place.point, leaves_of c.loop-place.before) in
           let copied = c.in_ok-copy_from.ensures in
           let later : suc n ≡ n + 1 = omega arith in
-          ap (λ k. map line_seen c.add_step.new.lines.items ++ path_lines p m about ((c.in_ok-next.next, leaves_of c.copy_from.new.self) ∷ drop k steps)) (sym later)
-          ∙ path_step p m about here s.next (c.in_ok-next.next, leaves_of c.copy_from.new.self) (drop (suc n) steps) (drop n steps) (map line_seen c.loop-place.lines.items) (map line_seen c.add_step.new.lines.items) _ s.are
+          ap (λ k. map line_model c.add_step.new.lines.items ++ path_lines p m about ((c.in_ok-next.next, leaves_of c.copy_from.new.self) ∷ drop k steps)) (sym later)
+          ∙ path_step p m about here s.next (c.in_ok-next.next, leaves_of c.copy_from.new.self) (drop (suc n) steps) (drop n steps) (map line_model c.loop-place.lines.items) (map line_model c.add_step.new.lines.items) _ s.are
           (one_pair s.next _ (sym s.there ∙ c.in_ok-next.ensures.pair pairs (i.seen pairs has) ∙ ap (λ row. Some (c.in_ok-next.next, row)) (sym copied)))
-          (c.in_ok-add_step.ensures ∙ ap (λ row. map line_seen c.loop-place.lines.items ++ step_lines p m (slice_get (graph_of m).instructions c.loop-place.point) about here (c.in_ok-next.next, row)) (sym copied))
+          (c.in_ok-add_step.ensures ∙ ap (λ row. map line_model c.loop-place.lines.items ++ step_lines p m (slice_get (graph_of m).instructions c.loop-place.point) about here (c.in_ok-next.next, row)) (sym copied))
           (i.lines pairs steps first has at zip);
     }
 
 pub returns-clause-lines : goal.returns-clause-lines
 returns-clause-lines c = λ pairs steps first has at zip.
-    let p = seen_of c.args.self.now.program.now in
-    let m = method_seen c.args.self.now.method.now in
+    let p = model_of c.args.self.now.program.now in
+    let m = method_model c.args.self.now.method.now in
     let about = map (λ (v : VarId). v.0) c.args.watched.now in
     let none = no_more_steps pairs c.args.places.now steps c.loop-place.place-index zip (omega (arith, c.loop-place-test.false)) in
-    sym (append-nil (map line_seen c.loop-place.lines.items))
-    ∙ ap (λ rest. map line_seen c.loop-place.lines.items ++ path_lines p m about ((c.loop-place.point, leaves_of c.loop-place.before) ∷ rest)) (sym none)
+    sym (append-nil (map line_model c.loop-place.lines.items))
+    ∙ ap (λ rest. map line_model c.loop-place.lines.items ++ path_lines p m about ((c.loop-place.point, leaves_of c.loop-place.before) ∷ rest)) (sym none)
     ∙ c.loop-place.invariant.lines pairs steps first has at zip

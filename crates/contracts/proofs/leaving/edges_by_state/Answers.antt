@@ -9,7 +9,7 @@ use Rattle.contracts.specs.Spans.{cut}
 use Rattle.contracts.proofs.SpanLemmas.{cut_map}
 use Rattle.contracts.proofs.PartLemmas.{all_from}
 use Rattle.contracts.proofs.SourceLemmas.{leaving_is, sources_start}
-use Rattle.contracts.proofs.leaving.leaving.Goals as goal
+use Rattle.contracts.proofs.leaving.edges_by_state.Goals as goal
 
 pub rows_of-requires : goal.rows_of-requires
 rows_of-requires c = record { starts = subst (λ n. All (λ a. a.from < n) c.deref.result.now) (sym c.len.ensures) (subst (All (λ a. a.from < length (listed c.args.states))) (sym c.deref.ensures.value) (sources_start _ _ _ _ c.in_ok-sources.ensures)) }

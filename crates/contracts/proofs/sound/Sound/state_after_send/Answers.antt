@@ -7,8 +7,8 @@ use Rattle.contracts.specs.Positions.{first_with}
 use Rattle.contracts.proofs.LeavingLemmas.{no_end, end_there, end_elsewhere, to_numbered}
 use Rattle.contracts.proofs.NextLemmas.{Found, next_none, next_some}
 use Rattle.contracts.proofs.SignLemmas.{sign_same, sign_other}
-use Rattle.contracts.proofs.sound.Sound.sent.Goals as goal
-use Rattle.contracts.proofs.sound.Sound.sent.Goals.{After-first_on, After-index}
+use Rattle.contracts.proofs.sound.Sound.state_after_send.Goals as goal
+use Rattle.contracts.proofs.sound.Sound.state_after_send.Goals.{After-first_on, After-index}
 
 position_is : (c : After-first_on) → c.first_on.result ≡ first_with c.args.self.now.contract.value.edges.items (c.args.state.0, c.args.message.0)
 position_is c = subst (λ l. c.first_on.result ≡ first_with l (c.args.state.0, c.args.message.0)) (c.deref.ensures.value ∙ c.args.self.now.edges_are) c.first_on.ensures

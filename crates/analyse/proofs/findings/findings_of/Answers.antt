@@ -3,14 +3,14 @@ use Rattle.std.proofs.lemmas.List.{take_all}
 use Rattle.std.proofs.lemmas.Result.{IfOk-weaker}
 use Rattle.source.specs.Findings.{FindingParts, finding_parts}
 use Rattle.rules.specs.Breaches.{breach_in}
-use Rattle.rules.specs.Programs.{seen_of}
+use Rattle.rules.specs.Programs.{model_of}
 use Rattle.analyse.specs.Found.{breaches_of}
 use Rattle.analyse.proofs.FoundLemmas.{said_still}
-use Rattle.analyse.proofs.findings.told.Goals as goal
+use Rattle.analyse.proofs.findings.findings_of.Goals as goal
 
 pub returns-clause-same : goal.returns-clause-same
 returns-clause-same c =
-    let says = breach_in (seen_of c.args.program.now) c.args.method.0 in
+    let says = breach_in (model_of c.args.program.now) c.args.method.0 in
     let once = c.in_ok-into_different.field-0.items in
     let all : map finding_parts c.loop-breach.findings.items ≡ map says once
     = c.loop-breach.invariant ∙ ap (map says) (take_all c.loop-breach.breach-index _ c.loop-breach-test.false ∙ c.deref-breach-items.ensures.value) in
