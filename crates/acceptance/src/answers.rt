@@ -1,6 +1,6 @@
 //! Whole runs on worked texts, and on devices and memory that fail.
 
-use crate::devices::{Card, Page, Text};
+use crate::failing_devices::{Card, Page, Text};
 use singcheck::laws::one_answer;
 use singcheck::{Counted, Input, RunFault, Status, run_bounds};
 use std::alloc::Global;

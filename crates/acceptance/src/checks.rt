@@ -1,6 +1,6 @@
 //! Whole checks on worked texts, and on devices and memory that fail.
 
-use crate::devices::{Card, Page, Text};
+use crate::failing_devices::{Card, Page, Text};
 use singcheck::laws::one_check;
 use singcheck::{Counted, Input, Open, RunFault, Status, run_check};
 use std::sync::Wait;

@@ -1,6 +1,6 @@
 //! Command lines, and how a run that gave up ends.
 
-use crate::devices::Page;
+use crate::failing_devices::Page;
 use singcheck::{Ask, Input, Place, RunFault, ask, ending};
 use std::test::Fail;
 

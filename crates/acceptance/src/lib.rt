@@ -8,7 +8,7 @@ mod checks;
 #[cfg(test)]
 mod commands;
 #[cfg(test)]
-mod devices;
+mod failing_devices;
 #[cfg(test)]
 mod faults;
 #[cfg(test)]

@@ -1,6 +1,6 @@
 //! Runs of `why` on worked texts, and on devices and memory that fail.
 
-use crate::devices::{Card, Page, Text};
+use crate::failing_devices::{Card, Page, Text};
 use singcheck::{Counted, Input, Place, RunFault, Status, run_why};
 use std::test::Fail;
 

@@ -1,6 +1,6 @@
 //! Replays on worked texts, and on devices and memory that fail.
 
-use crate::devices::{Card, Page, Text};
+use crate::failing_devices::{Card, Page, Text};
 use singcheck::laws::{each_program_has_bounds, findings_or_program};
 use singcheck::{Counted, Input, RunFault, Status, run_replay};
 use std::alloc::Global;

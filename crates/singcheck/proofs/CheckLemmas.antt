@@ -8,6 +8,8 @@ use Rattle.tree.specs.Trees.{ItemTree}
 use Rattle.contracts.specs.Conditions.{AreExactly, IsSound}
 use Rattle.program.specs.Parts.{ContractModel}
 use Rattle.program.specs.Programs.{ProgramModel}
+use Rattle.devices.specs.declared.fault.Status.{Status}
+use Rattle.devices.specs.declared.fault.Status.TheVariants.{Empty, Found}
 use Rattle.singcheck.specs.Answers.{AreFindings}
 use Rattle.singcheck.specs.Checks.{AreCheckFindings, OfMethods, Checks, HasProgram, IsWrong}
 use Rattle.singcheck.specs.Lines.{clear_line}
@@ -17,9 +19,7 @@ use Rattle.singcheck.specs.declared.programs.Built.{Built}
 use Rattle.singcheck.specs.declared.programs.Built.TheVariants as built
 use Rattle.singcheck.specs.Reports.{IsReport}
 use Rattle.singcheck.specs.Stages.{AreBroken}
-use Rattle.singcheck.specs.declared.fault.Status.{Status}
 use Rattle.singcheck.specs.declared.report.Report.{Report}
-use Rattle.singcheck.specs.declared.fault.Status.TheVariants.{Empty, Found}
 use Rattle.singcheck.proofs.JudgeLemmas.{none_of}
 use Rattle.singcheck.proofs.StageLemmas.{unsound}
 

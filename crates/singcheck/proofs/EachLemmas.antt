@@ -28,11 +28,11 @@ use Rattle.resolving.specs.Brought.{messages_told}
 use Rattle.resolving.specs.Fields.{structs_told}
 use Rattle.resolving.specs.Methods.{methods_told}
 use Rattle.analyse.specs.Verdicts.{IsMethodVerdict}
+use Rattle.devices.specs.declared.fault.Status.{Status}
+use Rattle.devices.specs.declared.fault.Status.TheVariants.{Empty, Found}
 use Rattle.singcheck.specs.Answers.{Answers, AreFindings, IsBoundsLine, IsBroken, IsProgram, IsResolved, OfText, OfSyntax, OfNames, OfContracts, fault_findings, wrong_token}
 use Rattle.singcheck.specs.Checks.{Before, Checks, HasProgram, IsSoundProgram, IsWrong, OfMethods}
 use Rattle.singcheck.specs.Lines.{bounds_line, clear_line, ok_line}
-use Rattle.singcheck.specs.declared.fault.Status.{Status}
-use Rattle.singcheck.specs.declared.fault.Status.TheVariants.{Empty, Found}
 use Rattle.singcheck.proofs.ExactLemmas.{all_sound, broken_some, empty_or_not, nothing_so, wrong_some}
 use Rattle.singcheck.proofs.InsertLemmas.{report_there}
 

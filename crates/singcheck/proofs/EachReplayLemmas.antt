@@ -16,11 +16,11 @@ use Rattle.machine.specs.declared.halts.Event.{Event}
 use Rattle.machine.proofs.BoundLemmas.{bound_is, bound_past}
 use Rattle.replays.specs.Schedules.{IsFirstMalformed, IsSchedule}
 use Rattle.replays.specs.WorldLines.{replay_lines}
+use Rattle.devices.specs.declared.fault.Status.{Status}
+use Rattle.devices.specs.declared.fault.Status.TheVariants.{Found}
 use Rattle.singcheck.specs.Checks.{HasProgram}
 use Rattle.singcheck.specs.Replays.{Answered as answered, ComesTo, HasEntry, IsRan, NoEntry, NoSchedule, OfFindings, OfRun, stop_status}
 use Rattle.singcheck.specs.Replays.{struct_names}
-use Rattle.singcheck.specs.declared.fault.Status.{Status}
-use Rattle.singcheck.specs.declared.fault.Status.TheVariants.{Found}
 use Rattle.singcheck.proofs.EachLemmas.{Answered, sound_some}
 use Rattle.singcheck.proofs.InsertLemmas.{report_there}
 

@@ -19,6 +19,7 @@ use Rattle.traces.specs.Lines.{line_model}
 use Rattle.traces.specs.declared.line.Explained.{Explained}
 use Rattle.traces.specs.declared.line.Line.{Line}
 use Rattle.program.specs.Parts.{ContractModel}
+use Rattle.devices.specs.declared.fault.Status.TheVariants.{Empty, Found}
 use Rattle.singcheck.specs.Answers.{AreFindings, IsBroken, IsProgram, OfNames, OfSyntax, OfText}
 use Rattle.names.specs.Findings.{program_findings}
 use Rattle.tree.specs.Trees.{ItemTree}
@@ -29,7 +30,6 @@ use Rattle.singcheck.specs.Lines.{clear_line, count_line, finding_line, trace_li
 use Rattle.singcheck.specs.Named.{AreBrokenOf}
 use Rattle.singcheck.specs.Unexpected.{IsAskedUnexpected}
 use Rattle.singcheck.specs.Reports.{IsReport}
-use Rattle.singcheck.specs.declared.fault.Status.TheVariants.{Empty, Found}
 use Rattle.singcheck.specs.declared.report.Report.{Report}
 use Rattle.contracts.proofs.PartLemmas.{contains_map}
 use Rattle.singcheck.proofs.JudgeLemmas.{none_of}

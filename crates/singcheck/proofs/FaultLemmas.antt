@@ -1,10 +1,10 @@
 -- Why a run gives up, from what gave up in it.
 use Rattle.std.proofs.Common.{◌≡◌, ℕ, true}
+use Rattle.devices.specs.RunFaults.{IsReadFault}
+use Rattle.devices.specs.declared.fault.Input.TheVariants.{Text, Schedule}
+use Rattle.devices.specs.declared.fault.RunFault.{RunFault}
+use Rattle.devices.specs.declared.fault.RunFault.TheVariants as run
 use Rattle.singcheck.specs.CheckFaults.{RunExplains, workers_fit, slots_fit}
-use Rattle.singcheck.specs.RunFaults.{IsReadFault}
-use Rattle.singcheck.specs.declared.fault.Input.TheVariants.{Text, Schedule}
-use Rattle.singcheck.specs.declared.fault.RunFault.{RunFault}
-use Rattle.singcheck.specs.declared.fault.RunFault.TheVariants as run
 
 pub read_explains : (workers slots : ℕ) (fault : RunFault) → workers_fit workers ≡ true → slots_fit slots ≡ true → IsReadFault Text fault → RunExplains workers slots fault
 read_explains workers slots (run.Read Text) w s told = (w, s)

@@ -8,11 +8,11 @@ use Rattle.program.specs.Programs.{ProgramModel}
 use Rattle.resolving.specs.Brought.{messages_told}
 use Rattle.resolving.specs.Fields.{structs_told}
 use Rattle.resolving.specs.Methods.{methods_told}
+use Rattle.devices.specs.declared.fault.Status.{Status}
+use Rattle.devices.specs.declared.fault.Status.TheVariants.{Empty, Found}
 use Rattle.singcheck.specs.Answers.{AreFindings}
 use Rattle.singcheck.specs.Checks.{AreCheckFindings, Before, OfMethods, Checks, HasProgram, IsClear, IsWrong}
 use Rattle.singcheck.specs.Lines.{clear_line}
-use Rattle.singcheck.specs.declared.fault.Status.{Status}
-use Rattle.singcheck.specs.declared.fault.Status.TheVariants.{Empty, Found}
 use Rattle.singcheck.proofs.OnlyLemmas.{Laws, found_or_sound, one_findings, one_program, some_in}
 use Rattle.singcheck.proofs.SameLemmas.{AreAlike, alike_exactly, one_report}
 

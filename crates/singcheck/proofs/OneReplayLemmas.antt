@@ -9,12 +9,12 @@ use Rattle.machine.specs.Runs.{AreBounds}
 use Rattle.machine.specs.declared.halts.Event.{Event}
 use Rattle.replays.specs.Schedules.{IsFirstMalformed, IsSchedule}
 use Rattle.replays.specs.WorldLines.{replay_lines}
+use Rattle.devices.specs.declared.fault.Status.{Status}
+use Rattle.devices.specs.declared.fault.Status.TheVariants.{Empty, Found}
 use Rattle.singcheck.specs.Checks.{HasProgram}
 use Rattle.singcheck.specs.Entered.{Begins}
 use Rattle.singcheck.specs.Replays.{HasEntry, IsFirstAt, IsRan, LacksEntry, LacksSchedule, OfFindings, OfRun, Replays, method_names}
 use Rattle.singcheck.specs.Replays.{stop_status, struct_names}
-use Rattle.singcheck.specs.declared.fault.Status.{Status}
-use Rattle.singcheck.specs.declared.fault.Status.TheVariants.{Empty, Found}
 use Rattle.singcheck.proofs.EntryLemmas.{first_once}
 use Rattle.singcheck.proofs.OneCheckLemmas.{before_or_methods, one_items, one_seen}
 use Rattle.singcheck.proofs.OnlyLemmas.{Laws, one_findings}

@@ -22,15 +22,16 @@ use Rattle.machine.specs.declared.halts.Halt.TheVariants as halt
 use Rattle.sound.specs.Premises.{AreSound, IsEntry, NothingIsFound}
 use Rattle.sound.specs.Queues.{IsBounded}
 use Rattle.sound.specs.Safe.{IsSafe}
+use Rattle.devices.specs.Devices.{Begins}
+use Rattle.devices.specs.Runs.{BeginsAnswer, Writes}
+use Rattle.devices.specs.declared.fault.Status.{Status}
+use Rattle.devices.specs.declared.fault.Status.TheVariants.{Found}
+use Rattle.devices.specs.declared.reading.TheConstants.{MAX_READ}
 use Rattle.singcheck.specs.Checks.{HasProgram, IsWrong}
-use Rattle.singcheck.specs.Devices.{Begins}
 use Rattle.singcheck.specs.Entered.{Begins as BeginsWith}
 use Rattle.singcheck.specs.Replays.{HasSomeEntry, IsRan, LacksEntry, LacksSchedule, OfFindings, OfRun, Replays}
-use Rattle.singcheck.specs.Runs.{BeginsAnswer, Writes}
 use Rattle.singcheck.specs.Safety.{HasEmptyReport, Kept, ReplaysWithinBounds, Reported, RunsSafely}
-use Rattle.singcheck.specs.declared.fault.Status.{Status}
-use Rattle.singcheck.specs.declared.fault.Status.TheVariants.{Found}
-use Rattle.singcheck.specs.declared.reading.TheConstants.{MAX_READ, MAX_SCHEDULE_READ}
+use Rattle.singcheck.specs.declared.limits.TheConstants.{MAX_SCHEDULE_READ}
 use Rattle.singcheck.proofs.LongLemmas.{AreLong, IsOfFront, answers_long, no_program, of_front}
 use Rattle.singcheck.proofs.SafetyLemmas.{empty_verdict}
 use Rattle.singcheck.proofs.Texts.{begins_is, writes_is}

@@ -1,10 +1,10 @@
 -- Why there is no report, and when.
 use Rattle.std.specs.Prelude.{◌≡◌, ℕ, Bool, true, false, ◌&&◌, leb}
-use Rattle.singcheck.specs.declared.fault.CheckFault.{CheckFault}
-use Rattle.singcheck.specs.declared.fault.CheckFault.TheVariants.{Workers, Slots, Memory}
-use Rattle.singcheck.specs.declared.fault.Input.TheVariants.{Schedule}
-use Rattle.singcheck.specs.declared.fault.RunFault.{RunFault}
-use Rattle.singcheck.specs.declared.fault.RunFault.TheVariants as run
+use Rattle.devices.specs.declared.fault.CheckFault.{CheckFault}
+use Rattle.devices.specs.declared.fault.CheckFault.TheVariants.{Workers, Slots, Memory}
+use Rattle.devices.specs.declared.fault.Input.TheVariants.{Schedule}
+use Rattle.devices.specs.declared.fault.RunFault.{RunFault}
+use Rattle.devices.specs.declared.fault.RunFault.TheVariants as run
 use Rattle.singcheck.specs.declared.limits.TheConstants.{MOST_WORKERS, MOST_SLOTS}
 
 -- 1 to 64 workers
@@ -26,12 +26,6 @@ abbrev pub AreUnfit : ℕ → ℕ → CheckFault → Type 0
 AreUnfit workers slots Workers = workers_fit workers ≡ false
 AreUnfit workers slots Slots = (workers_fit workers ≡ true) × (slots_fit slots ≡ false)
 AreUnfit workers slots Memory = ⊥
-
--- the fault of a check as that of a run that checks
-abbrev pub run_fault_of : CheckFault → RunFault
-run_fault_of Workers = run.Workers
-run_fault_of Slots = run.Slots
-run_fault_of Memory = run.Memory
 
 -- why a run gave up: as of a check, which has no entry and no schedule
 abbrev pub RunExplains : ℕ → ℕ → RunFault → Type 0

@@ -12,11 +12,11 @@ use Rattle.resolving.specs.Brought.{messages_told}
 use Rattle.resolving.specs.Fields.{structs_told}
 use Rattle.resolving.specs.Methods.{methods_told}
 use Rattle.analyse.specs.Verdicts.{IsFoundIn}
+use Rattle.devices.specs.declared.fault.Status.{Status}
+use Rattle.devices.specs.declared.fault.Status.TheVariants.{Empty, Found}
 use Rattle.singcheck.specs.Answers.{AreFindings, IsProgram}
 use Rattle.singcheck.specs.Lines.{clear_line}
 use Rattle.singcheck.specs.Reports.{IsReport}
-use Rattle.singcheck.specs.declared.fault.Status.{Status}
-use Rattle.singcheck.specs.declared.fault.Status.TheVariants.{Empty, Found}
 
 -- the text is a program of these items and contracts, and nothing is wrong with them
 pub record IsSoundProgram (text : List ℕ) (items : List ItemTree) (contracts : List ContractModel) : Type 0 where

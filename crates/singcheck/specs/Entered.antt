@@ -8,14 +8,14 @@ use Rattle.machine.specs.Runs.{AreBounds, Run}
 use Rattle.machine.specs.World.{World}
 use Rattle.sound.specs.Premises.{IsEntry, NothingIsFound}
 use Rattle.sound.specs.Safe.{IsSafe}
+use Rattle.devices.specs.declared.fault.Input.TheVariants as input
+use Rattle.devices.specs.declared.fault.RunFault.{RunFault}
+use Rattle.devices.specs.declared.fault.RunFault.TheVariants.{Read, Entry, Schedule, Memory}
 use Rattle.singcheck.specs.Answers.{AreFindings}
 use Rattle.singcheck.specs.Replays.{HasEntry, LacksEntry, struct_names}
 use Rattle.singcheck.specs.declared.entering.Begun.{Begun}
 use Rattle.singcheck.specs.declared.entering.Entered.{Entered}
 use Rattle.singcheck.specs.declared.entering.Entered.TheVariants as entered
-use Rattle.singcheck.specs.declared.fault.Input.TheVariants as input
-use Rattle.singcheck.specs.declared.fault.RunFault.{RunFault}
-use Rattle.singcheck.specs.declared.fault.RunFault.TheVariants.{Read, Entry, Schedule, Memory}
 
 -- a run may begin with this method of a program
 abbrev pub Begins : ProgramModel → ℕ → Type 0

@@ -10,13 +10,13 @@ use Rattle.source.specs.Findings.{FindingParts}
 use Rattle.source.specs.declared.place.Place.{Place}
 use Rattle.traces.specs.Explained.{ExplainedModel, IsExplainedIf}
 use Rattle.traces.specs.Shown.{IsShown}
+use Rattle.devices.specs.declared.fault.Status.{Status}
+use Rattle.devices.specs.declared.fault.Status.TheVariants.{Empty, Found}
 use Rattle.singcheck.specs.Answers.{AreFindings, IsResolved}
 use Rattle.singcheck.specs.Checks.{HasProgram, IsClear, IsWrong}
 use Rattle.singcheck.specs.Remarked.{HasFault, HasMistake}
 use Rattle.singcheck.specs.Unexpected.{IsAskedUnexpected}
 use Rattle.singcheck.specs.Lines.{count_line, finding_line, trace_line}
-use Rattle.singcheck.specs.declared.fault.Status.{Status}
-use Rattle.singcheck.specs.declared.fault.Status.TheVariants.{Empty, Found}
 
 -- it is found in one of the methods, and this is why, if that is asked for
 abbrev pub IsExplainedIn : Option Place → ProgramModel → ExplainedModel → Type 0

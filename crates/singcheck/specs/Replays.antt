@@ -15,10 +15,10 @@ use Rattle.machine.specs.declared.halts.Event.{Event}
 use Rattle.machine.specs.declared.halts.Halt.{Halt}
 use Rattle.replays.specs.Schedules.{IsFirstMalformed, IsSchedule}
 use Rattle.replays.specs.WorldLines.{replay_lines}
+use Rattle.devices.specs.declared.fault.Status.{Status}
+use Rattle.devices.specs.declared.fault.Status.TheVariants.{Empty, Found}
 use Rattle.singcheck.specs.Answers.{IsReported}
 use Rattle.singcheck.specs.Checks.{HasProgram}
-use Rattle.singcheck.specs.declared.fault.Status.{Status}
-use Rattle.singcheck.specs.declared.fault.Status.TheVariants.{Empty, Found}
 
 -- `Class.Method`
 abbrev pub full_name : List ℕ → Span → MethodTree → List ℕ

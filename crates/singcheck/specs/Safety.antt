@@ -11,11 +11,11 @@ use Rattle.machine.specs.declared.halts.Halt.TheVariants as halt
 use Rattle.sound.specs.Premises.{IsEntry}
 use Rattle.sound.specs.Queues.{IsBounded}
 use Rattle.sound.specs.Safe.{IsSafe}
+use Rattle.devices.specs.declared.fault.Status.{Status}
+use Rattle.devices.specs.declared.fault.Status.TheVariants.{Empty, Found}
 use Rattle.singcheck.specs.Answers.{IsReported}
 use Rattle.singcheck.specs.Checks.{Checks, HasProgram}
 use Rattle.singcheck.specs.Replays.{IsRan}
-use Rattle.singcheck.specs.declared.fault.Status.{Status}
-use Rattle.singcheck.specs.declared.fault.Status.TheVariants.{Empty, Found}
 
 -- Every run of a program is safe, with whatever method it begins, and in whatever order its processes take turns. The queues have the
 -- bounds of their contracts.

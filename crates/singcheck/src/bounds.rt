@@ -3,19 +3,16 @@
 ghost use Rattle.std.specs.Prelude.{◌≡◌, ◌≢◌, ℕ, List, IfErr, IfOk, IfSome, IsErrOf, OnOk, OnErr, string_bytes};
 ghost use Rattle.std.specs.Io.KnownBytes.{Keeps};
 ghost use Rattle.contracts.specs.Sounds.{sound_parts};
+ghost use Rattle.devices.specs.RunFaults.{IsBoundsFault};
+ghost use Rattle.devices.specs.Runs.{Writes, BeginsAnswer, LeavesRest, TakesAtMost};
 ghost use Rattle.singcheck.specs.Answers.{Answers, AreBounds};
-ghost use Rattle.singcheck.specs.RunFaults.{IsBoundsFault};
-ghost use Rattle.singcheck.specs.Runs.{Writes, BeginsAnswer, LeavesRest, TakesAtMost};
 ghost use Rattle.singcheck.specs.Stages.{IsClean, AddsLine};
 
-use crate::device::{Sink, Source};
-use crate::fault::{Input, RunFault, Status};
 use crate::lines::{add_bounds, add_contracts};
-use crate::reading::{MAX_READ, read_text};
 use crate::report::{Report, report_of};
 use crate::stages::{Clean, Staged, run_stages};
-use crate::writing::write_all;
 use contracts::Sound;
+use devices::{Input, MAX_READ, RunFault, Sink, Source, Status, read_text, write_all};
 use program::{Contract, Side};
 use source::Memory;
 use std::alloc::Global;

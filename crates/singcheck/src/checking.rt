@@ -7,13 +7,13 @@ ghost use Rattle.singcheck.specs.Checks.{Checks, HasProgram};
 ghost use Rattle.singcheck.specs.CheckFaults.{AreUnfit, Explains, workers_fit, slots_fit};
 ghost use Rattle.singcheck.specs.Safety.{IsSafeText};
 
-use crate::fault::{CheckFault, Status};
 use crate::laws::one_program;
 use crate::limits::{MOST_SLOTS, MOST_WORKERS};
 use crate::programs::{Built, program_of};
 use crate::report::{Report, clear, finding_report};
 use crate::tools::Tools;
 use crate::verdicts::analyse_methods;
+use devices::{CheckFault, Status};
 use pool::Gate;
 use rules::Program;
 use shelf::Shelf;

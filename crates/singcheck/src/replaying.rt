@@ -4,21 +4,21 @@ ghost use Rattle.std.specs.Prelude.{◌≡◌, ◌≢◌, ◌<◌, ◌⊎◌, �
 ghost use Rattle.std.specs.Io.KnownBytes.{Keeps};
 ghost use Rattle.rules.specs.Programs.{model_of};
 ghost use Rattle.replays.specs.Schedules.{IsFirstMalformed, IsSchedule};
+ghost use Rattle.devices.specs.RunFaults.{IsReplayFault};
+ghost use Rattle.devices.specs.Runs.{BeginsAnswer, LeavesRest, TakesAtMost, Writes};
 ghost use Rattle.singcheck.specs.Entered.{IsAnswerFault, IsBegun, IsScheduledFault};
 ghost use Rattle.singcheck.specs.Replays.{HasSomeEntry, IsRan, LacksEntry, LacksSchedule, Replays, stop_status};
-ghost use Rattle.singcheck.specs.RunFaults.{IsReplayFault};
-ghost use Rattle.singcheck.specs.Runs.{BeginsAnswer, LeavesRest, TakesAtMost, Writes};
 ghost use Rattle.singcheck.specs.Safety.{HasEmptyReport, ReplaysWithinBounds, RunsSafely};
 
-use crate::device::{Sink, Source};
 use crate::entering::{Begun, Entered, enter};
-use crate::fault::{Input, RunFault, Status};
 use crate::laws::{
     each_program_has_bounds, each_program_is_well_formed, findings_or_program, one_program,
 };
-use crate::reading::{MAX_READ, MAX_SCHEDULE_READ, read_text, read_up_to};
+use crate::limits::MAX_SCHEDULE_READ;
 use crate::report::{Report, report_of};
-use crate::writing::write_all;
+use devices::{
+    Input, MAX_READ, RunFault, Sink, Source, Status, read_text, read_up_to, write_all,
+};
 use machine::{Event, Halt, replay};
 use replays::laws::a_front_tells_all;
 use replays::{ScheduleFault, lines_of, read_schedule};

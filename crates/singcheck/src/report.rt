@@ -6,8 +6,8 @@ ghost use Rattle.rules.specs.Programs.{model_of};
 ghost use Rattle.singcheck.specs.Lines.{clear_line};
 ghost use Rattle.singcheck.specs.Reports.{IsReport, report_bytes};
 
-use crate::fault::Status;
 use crate::lines::{add_clear, add_count, add_finding};
+use devices::Status;
 use reports::in_report_order;
 use rules::Program;
 use source::{Finding, Memory};

@@ -2,17 +2,14 @@
 
 ghost use Rattle.std.specs.Prelude.{◌≡◌, ◌≢◌, ◌&&◌, true, false, IfOk, IfErr, IfSome, IsErrOf, OnOk, OnErr};
 ghost use Rattle.std.specs.Io.KnownBytes.{Keeps};
+ghost use Rattle.devices.specs.Runs.{Writes, BeginsAnswer, LeavesRest, TakesAtMost};
 ghost use Rattle.singcheck.specs.Checks.{Checks};
 ghost use Rattle.singcheck.specs.CheckFaults.{RunExplains, workers_fit, slots_fit};
 ghost use Rattle.singcheck.specs.Safety.{IsSafeText};
-ghost use Rattle.singcheck.specs.Runs.{Writes, BeginsAnswer, LeavesRest, TakesAtMost};
 
 use crate::checking::{check_text, judge_numbers};
-use crate::device::{Sink, Source};
-use crate::fault::{Input, RunFault, Status};
-use crate::reading::{MAX_READ, read_text};
 use crate::tools::Tools;
-use crate::writing::write_all;
+use devices::{Input, MAX_READ, RunFault, Sink, Source, Status, read_text, write_all};
 use pool::Gate;
 use shelf::Shelf;
 use std::sync::Wait;

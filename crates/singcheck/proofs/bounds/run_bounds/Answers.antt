@@ -1,8 +1,8 @@
 use Rattle.std.proofs.Common.{subst}
 use Rattle.std.specs.Io.KnownBytes.{Appends}
+use Rattle.devices.specs.Devices.{Begins}
+use Rattle.devices.specs.declared.reading.TheConstants.{MAX_READ}
 use Rattle.singcheck.specs.Answers.{Answers}
-use Rattle.singcheck.specs.Devices.{Begins}
-use Rattle.singcheck.specs.declared.reading.TheConstants.{MAX_READ}
 use Rattle.singcheck.proofs.LongLemmas.{answers_of_front}
 use Rattle.singcheck.proofs.Texts.{text_is, rest_is, writes_is, begins_is}
 use Rattle.singcheck.proofs.bounds.run_bounds.Goals as goal

@@ -1,7 +1,7 @@
 use Rattle.std.proofs.Common.{◌≡◌, ℕ, List, refl}
+use Rattle.devices.specs.declared.fault.Status.{Status}
+use Rattle.devices.specs.declared.fault.Status.TheVariants.{Empty, Found}
 use Rattle.singcheck.specs.Answers.{Answers}
-use Rattle.singcheck.specs.declared.fault.Status.{Status}
-use Rattle.singcheck.specs.declared.fault.Status.TheVariants.{Empty, Found}
 use Rattle.singcheck.proofs.OnlyLemmas.{Laws, found_or_bounds, one_bounds, one_findings}
 use Rattle.singcheck.proofs.SameLemmas.{one_report}
 use Rattle.singcheck.proofs.laws.one_answer.Goals as goal

@@ -1,11 +1,12 @@
 use Rattle.std.proofs.Common.{List, ℕ, subst, rules}
 use Rattle.std.specs.Prelude.{IfSome}
 use Rattle.std.specs.Io.KnownBytes.{Appends}
-use Rattle.singcheck.specs.Devices.{Begins}
+use Rattle.devices.specs.Devices.{Begins}
+use Rattle.devices.specs.Runs.{LeavesRest}
+use Rattle.devices.specs.declared.reading.TheConstants.{MAX_READ}
 use Rattle.singcheck.specs.Replays.{HasSomeEntry, LacksSchedule, Replays}
-use Rattle.singcheck.specs.Runs.{LeavesRest}
 use Rattle.singcheck.specs.Safety.{HasEmptyReport, ReplaysWithinBounds, RunsSafely}
-use Rattle.singcheck.specs.declared.reading.TheConstants.{MAX_READ, MAX_SCHEDULE_READ}
+use Rattle.singcheck.specs.declared.limits.TheConstants.{MAX_SCHEDULE_READ}
 use Rattle.singcheck.proofs.ReplayLemmas.{line_lacks, replay_begun, replay_bounded, replay_safe, replay_written, where_entry}
 use Rattle.singcheck.proofs.Texts.{rest_is, text_is}
 use Rattle.singcheck.proofs.replaying.run_replay.Goals as goal

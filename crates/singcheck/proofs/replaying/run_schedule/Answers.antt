@@ -1,7 +1,7 @@
 use Rattle.std.proofs.Common.{◌≡◌, List, ℕ, subst, sym}
 use Rattle.std.specs.Prelude.{Err}
 use Rattle.replays.specs.Schedules.{IsFirstMalformed, IsSchedule, Reads}
-use Rattle.singcheck.specs.declared.reading.TheConstants.{MAX_SCHEDULE_READ}
+use Rattle.singcheck.specs.declared.limits.TheConstants.{MAX_SCHEDULE_READ}
 use Rattle.singcheck.proofs.ReplayLemmas.{of_read, some_map}
 use Rattle.singcheck.proofs.Texts.{rest_is, text_is}
 use Rattle.singcheck.proofs.replaying.run_schedule.Goals as goal

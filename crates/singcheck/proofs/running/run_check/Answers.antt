@@ -1,10 +1,10 @@
 use Rattle.std.proofs.Common.{◌≡◌, subst, rules}
 use Rattle.std.specs.Io.KnownBytes.{Appends}
+use Rattle.devices.specs.Devices.{Begins}
+use Rattle.devices.specs.declared.fault.Status.TheVariants.{Empty}
+use Rattle.devices.specs.declared.reading.TheConstants.{MAX_READ}
 use Rattle.singcheck.specs.Checks.{Checks}
-use Rattle.singcheck.specs.Devices.{Begins}
 use Rattle.singcheck.specs.Safety.{IsSafeText}
-use Rattle.singcheck.specs.declared.fault.Status.TheVariants.{Empty}
-use Rattle.singcheck.specs.declared.reading.TheConstants.{MAX_READ}
 use Rattle.singcheck.proofs.FaultLemmas.{read_explains}
 use Rattle.singcheck.proofs.LongLemmas.{checks_of_front}
 use Rattle.singcheck.proofs.SafetyLemmas.{safe_read}

@@ -1,0 +1,157 @@
+//! The command line, as `clap` is told of it.
+
+ghost use Rattle.std.specs.Prelude.{◌≡◌, codes, false, IfOk};
+ghost use Rattle.clap.specs.Words.{rule_of};
+ghost use Rattle.command_line.specs.Asking.{IsCommand, number_rule, spare_rule, text_rule};
+ghost use Rattle.command_line.specs.Asking.{bounds_command, check_command, replay_command, whole_command, why_command};
+
+use clap::{Arg, ArgAction, Command};
+use std::alloc::{AllocError, Global};
+
+/// The version that `--version` prints.
+const VERSION: &str = "0.1.0";
+
+/// What help says behind the commands.
+const STATUSES: &str = "\
+Exit status:
+  0  nothing found, or each event of the schedule was a step
+  1  something found, or an event was no step
+  2  the command line, the entry or the schedule is refused
+  3  a file cannot be read, or the answer cannot be written
+  4  memory is out
+
+Example: singcheck check examples/shop.sg";
+
+/// What help says behind the arguments of `bounds`.
+const BOUNDS_EXAMPLE: &str = "Example: singcheck bounds examples/shop.sg";
+
+/// What help says behind the arguments of `check`.
+const CHECK_EXAMPLE: &str = "Example: singcheck check --workers 8 examples/shop.sg";
+
+/// What help says behind the arguments of `replay`.
+const REPLAY_EXAMPLE: &str =
+    "Example: singcheck replay examples/shop.sg Street.Main examples/shop.schedule";
+
+/// What help says behind the arguments of `why`.
+const WHY_EXAMPLE: &str = "Example: singcheck why examples/note.sg 7:5";
+
+/// A text that has to be given.
+fn text_of<'a>(alloc: Global, name: &'a str, help: &'a str) -> Arg<'a>
+    ensures rule { rule_of result ≡ text_rule name.now }
+    ensures local { result.global ≡ false }
+{
+    Arg::new(alloc, name)
+        .required(true)
+        .help(help)
+        .action(ArgAction::Set)
+}
+
+/// A text that need not be given.
+fn spare_of<'a>(alloc: Global, name: &'a str, help: &'a str) -> Arg<'a>
+    ensures rule { rule_of result ≡ spare_rule name.now }
+    ensures local { result.global ≡ false }
+{
+    Arg::new(alloc, name).help(help).action(ArgAction::Set)
+}
+
+/// FILE, which has to be given.
+fn file_of<'a>(alloc: Global) -> Arg<'a>
+    ensures rule { rule_of result ≡ text_rule (codes "FILE") }
+    ensures local { result.global ≡ false }
+{
+    text_of(alloc, "FILE", "The file with the program's text")
+}
+
+/// An option with a number.
+fn number_of<'a>(alloc: Global, name: &'a str, help: &'a str) -> Arg<'a>
+    ensures rule { rule_of result ≡ number_rule name.now }
+    ensures local { result.global ≡ false }
+{
+    Arg::new(alloc, name)
+        .long(name)
+        .value_name("N")
+        .help(help)
+        .action(ArgAction::Set)
+}
+
+/// `bounds FILE`.
+fn bounds_of<'a>(alloc: Global) -> Result<Command<'a>, AllocError>
+    ensures { IfOk result (IsCommand bounds_command) }
+{
+    Command::new(alloc, "bounds")
+        .about("Prints how long the queues of each contract can be")
+        .after_help(BOUNDS_EXAMPLE)
+        .arg(file_of(alloc))
+}
+
+/// `check FILE [--workers N] [--slots N]`.
+fn check_of<'a>(alloc: Global) -> Result<Command<'a>, AllocError>
+    ensures { IfOk result (IsCommand check_command) }
+{
+    Command::new(alloc, "check")
+        .about("Prints what is wrong in a program")
+        .after_help(CHECK_EXAMPLE)
+        .arg(file_of(alloc))?
+        .arg(number_of(
+            alloc,
+            "workers",
+            "How many threads share the methods, 1 to 64, default 4",
+        ))?
+        .arg(number_of(
+            alloc,
+            "slots",
+            "Size of the shared table in words of 8 bytes, 1 to 16777216, default 65536",
+        ))
+}
+
+/// `replay FILE ENTRY SCHEDULE`.
+fn replay_of<'a>(alloc: Global) -> Result<Command<'a>, AllocError>
+    ensures { IfOk result (IsCommand replay_command) }
+{
+    Command::new(alloc, "replay")
+        .about("Prints what the events of a schedule come to")
+        .after_help(REPLAY_EXAMPLE)
+        .arg(file_of(alloc))?
+        .arg(text_of(
+            alloc,
+            "ENTRY",
+            "The method with which the run begins, as Class.Method",
+        ))?
+        .arg(text_of(
+            alloc,
+            "SCHEDULE",
+            "The file with the events, a line each: the number of a process and a choice",
+        ))
+}
+
+/// `why FILE [LINE:COL]`.
+fn why_of<'a>(alloc: Global) -> Result<Command<'a>, AllocError>
+    ensures { IfOk result (IsCommand why_command) }
+{
+    Command::new(alloc, "why")
+        .about("Prints what is wrong in a program, and how each method gets there")
+        .after_help(WHY_EXAMPLE)
+        .arg(file_of(alloc))?
+        .arg(spare_of(
+            alloc,
+            "LINE:COL",
+            "A place: only findings there get a trace",
+        ))
+}
+
+/// The whole command line.
+pub(crate) fn whole_of<'a>(alloc: Global) -> Result<Command<'a>, AllocError>
+    ensures { IfOk result (IsCommand whole_command) }
+{
+    Command::new(alloc, "singcheck")
+        .about("Checks channel contracts and exchange-heap ownership of Sing# programs")
+        .version(VERSION)
+        .after_help(STATUSES)
+        .subcommand_required(true)
+        .arg_required_else_help(true)
+        .bin_name("singcheck")?
+        .subcommand(bounds_of(alloc)?)?
+        .subcommand(check_of(alloc)?)?
+        .subcommand(replay_of(alloc)?)?
+        .subcommand(why_of(alloc)?)
+}

@@ -1,0 +1,2 @@
+pub mod BeginLemmas
+pub mod Parts

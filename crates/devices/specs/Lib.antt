@@ -1,0 +1,4 @@
+pub mod Devices
+pub mod Endings
+pub mod RunFaults
+pub mod Runs

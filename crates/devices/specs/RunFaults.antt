@@ -1,0 +1,33 @@
+-- Why a run gives up.
+use Rattle.std.specs.Prelude.{◌≡◌}
+use Rattle.devices.specs.declared.fault.CheckFault.{CheckFault}
+use Rattle.devices.specs.declared.fault.CheckFault.TheVariants as check
+use Rattle.devices.specs.declared.fault.Input.{Input}
+use Rattle.devices.specs.declared.fault.Input.TheVariants.{Text}
+use Rattle.devices.specs.declared.fault.RunFault.{RunFault}
+use Rattle.devices.specs.declared.fault.RunFault.TheVariants.{Read, Write, Workers, Slots, Memory}
+
+-- reading an input gives up for its device, or for want of memory
+abbrev pub IsReadFault : Input → RunFault → Type 0
+IsReadFault input (Read which) = which ≡ input
+IsReadFault input Memory = Unit {0}
+IsReadFault input _ = ⊥
+
+-- a run of `bounds` gives up where its text cannot be read or its answer cannot be written, or for want of memory
+abbrev pub IsBoundsFault : RunFault → Type 0
+IsBoundsFault (Read which) = which ≡ Text
+IsBoundsFault Write = Unit {0}
+IsBoundsFault Memory = Unit {0}
+IsBoundsFault _ = ⊥
+
+-- a run of `replay` has no workers and no slots of which it could be told that they do not fit
+abbrev pub IsReplayFault : RunFault → Type 0
+IsReplayFault Workers = ⊥
+IsReplayFault Slots = ⊥
+IsReplayFault _ = Unit {0}
+
+-- the fault of a check as that of a run that checks
+abbrev pub run_fault_of : CheckFault → RunFault
+run_fault_of check.Workers = Workers
+run_fault_of check.Slots = Slots
+run_fault_of check.Memory = Memory

@@ -1,6 +1,0 @@
-use Rattle.std.proofs.Common.{codes, sym}
-use Rattle.singcheck.proofs.AskLemmas.{gives}
-use Rattle.singcheck.proofs.asking.why_asked.Goals as goal
-
-pub returns : goal.returns
-returns c = (gives c.args.inner.now (codes "FILE") c.in_ok-file.file.now (sym c.in_ok-file.ensures), c.in_ok-named.ensures)
