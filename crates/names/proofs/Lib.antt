@@ -1,6 +1,5 @@
 pub mod ParameterLemmas
 pub mod ItemLemmas
-pub mod FoundLemmas
 pub mod CleanLemmas
 pub mod ExpressionNames
 pub mod TermLemmas

@@ -1,11 +1,28 @@
--- What a program that is not resolved is told.
-use Rattle.std.specs.Prelude.{◌≢◌, ◌↔◌, List, [], map, Contains}
+-- What names mean in a program, or what one is told whose names are wrong.
+use Rattle.std.specs.Prelude.{◌≡◌, ◌≢◌, ◌↔◌, List, [], map, All, Contains}
 use Rattle.source.specs.declared.finding.Finding.{Finding}
-use Rattle.names.specs.Findings.{program_findings}
 use Rattle.source.specs.Findings.{FindingParts, finding_parts}
+use Rattle.tree.specs.Trees.{contracts_of}
+use Rattle.program.specs.Parts.{AreApart, IsWhole, contract_model, contract_parts}
+use Rattle.program.specs.declared.contract.Resolved.{Resolved}
 use Rattle.declarations.specs.Program.{Program}
+use Rattle.declarations.specs.Resolution.{resolved_contracts}
+use Rattle.declarations.specs.declared.mistake.Mistake.{Mistake}
+use Rattle.names.specs.Findings.{program_findings, program_mistakes}
 use Rattle.names.specs.declared.fault.NameFaults.{NameFaults}
 use Rattle.names.specs.declared.fault.NameFaults.TheVariants as faults
+
+-- nothing is wrong with the names and kinds of a program, and these are its contracts: no two states and no two messages share a number
+pub record IsResolution (p : Program) (resolved : Resolved) : Type 0 where
+  pub clean : program_mistakes p ≡ []
+  pub contracts : map contract_model resolved.contracts.items ≡ resolved_contracts p.text (contracts_of p.items)
+  pub apart : AreApart (map contract_parts resolved.contracts.items)
+  pub whole : All (λ c. IsWhole (contract_parts c)) resolved.contracts.items
+
+-- something is wrong with the names and kinds, and this is all of it
+pub record AreMistakes (p : Program) (mistakes : List Mistake) : Type 0 where
+  pub some : mistakes ≢ []
+  pub all : mistakes ≡ program_mistakes p
 
 -- these are all that is wrong with the names and kinds, and something is
 pub record AreAll (p : Program) (found : List Finding) : Type 0 where

@@ -1,14 +1,12 @@
 //! From a tree to numbers.
 
-ghost use Rattle.std.specs.Prelude.{◌≡◌, [], ◌^◌, ◌<◌, All, length, map, IfErr, IfOk, OnOk};
-ghost use Rattle.tree.specs.Trees.{contracts_of, program_tree};
+ghost use Rattle.std.specs.Prelude.{◌≡◌, ◌^◌, ◌<◌, length, IfErr, IfOk};
+ghost use Rattle.tree.specs.Trees.{program_tree};
 ghost use Rattle.tree.specs.Programs.{program};
 ghost use Rattle.declarations.specs.Program.{Program, program_of};
-ghost use Rattle.declarations.specs.Resolution.{resolved_contracts};
 ghost use Rattle.declarations.specs.Scopes.{IsScope};
 ghost use Rattle.names.specs.Findings.{program_mistakes};
-ghost use Rattle.names.specs.Resolving.{Explains};
-ghost use Rattle.program.specs.Parts.{AreApart, IsWhole, contract_parts, contract_model};
+ghost use Rattle.names.specs.Resolving.{AreMistakes, Explains, IsResolution};
 
 use crate::fault::NameFaults;
 use crate::items::judge_program;
@@ -29,20 +27,49 @@ use tree::Tree;
 pub fn resolve(alloc: Global, tree: &Tree, text: &[u8]) -> Result<Resolved, NameFaults>
     requires { length (program (program_tree tree.now)) < 2 ^ 32 }
     ensures found { IfErr result (Explains (program_of text.now tree.now)) }
-    ensures clean { OnOk result (program_mistakes (program_of text.now tree.now) ≡ []) }
-    ensures resolved { IfOk result (λ r. map contract_model r.contracts.items
-        ≡ resolved_contracts text.now (contracts_of (program_tree tree.now))) }
-    ensures apart { IfOk result (λ r. AreApart (map contract_parts r.contracts.items)) }
-    ensures whole { IfOk result (λ r. All (λ c. IsWhole (contract_parts c)) r.contracts.items) }
+    ensures resolved { IfOk result (IsResolution (program_of text.now tree.now)) }
+{
+    match judge_names(alloc, tree, text)? {
+        Ok(resolved) => Ok(resolved),
+        Err(mistakes) => Err(NameFaults::Found(findings_of(alloc, text, &mistakes)?)),
+    }
+}
+
+/// Resolves a program as `resolve` does, and gives its tree back. Where something is wrong, the tree goes before the findings are
+/// written, so that they can have its memory.
+pub fn resolve_tree(alloc: Global, tree: Tree, text: &[u8]) -> Result<(Resolved, Tree), NameFaults>
+    requires { length (program (program_tree tree)) < 2 ^ 32 }
+    ensures found { IfErr result (Explains (program_of text.now tree)) }
+    ensures resolved { IfOk result (λ r. IsResolution (program_of text.now tree) r.0) }
+    ensures same { IfOk result (λ r. r.1 ≡ tree) }
+{
+    match judge_names(alloc, &tree, text)? {
+        Ok(resolved) => Ok((resolved, tree)),
+        Err(mistakes) => {
+            drop(tree);
+            Err(NameFaults::Found(findings_of(alloc, text, &mistakes)?))
+        }
+    }
+}
+
+/// What names mean in a program, or all that is wrong with them.
+fn judge_names(
+    alloc: Global,
+    tree: &Tree,
+    text: &[u8],
+) -> Result<Result<Resolved, Vec<Mistake>>, Memory>
+    requires { length (program (program_tree tree.now)) < 2 ^ 32 }
+    ensures mistakes { IfOk result (λ r. IfErr r (λ m. AreMistakes (program_of text.now tree.now) m.items)) }
+    ensures resolved { IfOk result (λ r. IfOk r (IsResolution (program_of text.now tree.now))) }
 {
     let scope = Scope::of(alloc, text, &tree.items)?;
     let mistakes = mistakes_in(alloc, &scope)?;
     if mistakes.is_empty() {
-        Ok(Resolved {
+        Ok(Ok(Resolved {
             contracts: resolve_contracts(alloc, &scope)?,
-        })
+        }))
     } else {
-        Err(NameFaults::Found(findings_of(alloc, text, &mistakes)?))
+        Ok(Err(mistakes))
     }
 }
 

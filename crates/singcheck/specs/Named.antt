@@ -1,7 +1,8 @@
 -- For proofs within the crate: what a text comes to before its contracts are judged, and then.
 use Rattle.std.specs.Prelude.{◌≡◌, ◌<◌, ◌≤◌, ◌^◌, ℕ, List, [], length, map, All}
 use Rattle.source.specs.Findings.{FindingParts, finding_parts}
-use Rattle.tree.specs.Trees.{ItemTree, contracts_of}
+use Rattle.tree.specs.Trees.{ItemTree, contracts_of, program_tree}
+use Rattle.tree.specs.declared.item.Tree.{Tree}
 use Rattle.names.specs.Findings.{program_mistakes}
 use Rattle.declarations.specs.Resolution.{resolved_contracts}
 use Rattle.program.specs.Parts.{ContractModel, IsWhole}
@@ -38,10 +39,10 @@ pub record AreNamed (text : List ℕ) (items : List ItemTree) (p : ProgramModel)
   pub room : length p.contracts < 2 ^ 32
   pub few : length p.methods ≤ MOST_METHODS
 
--- the findings of the names, or the methods where there are none
-abbrev pub IsNamed : List ℕ → List ItemTree → Named → Type 0
-IsNamed text items (named.Found findings) = AreFindings text (map finding_parts findings.items)
-IsNamed text items (named.Methods methods) = AreNamed text items (program_model methods)
+-- the findings of the names of a tree, or the methods where there are none, and the tree
+abbrev pub IsNamed : List ℕ → Tree → Named → Type 0
+IsNamed text tree (named.Found findings) = AreFindings text (map finding_parts findings.items)
+IsNamed text tree (named.Methods methods other) = (other ≡ tree) × AreNamed text (program_tree tree) (program_model methods)
 
 -- the program whose contracts are sound, and what is known of it
 pub record IsSoundOne (p : ProgramModel) (program : Program) : Type 0 where

@@ -43,23 +43,23 @@ pub(crate) fn enter(alloc: Global, text: &[u8], entry: &[u8]) -> Result<Entered,
 {
     match parse_text(alloc, text)? {
         Parsed::Found(findings) => Ok(Entered::Found(findings)),
-        Parsed::Program(tree) => enter_program(alloc, text, &tree, entry),
+        Parsed::Program(tree) => enter_program(alloc, text, tree, entry),
     }
 }
 
 /// The names and the contracts of a program, and then the entry.
-fn enter_program(alloc: Global, text: &[u8], tree: &Tree, entry: &[u8]) -> Result<Entered, Memory>
-    requires program { IsProgramOf text.now tree.now }
+fn enter_program(alloc: Global, text: &[u8], tree: Tree, entry: &[u8]) -> Result<Entered, Memory>
+    requires program { IsProgramOf text.now tree }
     ensures { IfOk result (IsEntered text.now entry.now) }
 {
-    let methods = match named_methods(alloc, tree, text)? {
+    let (methods, tree) = match named_methods(alloc, tree, text)? {
         Named::Found(findings) => return Ok(Entered::Found(findings)),
-        Named::Methods(methods) => methods,
+        Named::Methods(methods, tree) => (methods, tree),
     };
     match judged_program(alloc, methods)? {
         Built::Found(findings) => Ok(Entered::Found(findings)),
         Built::Broken(_, findings) => Ok(Entered::Found(findings)),
-        Built::Program(program) => enter_method(alloc, text, tree, program, entry),
+        Built::Program(program) => enter_method(alloc, text, &tree, program, entry),
     }
 }
 

@@ -1,7 +1,6 @@
 //! The program of a text: the stage of its names, which gives its methods, and then that of its contracts.
 
 ghost use Rattle.std.specs.Prelude.{◌<◌, ◌^◌, All, IfOk, length};
-ghost use Rattle.tree.specs.Trees.{program_tree};
 ghost use Rattle.program.specs.Parts.{IsWhole};
 ghost use Rattle.program.specs.Programs.{contracts_model, program_model};
 ghost use Rattle.singcheck.specs.Named.{IsBuilt, IsBuiltOf, IsNamed};
@@ -9,7 +8,7 @@ ghost use Rattle.singcheck.specs.Stages.{IsProgramOf};
 
 use crate::soundness::{Judgement, judge_contracts};
 use crate::stages::{Parsed, parse_text};
-use names::{NameFaults, resolve};
+use names::{NameFaults, resolve_tree};
 use program::Methods;
 use rules::Program;
 use sound::laws::clean_methods_are_safe;
@@ -23,8 +22,8 @@ use wellformed::well_formed_methods;
 pub(crate) enum Named {
     /// What is wrong with them.
     Found(Vec<Finding>),
-    /// Nothing is: the methods, and with them the contracts, which are not judged yet.
-    Methods(Methods),
+    /// Nothing is: the methods, and with them the contracts, which are not judged yet. And the tree.
+    Methods(Methods, Tree),
 }
 
 /// What the methods come to, once their contracts are judged.
@@ -46,21 +45,25 @@ pub(crate) fn program_of(alloc: Global, text: &[u8]) -> Result<Built, Memory>
         Parsed::Found(findings) => return Ok(Built::Found(findings)),
         Parsed::Program(tree) => tree,
     };
-    let named = named_methods(alloc, &tree, text)?;
-    drop(tree); // the contracts are judged without it, which spares its memory
-    match named {
+    match named_methods(alloc, tree, text)? {
         Named::Found(findings) => Ok(Built::Found(findings)),
-        Named::Methods(methods) => judged_program(alloc, methods),
+        Named::Methods(methods, tree) => {
+            drop(tree); // the contracts are judged without it, which spares its memory
+            judged_program(alloc, methods)
+        }
     }
 }
 
-/// The stage of the names. What it answers needs the tree no more.
-pub(crate) fn named_methods(alloc: Global, tree: &Tree, text: &[u8]) -> Result<Named, Memory>
-    requires { IsProgramOf text.now tree.now }
-    ensures { IfOk result (IsNamed text.now (program_tree tree.now)) }
+/// The stage of the names. The methods need the tree no more, and it comes back with them.
+pub(crate) fn named_methods(alloc: Global, tree: Tree, text: &[u8]) -> Result<Named, Memory>
+    requires { IsProgramOf text.now tree }
+    ensures { IfOk result (IsNamed text.now tree) }
 {
-    match resolve(alloc, tree, text) {
-        Ok(resolved) => Ok(Named::Methods(well_formed_methods(alloc, tree, text, resolved)?)),
+    match resolve_tree(alloc, tree, text) {
+        Ok((resolved, tree)) => {
+            let methods = well_formed_methods(alloc, &tree, text, resolved)?;
+            Ok(Named::Methods(methods, tree))
+        }
         Err(NameFaults::Found(findings)) => Ok(Named::Found(findings)),
         Err(NameFaults::Memory) => Err(Memory),
     }

@@ -11,7 +11,7 @@ ghost use Rattle.singcheck.specs.Stages.{IsParsed, IsProgramOf, IsStaged};
 
 use crate::soundness::{Judgement, judge_contracts};
 use contracts::Sound;
-use names::{NameFaults, resolve};
+use names::{NameFaults, resolve_tree};
 use program::Resolved;
 use source::{Finding, Memory, TextFault, Token, Tokens, lex, texts};
 use std::alloc::Global;
@@ -118,13 +118,14 @@ pub(crate) fn token_at(tokens: &Tokens, number: usize) -> Option<Token>
     tokens.list.get(number).copied()
 }
 
-/// The stages of names and contracts. The tree goes before the contracts are judged, which spares its memory.
+/// The stages of names and contracts. The tree goes before the contracts are judged, or the findings of names are written: these can
+/// have its memory.
 fn staged_names(alloc: Global, text: &[u8], tree: Tree) -> Result<Staged, Memory>
     requires { IsProgramOf text.now tree }
     ensures { IfOk result (IsStaged text.now) }
 {
-    match resolve(alloc, &tree, text) {
-        Ok(resolved) => {
+    match resolve_tree(alloc, tree, text) {
+        Ok((resolved, tree)) => {
             drop(tree);
             staged_contracts(alloc, resolved)
         }

@@ -6,7 +6,7 @@ use Rattle.acceptance_methods.proofs.ContractLemmas.{one_sound, whole_at}
 use Rattle.acceptance_methods.proofs.channels.with_contract.Goals as goal
 
 pub judge-requires : goal.judge-requires
-judge-requires c = record { whole = whole_at c.in_ok-resolved.resolved.contracts.items 0 _ c.in_ok-resolved.ensures.whole c.edges-contract.ensures }
+judge-requires c = record { whole = whole_at c.in_ok-resolved.resolved.contracts.items 0 _ c.in_ok-resolved.ensures.resolved.whole c.edges-contract.ensures }
 
 pub new-requires : goal.new-requires
 new-requires c =
