@@ -35,7 +35,7 @@ written_other xs (u ∷ us) x d v none =
     ∙ get_or-set_other xs u v x d (λ same. none (0, omega arith, sym same))
 
 -- a vector in which an item was written at each of the places
-pub vec_written : {A : Type 0} (v : Vec A) (now ws : List A) (places part : List ℕ) (x : A) → ws ≡ written now places x → now ≡ v.items → places ≡ part → (with_items v ws).items ≡ written v.items part x
-vec_written v now ws places part x is same parts =
-    with_items_is v ws (ap length is ∙ written_length now places x ∙ ap length same ∙ sym v.ok.0) ∙ is
-    ∙ ap (λ l. written l places x) same ∙ ap (λ l. written v.items l x) parts
+pub vec_written : {A : Type 0} (v : Vec A) (now ws : List A) (indices part : List ℕ) (x : A) → ws ≡ written now indices x → now ≡ v.items → indices ≡ part → (with_items v ws).items ≡ written v.items part x
+vec_written v now ws indices part x is same parts =
+    with_items_is v ws (ap length is ∙ written_length now indices x ∙ ap length same ∙ sym v.ok.0) ∙ is
+    ∙ ap (λ l. written l indices x) same ∙ ap (λ l. written v.items l x) parts

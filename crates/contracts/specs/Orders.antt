@@ -24,7 +24,7 @@ IsLower x y = (x.0 < y.0) ⊎ ((x.0 ≡ y.0) × (x.1 < y.1))
 abbrev pub ComesBefore : List Edge → ℕ → ℕ → Type 0
 ComesBefore edges i j = IsLower (key_at edges i) (key_at edges j) ⊎ ((key_at edges i ≡ key_at edges j) × (i < j))
 
--- the places of all edges, each before those that come after it
+-- the indices of all edges, each before those that come after it
 pub record IsOrder (edges : List Edge) (order : List ℕ) : Type 0 where
   pub within : All (λ i. i < length edges) order
   pub all : (i : ℕ) → i < length edges → Contains order i
@@ -34,7 +34,7 @@ pub record IsOrder (edges : List Edge) (order : List ℕ) : Type 0 where
 abbrev pub HasEarlier : List Edge → ℕ → Type 0
 HasEarlier edges i = (j : ℕ) × (j < i) × (key_at edges j ≡ key_at edges i)
 
--- the keys and the places of the first n edges
+-- the keys and the indices of the first n edges
 pub record AreEntries (edges : List Edge) (n : ℕ) (entries : List ((ℕ × ℕ) × ℕ)) : Type 0 where
   pub long : length entries ≡ n
   pub each : (i : ℕ) → i < n → get_or entries i ((0, 0), 0) ≡ (key_at edges i, i)

@@ -25,16 +25,16 @@ AreRising xs = (j k : ℕ) → j ≤ k → k < length xs → get_or xs j 0 ≤ g
 abbrev pub Leads : List (List ℕ) → ℕ → ℕ → Type 0
 Leads graph v w = (n : ℕ) × Walk graph v w n
 
--- the second place is in the component of the first, or in a later one
+-- the second index is in the component of the first, or in a later one
 abbrev pub NotBefore : List ℕ → ℕ → ℕ → Type 0
 NotBefore bounds i j = (b : ℕ) → Contains bounds b → b ≤ i → b ≤ j
 
--- an arc from the place to the vertex was followed: the vertex is in a complete component, or not before the component of the place
+-- an arc from the index to the vertex was followed: the vertex is in a complete component, or not before the component of the index
 abbrev pub IsFollowed : List Status → List ℕ → ℕ → ℕ → Type 0
 IsFollowed statuses bounds i w = (status_at statuses w ≡ Complete)
     ⊎ ((j : ℕ) × (status_at statuses w ≡ Pending j) × NotBefore bounds i j)
 
--- The pending vertices have their places, and each leads to all that are not before its component. Their arcs were followed but
+-- The pending vertices have their indices, and each leads to all that are not before its component. Their arcs were followed but
 -- for those that are left.
 pub record IsSearch (graph : List (List ℕ)) (statuses : List Status) (pending bounds : List ℕ) (arcs : List Arc) : Type 0 where
   pub long : length statuses ≡ length graph
@@ -90,7 +90,7 @@ abbrev pub IsNextEnd : List Arc → List ℕ → ℕ → Type 0
 IsNextEnd arcs bounds end = (rest : List Arc) × ((from : ℕ) × (arcs ≡ rest ++ arc from end ∷ [])
     × ((b : ℕ) → Contains bounds b → b ≤ from))
 
--- the bounds up to a place
+-- the bounds up to an index
 pub record AreBoundsTo (place : ℕ) (old new : List ℕ) : Type 0 where
   pub right : (b : ℕ) → Contains new b → Contains old b × (b ≤ place)
   pub all : (b : ℕ) → Contains old b → b ≤ place → Contains new b
@@ -103,7 +103,7 @@ pub record TellsComponent (graph : List (List ℕ)) (component : List ℕ) (on_r
   pub yes : (v : ℕ) → component ≡ v ∷ [] → on_ring ≡ true → HasEdge graph v v
   pub no : (v : ℕ) → component ≡ v ∷ [] → HasEdge graph v v → on_ring ≡ true
 
--- the list with the item at each of the places
+-- the list with the item at each of the indices
 abbrev pub written : {A : Type 0} → List A → List ℕ → A → List A
 written xs [] x = xs
 written xs (v ∷ vs) x = written (slice_set xs v x) vs x

@@ -1,4 +1,4 @@
--- Rows that lie one behind the other in a list, each by the place at which it ends.
+-- Rows that lie one behind the other in a list, each by the index at which it ends.
 use Rattle.std.specs.Prelude.{ℕ, zero, suc, ◌<◌, ◌≤◌, List, [], ◌∷◌, length, get_or}
 use Rattle.std.specs.List.{between}
 

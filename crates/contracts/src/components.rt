@@ -30,7 +30,7 @@ pub struct Components {
 enum Status {
     /// The search has not met it.
     New,
-    /// Its component is not complete yet. The number is its place among the pending vertices.
+    /// Its component is not complete yet. The number is its index among the pending vertices.
     Pending(usize),
     /// Its component is complete.
     Complete,
@@ -42,9 +42,9 @@ struct Search {
     statuses: Vec<Status>,
     /// The vertices whose components are not complete yet, in the order in which the search met them.
     pending: Vec<usize>,
-    /// The places at which these components begin.
+    /// The indices at which these components begin.
     bounds: Vec<usize>,
-    /// The arcs that are left to follow, each from the place of a pending vertex to a vertex.
+    /// The arcs that are left to follow, each from the index of a pending vertex to a vertex.
     arcs: Vec<Arc>,
     /// Whether each vertex lies on a ring, once its component is complete.
     rings: Vec<bool>,
@@ -108,7 +108,7 @@ impl Search {
         Ok(())
     }
 
-    /// The end of the next arc to follow from the last component, which begins at this place. `None` if no such arc is left.
+    /// The end of the next arc to follow from the last component, which begins at this index. `None` if no such arc is left.
     fn next_end(&self, bound: usize) -> Option<usize>
         requires last { (b : ℕ) → Contains self.now.bounds.items b → b ≤ bound }
         requires rise { AreRising (map (λ a. a.from) self.now.arcs.items) }
@@ -132,8 +132,8 @@ impl Search {
     {
         match self.statuses[end] {
             Status::New => self.enter(graph, end)?,
-            Status::Pending(place) => {
-                join(&mut self.bounds, place);
+            Status::Pending(index) => {
+                join(&mut self.bounds, index);
                 self.arcs.pop();
             }
             Status::Complete => {
@@ -155,15 +155,15 @@ impl Search {
         ensures this { OnOk result (IsMet self.new v) }
         ensures fewer { OnOk result (steps_left graph.now self.new < steps_left graph.now self.old) }
     {
-        let place = self.pending.len();
-        self.statuses[v] = Status::Pending(place);
+        let index = self.pending.len();
+        self.statuses[v] = Status::Pending(index);
         self.pending.push(v)?;
-        self.bounds.push(place)?;
-        add_arcs(&mut self.arcs, place, graph.row(v))?;
+        self.bounds.push(index)?;
+        add_arcs(&mut self.arcs, index, graph.row(v))?;
         Ok(())
     }
 
-    /// Completes the last component, which begins at this place and has no arc left to follow.
+    /// Completes the last component, which begins at this index and has no arc left to follow.
     fn complete_last(&mut self, graph: &Rows<usize>, bound: usize) -> Result<(), AllocError>
         requires range { InRange (rows graph.now) }
         requires kept { IsKept (rows graph.now) self.old }
@@ -185,7 +185,7 @@ impl Search {
     }
 }
 
-/// Adds an arc from a place to each of the vertices.
+/// Adds an arc from an index to each of the vertices.
 fn add_arcs(arcs: &mut Vec<Arc>, from: usize, ends: &[usize]) -> Result<(), AllocError>
     ensures { OnOk result (arcs.new.items ≡ arcs.old.items ++ map (arc from) ends.now) }
 {
@@ -219,12 +219,12 @@ fn are_on_ring(graph: &Rows<usize>, component: &[usize]) -> bool
     }
 }
 
-/// Writes an item to each of the places.
-fn write_each<T: Copy>(items: &mut [T], places: &[usize], item: T)
-    requires { All (λ p. p < length items.old) places.now }
-    ensures { items.new ≡ written items.old places.now item }
+/// Writes an item to each of the indices.
+fn write_each<T: Copy>(items: &mut [T], indices: &[usize], item: T)
+    requires { All (λ p. p < length items.old) indices.now }
+    ensures { items.new ≡ written items.old indices.now item }
 {
-    for place in places {
-        items[*place] = item;
+    for index in indices {
+        items[*index] = item;
     }
 }

@@ -28,10 +28,10 @@ fn chains_of(alloc: Global, count: usize, arcs: &[Arc]) -> Result<Chains, AllocE
     let mut firsts = vec![in alloc; none; count]?;
     let mut nexts = vec![in alloc; none; none]?;
     for i in 0..none {
-        let place = none - 1 - i;
-        let from = arcs[place].from;
-        nexts[place] = firsts[from];
-        firsts[from] = place;
+        let index = none - 1 - i;
+        let from = arcs[index].from;
+        nexts[index] = firsts[from];
+        firsts[from] = index;
     }
     Ok(Chains { firsts, nexts })
 }

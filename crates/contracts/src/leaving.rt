@@ -24,16 +24,16 @@ pub(crate) fn edges_by_state(
     ensures { IfOk result (λ leaving. AreLeaving (listed states) edges.now (rows leaving)) }
 {
     let sources = sources_of(alloc, edges, states)?;
-    let places = rows_of(alloc, states.len(), &sources)?;
+    let indices = rows_of(alloc, states.len(), &sources)?;
     drop(sources); // a large contract takes less memory so
-    let items = edges_at(alloc, edges, &places.items)?;
+    let items = edges_at(alloc, edges, &indices.items)?;
     Ok(Rows {
         items,
-        ends: places.ends,
+        ends: indices.ends,
     })
 }
 
-/// For each edge an arc from the position of its state to its own place.
+/// For each edge an arc from the position of its state to its own index.
 fn sources_of(alloc: Global, edges: &[Edge], states: Listing) -> Result<Vec<Arc>, AllocError>
     requires listed { EndsListed (listed states) edges.now }
     ensures { IfOk result (λ sources. AreSources (listed states) edges.now (length edges.now) sources.items) }
@@ -48,12 +48,12 @@ fn sources_of(alloc: Global, edges: &[Edge], states: Listing) -> Result<Vec<Arc>
     Ok(sources)
 }
 
-/// The edges at these places.
-fn edges_at(alloc: Global, edges: &[Edge], places: &[usize]) -> Result<Vec<Edge>, AllocError>
-    requires { All (λ i. i < length edges.now) places.now }
-    ensures { IfOk result (λ found. found.items ≡ map (edge_at edges.now) places.now) }
+/// The edges at these indices.
+fn edges_at(alloc: Global, edges: &[Edge], indices: &[usize]) -> Result<Vec<Edge>, AllocError>
+    requires { All (λ i. i < length edges.now) indices.now }
+    ensures { IfOk result (λ found. found.items ≡ map (edge_at edges.now) indices.now) }
 {
-    places.iter().map(|i| edges[*i]).collect(alloc)
+    indices.iter().map(|i| edges[*i]).collect(alloc)
 }
 
 /// The sign of the edges along which an end sends.

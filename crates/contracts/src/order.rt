@@ -8,16 +8,16 @@ use crate::keys::key_of;
 use program::{Edge, MessageId, StateId};
 use std::alloc::{AllocError, Global};
 
-/// The places of all edges: by state, in a state by message, and where both are the same in order of the text.
+/// The indices of all edges: by state, in a state by message, and where both are the same in order of the text.
 pub fn order_of(alloc: Global, edges: &[Edge]) -> Result<Vec<usize>, AllocError>
     ensures { IfOk result (λ order. IsOrder edges.now order.items) }
 {
     let mut entries = entries_of(alloc, edges)?;
     entries.sort_unstable();
-    places_of(alloc, &entries)
+    indices_of(alloc, &entries)
 }
 
-/// The key and the place of each edge.
+/// The key and the index of each edge.
 fn entries_of(alloc: Global, edges: &[Edge]) -> Result<Vec<((u32, u32), usize)>, AllocError>
     ensures { IfOk result (λ entries. AreEntries edges.now (length edges.now) entries.items) }
 {
@@ -28,14 +28,14 @@ fn entries_of(alloc: Global, edges: &[Edge]) -> Result<Vec<((u32, u32), usize)>,
     Ok(entries)
 }
 
-/// The places alone.
-fn places_of(alloc: Global, entries: &[((u32, u32), usize)]) -> Result<Vec<usize>, AllocError>
-    ensures { IfOk result (λ places. places.items ≡ map (λ e. e.1) entries.now) }
+/// The indices alone.
+fn indices_of(alloc: Global, entries: &[((u32, u32), usize)]) -> Result<Vec<usize>, AllocError>
+    ensures { IfOk result (λ indices. indices.items ≡ map (λ e. e.1) entries.now) }
 {
     entries.iter().map(|entry| entry.1).collect(alloc)
 }
 
-/// Whether an edge before the one at this place of the order has its state and its message.
+/// Whether an edge before the one at this index of the order has its state and its message.
 pub fn is_second(edges: &[Edge], order: &[usize], at: usize) -> bool
     requires ordered { IsOrder edges.now order.now }
     requires at { at < length order.now }
@@ -44,7 +44,7 @@ pub fn is_second(edges: &[Edge], order: &[usize], at: usize) -> bool
     at > 0 && key_of(&edges[order[at - 1]]) == key_of(&edges[order[at]])
 }
 
-/// The place of the first edge of a state on a message.
+/// The index of the first edge of a state on a message.
 pub fn first_on(
     edges: &[Edge],
     order: &[usize],

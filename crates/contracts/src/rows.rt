@@ -23,7 +23,7 @@ impl<T> Rows<T> {
         self.ends.len()
     }
 
-    /// The row at a place.
+    /// The row at an index.
     pub fn row(&self, at: usize) -> &[T]
         requires { at < length (rows self.now) }
         ensures { result.now ≡ row_at (rows self.now) at }
@@ -33,7 +33,7 @@ impl<T> Rows<T> {
         &self.items[from..to]
     }
 
-    /// Where the row at a place begins.
+    /// Where the row at an index begins.
     fn start(&self, at: usize) -> usize
         requires { at < length (rows self.now) }
         ensures start { result ≡ start_of 0 self.now.ends.items at }

@@ -12,7 +12,7 @@ use Rattle.tree.specs.declared.contract as tree
 use Rattle.declarations.specs.Declarations.{counted_states, counted_in_state, first_among, names_of_states, paths_of, unnamed_of}
 use Rattle.tables.specs.Firsts.{first_of}
 use Rattle.declarations.specs.Meant.{IsMeaning, path_left, state_names, states_in, text_of}
-use Rattle.declarations.specs.Numbered.{places_named, names_in, unnamed_names, counted_as}
+use Rattle.declarations.specs.Numbered.{indices_named, names_in, unnamed_names, counted_as}
 use Rattle.declarations.specs.Resolution.{Meanings, counted_in, edge_between, edges_through, named_state, state_meant, unnamed_state}
 use Rattle.tables.specs.Tables.{IsTable}
 use Rattle.tables.specs.Words.{same_word, word_at, words_at}
@@ -22,13 +22,13 @@ use Rattle.declarations.specs.declared.state_names.StateName.TheVariants.{Unname
 use Rattle.declarations.proofs.BehindLemmas.{single_at, singles}
 
 -- where a named state stands among all
-pub place_at : {X : Type 0} (g : X → StateTree) (xs : List X) (named : List ℕ) (i : ℕ) → named ≡ places_named (map g xs) → i < length xs → get_or named i 0 ≡ length (counted_states (map g (take i xs)))
-place_at g xs named i is lt =
+pub index_at : {X : Type 0} (g : X → StateTree) (xs : List X) (named : List ℕ) (i : ℕ) → named ≡ indices_named (map g xs) → i < length xs → get_or named i 0 ≡ length (counted_states (map g (take i xs)))
+index_at g xs named i is lt =
     let size = length-map xs g in
     ap (λ l. get_or l i 0) is ∙ single_at (λ b. length (counted_states b)) [] (map g xs) i 0 (omega (arith, lt, size)) ∙ ap (λ l. length (counted_states l)) (take-map g i xs)
 
-pub places : {X : Type 0} (g : X → StateTree) (xs : List X) (named : List ℕ) → named ≡ places_named (map g xs) → length named ≡ length xs
-places g xs named is = ap length is ∙ singles (λ b. length (counted_states b)) [] (map g xs) ∙ length-map xs g
+pub indices : {X : Type 0} (g : X → StateTree) (xs : List X) (named : List ℕ) → named ≡ indices_named (map g xs) → length named ≡ length xs
+indices g xs named is = ap length is ∙ singles (λ b. length (counted_states b)) [] (map g xs) ∙ length-map xs g
 
 -- the state that a name means
 pub record NamedAt (text : List ℕ) (first : ℕ) (states : List StateTree) (name : Span) (named : List ℕ) (place : ℕ) : Type 0 where
@@ -44,7 +44,7 @@ at_least (s ∷ states) =
     let both = length-append (flat_map unnamed_of (paths_of s.body)) (counted_states states) in
     omega (arith, rest, both)
 
-named_at : (text : List ℕ) (first : ℕ) (states : List StateTree) (name : Span) (named : List ℕ) (place : ℕ) (s : StateTree) → named ≡ places_named states → first_among text (names_of_states states) name ≡ Some place → NamedAt text first states name named place
+named_at : (text : List ℕ) (first : ℕ) (states : List StateTree) (name : Span) (named : List ℕ) (place : ℕ) (s : StateTree) → named ≡ indices_named states → first_among text (names_of_states states) name ≡ Some place → NamedAt text first states name named place
 named_at text first states name named place s is found =
     let words = words_at text (names_of_states states) in
     let below = (position-Some (same_word (word_at text name)) words place [] found).0 in

@@ -7,7 +7,7 @@ use Rattle.std.proofs.lemmas.Option.{slice_get-get_or}
 use Rattle.source.specs.declared.token.Span.{Span}
 use Rattle.tree.specs.Trees.{ContractTree, StateTree}
 use Rattle.declarations.specs.Declarations.{counted_states, first_among, names_of_states, states_of}
-use Rattle.declarations.specs.Places.{place_among}
+use Rattle.declarations.specs.Indices.{index_among}
 use Rattle.declarations.specs.Scopes.{IsDeclared}
 use Rattle.tables.specs.Words.{same_word, word_at, words_at}
 use Rattle.declarations.specs.declared.members.Declared.{Declared}
@@ -15,7 +15,7 @@ use Rattle.declarations.proofs.BehindLemmas.{single_at, singles}
 
 -- the named state at a place, among all
 pub named_there : (text : List ℕ) (c : ContractTree) (d : Declared) (name : Span) (place : ℕ) → IsDeclared text c d → first_among text (names_of_states (states_of c)) name ≡ Some place
-    → slice_get d.counted.named.items place ≡ place_among text (states_of c) name
+    → slice_get d.counted.named.items place ≡ index_among text (states_of c) name
 named_there text c d name place h found =
     let states : List StateTree = states_of c in
     let words = words_at text (names_of_states states) in

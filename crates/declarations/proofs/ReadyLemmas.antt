@@ -16,7 +16,7 @@ use Rattle.declarations.specs.declared.mistake.Limit.{Limit}
 use Rattle.declarations.specs.declared.mistake.Mistake.TheVariants.{LimitPassed}
 use Rattle.declarations.specs.ItemMistakes.{all_counted_states, contracts_mistakes, counted_mistakes}
 use Rattle.declarations.specs.Listed.{limit_passed, past_limit, twice_among}
-use Rattle.declarations.specs.Numbered.{names_in, places_named}
+use Rattle.declarations.specs.Numbered.{names_in, indices_named}
 use Rattle.declarations.specs.Outlines.{outlined_messages, outlined_states}
 use Rattle.declarations.specs.Program.{Program}
 use Rattle.declarations.specs.Ready.{IsReady, all_resolved, declared_in, declared_messages, declared_states, resolved_declared}
@@ -90,7 +90,7 @@ one_ready p c d one none =
       messages = subst (λ l. IsTable (words_at p.text (names_of_messages l)) d.messages) (sym one.outline.messages) one.messages;
       states = subst (λ l. IsTable (words_at p.text (names_of_states l)) d.states) (sym one.outline.states) one.states;
       all = one.all ∙ ap (flat_map names_in) (sym one.outline.states);
-      named = one.named ∙ ap places_named (sym one.outline.states);
+      named = one.named ∙ ap indices_named (sym one.outline.states);
       clean = ap (λ l. findings l (outlined_states d.outline)) one.outline.messages ∙ ap (findings (messages_of c)) one.outline.states ∙ clean_edges p c none;
     }
 

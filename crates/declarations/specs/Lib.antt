@@ -8,7 +8,7 @@ pub mod Named
 pub mod Owning
 pub mod ItemMistakes
 pub mod Resolution
-pub mod Places
+pub mod Indices
 pub mod Outlines
 pub mod Numbered
 pub mod Scopes

@@ -4,7 +4,7 @@ use Rattle.source.specs.declared.token.Span.{Span}
 use Rattle.tree.specs.Trees.{MessageTree, StateTree}
 use Rattle.tree.specs.declared.contract as tree
 use Rattle.declarations.specs.Declarations.{names_of_messages, names_of_states, counted_states}
-use Rattle.declarations.specs.Numbered.{places_named}
+use Rattle.declarations.specs.Numbered.{indices_named}
 use Rattle.declarations.specs.Outlines.{outlined_messages, outlined_states}
 use Rattle.declarations.specs.Resolution.{Meanings, message_meant, state_meant, edge_between}
 use Rattle.tables.specs.Tables.{IsTable}
@@ -40,7 +40,7 @@ meanings m = record {
 pub record IsMeaning (m : Meaning) : Type 0 where
   pub messages : IsTable (words_at (text_of m) (message_names m)) m.declared.now.messages
   pub states : IsTable (words_at (text_of m) (state_names m)) m.declared.now.states
-  pub named : m.named.now ≡ places_named (states_in m)
+  pub named : m.named.now ≡ indices_named (states_in m)
   pub message_room : m.messages_before + length (messages_in m) < 2 ^ 32
   pub state_room : m.states_before + length (counted_states (states_in m)) < 2 ^ 32
 

@@ -22,5 +22,5 @@ abbrev pub names_in : StateTree → List StateName
 names_in s = Named s.name ∷ unnamed_names (flat_map unnamed_of (paths_of s.body))
 
 -- where named states stand among all
-abbrev pub places_named : List StateTree → List ℕ
-places_named states = each_behind (λ before s. length (counted_states before) ∷ []) [] states
+abbrev pub indices_named : List StateTree → List ℕ
+indices_named states = each_behind (λ before s. length (counted_states before) ∷ []) [] states

@@ -3,7 +3,7 @@ use Rattle.std.specs.Prelude.{◌≡◌, ℕ, List, [], ◌∷◌, length}
 use Rattle.std.specs.List.{flat_map}
 use Rattle.declarations.specs.Declarations.{names_of_messages, names_of_states, counted_states}
 use Rattle.declarations.specs.ContractMistakes.{state_mistakes}
-use Rattle.declarations.specs.Numbered.{names_in, places_named}
+use Rattle.declarations.specs.Numbered.{names_in, indices_named}
 use Rattle.declarations.specs.Outlines.{outlined_messages, outlined_states}
 use Rattle.program.specs.Parts.{ContractModel}
 use Rattle.declarations.specs.Resolution.{each_behind, resolved_contract}
@@ -18,7 +18,7 @@ pub record IsReady (text : List ℕ) (d : Declared) : Type 0 where
   pub messages : IsTable (words_at text (names_of_messages (outlined_messages d.outline))) d.messages
   pub states : IsTable (words_at text (names_of_states (outlined_states d.outline))) d.states
   pub all : d.counted.all.items ≡ flat_map names_in (outlined_states d.outline)
-  pub named : d.counted.named.items ≡ places_named (outlined_states d.outline)
+  pub named : d.counted.named.items ≡ indices_named (outlined_states d.outline)
   pub clean : flat_map (state_mistakes text (names_of_messages (outlined_messages d.outline))
       (names_of_states (outlined_states d.outline))) (outlined_states d.outline) ≡ []
 

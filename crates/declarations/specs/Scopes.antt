@@ -8,7 +8,7 @@ use Rattle.tree.specs.Trees.{ItemTree, DefinitionTree, Contract, Struct, Class, 
 use Rattle.tree.specs.Trees.{StructTree, ClassTree, MethodTree, item_tree, method_tree}
 use Rattle.declarations.specs.Declarations.{names_of_messages, names_of_states, messages_of, states_of}
 use Rattle.declarations.specs.Kinds.{type_kind}
-use Rattle.declarations.specs.Numbered.{names_in, places_named}
+use Rattle.declarations.specs.Numbered.{names_in, indices_named}
 use Rattle.declarations.specs.Outlines.{IsOutline}
 use Rattle.declarations.specs.Program.{Program, item_names}
 use Rattle.tables.specs.Tables.{IsTable}
@@ -30,7 +30,7 @@ pub record IsDeclared (text : List ℕ) (c : ContractTree) (d : Declared) : Type
   pub messages : IsTable (words_at text (names_of_messages (messages_of c))) d.messages
   pub states : IsTable (words_at text (names_of_states (states_of c))) d.states
   pub all : d.counted.all.items ≡ flat_map names_in (states_of c)
-  pub named : d.counted.named.items ≡ places_named (states_of c)
+  pub named : d.counted.named.items ≡ indices_named (states_of c)
 
 -- the fields of a struct, those that own, and the table of them
 pub record AreFields (text : List ℕ) (s : StructTree) (f : Fields) : Type 0 where

@@ -44,7 +44,7 @@ impl<'a> Fields<'a> {
     }
 
     /// How many fields of the struct stand before the first one of this name.
-    pub(crate) fn place(&self, text: &[u8], name: Span) -> Option<usize>
+    pub(crate) fn index_of(&self, text: &[u8], name: Span) -> Option<usize>
         ensures { (s : StructTree) → AreFields text.now s self.now
             → result ≡ first_among text.now (map (λ f. f.name) s.fields) name }
     {
@@ -55,8 +55,8 @@ impl<'a> Fields<'a> {
     pub fn find(&self, text: &[u8], name: Span) -> Option<Field>
         ensures { (s : StructTree) → AreFields text.now s self.now → result ≡ field_named text.now s name }
     {
-        let place = self.place(text, name)?;
-        self.list.get(place).copied()
+        let index = self.index_of(text, name)?;
+        self.list.get(index).copied()
     }
 }
 

@@ -126,12 +126,12 @@ impl<'a> Declared<'a> {
         ensures { (text : List ℕ) (c : ContractTree) → IsDeclared text c self.now
             → option_map (λ m. message_tree m.now) result ≡ message_written text c word.now }
     {
-        let place = self.messages.find(word)?;
-        self.outline.messages.get(place).copied()
+        let index = self.messages.find(word)?;
+        self.outline.messages.get(index).copied()
     }
 
     /// Where the named state at this index stands among all of its states.
-    pub(crate) fn named_place(&self, index: usize) -> Option<usize>
+    pub(crate) fn named_index(&self, index: usize) -> Option<usize>
         ensures { result ≡ slice_get self.now.counted.named.items index }
     {
         self.counted.named.get(index).copied()
@@ -160,7 +160,7 @@ impl<'a> Methods<'a> {
     }
 
     /// How many methods of the class stand before the first one of this name.
-    pub(crate) fn place(&self, text: &[u8], name: Span) -> Option<usize>
+    pub(crate) fn index_of(&self, text: &[u8], name: Span) -> Option<usize>
         ensures { (c : ClassTree) → AreMethods text.now c self.now
             → result ≡ first_among text.now (map (λ m. m.name) c.methods) name }
     {
@@ -179,8 +179,8 @@ impl<'a> Methods<'a> {
         ensures { (c : ClassTree) → AreMethods text.now c self.now
             → IsCallee (method_named text.now c name) result }
     {
-        let place = self.place(text, name)?;
-        self.callee(place)
+        let index = self.index_of(text, name)?;
+        self.callee(index)
     }
 
     /// The method at this index.

@@ -64,9 +64,9 @@ impl<'a> Scope<'a> {
     pub(crate) fn contract(&self, name: Span) -> Option<(usize, &Declared<'a>)>
         ensures { (p : Program) → IsScope p self.now → IsContract p.text (contract_named p name) (option_map (λ c. (c.0, c.1.now)) result) }
     {
-        let place = self.place(name)?;
-        let declared = self.contract_at(place)?;
-        Some((place, declared))
+        let index = self.index_of(name)?;
+        let declared = self.contract_at(index)?;
+        Some((index, declared))
     }
 
     /// What the item at this index declares, if it is a contract.
@@ -81,9 +81,9 @@ impl<'a> Scope<'a> {
     pub(crate) fn structure(&self, name: Span) -> Option<(usize, &Fields<'a>)>
         ensures { (p : Program) → IsScope p self.now → IsStruct p.text (struct_named p name) (option_map (λ s. (s.0, s.1.now)) result) }
     {
-        let place = self.place(name)?;
-        let fields = self.structure_at(place)?;
-        Some((place, fields))
+        let index = self.index_of(name)?;
+        let fields = self.structure_at(index)?;
+        Some((index, fields))
     }
 
     /// The first item of this name, if it is a struct: how many items stand before it, and its fields that own, in order.
@@ -91,7 +91,7 @@ impl<'a> Scope<'a> {
         ensures { (p : Program) → IsScope p self.now → owning_named p name ≡ option_map (λ s. (s.0, s.1.now)) result }
     {
         match self.structure(name) {
-            Some((place, fields)) => Some((place, &fields.owning)),
+            Some((index, fields)) => Some((index, &fields.owning)),
             None => None,
         }
     }
@@ -113,43 +113,43 @@ impl<'a> Scope<'a> {
         fields.find(self.text, name)
     }
 
-    /// How many fields stand before the first one of this name in the struct that is the item at this place.
-    pub fn field_place(&self, structure: usize, name: Span) -> Option<usize>
+    /// How many fields stand before the first one of this name in the struct that is the item at this index.
+    pub fn field_index(&self, structure: usize, name: Span) -> Option<usize>
         ensures { (p : Program) → IsScope p self.now
             → result ≡ option_and_then (λ s. first_among p.text (map (λ f. f.name) s.1.fields) name) (item_at as_struct p structure) }
     {
         let fields = self.fields_at(structure)?;
-        fields.place(self.text, name)
+        fields.index_of(self.text, name)
     }
 
     /// The first item of this name, if it is a class.
     pub fn class(&self, name: Span) -> Option<&Methods<'a>>
         ensures { (p : Program) → IsScope p self.now → IsClass p.text (class_named p name) (option_map (λ m. m.now) result) }
     {
-        let place = self.place(name)?;
-        self.methods_at(place)
+        let index = self.index_of(name)?;
+        self.methods_at(index)
     }
 
     /// How many items stand before the first item of this name, if it is a class.
-    pub fn class_place(&self, name: Span) -> Option<usize>
+    pub fn class_index(&self, name: Span) -> Option<usize>
         ensures { (p : Program) → IsScope p self.now → result ≡ option_map (λ c. c.0) (class_named p name) }
     {
-        let place = self.place(name)?;
-        let _methods = self.methods_at(place)?;
-        Some(place)
+        let index = self.index_of(name)?;
+        let _methods = self.methods_at(index)?;
+        Some(index)
     }
 
-    /// How many methods stand before the first one of this name in the class that is the item at this place.
-    pub fn method_place(&self, class: usize, name: Span) -> Option<usize>
+    /// How many methods stand before the first one of this name in the class that is the item at this index.
+    pub fn method_index(&self, class: usize, name: Span) -> Option<usize>
         ensures { (p : Program) → IsScope p self.now
             → result ≡ option_and_then (λ c. first_among p.text (map (λ m. m.name) c.1.methods) name) (item_at as_class p class) }
     {
         let methods = self.methods_at(class)?;
-        methods.place(self.text, name)
+        methods.index_of(self.text, name)
     }
 
     /// How many items stand before the first item of this name.
-    fn place(&self, name: Span) -> Option<usize>
+    fn index_of(&self, name: Span) -> Option<usize>
         ensures { (p : Program) → IsScope p self.now → result ≡ first_among p.text (item_names p) name }
     {
         self.names.find(name.slice(self.text))

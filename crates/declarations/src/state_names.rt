@@ -4,7 +4,7 @@ ghost use Rattle.std.specs.Prelude.{◌≡◌, ℕ, List, ◌++◌, map, IfOk, O
 ghost use Rattle.std.specs.List.{flat_map};
 ghost use Rattle.tree.specs.Trees.{path_tree, state_tree};
 ghost use Rattle.declarations.specs.Declarations.{unnamed_of};
-ghost use Rattle.declarations.specs.Numbered.{unnamed_names, places_named, names_in};
+ghost use Rattle.declarations.specs.Numbered.{unnamed_names, indices_named, names_in};
 
 use crate::outline::paths;
 use source::{Place, Span};
@@ -41,7 +41,7 @@ pub(crate) struct StateNames {
 /// The states: each named one, and behind it those that its paths make.
 pub(crate) fn state_names(alloc: Global, states: &[&State]) -> Result<StateNames, AllocError>
     ensures all { IfOk result (λ names. names.all.items ≡ flat_map names_in (map (λ s. state_tree s.now) states.now)) }
-    ensures named { IfOk result (λ names. names.named.items ≡ places_named (map (λ s. state_tree s.now) states.now)) }
+    ensures named { IfOk result (λ names. names.named.items ≡ indices_named (map (λ s. state_tree s.now) states.now)) }
 {
     let mut all = Vec::new(alloc);
     let mut named = Vec::new(alloc);

@@ -53,7 +53,7 @@ impl<'a> Heads<'a> {
         ensures { (all : List Head) (h : Head) → IsHeads text.now all self.now → awaiting ≡ awaiting_of h
             → result ≡ awaits_too text.now h (take index all) }
     {
-        stands_before(self.place_of(key_of(text, awaiting)), index)
+        stands_before(self.index_of(key_of(text, awaiting)), index)
     }
 
     /// Whether the endpoint has no case for its close, and none of the heads before this index names it.
@@ -63,12 +63,12 @@ impl<'a> Heads<'a> {
     {
         let word = endpoint.slice(text);
         let named = stands_before(self.endpoints.find(word), index);
-        let closed = self.place_of((word, None)).is_some();
+        let closed = self.index_of((word, None)).is_some();
         !(named || closed)
     }
 
     /// How many heads stand before the first one that is written so.
-    fn place_of(&self, key: Key<'a>) -> Option<usize>
+    fn index_of(&self, key: Key<'a>) -> Option<usize>
         ensures { (text : List ℕ) (all : List Head) → IsHeads text all self.now → result ≡ key_at text (key_words key.entry) all }
     {
         self.cases.get(&key).copied()

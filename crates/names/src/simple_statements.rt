@@ -209,7 +209,7 @@ fn judge_new_ends(
 {
     let left = kind_held(scope, variables, channel.first);
     let right = kind_held(scope, variables, channel.second);
-    match scope.contract_place(channel.contract) {
+    match scope.contract_index(channel.contract) {
         Some(place) => judge_ends(place, (left, right), channel.first, channel.second, found),
         None => add_unknown(channel.contract, NameSort::Contract, found),
     }

@@ -15,18 +15,18 @@ use Rattle.program.specs.Parts.{ContractModel, StateParts, contract_model, state
 use Rattle.program.specs.declared.contract.Contract.{Contract}
 use Rattle.replays.proofs.LineLemmas.{map_twice}
 use Rattle.replays.specs.Names.{state_of}
-use Rattle.replays.specs.Placed.{ArePlaced, place_in}
+use Rattle.replays.specs.Placed.{ArePlaced, index_in}
 
 -- the tables for contracts, one for each
-abbrev pub HasPlaces : ContractModel → BTreeMap ℕ ℕ → Type 0
-HasPlaces c m = (k : ℕ) → get nat_cmp m k ≡ first_position nat_cmp (map (λ s. s.id.0) c.parts.states) k
+abbrev pub HasIndices : ContractModel → BTreeMap ℕ ℕ → Type 0
+HasIndices c m = (k : ℕ) → get nat_cmp m k ≡ first_position nat_cmp (map (λ s. s.id.0) c.parts.states) k
 
 -- no tables for no contracts
 pub placed_none : ArePlaced [] []
 placed_none contract state = refl
 
 -- a table more
-pub placed_more : (contracts : List ContractModel) (tables : List (BTreeMap ℕ ℕ)) (c : ContractModel) (m : BTreeMap ℕ ℕ) → length tables ≡ length contracts → ArePlaced contracts tables → HasPlaces c m → ArePlaced (contracts ++ c ∷ []) (tables ++ m ∷ [])
+pub placed_more : (contracts : List ContractModel) (tables : List (BTreeMap ℕ ℕ)) (c : ContractModel) (m : BTreeMap ℕ ℕ) → length tables ≡ length contracts → ArePlaced contracts tables → HasIndices c m → ArePlaced (contracts ++ c ∷ []) (tables ++ m ∷ [])
 placed_more [] [] c m same h p zero state = p state
 placed_more [] [] c m same h p (suc n) state = refl
 placed_more [] (t ∷ tables) c m same h p n state = absurd (omega (arith, same))
@@ -60,8 +60,8 @@ found_at states q =
     by false e = sym (slice_get_past states (position_or_len (λ (s : StateParts). s.id.0 == q) states) (omega (arith, ltb-false (position_or_len (λ (s : StateParts). s.id.0 == q) states) (length states) e)))
 
 -- the state of a contract at a place, if there is one
-abbrev pub by_place : List ContractModel → ℕ → Option ℕ → Option StateParts
-by_place contracts contract place = option_and_then (λ k. option_and_then (λ c. slice_get c.parts.states k) (slice_get contracts contract)) place
+abbrev pub by_index : List ContractModel → ℕ → Option ℕ → Option StateParts
+by_index contracts contract place = option_and_then (λ k. option_and_then (λ c. slice_get c.parts.states k) (slice_get contracts contract)) place
 
 by_contract : (c : Option ContractModel) (q : ℕ) → option_and_then (λ x. find (λ s. s.id.0 == q) x.parts.states) c
     ≡ option_and_then (λ k. option_and_then (λ x. slice_get x.parts.states k) c) (option_and_then (λ x. first_position nat_cmp (map (λ s. s.id.0) x.parts.states) q) c)
@@ -69,8 +69,8 @@ by_contract None q = refl
 by_contract (Some c) q = sym (found_at c.parts.states q)
 
 -- a state stands at its place
-pub state_placed : (contracts : List ContractModel) (tables : List (BTreeMap ℕ ℕ)) → ArePlaced contracts tables → (contract state : ℕ) → state_of contracts contract state ≡ by_place contracts contract (place_in tables contract state)
-state_placed contracts tables p contract state = by_contract (slice_get contracts contract) state ∙ ap (by_place contracts contract) (sym (p contract state))
+pub state_placed : (contracts : List ContractModel) (tables : List (BTreeMap ℕ ℕ)) → ArePlaced contracts tables → (contract state : ℕ) → state_of contracts contract state ≡ by_index contracts contract (index_in tables contract state)
+state_placed contracts tables p contract state = by_contract (slice_get contracts contract) state ∙ ap (by_index contracts contract) (sym (p contract state))
 
 -- the name of a state, or nothing where there is none
 pub name_or_nothing : (s : Option StateParts) (name : Option (Bor (List ℕ))) → option_map (λ (bytes : Bor (List ℕ)). bytes.now) name ≡ option_map (λ (x : StateParts). x.name) s → (nothing : Bor (List ℕ)) → nothing.now ≡ [] → (unwrap_or name nothing).now ≡ option_map_or (λ (x : StateParts). x.name) s []
@@ -80,10 +80,10 @@ name_or_nothing (Some s) None e nothing is = absurd (none-some s.name e)
 name_or_nothing (Some s) (Some name) e nothing is = same_Some name.now s.name e
 
 -- one contract more, as the code has it
-pub places_more : (contracts : List Contract) (tables new : List (BTreeMap ℕ ℕ)) (i : ℕ) (x : Contract) (m : BTreeMap ℕ ℕ) → i < length contracts → x ≡ get_or contracts i x → length tables ≡ i
+pub indices_more : (contracts : List Contract) (tables new : List (BTreeMap ℕ ℕ)) (i : ℕ) (x : Contract) (m : BTreeMap ℕ ℕ) → i < length contracts → x ≡ get_or contracts i x → length tables ≡ i
     → ArePlaced (map contract_model (take i contracts)) tables → ((k : ℕ) → get nat_cmp m k ≡ first_position nat_cmp (map (λ s. s.id.0) x.states.items) k) → new ≡ tables ++ m ∷ []
     → (length new ≡ i + 1) × ArePlaced (map contract_model (take (i + 1) contracts)) new
-places_more contracts tables new i x m lt is many placed has e =
+indices_more contracts tables new i x m lt is many placed has e =
     let seen : map contract_model (take (i + 1) contracts) ≡ map contract_model (take i contracts) ++ contract_model x ∷ [] =
     ap (map contract_model) (take_more contracts i x lt) ∙ map-append contract_model (take i contracts) (get_or contracts i x ∷ []) ∙ ap (λ y. map contract_model (take i contracts) ++ contract_model y ∷ []) (sym is) in
     let same : length tables ≡ length (map contract_model (take i contracts)) = omega (arith, many, length-map (take i contracts) contract_model, length-take-le i contracts (omega arith)) in

@@ -5,9 +5,9 @@ ghost use Rattle.rules.specs.Programs.{model_of};
 ghost use Rattle.replays.specs.Naming.{words_of};
 ghost use Rattle.replays.specs.Names as told;
 ghost use Rattle.replays.specs.Names.{Words, kind_name, scalar_name, side_name, state_of};
-ghost use Rattle.replays.specs.Placed.{place_in};
+ghost use Rattle.replays.specs.Placed.{index_in};
 
-use crate::naming::{Naming, places_in};
+use crate::naming::{Naming, indices_in};
 use crate::texts::add;
 use program::{ContractId, HeapKind, MessageId, Scalar, Side, StateId, StructId};
 use rules::Program;
@@ -24,7 +24,7 @@ impl<'a> Naming<'a> {
         ensures { IfOk result (λ naming. words_of naming
             ≡ record { program = model_of program.now; structs = map string_bytes structs.now }) }
     {
-        let states = places_in(alloc, program.contracts())?;
+        let states = indices_in(alloc, program.contracts())?;
         Ok(Naming {
             program,
             structs,
@@ -59,9 +59,9 @@ impl<'a> Naming<'a> {
         }
     }
 
-    /// The place of a state of a contract among the states of that.
-    fn place(&self, contract: ContractId, state: StateId) -> Option<usize>
-        ensures { result ≡ place_in self.now.states.items contract.0 state.0 }
+    /// The index of a state of a contract among the states of that.
+    fn index_of(&self, contract: ContractId, state: StateId) -> Option<usize>
+        ensures { result ≡ index_in self.now.states.items contract.0 state.0 }
     {
         self.states.get(contract.0 as usize)?.get(&state.0).copied()
     }
@@ -71,9 +71,9 @@ impl<'a> Naming<'a> {
         ensures { option_map (λ bytes. bytes.now) result
             ≡ option_map (λ s. s.name) (state_of (words_of self.now).program.contracts contract.0 state.0) }
     {
-        let place = self.place(contract, state)?;
+        let index = self.index_of(contract, state)?;
         let within = self.program.contracts().get(contract.0 as usize)?;
-        let there = *within.states.get(place)?;
+        let there = *within.states.get(index)?;
         Some(within.state_name(there))
     }
 

@@ -14,7 +14,7 @@ use rules::Program;
 use std::alloc::{AllocError, Global};
 use std::collections::BTreeMap;
 
-/// What names come from: a program, the names of its structs in order of the text, and for each contract the place of a state among
+/// What names come from: a program, the names of its structs in order of the text, and for each contract the index of a state among
 /// its states.
 #[derive(Drop)]
 pub(crate) struct Naming<'a> {
@@ -24,24 +24,24 @@ pub(crate) struct Naming<'a> {
     ghost placed: { ArePlaced (model_of program.now).contracts states.items },
 }
 
-/// The place of each of these states, by its number.
-fn places_of(alloc: Global, states: &[State]) -> Result<BTreeMap<u32, usize>, AllocError>
+/// The index of each of these states, by its number.
+fn indices_of(alloc: Global, states: &[State]) -> Result<BTreeMap<u32, usize>, AllocError>
     ensures { IfOk result (λ m. (k : ℕ) → get nat_cmp m k ≡ first_position nat_cmp (map (λ s. s.id.0) states.now) k) }
 {
     let numbers: Vec<u32> = states.iter().map(|state| state.id.0).collect(alloc)?;
     first_positions(alloc, &numbers)
 }
 
-/// The place of each state of each contract.
-pub(crate) fn places_in(
+/// The index of each state of each contract.
+pub(crate) fn indices_in(
     alloc: Global,
     contracts: &[Contract],
 ) -> Result<Vec<BTreeMap<u32, usize>>, AllocError>
     ensures { IfOk result (λ tables. ArePlaced (map contract_model contracts.now) tables.items) }
 {
-    let mut places = Vec::new(alloc);
+    let mut indices = Vec::new(alloc);
     for contract in contracts {
-        places.push(places_of(alloc, &contract.states)?)?;
+        indices.push(indices_of(alloc, &contract.states)?)?;
     }
-    Ok(places)
+    Ok(indices)
 }

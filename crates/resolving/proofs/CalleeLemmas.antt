@@ -38,13 +38,13 @@ abbrev class_in : ℕ → Option ItemTree → Option (Numbered ClassTree)
 class_in class item = option_and_then (λ i. option_map (λ c. (class, c)) (as_class i.definition)) item
 
 -- where the first method of a name stands in it, and that method
-abbrev place_in : List ℕ → Span → Option (Numbered ClassTree) → Option ℕ
-place_in text name c = option_and_then (λ c. first_among text (map (λ m. m.name) c.1.methods) name) c
+abbrev index_in : List ℕ → Span → Option (Numbered ClassTree) → Option ℕ
+index_in text name c = option_and_then (λ c. first_among text (map (λ m. m.name) c.1.methods) name) c
 
 abbrev found_in : List ℕ → Span → ℕ → Option (Numbered ClassTree) → Option Callee
 found_in text name before c = option_and_then (λ c. option_and_then (numbered before c.1.methods) (first_among text (map (λ m. m.name) c.1.methods) name)) c
 
-in_definition : (text : List ℕ) (class : ℕ) (name : Span) (before place : ℕ) (d : DefinitionTree) → Some place ≡ place_in text name (option_map (λ c. (class, c)) (as_class d))
+in_definition : (text : List ℕ) (class : ℕ) (name : Span) (before place : ℕ) (d : DefinitionTree) → Some place ≡ index_in text name (option_map (λ c. (class, c)) (as_class d))
     → found_in text name before (option_map (λ c. (class, c)) (as_class d)) ≡ numbered before (methods_in d) place
 in_definition text class name before place (Contract c) h = cc
 in_definition text class name before place (Struct s) h = cc
@@ -56,7 +56,7 @@ pub method_there : (p : Program) (class : ℕ) (name : Span) (place : ℕ) (i : 
 method_there p class name place i h at =
     let before = methods_before p.items class in
     ap (λ o. found_in p.text name before (class_in class o)) at
-    ∙ in_definition p.text class name before place i.definition (h ∙ ap (λ o. place_in p.text name (class_in class o)) at)
+    ∙ in_definition p.text class name before place i.definition (h ∙ ap (λ o. index_in p.text name (class_in class o)) at)
 
 -- the callee that the code makes of what it looks up
 pub callee_is : (p : Program) (class : ℕ) (name : Span) (place v : ℕ) (items : List tree.Item.Item) (i : tree.Item.Item) (methods : List made.Method.Method) (m : made.Method.Method) → map item_tree items ≡ p.items

@@ -19,7 +19,7 @@ use Rattle.tree.specs.declared.item.Item.{Item}
 use Rattle.declarations.specs.Declarations.{first_among}
 use Rattle.declarations.specs.Program.{Program, Numbered, as_struct}
 use Rattle.program.specs.declared.kind.HeapKind.{HeapKind}
-use Rattle.resolving.specs.Around.{owning_places, place_listed, places_held, places_in}
+use Rattle.resolving.specs.Around.{owning_indices, index_listed, indices_held, indices_in}
 use Rattle.resolving.specs.Brought.{held_listed}
 use Rattle.resolving.specs.Counts.{struct_among, structs_of}
 use Rattle.resolving.specs.Fields.{field_number, fields_held, owning_before}
@@ -28,31 +28,31 @@ use Rattle.resolving.specs.Locals.{Local}
 
 -- the place of a field, where it owns
 abbrev owned : Program → ℕ × Field → List ℕ
-owned p x = place_listed x.0 (type_held p x.1.ty)
+owned p x = index_listed x.0 (type_held p x.1.ty)
 
-places_more : (p : Program) (fields : List Field) (i : ℕ) (d : Field) → i < length fields
-    → places_held p (take (i + 1) fields) ≡ places_held p (take i fields) ++ place_listed i (type_held p (get_or fields i d).ty)
-places_more p fields i d lt =
+indices_more : (p : Program) (fields : List Field) (i : ℕ) (d : Field) → i < length fields
+    → indices_held p (take (i + 1) fields) ≡ indices_held p (take i fields) ++ index_listed i (type_held p (get_or fields i d).ty)
+indices_more p fields i d lt =
     let front = take i fields in
     let next = get_or fields i d in
     let size = length-take-le i fields (omega (arith, lt)) in
     let at : 0 + length front ≡ i = omega (arith, size) in
-    ap (places_held p) (take_more fields i d lt)
+    ap (indices_held p) (take_more fields i d lt)
     ∙ ap (flat_map (owned p)) (enumerate_push 0 front next ∙ ap (λ k. enumerate_from 0 front ++ (k, next) ∷ []) at)
     ∙ sym (flat_map_more (owned p) [] (enumerate_from 0 front) (i, next))
 
 -- one more field that owns
-pub place_some : (p : Program) (fields : List Field) (i : ℕ) (d : Field) (held : HeapKind) (done : List ℕ) → i < length fields
-    → done ≡ places_held p (take i fields) → Some held ≡ type_held p (get_or fields i d).ty → done ++ i ∷ [] ≡ places_held p (take (i + 1) fields)
-place_some p fields i d held done lt before is =
-    ap (λ l. l ++ i ∷ []) before ∙ ap (λ o. places_held p (take i fields) ++ place_listed i o) is ∙ sym (places_more p fields i d lt)
+pub index_some : (p : Program) (fields : List Field) (i : ℕ) (d : Field) (held : HeapKind) (done : List ℕ) → i < length fields
+    → done ≡ indices_held p (take i fields) → Some held ≡ type_held p (get_or fields i d).ty → done ++ i ∷ [] ≡ indices_held p (take (i + 1) fields)
+index_some p fields i d held done lt before is =
+    ap (λ l. l ++ i ∷ []) before ∙ ap (λ o. indices_held p (take i fields) ++ index_listed i o) is ∙ sym (indices_more p fields i d lt)
 
 -- one more that does not
-pub place_none : (p : Program) (fields : List Field) (i : ℕ) (d : Field) (done : List ℕ) → i < length fields
-    → done ≡ places_held p (take i fields) → None ≡ type_held p (get_or fields i d).ty → done ≡ places_held p (take (i + 1) fields)
-place_none p fields i d done lt before is =
-    let front = places_held p (take i fields) in
-    before ∙ sym (append-nil front) ∙ ap (λ (o : Option HeapKind). front ++ place_listed i o) is ∙ sym (places_more p fields i d lt)
+pub index_none : (p : Program) (fields : List Field) (i : ℕ) (d : Field) (done : List ℕ) → i < length fields
+    → done ≡ indices_held p (take i fields) → None ≡ type_held p (get_or fields i d).ty → done ≡ indices_held p (take (i + 1) fields)
+index_none p fields i d done lt before is =
+    let front = indices_held p (take i fields) in
+    before ∙ sym (append-nil front) ∙ ap (λ (o : Option HeapKind). front ++ index_listed i o) is ∙ sym (indices_more p fields i d lt)
 
 -- what the structs among the first so many items have
 abbrev pub first_fields : Program → List Item → ℕ → List (List HeapKind)
@@ -76,81 +76,81 @@ fields_all p xs i le = ap (λ l. map (λ (s : StructTree). fields_held p s.field
 
 -- what is no struct has none, and no places
 pub no_struct : (p : Program) (d : Definition) → ((x : made.Struct.Struct) → d ≡ definition.Struct x → ⊥)
-    → ([] ≡ fields_in p (definition_tree d)) × ([] ≡ places_in p (definition_tree d))
+    → ([] ≡ fields_in p (definition_tree d)) × ([] ≡ indices_in p (definition_tree d))
 no_struct p (definition.Contract c) none = (refl, refl)
 no_struct p (definition.Struct s) none = absurd (none s refl)
 no_struct p (definition.Class c) none = (refl, refl)
 
 -- how many of these places stand before this one
-abbrev pub before_place : ℕ → List ℕ → ℕ
-before_place place places = length (filter (λ x. ltb x place) places)
+abbrev pub before_index : ℕ → List ℕ → ℕ
+before_index place indices = length (filter (λ x. ltb x place) indices)
 
-before_both : (place : ℕ) (xs ys : List ℕ) → before_place place (xs ++ ys) ≡ before_place place xs + before_place place ys
+before_both : (place : ℕ) (xs ys : List ℕ) → before_index place (xs ++ ys) ≡ before_index place xs + before_index place ys
 before_both place xs ys =
     let test : ℕ → Bool = λ x. ltb x place in
     ap length (filter-append test xs ys) ∙ length-append (filter test xs) (filter test ys)
 
-not_before : (n place : ℕ) (o : Option HeapKind) → place ≤ n → before_place place (place_listed n o) ≡ 0
+not_before : (n place : ℕ) (o : Option HeapKind) → place ≤ n → before_index place (index_listed n o) ≡ 0
 not_before n place None le = refl
 not_before n place (Some held) le = ap (λ (b : Bool). length (cond b (n ∷ []) [])) (le-ltb n place le)
 
-one_before : (n place : ℕ) (o : Option HeapKind) → n < place → before_place place (place_listed n o) ≡ length (held_listed o)
+one_before : (n place : ℕ) (o : Option HeapKind) → n < place → before_index place (index_listed n o) ≡ length (held_listed o)
 one_before n place None lt = refl
 one_before n place (Some held) lt = ap (λ (b : Bool). length (cond b (n ∷ []) [])) (lt-ltb n place lt)
 
 -- the places of the fields that own among these, before which so many stand
-abbrev places_from : Program → ℕ → List Field → List ℕ
-places_from p n fields = flat_map (owned p) (enumerate_from n fields)
+abbrev indices_from : Program → ℕ → List Field → List ℕ
+indices_from p n fields = flat_map (owned p) (enumerate_from n fields)
 
-none_before : (p : Program) (n place : ℕ) (fields : List Field) → place ≤ n → before_place place (places_from p n fields) ≡ 0
+none_before : (p : Program) (n place : ℕ) (fields : List Field) → place ≤ n → before_index place (indices_from p n fields) ≡ 0
 none_before p n place [] le = refl
 none_before p n place (f ∷ fields) le =
     let o = type_held p f.ty in
     let here = not_before n place o le in
     let rest = none_before p (n + 1) place fields (omega (arith, le)) in
-    let both = before_both place (place_listed n o) (places_from p (n + 1) fields) in
+    let both = before_both place (index_listed n o) (indices_from p (n + 1) fields) in
     omega (arith, here, rest, both)
 
 -- As many of them stand before a place as fields that own stand before the field there.
-so_many : (p : Program) (n k : ℕ) (fields : List Field) → before_place (n + k) (places_from p n fields) ≡ length (fields_held p (take k fields))
+so_many : (p : Program) (n k : ℕ) (fields : List Field) → before_index (n + k) (indices_from p n fields) ≡ length (fields_held p (take k fields))
 so_many p n k [] = sym (ap (λ (l : List Field). length (fields_held p l)) (take-nil k))
 so_many p n zero (f ∷ fields) = none_before p n (n + 0) (f ∷ fields) (omega arith)
 so_many p n (suc k) (f ∷ fields) =
     let o = type_held p f.ty in
-    let behind = places_from p (n + 1) fields in
+    let behind = indices_from p (n + 1) fields in
     let place : n + suc k ≡ (n + 1) + k = omega arith in
     let here = one_before n (n + suc k) o (omega arith) in
-    let rest = ap (λ m. before_place m behind) place ∙ so_many p (n + 1) k fields in
-    let both = before_both (n + suc k) (place_listed n o) behind in
+    let rest = ap (λ m. before_index m behind) place ∙ so_many p (n + 1) k fields in
+    let both = before_both (n + suc k) (index_listed n o) behind in
     let parts = length-append (held_listed o) (fields_held p (take k fields)) in
     omega (arith, here, rest, both, parts)
 
 -- the number of a field: how many places of fields that own stand before its own
-pub number_is : (p : Program) (k : ℕ) (fields : List Field) → before_place k (places_held p fields) ≡ length (fields_held p (take k fields))
+pub number_is : (p : Program) (k : ℕ) (fields : List Field) → before_index k (indices_held p fields) ≡ length (fields_held p (take k fields))
 number_is p k fields =
     let place : k ≡ 0 + k = omega arith in
-    ap (λ m. before_place m (places_held p fields)) place ∙ so_many p 0 k fields
+    ap (λ m. before_index m (indices_held p fields)) place ∙ so_many p 0 k fields
 
 -- where a field of this name stands in a struct
-abbrev pub place_named : Program → Span → Numbered StructTree → Option ℕ
-place_named p field s = first_among p.text (map (λ f. f.name) s.1.fields) field
+abbrev pub index_named : Program → Span → Numbered StructTree → Option ℕ
+index_named p field s = first_among p.text (map (λ f. f.name) s.1.fields) field
 
 -- the number of a field that stands there in a definition
-number_in : (p : Program) (n : ℕ) (field : Span) (place : ℕ) (d : DefinitionTree) → Some place ≡ option_and_then (place_named p field) (option_map (λ x. (n, x)) (as_struct d))
-    → Some (before_place place (places_in p d)) ≡ option_and_then (owning_before p field) (option_map (λ x. (n, x)) (as_struct d))
+number_in : (p : Program) (n : ℕ) (field : Span) (place : ℕ) (d : DefinitionTree) → Some place ≡ option_and_then (index_named p field) (option_map (λ x. (n, x)) (as_struct d))
+    → Some (before_index place (indices_in p d)) ≡ option_and_then (owning_before p field) (option_map (λ x. (n, x)) (as_struct d))
 number_in p n field place (Contract c) is = cc
 number_in p n field place (Class c) is = cc
 number_in p n field place (Struct s) is =
     ap Some (number_is p place s.fields) ∙ ap (option_map (λ k. length (fields_held p (take k s.fields)))) is
 
 -- the same of an item, if there is one
-pub number_at : (p : Program) (n : ℕ) (field : Span) (place : ℕ) (row : List ℕ) (o : Option ItemTree) → Some row ≡ option_map (owning_places p) o
-    → Some place ≡ option_and_then (place_named p field) (option_and_then (λ i. option_map (λ x. (n, x)) (as_struct i.definition)) o)
-    → Some (before_place place row) ≡ option_and_then (owning_before p field) (option_and_then (λ i. option_map (λ x. (n, x)) (as_struct i.definition)) o)
+pub number_at : (p : Program) (n : ℕ) (field : Span) (place : ℕ) (row : List ℕ) (o : Option ItemTree) → Some row ≡ option_map (owning_indices p) o
+    → Some place ≡ option_and_then (index_named p field) (option_and_then (λ i. option_map (λ x. (n, x)) (as_struct i.definition)) o)
+    → Some (before_index place row) ≡ option_and_then (owning_before p field) (option_and_then (λ i. option_map (λ x. (n, x)) (as_struct i.definition)) o)
 number_at p n field place row None has is = cc
 number_at p n field place row (Some i) has is =
-    let rows : row ≡ owning_places p i = cc in
-    ap (λ r. Some (before_place place r)) rows ∙ number_in p n field place i.definition is
+    let rows : row ≡ owning_indices p i = cc in
+    ap (λ r. Some (before_index place r)) rows ∙ number_in p n field place i.definition is
 
 -- the number of a field of what a variable holds, by the kind of the variable
 pub of_kind : (p : Program) (field : Span) (o : Option Local) → option_and_then (λ kind. field_number p kind field) (option_map (λ v. v.kind) o)
@@ -159,8 +159,8 @@ of_kind p field None = refl
 of_kind p field (Some v) = refl
 
 -- the places that are looked up at an item
-pub row_found : (p : Program) (rows : List (Vec ℕ)) (n : ℕ) (row : Vec ℕ) → map (λ x. x.items) rows ≡ map (owning_places p) p.items → slice_get rows n ≡ Some row
-    → Some row.items ≡ option_map (owning_places p) (slice_get p.items n)
+pub row_found : (p : Program) (rows : List (Vec ℕ)) (n : ℕ) (row : Vec ℕ) → map (λ x. x.items) rows ≡ map (owning_indices p) p.items → slice_get rows n ≡ Some row
+    → Some row.items ≡ option_map (owning_indices p) (slice_get p.items n)
 row_found p rows n row same at =
     ap (option_map (λ (x : Vec ℕ). x.items)) (sym at) ∙ sym (slice_get-map (λ (x : Vec ℕ). x.items) rows n)
-    ∙ ap (λ l. slice_get l n) same ∙ slice_get-map (owning_places p) p.items n
+    ∙ ap (λ l. slice_get l n) same ∙ slice_get-map (owning_indices p) p.items n

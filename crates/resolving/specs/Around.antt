@@ -24,23 +24,23 @@ use Rattle.resolving.specs.declared.messages.Meant.{Meant}
 abbrev pub program_in : List ℕ → List ItemTree → Program
 program_in text items = record { text = text; items = items }
 
--- the place of a field that holds this
-abbrev pub place_listed : ℕ → Option HeapKind → List ℕ
-place_listed k None = []
-place_listed k (Some held) = k ∷ []
+-- the index of a field that holds this
+abbrev pub index_listed : ℕ → Option HeapKind → List ℕ
+index_listed k None = []
+index_listed k (Some held) = k ∷ []
 
--- the places of the fields that own among these, in order
-abbrev pub places_held : Program → List Field → List ℕ
-places_held p fields = flat_map (λ x. place_listed x.0 (type_held p x.1.ty)) (enumerate_from 0 fields)
+-- the indices of the fields that own among these, in order
+abbrev pub indices_held : Program → List Field → List ℕ
+indices_held p fields = flat_map (λ x. index_listed x.0 (type_held p x.1.ty)) (enumerate_from 0 fields)
 
 -- those of a definition, if it is a struct
-abbrev pub places_in : Program → DefinitionTree → List ℕ
-places_in p (Contract c) = []
-places_in p (Struct s) = places_held p s.fields
-places_in p (Class c) = []
+abbrev pub indices_in : Program → DefinitionTree → List ℕ
+indices_in p (Contract c) = []
+indices_in p (Struct s) = indices_held p s.fields
+indices_in p (Class c) = []
 
-abbrev pub owning_places : Program → ItemTree → List ℕ
-owning_places p i = places_in p i.definition
+abbrev pub owning_indices : Program → ItemTree → List ℕ
+owning_indices p i = indices_in p i.definition
 
 -- these are the names of a program, its contracts with their names resolved, and what stands before each item
 pub record IsTypes (p : Program) (t : Types) : Type 0 where
@@ -48,12 +48,12 @@ pub record IsTypes (p : Program) (t : Types) : Type 0 where
   pub contracts : map contract_model t.resolved.now.contracts.items ≡ resolved_contracts p.text (contracts_of p.items)
   pub before : t.before.now ≡ counts p.items
 
--- these are the items of a program, what its types are looked up in, the places of the fields that own in each item, and the place
+-- these are the items of a program, what its types are looked up in, the indices of the fields that own in each item, and the index
 -- of a class
 pub record IsAround (p : Program) (class : ℕ) (a : Around) : Type 0 where
   pub types : IsTypes p a.types
   pub items : map item_tree a.items.now ≡ p.items
-  pub owning : map (λ x. x.items) a.owning.now ≡ map (owning_places p) p.items
+  pub owning : map (λ x. x.items) a.owning.now ≡ map (owning_indices p) p.items
   pub class_is : a.class ≡ class
   pub few : length (all_methods p.items) ≤ MOST_METHODS
 

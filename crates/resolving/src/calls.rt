@@ -43,7 +43,7 @@ fn method_at<'a>(
     ensures { (items : List ItemTree) (own : ℕ) → IsAround (program_in text.now items) own around.now
         → option_map callee_model result ≡ method_at (program_in text.now items) class name }
 {
-    let place = around.types.scope.method_place(class, name)?;
+    let place = around.types.scope.method_index(class, name)?;
     let item = around.items.get(class)?;
     let method = methods_of(&item.definition).get(place)?;
     let before = around.types.before.get(class)?;
@@ -63,7 +63,7 @@ fn method_of<'a>(
     ensures { (items : List ItemTree) (own : ℕ) → IsAround (program_in text.now items) own around.now
         → option_map callee_model result ≡ method_of (program_in text.now items) class name }
 {
-    let class = around.types.scope.class_place(class)?;
+    let class = around.types.scope.class_index(class)?;
     method_at(text, around, class, name)
 }
 

@@ -5,7 +5,7 @@ ghost use Rattle.std.specs.List.{filter};
 ghost use Rattle.tree.specs.Trees.{item_tree};
 ghost use Rattle.declarations.specs.Program.{Program};
 ghost use Rattle.program.specs.Programs.{rows};
-ghost use Rattle.resolving.specs.Around.{IsAround, IsTypes, places_held, program_in, owning_places};
+ghost use Rattle.resolving.specs.Around.{IsAround, IsTypes, indices_held, program_in, owning_indices};
 ghost use Rattle.resolving.specs.Fields as model;
 ghost use Rattle.resolving.specs.Fields.{fields_held, structs_told};
 
@@ -20,7 +20,7 @@ use tree::{Definition, Field, Item};
 #[derive(Drop)]
 struct Owning {
     kinds: Vec<HeapKind>,
-    places: Vec<usize>,
+    indices: Vec<usize>,
 }
 
 /// The fields that own among these.
@@ -30,24 +30,24 @@ fn owning_among(
     fields: &[Field],
 ) -> Result<Owning, AllocError>
     ensures { (p : Program) → IsTypes p types.now → IfOk result (λ owning.
-        (owning.kinds.items ≡ fields_held p fields.now) × (owning.places.items ≡ places_held p fields.now)) }
+        (owning.kinds.items ≡ fields_held p fields.now) × (owning.indices.items ≡ indices_held p fields.now)) }
 {
     let mut kinds = Vec::new(alloc);
-    let mut places = Vec::new(alloc);
-    for (place, field) in fields.iter().enumerate() {
+    let mut indices = Vec::new(alloc);
+    for (index, field) in fields.iter().enumerate() {
         if let Some(kind) = type_held(types, field.ty) {
             kinds.push(kind)?;
-            places.push(place)?;
+            indices.push(index)?;
         }
     }
-    Ok(Owning { kinds, places })
+    Ok(Owning { kinds, indices })
 }
 
 /// The fields that own of a program: what each struct has in them, in order of the text, and their places in each item.
 #[derive(Drop)]
 pub(crate) struct Fields {
     pub(crate) structs: Vec<Vec<HeapKind>>,
-    pub(crate) places: Vec<Vec<usize>>,
+    pub(crate) indices: Vec<Vec<usize>>,
 }
 
 /// What the structs among these items have in fields that own, and where.
@@ -58,28 +58,28 @@ pub(crate) fn fields_of(
 ) -> Result<Fields, AllocError>
     ensures { (text : List ℕ) → IsTypes (program_in text (map item_tree items.now)) types.now → IfOk result (λ fields.
         (rows fields.structs.items ≡ structs_told (program_in text (map item_tree items.now)))
-        × (map (λ x. x.items) fields.places.items
-        ≡ map (owning_places (program_in text (map item_tree items.now))) (map item_tree items.now))) }
+        × (map (λ x. x.items) fields.indices.items
+        ≡ map (owning_indices (program_in text (map item_tree items.now))) (map item_tree items.now))) }
 {
     let mut structs = Vec::new(alloc);
-    let mut places = Vec::new(alloc);
+    let mut indices = Vec::new(alloc);
     for item in items {
         if let Definition::Struct(structure) = &item.definition {
             let owning = owning_among(alloc, types, &structure.fields)?;
             structs.push(owning.kinds)?;
-            places.push(owning.places)?;
+            indices.push(owning.indices)?;
         } else {
-            places.push(Vec::new(alloc))?;
+            indices.push(Vec::new(alloc))?;
         }
     }
-    Ok(Fields { structs, places })
+    Ok(Fields { structs, indices })
 }
 
 /// How many of these are less than this one.
-fn count_before(places: &[usize], index: usize) -> usize
-    ensures { result ≡ length (filter (λ x. ltb x index) places.now) }
+fn count_before(indices: &[usize], index: usize) -> usize
+    ensures { result ≡ length (filter (λ x. ltb x index) indices.now) }
 {
-    places.iter().filter(|before| **before < index).count()
+    indices.iter().filter(|before| **before < index).count()
 }
 
 /// The number of a field of what a variable of this kind holds, among the fields that own.
@@ -94,7 +94,7 @@ pub(crate) fn field_number(
     let declarations::ValueKind::Pointer(item) = kind else {
         return None;
     };
-    let place = around.types.scope.field_place(item, field)?;
+    let index = around.types.scope.field_index(item, field)?;
     let owning = around.owning.get(item)?;
-    Some(count_before(owning, place))
+    Some(count_before(owning, index))
 }

@@ -34,7 +34,7 @@ fn contract_number(types: &Types<'_, '_>, index: usize) -> Option<ContractId>
 pub(crate) fn contract_named(types: &Types<'_, '_>, name: Span) -> Option<ContractId>
     ensures { (p : Program) → IsTypes p types.now → result ≡ model.contract_named p name }
 {
-    let place = types.scope.contract_place(name)?;
+    let place = types.scope.contract_index(name)?;
     contract_number(types, place)
 }
 
@@ -47,7 +47,7 @@ fn named_state(
 ) -> Option<StateId>
     ensures { (p : Program) → IsTypes p types.now → result ≡ model.named_state p index (contract_model contract.now) name }
 {
-    let at = types.scope.state_place(index, name)?;
+    let at = types.scope.state_index(index, name)?;
     let state = contract.states.get(at)?;
     Some(state.id)
 }

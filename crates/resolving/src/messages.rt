@@ -43,7 +43,7 @@ pub(crate) fn message_named<'a>(
 ) -> Option<Meant<'a>>
     ensures { (p : Program) → IsTypes p types.now → option_map meant_model result ≡ model.message_named p contract name }
 {
-    let place = types.scope.message_place(contract, name)?;
+    let place = types.scope.message_index(contract, name)?;
     message_there(types, contract, place)
 }
 
@@ -55,6 +55,6 @@ pub(crate) fn message_sent<'a>(
 ) -> Option<Meant<'a>>
     ensures { (p : Program) → IsTypes p types.now → option_map meant_model result ≡ model.message_sent p contract word }
 {
-    let place = types.scope.sent_place(contract, word)?;
+    let place = types.scope.sent_index(contract, word)?;
     message_there(types, contract, place)
 }

@@ -184,7 +184,7 @@ fn resolve_items<'a>(
             alloc,
             types,
             items,
-            owning: &fields.places,
+            owning: &fields.indices,
             class,
         };
         let methods = methods_of(&item.definition);

@@ -17,9 +17,9 @@ IsOf receipt shelf = Shows shelf.verdicts receipt.pushed
 abbrev pub verdict_of : Receipt → Verdict
 verdict_of receipt = receipt.pushed.value
 
--- the place on the shelf of that verdict
-abbrev pub place_of : Receipt → ℕ
-place_of receipt = receipt.pushed.index
+-- the index on the shelf of that verdict
+abbrev pub index_of : Receipt → ℕ
+index_of receipt = receipt.pushed.index
 
 -- the findings are the verdict of its method in the program that it remembers
 abbrev pub IsJudged : Verdict → Type 0

@@ -17,7 +17,7 @@ pub struct Shelf {
 
 impl Shelf {
     ghost use Rattle.shelf.specs.Shelves.{IsOf, verdict_of};
-    ghost use Rattle.shelf.specs.SoFar.{last_of, next_place, shelf_of};
+    ghost use Rattle.shelf.specs.SoFar.{last_of, next_index, shelf_of};
 
     /// A shelf with nothing on it.
     ///
@@ -51,12 +51,12 @@ impl Shelf {
     /// The verdicts that were put so far. It takes no memory, and any thread may go over them while others put.
     pub fn so_far(&self) -> SoFar<'_>
         ensures shelf { shelf_of result ≡ self.now }
-        ensures first { next_place result ≡ 0 }
+        ensures first { next_index result ≡ 0 }
         ensures none { last_of result ≡ None }
     {
         SoFar {
             shelf: self,
-            places: self.verdicts.iter(),
+            rest: self.verdicts.iter(),
             last: None,
         }
     }

@@ -8,13 +8,13 @@ use crate::shelf::Shelf;
 use analyse::Verdict;
 use boxcar::Iter;
 
-/// Goes over the verdicts that were put so far, each once, in order of their places on the shelf.
+/// Goes over the verdicts that were put so far, each once, in order of their indices on the shelf.
 ///
 /// A verdict whose `put` had not ended when this was made may come or not.
 #[derive(Drop)]
 pub struct SoFar<'a> {
     pub(crate) shelf: &'a Shelf,
-    pub(crate) places: Iter<'a, Verdict>,
+    pub(crate) rest: Iter<'a, Verdict>,
     pub(crate) last: Option<Receipt>,
 }
 
@@ -30,19 +30,19 @@ impl<'a> SoFar<'a> {
 }
 
 impl<'a> Iterator for SoFar<'a> {
-    ghost use Rattle.shelf.specs.SoFar.{Ends, Gives, places_left, shelf_of};
+    ghost use Rattle.shelf.specs.SoFar.{Ends, Gives, indices_left, shelf_of};
 
     type Item = &'a Verdict;
 
     ghost next_gives = { λ old item new. (shelf_of new ≡ shelf_of old)
         × MatchOption item (Ends old new) (λ verdict. Gives old verdict.now new) };
 
-    ghost remaining = { λ so_far. at_most (places_left so_far) };
+    ghost remaining = { λ so_far. at_most (indices_left so_far) };
 
-    /// A verdict that was put, from a place behind all those that were passed. There is none once no place is left.
+    /// A verdict that was put, from an index behind all those that were passed. There is none once no index is left.
     fn next(&mut self) -> Option<&'a Verdict> {
-        while let Some((place, _)) = self.places.next() {
-            if let Some(pushed) = self.shelf.verdicts.witness(place) {
+        while let Some((index, _)) = self.rest.next() {
+            if let Some(pushed) = self.shelf.verdicts.witness(index) {
                 let receipt = Receipt { pushed };
                 let verdict = self.shelf.read(&receipt);
                 self.last = Some(receipt);

@@ -9,7 +9,7 @@ ghost use Rattle.singcheck.specs.Entered.{Begins, IsEntered};
 ghost use Rattle.singcheck.specs.Named.{HasNames};
 ghost use Rattle.singcheck.specs.Stages.{IsProgramOf};
 
-use crate::entries::{entry_place, struct_names};
+use crate::entries::{entry_index, struct_names};
 use crate::programs::{Built, Named, judged_program, named_methods};
 use crate::stages::{Parsed, parse_text};
 use program::MethodId;
@@ -76,7 +76,7 @@ fn enter_method(
     requires few { length (model_of program).methods ≤ MOST_METHODS }
     ensures { IfOk result (IsEntered text.now entry.now) }
 {
-    let Some(method) = entry_of(&program, entry_place(text, tree, entry)) else {
+    let Some(method) = entry_of(&program, entry_index(text, tree, entry)) else {
         return Ok(Entered::Lacking);
     };
     let structs = struct_names(alloc, text, tree)?;

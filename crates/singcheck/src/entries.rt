@@ -24,25 +24,25 @@ fn is_named(text: &[u8], class: Span, method: &Method, entry: &[u8]) -> bool
 }
 
 /// How many methods of a class stand before the first that has this name.
-fn place_among(text: &[u8], class: Span, methods: &[Method], entry: &[u8]) -> Option<usize>
+fn index_among(text: &[u8], class: Span, methods: &[Method], entry: &[u8]) -> Option<usize>
     ensures some { IfSome result (IsFirstAt (map (full_name text.now class) (map method_tree methods.now)) entry.now) }
     ensures none { IfNone result (Each (λ x. x ≢ entry.now) (map (full_name text.now class) (map method_tree methods.now))) }
 {
-    for (place, method) in methods.iter().enumerate() {
+    for (index, method) in methods.iter().enumerate() {
         if is_named(text, class, method, entry) {
-            return Some(place);
+            return Some(index);
         }
     }
     None
 }
 
 /// How many methods of an item stand before the first that has this name; none where it is no class.
-fn place_in(text: &[u8], definition: &Definition, entry: &[u8]) -> Option<usize>
+fn index_in(text: &[u8], definition: &Definition, entry: &[u8]) -> Option<usize>
     ensures some { IfSome result (IsFirstAt (names_in text.now (definition_tree definition.now)) entry.now) }
     ensures none { IfNone result (Each (λ x. x ≢ entry.now) (names_in text.now (definition_tree definition.now))) }
 {
     match definition {
-        Definition::Class(class) => place_among(text, class.name, &class.methods, entry),
+        Definition::Class(class) => index_among(text, class.name, &class.methods, entry),
         Definition::Contract(_) | Definition::Struct(_) => None,
     }
 }
@@ -58,15 +58,15 @@ fn methods_of(definition: &Definition) -> usize
 }
 
 /// How many methods stand before the first that has this name.
-pub(crate) fn entry_place(text: &[u8], tree: &Tree, entry: &[u8]) -> Option<usize>
+pub(crate) fn entry_index(text: &[u8], tree: &Tree, entry: &[u8]) -> Option<usize>
     requires few { length (method_names text.now (program_tree tree.now)) < 2 ^ 32 }
     ensures some { IfSome result (IsFirstAt (method_names text.now (program_tree tree.now)) entry.now) }
     ensures none { IfNone result (Each (λ x. x ≢ entry.now) (method_names text.now (program_tree tree.now))) }
 {
     let mut before = 0;
     for item in &tree.items {
-        if let Some(place) = place_in(text, &item.definition, entry) {
-            return Some(before + place);
+        if let Some(index) = index_in(text, &item.definition, entry) {
+            return Some(before + index);
         }
         before += methods_of(&item.definition);
     }

@@ -9,7 +9,7 @@ use Rattle.std.proofs.lemmas.Bool.{cases_Bool, cond-true, cond-false, le-ltb, lt
 use Rattle.std.proofs.lemmas.Cmp.{nat_list_eq_equiv}
 use Rattle.tables.specs.Firsts.{first_of}
 use Rattle.tables.specs.Seats.{home, mark_of}
-use Rattle.tables.specs.Tables.{IsBelow, NoneOr, first_in, place_in, place_of, seated_by, seated_in, second_in, third_in, words_of}
+use Rattle.tables.specs.Tables.{IsBelow, NoneOr, first_in, index_in, index_of, seated_by, seated_in, second_in, third_in, words_of}
 use Rattle.tables.specs.Words.{same_word}
 use Rattle.tables.specs.declared.seats.Bucket.{Bucket}
 
@@ -109,9 +109,9 @@ none_or_both place a b none_or_a none_or_b = ⊎_elim
     (λ some. subst (λ o. NoneOr place (option_or o b)) (sym some) (inr refl))
     none_or_a
 
-place_one_more : (names : List Name) (w : Name) (m : Bool) (p : ℕ) → first_of (words_of names) w.now ≡ None
-    → NoneOr (length names) (place_in (names ++ w ∷ []) w.now m p)
-place_one_more names w m p h = none_or_if (length names) m (place_of (names ++ w ∷ []) w.now p) (⊎_elim
+index_one_more : (names : List Name) (w : Name) (m : Bool) (p : ℕ) → first_of (words_of names) w.now ≡ None
+    → NoneOr (length names) (index_in (names ++ w ∷ []) w.now m p)
+index_one_more names w m p h = none_or_if (length names) m (index_of (names ++ w ∷ []) w.now p) (⊎_elim
     (λ none. inl (none p))
     (λ last. inr (ap (λ n. at (names ++ w ∷ []) w.now n n) last ∙ at_there names w (length names)))
     (at_one_more names w p (lacks names w.now h)))
@@ -138,9 +138,9 @@ bucket_one_more names w None h = inl refl
 bucket_one_more names w (Some b) h =
     let more = names ++ w ∷ [] in
     none_or_both (length names) (first_in more w.now b) (option_or (second_in more w.now b) (third_in more w.now b))
-    (place_one_more names w (first_may b w.now) b.first h)
+    (index_one_more names w (first_may b w.now) b.first h)
     (none_or_both (length names) (second_in more w.now b) (third_in more w.now b)
-    (place_one_more names w (second_may b w.now) b.second h) (place_one_more names w (ltb 2 b.taken) b.third h))
+    (index_one_more names w (second_may b w.now) b.second h) (index_one_more names w (ltb 2 b.taken) b.third h))
 
 bucket_lacks : (names : List Name) (q : List ℕ) (bucket : Option Bucket) → first_of (words_of names) q ≡ None
     → option_and_then (seated_by names q) bucket ≡ None
@@ -151,10 +151,10 @@ bucket_lacks names q (Some b) h =
     ∙ ap (λ o. option_or o (third_in names q b)) (none (second_may b q) b.second)
     ∙ none (ltb 2 b.taken) b.third
 
-place_before : (names more : List Name) (q : List ℕ) (m : Bool) (p : ℕ) → (m ≡ true → p < length names)
-    → place_in (names ++ more) q m p ≡ place_in names q m p
-place_before names more q true p lt = at_before names more q p p (lt refl)
-place_before names more q false p lt = refl
+index_before : (names more : List Name) (q : List ℕ) (m : Bool) (p : ℕ) → (m ≡ true → p < length names)
+    → index_in (names ++ more) q m p ≡ index_in names q m p
+index_before names more q true p lt = at_before names more q p p (lt refl)
+index_before names more q false p lt = refl
 
 taken_and : (k n : ℕ) (e : Bool) → (ltb k n && e) ≡ true → k < n
 taken_and k n e h = ⊎_elim
@@ -166,17 +166,17 @@ bucket_before : (names more : List Name) (q : List ℕ) (bucket : Option Bucket)
     → option_and_then (seated_by (names ++ more) q) bucket ≡ option_and_then (seated_by names q) bucket
 bucket_before names more q None below = refl
 bucket_before names more q (Some b) below = bucket_same (names ++ more) names q b
-    (place_before names more q (first_may b q) b.first (λ h. below.first (taken_and 0 b.taken (nat_eq b.first_mark (mark_of q)) h)))
-    (place_before names more q (second_may b q) b.second (λ h. below.second (taken_and 1 b.taken (nat_eq b.second_mark (mark_of q)) h)))
-    (place_before names more q (ltb 2 b.taken) b.third (λ h. below.third (ltb-true 2 b.taken h)))
+    (index_before names more q (first_may b q) b.first (λ h. below.first (taken_and 0 b.taken (nat_eq b.first_mark (mark_of q)) h)))
+    (index_before names more q (second_may b q) b.second (λ h. below.second (taken_and 1 b.taken (nat_eq b.second_mark (mark_of q)) h)))
+    (index_before names more q (ltb 2 b.taken) b.third (λ h. below.third (ltb-true 2 b.taken h)))
 
 -- the place of the last name is its own, and of no other word
-pub place_there : (names : List Name) (w : Name) → place_of (names ++ w ∷ []) w.now (length names) ≡ Some (length names)
-place_there names w = at_there names w (length names)
+pub index_there : (names : List Name) (w : Name) → index_of (names ++ w ∷ []) w.now (length names) ≡ Some (length names)
+index_there names w = at_there names w (length names)
 
-pub place_other : (names : List Name) (w : Name) (q : List ℕ) → same_word q w.now ≡ false
-    → place_of (names ++ w ∷ []) q (length names) ≡ None
-place_other names w q other = at_there_other names w q (length names) other
+pub index_other : (names : List Name) (w : Name) (q : List ℕ) → same_word q w.now ≡ false
+    → index_of (names ++ w ∷ []) q (length names) ≡ None
+index_other names w q other = at_there_other names w q (length names) other
 
 -- seats say of every other word what they said before
 pub seated_apart : (names : List Name) (w : Name) (buckets : List Bucket) (q : List ℕ) → same_word q w.now ≡ false

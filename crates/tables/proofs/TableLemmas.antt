@@ -10,10 +10,10 @@ use Rattle.std.proofs.lemmas.List.{length-append, length-map, length-take, map-a
 use Rattle.std.proofs.lemmas.Slice.Eq.{bytes_eq-Decides}
 use Rattle.tables.specs.Firsts.{IsApart, first_of}
 use Rattle.tables.specs.Words.{same_word}
-use Rattle.tables.specs.Tables.{IsTable, NoneOr, crowded_in, entry_of, other_of, place_of, seated_in, seated_of, words_of}
+use Rattle.tables.specs.Tables.{IsTable, NoneOr, crowded_in, entry_of, other_of, index_of, seated_in, seated_of, words_of}
 use Rattle.tables.specs.declared.tables.Table.{Table}
 use Rattle.tables.proofs.FirstLemmas.{apart_more, first_added, first_kept, twice}
-use Rattle.tables.proofs.NameLemmas.{place_other, seated_apart, seated_lacks, seated_one_more}
+use Rattle.tables.proofs.NameLemmas.{index_other, seated_apart, seated_lacks, seated_one_more}
 
 abbrev Name : Type 0
 Name = Bor (List ℕ)
@@ -24,19 +24,19 @@ Enters word value old new = (q : List ℕ) → entry_of new q ≡ cond (same_wor
 
 -- every other word is where it was, once a name came behind the others
 other_seats : (w : Name) (old new : Table) → new.names.items ≡ old.names.items ++ w ∷ []
-    → ((q : List ℕ) → place_of new.names.items q (length old.names.items) ≡ None
+    → ((q : List ℕ) → index_of new.names.items q (length old.names.items) ≡ None
     → seated_of new q ≡ seated_in new.names.items old.buckets.items q)
     → (q : List ℕ) → same_word w.now q ≡ false → seated_of new q ≡ seated_of old q
 other_seats w old new more kept q other =
     let turned : same_word q w.now ≡ false = nat_list_eq_equiv.symm q w.now ∙ other in
-    kept q (ap (λ names. place_of names q (length old.names.items)) more ∙ place_other old.names.items w q turned)
+    kept q (ap (λ names. index_of names q (length old.names.items)) more ∙ index_other old.names.items w q turned)
     ∙ ap (λ names. seated_in names old.buckets.items q) more
     ∙ seated_apart old.names.items w old.buckets.items q turned
 
 -- a name that comes behind the others and has a seat
 pub enters_seated : (w : Name) (old new : Table) → new.names.items ≡ old.names.items ++ w ∷ []
     → seated_of new w.now ≡ Some (length old.names.items)
-    → ((q : List ℕ) → place_of new.names.items q (length old.names.items) ≡ None
+    → ((q : List ℕ) → index_of new.names.items q (length old.names.items) ≡ None
     → seated_of new q ≡ seated_in new.names.items old.buckets.items q)
     → ((q : List ℕ) → other_of new q ≡ other_of old q) → Enters w.now (Some (length old.names.items)) old new
 enters_seated w old new more here kept others q = ⊎_elim
@@ -48,8 +48,8 @@ enters_seated w old new more here kept others q = ⊎_elim
     ∙ sym (cond-false (same_word w.now q) (Some (length old.names.items)) (entry_of old q) other))
     (cases_Bool (same_word w.now q))
 
-none_or_place : (place : ℕ) (a : Option ℕ) → NoneOr place a → option_or a (Some place) ≡ Some place
-none_or_place place a h = ⊎_elim
+none_or_index : (place : ℕ) (a : Option ℕ) → NoneOr place a → option_or a (Some place) ≡ Some place
+none_or_index place a h = ⊎_elim
     (λ none. ap (λ o. option_or o (Some place)) none)
     (λ some. ap (λ o. option_or o (Some place)) some)
     h
@@ -63,7 +63,7 @@ pub enters_beside : (w : Name) (old new : Table) → new.names.items ≡ old.nam
 enters_beside w old new more absent kept others q = ⊎_elim
     (λ same. let e : w.now ≡ q = (bytes_eq-Decides w.now q).0 same in
     ap (option_or (seated_of new q)) (others q ∙ cond-true (same_word w.now q) (Some place) (other_of old q) same)
-    ∙ none_or_place place (seated_of new q) (subst (λ v. NoneOr place (seated_of new v)) e said)
+    ∙ none_or_index place (seated_of new q) (subst (λ v. NoneOr place (seated_of new v)) e said)
     ∙ sym (cond-true (same_word w.now q) (Some place) (entry_of old q) same))
     (λ other. ap (λ o. option_or o (other_of new q)) (other_seats w old new more (λ v none. kept v) q other)
     ∙ ap (option_or (seated_of old q)) (others q ∙ cond-false (same_word w.now q) (Some place) (other_of old q) other)

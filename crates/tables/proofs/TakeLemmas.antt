@@ -7,7 +7,7 @@ use Rattle.std.specs.Option.{option_or}
 use Rattle.std.proofs.lemmas.Bool.{cases_Bool, cases_eq, cond-true, cond-false, lt-ltb, le-ltb, ltb-true, ltb-false}
 use Rattle.std.proofs.lemmas.Option.{slice_get_past}
 use Rattle.tables.specs.Seats.{mark_of}
-use Rattle.tables.specs.Tables.{NoneOr, first_in, place_in, place_of, second_in, seated_by, third_in}
+use Rattle.tables.specs.Tables.{NoneOr, first_in, index_in, index_of, second_in, seated_by, third_in}
 use Rattle.tables.specs.Words.{same_word}
 use Rattle.tables.specs.declared.seats.Bucket.{Bucket}
 use Rattle.tables.proofs.NameLemmas.{cond_none}
@@ -16,31 +16,31 @@ abbrev Names : Type 0
 Names = List (Bor (List ℕ))
 
 -- where a word is not at the last place, it is at none behind
-gone : (names : Names) (q : List ℕ) (p place : ℕ) → length names ≤ place + 1 → place_of names q place ≡ None → place ≤ p
-    → place_of names q p ≡ None
+gone : (names : Names) (q : List ℕ) (p place : ℕ) → length names ≤ place + 1 → index_of names q place ≡ None → place ≤ p
+    → index_of names q p ≡ None
 gone names q p place few none le = ⊎_elim
-    (λ same. subst (λ n. place_of names q n ≡ None) (sym same) none)
+    (λ same. subst (λ n. index_of names q n ≡ None) (sym same) none)
     (λ more. ap (option_and_then (λ (w : Bor (List ℕ)). cond (same_word q w.now) (Some p) None))
     (slice_get_past names p (omega (arith, few, le, more))))
     (cases_eq p place)
 
 -- a seat that nobody took, or whose name is gone, says nothing
-free_says : (names : Names) (q : List ℕ) (m : Bool) (p place : ℕ) → length names ≤ place + 1 → place_of names q place ≡ None
-    → (m ≡ false) ⊎ (place ≤ p) → place_in names q m p ≡ None
+free_says : (names : Names) (q : List ℕ) (m : Bool) (p place : ℕ) → length names ≤ place + 1 → index_of names q place ≡ None
+    → (m ≡ false) ⊎ (place ≤ p) → index_in names q m p ≡ None
 free_says names q m p place few none free = ⊎_elim
-    (λ no'. cond-false m (place_of names q p) None no')
+    (λ no'. cond-false m (index_of names q p) None no')
     (λ le. ap (λ o. cond m o None) (gone names q p place few none le) ∙ cond_none m)
     free
 
 -- the seat of the last place says nothing of a word that is not there
-last_says : (names : Names) (q : List ℕ) (m : Bool) (seat place : ℕ) → seat ≡ place → place_of names q place ≡ None
-    → place_in names q m seat ≡ None
+last_says : (names : Names) (q : List ℕ) (m : Bool) (seat place : ℕ) → seat ≡ place → index_of names q place ≡ None
+    → index_in names q m seat ≡ None
 last_says names q m seat place is none =
-    ap (λ o. cond m o None) (subst (λ n. place_of names q n ≡ None) (sym is) none) ∙ cond_none m
+    ap (λ o. cond m o None) (subst (λ n. index_of names q n ≡ None) (sym is) none) ∙ cond_none m
 
 -- so does a seat that goes to the last place from nobody, or from a name that is gone
 moved : (names : Names) (q : List ℕ) (m n : Bool) (seat p place : ℕ) → seat ≡ place → length names ≤ place + 1
-    → place_of names q place ≡ None → (n ≡ false) ⊎ (seat ≤ p) → place_in names q m seat ≡ place_in names q n p
+    → index_of names q place ≡ None → (n ≡ false) ⊎ (seat ≤ p) → index_in names q m seat ≡ index_in names q n p
 moved names q m n seat p place is few none free =
     last_says names q m seat place is none
     ∙ sym (free_says names q n p place few none (⊎_elim (λ no'. inl no') (λ le. inr (omega (arith, is, le))) free))
@@ -63,23 +63,23 @@ same_taken k n m t is apart = ⊎_elim
 first_same : (names : Names) (q : List ℕ) (b c : Bucket) (m : ℕ) → c.first ≡ b.first → c.first_mark ≡ b.first_mark → c.taken ≡ max b.taken m
     → 1 ≤ b.taken → first_in names q c ≡ first_in names q b
 first_same names q b c m seat mark more before =
-    ap (λ p. place_in names q (ltb 0 c.taken && nat_eq c.first_mark (mark_of q)) p) seat
-    ∙ ap (λ k. place_in names q (ltb 0 c.taken && nat_eq k (mark_of q)) b.first) mark
-    ∙ ap (λ t. place_in names q (t && nat_eq b.first_mark (mark_of q)) b.first)
+    ap (λ p. index_in names q (ltb 0 c.taken && nat_eq c.first_mark (mark_of q)) p) seat
+    ∙ ap (λ k. index_in names q (ltb 0 c.taken && nat_eq k (mark_of q)) b.first) mark
+    ∙ ap (λ t. index_in names q (t && nat_eq b.first_mark (mark_of q)) b.first)
     (same_taken 0 b.taken m c.taken more (inr (omega (arith, before))))
 
 second_same : (names : Names) (q : List ℕ) (b c : Bucket) (m : ℕ) → c.second ≡ b.second → c.second_mark ≡ b.second_mark
     → c.taken ≡ max b.taken m → (m ≤ 1) ⊎ (1 < b.taken) → second_in names q c ≡ second_in names q b
 second_same names q b c m seat mark more apart =
-    ap (λ p. place_in names q (ltb 1 c.taken && nat_eq c.second_mark (mark_of q)) p) seat
-    ∙ ap (λ k. place_in names q (ltb 1 c.taken && nat_eq k (mark_of q)) b.second) mark
-    ∙ ap (λ t. place_in names q (t && nat_eq b.second_mark (mark_of q)) b.second) (same_taken 1 b.taken m c.taken more apart)
+    ap (λ p. index_in names q (ltb 1 c.taken && nat_eq c.second_mark (mark_of q)) p) seat
+    ∙ ap (λ k. index_in names q (ltb 1 c.taken && nat_eq k (mark_of q)) b.second) mark
+    ∙ ap (λ t. index_in names q (t && nat_eq b.second_mark (mark_of q)) b.second) (same_taken 1 b.taken m c.taken more apart)
 
 third_same : (names : Names) (q : List ℕ) (b c : Bucket) (m : ℕ) → c.third ≡ b.third → c.taken ≡ max b.taken m → m ≤ 2
     → third_in names q c ≡ third_in names q b
 third_same names q b c m seat more le =
-    ap (λ p. place_in names q (ltb 2 c.taken) p) seat
-    ∙ ap (λ t. place_in names q t b.third) (same_taken 2 b.taken m c.taken more (inl le))
+    ap (λ p. index_in names q (ltb 2 c.taken) p) seat
+    ∙ ap (λ t. index_in names q t b.third) (same_taken 2 b.taken m c.taken more (inl le))
 
 three : (a b c x y z : Option ℕ) → a ≡ x → b ≡ y → c ≡ z → option_or a (option_or b c) ≡ option_or x (option_or y z)
 three a b c x y z e f g =
@@ -88,7 +88,7 @@ three a b c x y z e f g =
 -- where the first, the second or the third seat goes to the last place, a word that is not there is where it was
 
 pub kept_first : (names : Names) (q : List ℕ) (b : Bucket) (place seat mark taken : ℕ) → seat ≡ place → taken ≡ max b.taken 1
-    → length names ≤ place + 1 → place_of names q place ≡ None → (b.taken < 1) ⊎ (seat ≤ b.first)
+    → length names ≤ place + 1 → index_of names q place ≡ None → (b.taken < 1) ⊎ (seat ≤ b.first)
     → seated_by names q (record b { first = seat; first_mark = mark; taken = taken }) ≡ seated_by names q b
 kept_first names q b place seat mark taken is more few none free = three _ _ _ _ _ _
     (moved names q (ltb 0 taken && nat_eq mark (mark_of q)) (ltb 0 b.taken && nat_eq b.first_mark (mark_of q)) seat b.first place
@@ -101,7 +101,7 @@ kept_first names q b place seat mark taken is more few none free = three _ _ _ _
     c = record b { first = seat; first_mark = mark; taken = taken }
 
 pub kept_second : (names : Names) (q : List ℕ) (b : Bucket) (place seat mark taken : ℕ) → seat ≡ place → taken ≡ max b.taken 2
-    → length names ≤ place + 1 → place_of names q place ≡ None → 1 ≤ b.taken → (b.taken < 2) ⊎ (seat ≤ b.second)
+    → length names ≤ place + 1 → index_of names q place ≡ None → 1 ≤ b.taken → (b.taken < 2) ⊎ (seat ≤ b.second)
     → seated_by names q (record b { second = seat; second_mark = mark; taken = taken }) ≡ seated_by names q b
 kept_second names q b place seat mark taken is more few none before free = three _ _ _ _ _ _
     (first_same names q b c 2 refl refl more before)
@@ -114,7 +114,7 @@ kept_second names q b place seat mark taken is more few none before free = three
     c = record b { second = seat; second_mark = mark; taken = taken }
 
 pub kept_third : (names : Names) (q : List ℕ) (b : Bucket) (place seat taken : ℕ) → seat ≡ place → taken ≡ max b.taken 3
-    → length names ≤ place + 1 → place_of names q place ≡ None → 2 ≤ b.taken → (b.taken < 3) ⊎ (seat ≤ b.third)
+    → length names ≤ place + 1 → index_of names q place ≡ None → 2 ≤ b.taken → (b.taken < 3) ⊎ (seat ≤ b.third)
     → seated_by names q (record b { third = seat; taken = taken }) ≡ seated_by names q b
 kept_third names q b place seat taken is more few none before free = three _ _ _ _ _ _
     (first_same names q b c 3 refl refl more (omega (arith, before)))
@@ -132,13 +132,13 @@ or_last (Some x) b c place h = ⊎_elim (λ none. cc) (λ some. some) h
 
 -- a name that takes the third seat is found there
 pub seated_third : (names : Names) (q : List ℕ) (b : Bucket) (place seat taken : ℕ) → seat ≡ place → taken ≡ max b.taken 3
-    → 2 ≤ b.taken → place_of names q place ≡ Some place → NoneOr place (seated_by names q b)
+    → 2 ≤ b.taken → index_of names q place ≡ Some place → NoneOr place (seated_by names q b)
     → seated_by names q (record b { third = seat; taken = taken }) ≡ Some place
 seated_third names q b place seat taken is more before there said = three _ _ _ _ _ _
     (first_same names q b c 3 refl refl more (omega (arith, before)))
     (second_same names q b c 3 refl refl more (inr (omega (arith, before))))
-    (cond-true (ltb 2 taken) (place_of names q seat) None (lt-ltb 2 taken (omega (arith, more)))
-    ∙ subst (λ n. place_of names q n ≡ Some place) (sym is) there)
+    (cond-true (ltb 2 taken) (index_of names q seat) None (lt-ltb 2 taken (omega (arith, more)))
+    ∙ subst (λ n. index_of names q n ≡ Some place) (sym is) there)
     ∙ or_last (first_in names q b) (second_in names q b) (third_in names q b) place said
   where
     c : Bucket

@@ -16,25 +16,25 @@ use Rattle.tables.specs.declared.tables.Table.{Table}
 abbrev pub words_of : List (Bor (List ℕ)) → List (List ℕ)
 words_of names = map (λ (w : Bor (List ℕ)). w.now) names
 
--- a place, if this is the name there
-abbrev pub place_of : List (Bor (List ℕ)) → List ℕ → ℕ → Option ℕ
-place_of names name place =
-    option_and_then (λ (w : Bor (List ℕ)). cond (same_word name w.now) (Some place) None) (slice_get names place)
+-- an index, if this is the name there
+abbrev pub index_of : List (Bor (List ℕ)) → List ℕ → ℕ → Option ℕ
+index_of names name index =
+    option_and_then (λ (w : Bor (List ℕ)). cond (same_word name w.now) (Some index) None) (slice_get names index)
 
--- the place in a seat, if it may be the name's and this is the name there
-abbrev pub place_in : List (Bor (List ℕ)) → List ℕ → Bool → ℕ → Option ℕ
-place_in names name may place = cond may (place_of names name place) None
+-- the index in a seat, if it may be the name's and this is the name there
+abbrev pub index_in : List (Bor (List ℕ)) → List ℕ → Bool → ℕ → Option ℕ
+index_in names name may index = cond may (index_of names name index) None
 
 -- what each of the three seats of a bucket has for a name
 
 abbrev pub first_in : List (Bor (List ℕ)) → List ℕ → Bucket → Option ℕ
-first_in names name bucket = place_in names name (nat_lt 0 bucket.taken && nat_eq bucket.first_mark (mark_of name)) bucket.first
+first_in names name bucket = index_in names name (nat_lt 0 bucket.taken && nat_eq bucket.first_mark (mark_of name)) bucket.first
 
 abbrev pub second_in : List (Bor (List ℕ)) → List ℕ → Bucket → Option ℕ
-second_in names name bucket = place_in names name (nat_lt 1 bucket.taken && nat_eq bucket.second_mark (mark_of name)) bucket.second
+second_in names name bucket = index_in names name (nat_lt 1 bucket.taken && nat_eq bucket.second_mark (mark_of name)) bucket.second
 
 abbrev pub third_in : List (Bor (List ℕ)) → List ℕ → Bucket → Option ℕ
-third_in names name bucket = place_in names name (nat_lt 2 bucket.taken) bucket.third
+third_in names name bucket = index_in names name (nat_lt 2 bucket.taken) bucket.third
 
 -- where a name stands that sits in this bucket
 abbrev pub seated_by : List (Bor (List ℕ)) → List ℕ → Bucket → Option ℕ
@@ -67,11 +67,11 @@ pub record IsTable (all : List (List ℕ)) (table : Table) : Type 0 where
   pub crowded : (name : List ℕ) → crowded_in table.buckets.items name ≡ false → other_of table name ≡ None
   pub apart : (table.apart ≡ true) ↔ IsApart all
 
--- no place, or this one
+-- no index, or this one
 abbrev pub NoneOr : ℕ → Option ℕ → Type 0
-NoneOr place found = (found ≡ None) ⊎ (found ≡ Some place)
+NoneOr index found = (found ≡ None) ⊎ (found ≡ Some index)
 
--- the seats that are taken in this bucket are those of names at places below a number
+-- the seats that are taken in this bucket are those of names at indices below a number
 pub record IsBelow (n : ℕ) (bucket : Bucket) : Type 0 where
   pub first : 0 < bucket.taken → bucket.first < n
   pub second : 1 < bucket.taken → bucket.second < n

@@ -3,11 +3,11 @@
 ghost use Rattle.std.specs.Prelude.{◌≡◌, ◌+◌, ◌<◌, ◌≤◌, ℕ, List, IsTrue, Some, None, false, slice_index, length};
 ghost use Rattle.std.specs.Borrow.{Bor};
 ghost use Rattle.tables.specs.Seats.{eight_of, home, last_eight_of, mark_of, number_of};
-ghost use Rattle.tables.specs.Tables.{IsBelow, NoneOr, place_of, seated_by};
+ghost use Rattle.tables.specs.Tables.{IsBelow, NoneOr, index_of, seated_by};
 
-/// Three seats for names of a list. A taken seat has the place of its name in the list. The first two have the mark of the name too, so
+/// Three seats for names of a list. A taken seat has the index of its name in the list. The first two have the mark of the name too, so
 /// that most other names are passed over unread; the third is seldom taken. A seat is free until it is taken, and again once its name
-/// is gone: names come and go at the end of the list, so this is so where its place isn't before that of the name that comes.
+/// is gone: names come and go at the end of the list, so this is so where its index isn't before that of the name that comes.
 #[derive(Clone, Copy)]
 pub(crate) struct Bucket {
     pub(crate) first: u32,
@@ -39,9 +39,9 @@ impl Bucket {
 
     /// Gives a free seat to the last name of the list, which has this index and this mark, and says whether there was one.
     pub(crate) fn take(&mut self, index: usize, mark: u8) -> bool
-        ensures seated { (names : List (Bor (List ℕ))) (q : List ℕ) → IsTrue result → mark ≡ mark_of q → place_of names q index ≡ Some index
+        ensures seated { (names : List (Bor (List ℕ))) (q : List ℕ) → IsTrue result → mark ≡ mark_of q → index_of names q index ≡ Some index
             → NoneOr index (seated_by names q self.old) → seated_by names q self.new ≡ Some index }
-        ensures kept { (names : List (Bor (List ℕ))) (q : List ℕ) → length names ≤ index + 1 → place_of names q index ≡ None
+        ensures kept { (names : List (Bor (List ℕ))) (q : List ℕ) → length names ≤ index + 1 → index_of names q index ≡ None
             → seated_by names q self.new ≡ seated_by names q self.old }
         ensures below { (n : ℕ) → index < n → IsBelow n self.old → IsBelow n self.new }
         ensures full { result ≡ false → self.new ≡ self.old }

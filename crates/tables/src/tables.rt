@@ -7,7 +7,7 @@ ghost use Rattle.std.specs.Option.{option_or};
 ghost use Rattle.tables.specs.Firsts.{IsApart, first_of};
 ghost use Rattle.tables.specs.Seats.{mark_of, number_of};
 ghost use Rattle.tables.specs.Tables.{Behind, IsBuilt, IsTable, NoneOr};
-ghost use Rattle.tables.specs.Tables.{crowded_in, other_of, place_in, place_of, seated_by, seated_in};
+ghost use Rattle.tables.specs.Tables.{crowded_in, other_of, index_in, index_of, seated_by, seated_in};
 ghost use Rattle.tables.specs.Words.{words_at};
 
 use crate::seats::{Bucket, home, mark_of, number_of};
@@ -69,7 +69,7 @@ impl<'a> Table<'a> {
         })
     }
 
-    /// Enters a name behind the others. One that it has keeps its place.
+    /// Enters a name behind the others. One that it has keeps its index.
     fn enter(&mut self, name: &'a [u8]) -> Result<(), AllocError>
         ensures { (words : List (List ℕ)) → IsBuilt words self.old → OnOk result (IsBuilt (words ++ name.now ∷ []) self.new) }
     {
@@ -114,12 +114,12 @@ impl<'a> Table<'a> {
         ensures behind { Behind self.old → OnOk result (Behind self.new) }
         ensures kept { (words : List (List ℕ)) → IsTable words self.old → OnErr result (IsTable words self.new) }
     {
-        let place = self.names.len();
+        let index = self.names.len();
         self.names.push(name)?;
-        if self.seat(place, number) {
+        if self.seat(index, number) {
             return Ok(());
         }
-        match self.others.insert(name, place) {
+        match self.others.insert(name, index) {
             Ok(_) => Ok(()),
             Err(error) => {
                 self.names.pop();
@@ -135,9 +135,9 @@ impl<'a> Table<'a> {
         ensures others { self.new.others ≡ self.old.others }
         ensures apart { self.new.apart ≡ self.old.apart }
         ensures seated { (names : List (Bor (List ℕ))) (q : List ℕ) → IsTrue result → number ≡ number_of q
-            → place_of names q index ≡ Some index → NoneOr index (seated_in names self.old.buckets.items q)
+            → index_of names q index ≡ Some index → NoneOr index (seated_in names self.old.buckets.items q)
             → seated_in names self.new.buckets.items q ≡ Some index }
-        ensures kept { (names : List (Bor (List ℕ))) (q : List ℕ) → length names ≤ index + 1 → place_of names q index ≡ None
+        ensures kept { (names : List (Bor (List ℕ))) (q : List ℕ) → length names ≤ index + 1 → index_of names q index ≡ None
             → seated_in names self.new.buckets.items q ≡ seated_in names self.old.buckets.items q }
         ensures full { (names : List (Bor (List ℕ))) (q : List ℕ) → result ≡ false
             → seated_in names self.new.buckets.items q ≡ seated_in names self.old.buckets.items q }
@@ -155,7 +155,7 @@ impl<'a> Table<'a> {
         seated
     }
 
-    /// Takes the last name away, which no other is. Its seat is free then, since the list has its place no more.
+    /// Takes the last name away, which no other is. Its seat is free then, since the list has its index no more.
     pub fn remove(&mut self, name: &[u8])
         ensures { (words : List (List ℕ)) → IsTable (words ++ name.now ∷ []) self.old → first_of words name.now ≡ None
             → IsTable words self.new }
@@ -199,7 +199,7 @@ impl<'a> Table<'a> {
             (cond bucket.now.crowded (other_of self.now name.now) None) }
     {
         match self.seated_by(bucket, name, mark) {
-            Some(place) => Some(place),
+            Some(index) => Some(index),
             None if bucket.crowded => self.others.get(name).copied(),
             None => None,
         }
@@ -210,26 +210,26 @@ impl<'a> Table<'a> {
         ensures { mark ≡ mark_of name.now → result ≡ seated_by self.now.names.items name.now bucket.now }
     {
         let first = bucket.taken > 0 && bucket.first_mark == mark;
-        if let Some(place) = self.place_in(first, bucket.first, name) {
-            return Some(place);
+        if let Some(index) = self.index_in(first, bucket.first, name) {
+            return Some(index);
         }
         let second = bucket.taken > 1 && bucket.second_mark == mark;
-        if let Some(place) = self.place_in(second, bucket.second, name) {
-            return Some(place);
+        if let Some(index) = self.index_in(second, bucket.second, name) {
+            return Some(index);
         }
-        self.place_in(bucket.taken > 2, bucket.third, name)
+        self.index_in(bucket.taken > 2, bucket.third, name)
     }
 
-    /// The place in a seat, if that may be the name's and this is the name there.
-    fn place_in(&self, may: bool, at: u32, name: &[u8]) -> Option<usize>
-        ensures { result ≡ place_in self.now.names.items name.now may at }
+    /// The index in a seat, if that may be the name's and this is the name there.
+    fn index_in(&self, may: bool, at: u32, name: &[u8]) -> Option<usize>
+        ensures { result ≡ index_in self.now.names.items name.now may at }
     {
         if !may {
             return None;
         }
-        let place = at as usize;
-        let there = self.names.get(place)?;
-        if name == *there { Some(place) } else { None }
+        let index = at as usize;
+        let there = self.names.get(index)?;
+        if name == *there { Some(index) } else { None }
     }
 
     /// Whether no name stands twice. Then each stands first where it stands, and need not be looked for.

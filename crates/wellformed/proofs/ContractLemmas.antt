@@ -10,7 +10,7 @@ use Rattle.tree.specs.Trees.{Class, Contract, ContractTree, DefinitionTree, Item
 use Rattle.declarations.specs.Declarations.{messages_of, names_of_messages, states_of}
 use Rattle.tables.specs.Firsts.{first_of}
 use Rattle.program.specs.Parts.{StateParts, ContractModel}
-use Rattle.declarations.specs.Places.{message_at, message_place, state_place}
+use Rattle.declarations.specs.Indices.{message_at, message_index, state_index}
 use Rattle.declarations.specs.Program.{Program, as_contract, item_at}
 use Rattle.declarations.specs.Resolution.{each_behind, message_count, messages_from, named_state, numbered_message, numbered_state, resolved_contract, state_count}
 use Rattle.declarations.specs.Named.{message_written, sent_message}
@@ -95,7 +95,7 @@ state_placed r (Some place) first = state_at r place (slice_get r.parts.states p
 
 state_meant : (p : Program) (n : ℕ) (r : ContractModel) (state : Option Span) → IsStateOf r r.parts.first → IsStateOf r (state_of p n r state)
 state_meant p n r None first = first
-state_meant p n r (Some name) first = state_placed r (state_place p n name) first
+state_meant p n r (Some name) first = state_placed r (state_index p n name) first
 
 -- the state of an endpoint's type is one of its contract
 pub state_there : (p : Program) (n : ℕ) (r : ContractModel) (state : Option Span) → contract_at p n ≡ Some r → IsStateOf r (state_of p n r state)
@@ -162,7 +162,7 @@ message_placed p n c None m there is = cc
 message_placed p n c (Some k) m there is = message_is_there p n c k m there is
 
 message_found : (p : Program) (n : ℕ) (c : ContractTree) (word : List ℕ) (m : MessageTree) → item_at as_contract p n ≡ Some (n, c) → message_written p.text c word ≡ Some m
-    → AnswersMessage p n (option_and_then (message_there p n) (message_place p n word)) m
+    → AnswersMessage p n (option_and_then (message_there p n) (message_index p n word)) m
 message_found p n c word m there written =
     subst (λ o. AnswersMessage p n (option_and_then (message_there p n) o) m)
     (sym (ap (option_and_then (λ x. first_of (words_at p.text (names_of_messages (messages_of x.1))) word)) there))
@@ -173,7 +173,7 @@ pub message_awaited : (p : Program) (n : ℕ) (c : ContractTree) (name : Span) (
 message_awaited p n c name m there written = message_found p n c (word_at p.text name) m there written
 
 message_begun : (p : Program) (n : ℕ) (c : ContractTree) (word : List ℕ) (m : MessageTree) (b : Bool) → item_at as_contract p n ≡ Some (n, c) → (if b then message_written p.text c word else None) ≡ Some m
-    → AnswersMessage p n (option_and_then (message_there p n) (if b then message_place p n word else None)) m
+    → AnswersMessage p n (option_and_then (message_there p n) (if b then message_index p n word else None)) m
 message_begun p n c word m true there sent = message_found p n c word m there sent
 message_begun p n c word m false there sent = cc
 

@@ -17,8 +17,8 @@ rows_of-requires c = record { starts = subst (λ n. All (λ a. a.from < n) c.der
 pub edges_at-requires : goal.edges_at-requires
 edges_at-requires c =
     let edges = c.args.edges.now in
-    subst (All (λ i. i < length edges)) (sym c.deref-2.ensures.value) (all_from (λ i. i < length edges) c.in_ok-places.places.items.items (λ i there.
-    let a = c.in_ok-places.ensures.ends i there in
+    subst (All (λ i. i < length edges)) (sym c.deref-2.ensures.value) (all_from (λ i. i < length edges) c.in_ok-indices.indices.items.items (λ i there.
+    let a = c.in_ok-indices.ensures.ends i there in
     let within = All-contains (λ x. (x.from < length (listed c.args.states)) × (x.to < length edges)) c.deref.result.now a.0 (subst (All (λ x. (x.from < length (listed c.args.states)) × (x.to < length edges))) (sym c.deref.ensures.value) c.in_ok-sources.ensures.within) a.1 in
     subst (λ k. k < length edges) a.2 within.1))
 
@@ -26,7 +26,7 @@ pub returns : goal.returns
 returns c =
     let numbers = listed c.args.states in
     let edges = c.args.edges.now in
-    let places = c.in_ok-places.places in
-    leaving_is numbers edges c.in_ok-sources.sources.items (rows places) (cut c.in_ok-items.items.items places.ends.items) c.requires.listed c.in_ok-sources.ensures
-    (subst (λ n. AreEnds c.in_ok-sources.sources.items n (rows places)) c.len.ensures (subst (λ l. AreEnds l c.len.result (rows places)) c.deref.ensures.value c.in_ok-places.ensures.exact))
-    (ap (λ l. cut l places.ends.items) (c.in_ok-items.ensures ∙ ap (map (edge_at edges)) c.deref-2.ensures.value) ∙ cut_map (edge_at edges) 0 places.items.items places.ends.items)
+    let indices = c.in_ok-indices.indices in
+    leaving_is numbers edges c.in_ok-sources.sources.items (rows indices) (cut c.in_ok-items.items.items indices.ends.items) c.requires.listed c.in_ok-sources.ensures
+    (subst (λ n. AreEnds c.in_ok-sources.sources.items n (rows indices)) c.len.ensures (subst (λ l. AreEnds l c.len.result (rows indices)) c.deref.ensures.value c.in_ok-indices.ensures.exact))
+    (ap (λ l. cut l indices.ends.items) (c.in_ok-items.ensures ∙ ap (map (edge_at edges)) c.deref-2.ensures.value) ∙ cut_map (edge_at edges) 0 indices.items.items indices.ends.items)

@@ -7,13 +7,13 @@ use Rattle.declarations.specs.ContractMistakes.{path_mistakes, state_mistakes}
 use Rattle.declarations.specs.Meant.{meanings, message_names, state_names, text_of}
 use Rattle.declarations.specs.Resolution.{edges_from, paths_edges}
 use Rattle.declarations.proofs.BehindLemmas.{behind_more, flat_room, nothing_at}
-use Rattle.declarations.proofs.MeantLemmas.{place_at, places}
+use Rattle.declarations.proofs.MeantLemmas.{index_at, indices}
 use Rattle.declarations.proofs.edges.edges_of.Goals as goal
 
 pub bounds-meaning-i : goal.bounds-meaning-i
 bounds-meaning-i c =
     let meaning = c.args.meaning.now in
-    let many = places (λ (s : Bor tree.State.State). state_tree s.now) meaning.declared.now.outline.states.items meaning.named.now c.requires.meaning.named in
+    let many = indices (λ (s : Bor tree.State.State). state_tree s.now) meaning.declared.now.outline.states.items meaning.named.now c.requires.meaning.named in
     let shown = ap length c.deref-state-items.ensures.value in
     omega (arith, many, shown, c.loop-i-test.true)
 
@@ -25,7 +25,7 @@ overflow_cast-number c =
     let lt = subst (λ l. c.loop-i.i < length l) c.deref-state-items.ensures.value c.loop-i-test.true in
     let is = c.state-item.is ∙ ap (λ l. get_or l c.loop-i.i c.state-item.result) c.deref-state-items.ensures.value in
     let room = flat_room counted_in_state view states c.loop-i.i c.state-item.result lt is in
-    let place = place_at view states meaning.named.now c.loop-i.i c.requires.meaning.named lt in
+    let place = index_at view states meaning.named.now c.loop-i.i c.requires.meaning.named lt in
     omega (arith, room, place, c.requires.meaning.state_room)
 
 pub overflow_add-number : goal.overflow_add-number
@@ -36,7 +36,7 @@ overflow_add-number c =
     let lt = subst (λ l. c.loop-i.i < length l) c.deref-state-items.ensures.value c.loop-i-test.true in
     let is = c.state-item.is ∙ ap (λ l. get_or l c.loop-i.i c.state-item.result) c.deref-state-items.ensures.value in
     let room = flat_room counted_in_state view states c.loop-i.i c.state-item.result lt is in
-    let place = place_at view states meaning.named.now c.loop-i.i c.requires.meaning.named lt in
+    let place = index_at view states meaning.named.now c.loop-i.i c.requires.meaning.named lt in
     omega (arith, room, place, c.requires.meaning.state_room)
 
 pub add_paths-requires-clause-clean : goal.add_paths-requires-clause-clean
@@ -57,7 +57,7 @@ add_paths-requires-clause-room c =
     let lt = subst (λ l. c.loop-i.i < length l) c.deref-state-items.ensures.value c.loop-i-test.true in
     let is = c.state-item.is ∙ ap (λ l. get_or l c.loop-i.i c.state-item.result) c.deref-state-items.ensures.value in
     let room = flat_room counted_in_state view states c.loop-i.i c.state-item.result lt is in
-    let place = place_at view states meaning.named.now c.loop-i.i c.requires.meaning.named lt in
+    let place = index_at view states meaning.named.now c.loop-i.i c.requires.meaning.named lt in
     let paths = ap (λ l. length (flat_map unnamed_of l)) c.paths.ensures in
     omega (arith, room, place, paths, c.requires.meaning.state_room)
 
@@ -72,7 +72,7 @@ loop-i-preserved c =
     let before = meaning.states_before in
     let lt = subst (λ l. i < length l) c.deref-state-items.ensures.value c.loop-i-test.true in
     let is = c.state-item.is ∙ ap (λ l. get_or l i c.state-item.result) c.deref-state-items.ensures.value in
-    let place = place_at view states meaning.named.now i c.requires.meaning.named lt in
+    let place = index_at view states meaning.named.now i c.requires.meaning.named lt in
     c.in_ok-add_paths.ensures
     ∙ ap (λ l. l ++ paths_edges means (before + get_or meaning.named.now i 0) (map path_tree c.paths.result.now)) c.loop-i.invariant
     ∙ ap (λ l. edges_from means before front ++ paths_edges means (before + get_or meaning.named.now i 0) l) c.paths.ensures

@@ -4,7 +4,7 @@ use Rattle.lemmas.proofs.Lists.{flat_more}
 use Rattle.tree.specs.Trees.{path_tree, state_tree}
 use Rattle.tree.specs.declared.contract as tree
 use Rattle.declarations.specs.Declarations.{counted_states, unnamed_of}
-use Rattle.declarations.specs.Numbered.{names_in, places_named, unnamed_names}
+use Rattle.declarations.specs.Numbered.{names_in, indices_named, unnamed_names}
 use Rattle.declarations.specs.declared.state_names.StateName.TheVariants.{Named}
 use Rattle.declarations.proofs.BehindLemmas.{behind_more}
 use Rattle.declarations.proofs.MeantLemmas.{names_counted}
@@ -27,6 +27,6 @@ loop-state-preserved c =
           ∙ ap (λ paths. flat_map names_in before ++ name ∷ unnamed paths) c.paths.ensures
           ∙ sym (flat_more names_in view states i c.state-item.result c.loop-state-test.true c.state-item.is);
       named = c.in_ok-push.ensures.items ∙ ap (λ l. l ++ c.len.result ∷ []) c.loop-state.invariant.named
-          ∙ ap (λ n. places_named before ++ n ∷ []) many
+          ∙ ap (λ n. indices_named before ++ n ∷ []) many
           ∙ sym (behind_more (λ b s. length (counted_states b) ∷ []) view states i c.state-item.result c.loop-state-test.true c.state-item.is);
     }

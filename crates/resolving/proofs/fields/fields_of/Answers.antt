@@ -7,7 +7,7 @@ use Rattle.tree.specs.declared.item.Definition.{Definition}
 use Rattle.tree.specs.declared.item.Item.{Item}
 use Rattle.program.specs.Programs.{rows}
 use Rattle.program.specs.declared.kind.HeapKind.{HeapKind}
-use Rattle.resolving.specs.Around.{owning_places, places_held, places_in, program_in}
+use Rattle.resolving.specs.Around.{owning_indices, indices_held, indices_in, program_in}
 use Rattle.resolving.specs.Fields.{fields_held}
 use Rattle.resolving.proofs.BroughtLemmas.{rows_more}
 use Rattle.resolving.proofs.FieldLemmas.{fields_all, fields_in, fields_more, no_struct}
@@ -25,7 +25,7 @@ loop-item-preserved c = λ text h.
     let done = c.loop-item.structs.items in
     let here = λ (d : Definition). rows done ++ fields_in p (definition_tree d) in
     let more = ap (λ l. l ++ fields_in p (definition_tree item.definition)) so.0 ∙ sym (fields_more p items i item c.loop-item-test.true c.item-item.is) in
-    let places = seen_more (λ (row : Vec ℕ). row.items) (λ (x : Item). owning_places p (item_tree x)) items i item [] c.loop-item.places.items in
+    let indices = seen_more (λ (row : Vec ℕ). row.items) (λ (x : Item). owning_indices p (item_tree x)) items i item [] c.loop-item.indices.items in
     elim c.match-item.branch [
       | in-Struct+in_ok-owning+in_ok-push+in_ok-push-2 w ↦
           let owning = w.in_ok-owning.owning in
@@ -34,15 +34,15 @@ loop-item-preserved c = λ text h.
             ap (λ (t : Vec (Vec HeapKind)). rows t.items) w.structs-is
                 ∙ rows_more done _ owning.kinds (fields_held p fields) w.in_ok-push.ensures.items (found.0 ∙ ap (fields_held p) w.deref.ensures.value)
                 ∙ ap here (sym w.in-Struct.is) ∙ more,
-            ap (λ (t : Vec (Vec ℕ)). map (λ (row : Vec ℕ). row.items) t.items) w.places-is
-                ∙ places _ owning.places c.loop-item-test.true c.item-item.is so.1 w.in_ok-push-2.ensures.items
-                (found.1 ∙ ap (places_held p) w.deref.ensures.value ∙ ap (λ (d : Definition). places_in p (definition_tree d)) (sym w.in-Struct.is)),
+            ap (λ (t : Vec (Vec ℕ)). map (λ (row : Vec ℕ). row.items) t.items) w.indices-is
+                ∙ indices _ owning.indices c.loop-item-test.true c.item-item.is so.1 w.in_ok-push-2.ensures.items
+                (found.1 ∙ ap (indices_held p) w.deref.ensures.value ∙ ap (λ (d : Definition). indices_in p (definition_tree d)) (sym w.in-Struct.is)),
           )
       | in_default+in_ok-push-3 w ↦
           let none = no_struct p item.definition w.in_default.not-Struct in (
             ap (λ (t : Vec (Vec HeapKind)). rows t.items) w.structs-is ∙ sym (append-nil (rows done)) ∙ ap (λ l. rows done ++ l) none.0 ∙ more,
-            ap (λ (t : Vec (Vec ℕ)). map (λ (row : Vec ℕ). row.items) t.items) w.places-is
-                ∙ places _ w.new.result c.loop-item-test.true c.item-item.is so.1 w.in_ok-push-3.ensures.items (w.new.ensures.items ∙ none.1),
+            ap (λ (t : Vec (Vec ℕ)). map (λ (row : Vec ℕ). row.items) t.items) w.indices-is
+                ∙ indices _ w.new.result c.loop-item-test.true c.item-item.is so.1 w.in_ok-push-3.ensures.items (w.new.ensures.items ∙ none.1),
           )
     ]
 
@@ -53,5 +53,5 @@ returns c = λ text h.
     let so = c.loop-item.invariant text h in
     let past = c.loop-item-test.false in (
       so.0 ∙ fields_all p items c.loop-item.item-index past,
-      so.1 ∙ ap (map (λ (i : Item). owning_places p (item_tree i))) (take_all c.loop-item.item-index items past) ∙ sym (map-map (owning_places p) item_tree items),
+      so.1 ∙ ap (map (λ (i : Item). owning_indices p (item_tree i))) (take_all c.loop-item.item-index items past) ∙ sym (map-map (owning_indices p) item_tree items),
     )

@@ -13,8 +13,8 @@ use Rattle.contracts.proofs.components.Search.enter.Goals as goal
 use Rattle.contracts.proofs.components.Search.enter.Goals.{In_ok-add_arcs}
 
 -- the place is the number of pending vertices
-place_is : (c : In_ok-add_arcs) → c.len-place.result ≡ length c.args.self.now.pending.items
-place_is c = c.len-place.ensures ∙ c.args.self.now.pending.ok.0
+place_is : (c : In_ok-add_arcs) → c.len-index.result ≡ length c.args.self.now.pending.items
+place_is c = c.len-index.ensures ∙ c.args.self.now.pending.ok.0
 
 arcs_are : (c : In_ok-add_arcs) → c.add_arcs.new.arcs.items ≡ c.args.self.now.arcs.items ++ map (arc (length c.args.self.now.pending.items)) (row_at (rows c.args.graph.now) c.args.v)
 arcs_are c =
@@ -23,7 +23,7 @@ arcs_are c =
     ∙ ap (λ r. old ++ map (arc (length c.args.self.now.pending.items)) r) c.row.ensures
 
 -- one vertex fewer is new
-new_is : (c : In_ok-add_arcs) → count_by is_new (set c.args.self.now.statuses.items c.args.v (Pending c.len-place.result)) + 1 ≡ count_by is_new c.args.self.now.statuses.items
+new_is : (c : In_ok-add_arcs) → count_by is_new (set c.args.self.now.statuses.items c.args.v (Pending c.len-index.result)) + 1 ≡ count_by is_new c.args.self.now.statuses.items
 new_is c =
     let old = c.args.self.now in
     let statuses = old.statuses.items in
@@ -40,12 +40,12 @@ returns-clause-kept c =
     let arcs = old.arcs.items in
     let v = c.args.v in
     let n = length pending in
-    let place = place_is (goal.at.returns-clause-kept c).In_ok-add_arcs in
+    let index = place_is (goal.at.returns-clause-kept c).In_ok-add_arcs in
     let search = c.requires.kept.search in
-    let is = ap (λ k. set statuses v (Pending k)) place in
+    let is = ap (λ k. set statuses v (Pending k)) index in
     record {
       search = search_same graph (set statuses v (Pending n)) _ (pending ++ v ∷ []) _ (bounds ++ n ∷ []) _ (arcs ++ map (arc n) (row_at graph v)) _
-          is c.in_ok-push.ensures.items (c.in_ok-push-2.ensures.items ∙ ap (λ k. bounds ++ k ∷ []) place) (arcs_are (goal.at.returns-clause-kept c).In_ok-add_arcs)
+          is c.in_ok-push.ensures.items (c.in_ok-push-2.ensures.items ∙ ap (λ k. bounds ++ k ∷ []) index) (arcs_are (goal.at.returns-clause-kept c).In_ok-add_arcs)
           (entered graph statuses pending bounds arcs v c.requires.v c.requires.new c.requires.leads search);
       found = subst (λ l. AreFound graph l old.rings.items old.order.items) (sym is) (entered_found graph statuses pending bounds arcs v c.requires.v c.requires.new c.requires.leads search old.rings.items old.order.items c.requires.kept.found);
       room = let one = new_is (goal.at.returns-clause-kept c).In_ok-add_arcs in
@@ -65,11 +65,11 @@ returns-clause-fewer c =
     let arcs = old.arcs.items in
     let v = c.args.v in
     let row = row_at graph v in
-    let less = enter_fewer (count_by is_new statuses) (count_by is_new (set statuses v (Pending c.len-place.result))) (length c.args.graph.now.items.items) (length arcs) (length bounds) (length row)
+    let less = enter_fewer (count_by is_new statuses) (count_by is_new (set statuses v (Pending c.len-index.result))) (length c.args.graph.now.items.items) (length arcs) (length bounds) (length row)
     (new_is (goal.at.returns-clause-fewer c).In_ok-add_arcs) (row_short c.args.graph.now v c.requires.v) in
     let more_arcs = ap length (arcs_are (goal.at.returns-clause-fewer c).In_ok-add_arcs) in
     let size = length-append arcs (map (arc (length pending)) row) in
     let row_size = length-map row (arc (length pending)) in
     let more_bounds = ap length c.in_ok-push-2.ensures.items in
-    let bounds_size = length_push bounds c.len-place.result in
+    let bounds_size = length_push bounds c.len-index.result in
     omega (arith, less, more_arcs, size, row_size, more_bounds, bounds_size)

@@ -40,7 +40,7 @@ returns-in-Pending-clause-kept c =
     let old = c.args.self.now in
     record {
       search = next_joined (rows c.args.graph.now) old.statuses.items old.pending.items old.bounds.items old.arcs.items c.args.end c.requires.kept.search c.requires.end
-          c.join.new.bounds.items c.pop.new.self.items c.in-Pending.place (c.pop.ensures.rest ∙ ap (λ n. take (n - 1) old.arcs.items) old.arcs.ok.0)
+          c.join.new.bounds.items c.pop.new.self.items c.in-Pending.index (c.pop.ensures.rest ∙ ap (λ n. take (n - 1) old.arcs.items) old.arcs.ok.0)
           (status_is (goal.at.returns-in-Pending-clause-kept c).After-index ∙ c.in-Pending.is) c.join.ensures;
       found = c.requires.kept.found;
       room = c.requires.kept.room;

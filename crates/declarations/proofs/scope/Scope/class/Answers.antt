@@ -8,8 +8,8 @@ use Rattle.declarations.proofs.scope.Scope.class.Goals as goal
 
 pub returns : goal.returns
 returns c = λ p h.
-    let n = c.in_ok-place.place in
+    let n = c.in_ok-index.index in
     class_model p.text (class_named p c.args.name) c.methods_at.result
-    (subst (λ o. IsClass p.text (option_and_then (item_at as_class p) o) (option_copied c.methods_at.result)) (c.in_ok-place.ensures p h)
+    (subst (λ o. IsClass p.text (option_and_then (item_at as_class p) o) (option_copied c.methods_at.result)) (c.in_ok-index.ensures p h)
     (subst (IsClass p.text (item_at as_class p n)) (sym c.methods_at.ensures)
     (class_at p.text p.items c.args.self.now.members.items n n h.members)))

@@ -8,9 +8,9 @@ use Rattle.declarations.proofs.scope.Scope.owning_fields.Goals as goal
 
 pub returns-in-Some : goal.returns-in-Some
 returns-in-Some c = λ p scope.
-    let looked = looked_struct p.text (struct_named p c.args.name) c.in-Some.place c.in-Some.fields.now (c.in-Some.ensures p scope) in
+    let looked = looked_struct p.text (struct_named p c.args.name) c.in-Some.index c.in-Some.fields.now (c.in-Some.ensures p scope) in
     ap (option_map (λ (s : Numbered StructTree). (s.0, owning_fields s.1))) looked.is
-    ∙ ap (λ l. Some (c.in-Some.place, l)) (sym (c.deref.ensures.value ∙ looked.fields.owning))
+    ∙ ap (λ l. Some (c.in-Some.index, l)) (sym (c.deref.ensures.value ∙ looked.fields.owning))
 
 pub returns-in-None : goal.returns-in-None
 returns-in-None c = λ p scope.

@@ -15,7 +15,7 @@ returns c = λ all h is endpoint.
     let named : c.stands_before-named.result ≡ names_endpoint text name (take index all) =
     c.stands_before-named.ensures ∙ ap (is_before index) (c.find.ensures _ is.endpoints ∙ ap (λ t. position (same_word t) (words_at text (map (λ k. k.endpoint) all))) c.slice-word.ensures) ∙ found_named text all name index in
     let closed : c.is_some-closed.result ≡ awaits_closed text name all =
-    c.is_some-closed.ensures ∙ ap is_some (c.place_of.ensures text all is ∙ ap (λ t. key_at text (t, None) all) c.slice-word.ensures) ∙ found_closed text all name in
+    c.is_some-closed.ensures ∙ ap is_some (c.index_of.ensures text all is ∙ ap (λ t. key_at text (t, None) all) c.slice-word.ensures) ∙ found_closed text all name in
     let either : c.if-named.result ≡ (c.stands_before-named.result || c.is_some-closed.result) = elim c.if-named.branch [
       | then-named w ↦ w.result-is ∙ w.if-named.true ∙ sym (ap (λ b. b || c.is_some-closed.result) w.if-named.true)
       | else-named w ↦ w.result-is ∙ sym (ap (λ b. b || c.is_some-closed.result) w.if-named.false)

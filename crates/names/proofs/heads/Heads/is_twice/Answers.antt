@@ -9,6 +9,6 @@ returns c = λ all h is awaiting.
     let text = c.args.text.now in
     let index = c.args.index in
     c.stands_before.ensures
-    ∙ ap (is_before index) (c.place_of.ensures text all is)
+    ∙ ap (is_before index) (c.index_of.ensures text all is)
     ∙ ap (λ k. is_before index (key_at text k all)) (c.key_of.ensures ∙ ap (λ a. (word_at text a.endpoint, awaited_word text a.awaited)) awaiting)
     ∙ found_twice text all h index

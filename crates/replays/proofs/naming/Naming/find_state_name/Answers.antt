@@ -5,16 +5,16 @@ use Rattle.program.specs.Parts.{ContractModel, StateParts, contract_model, state
 use Rattle.program.specs.declared.contract.Contract.{Contract}
 use Rattle.rules.specs.Programs.{model_of}
 use Rattle.replays.specs.Names.{state_of}
-use Rattle.replays.proofs.NameLemmas.{by_place, seen_at, state_placed}
+use Rattle.replays.proofs.NameLemmas.{by_index, seen_at, state_placed}
 use Rattle.replays.proofs.naming.Naming.find_state_name.Goals as goal
-use Rattle.replays.proofs.naming.Naming.find_state_name.Goals.{After-place}
+use Rattle.replays.proofs.naming.Naming.find_state_name.Goals.{After-index_of}
 
 -- the state stands at the place that the tables have
-by_tables : (c : After-place) → state_of (model_of c.args.self.now.program.now).contracts c.args.contract.0 c.args.state.0
-    ≡ by_place (model_of c.args.self.now.program.now).contracts c.args.contract.0 c.place.result
+by_tables : (c : After-index_of) → state_of (model_of c.args.self.now.program.now).contracts c.args.contract.0 c.args.state.0
+    ≡ by_index (model_of c.args.self.now.program.now).contracts c.args.contract.0 c.index_of.result
 by_tables c =
     let contracts = (model_of c.args.self.now.program.now).contracts in
-    state_placed contracts c.args.self.now.states.items c.args.self.now.placed c.args.contract.0 c.args.state.0 ∙ ap (by_place contracts c.args.contract.0) (sym c.place.ensures)
+    state_placed contracts c.args.self.now.states.items c.args.self.now.placed c.args.contract.0 c.args.state.0 ∙ ap (by_index contracts c.args.contract.0) (sym c.index_of.ensures)
 
 -- the name of a state, where there is one
 abbrev name_of : Option StateParts → Option (List ℕ)
@@ -22,18 +22,18 @@ name_of s = option_map (λ (x : StateParts). x.name) s
 
 -- the state at a place of a contract, where there is one
 abbrev within : Option ContractModel → ℕ → Option StateParts
-within contract place = option_and_then (λ (x : ContractModel). slice_get x.parts.states place) contract
+within contract index = option_and_then (λ (x : ContractModel). slice_get x.parts.states index) contract
 
 -- of a contract that is there, its states
-in_contract : (c : After-place) (place : ℕ) (contract : Contract) → c.place.result ≡ Some place → slice_get (model_of c.args.self.now.program.now).contracts c.args.contract.0 ≡ Some (contract_model contract)
-    → state_of (model_of c.args.self.now.program.now).contracts c.args.contract.0 c.args.state.0 ≡ slice_get (map (state_parts (string_bytes contract.state_names)) contract.states.items) place
-in_contract c place contract was there = by_tables c ∙ ap (by_place (model_of c.args.self.now.program.now).contracts c.args.contract.0) was ∙ ap (λ o. within o place) there
+in_contract : (c : After-index_of) (index : ℕ) (contract : Contract) → c.index_of.result ≡ Some index → slice_get (model_of c.args.self.now.program.now).contracts c.args.contract.0 ≡ Some (contract_model contract)
+    → state_of (model_of c.args.self.now.program.now).contracts c.args.contract.0 c.args.state.0 ≡ slice_get (map (state_parts (string_bytes contract.state_names)) contract.states.items) index
+in_contract c index contract was there = by_tables c ∙ ap (by_index (model_of c.args.self.now.program.now).contracts c.args.contract.0) was ∙ ap (λ o. within o index) there
 
-pub returns-in_err-place : goal.returns-in_err-place
-returns-in_err-place c =
+pub returns-in_err-index : goal.returns-in_err-index
+returns-in_err-index c =
     let contracts = (model_of c.args.self.now.program.now).contracts in
     ap (option_map (λ (b : Bor (List ℕ)). b.now)) c.from_residual.ensures
-    ∙ sym (ap name_of (by_tables (goal.at.returns-in_err-place c).After-place ∙ ap (by_place contracts c.args.contract.0) c.in_err-place.was))
+    ∙ sym (ap name_of (by_tables (goal.at.returns-in_err-index c).After-index_of ∙ ap (by_index contracts c.args.contract.0) c.in_err-index.was))
 
 pub returns-in_err-within : goal.returns-in_err-within
 returns-in_err-within c =
@@ -41,8 +41,8 @@ returns-in_err-within c =
     let n = c.args.contract.0 in
     let past = seen_at contract_model c.contracts.result.now contracts n None c.contracts.ensures (slice_get_past c.contracts.result.now n c.in_err-within.ensures.lookup.3) in
     ap (option_map (λ (b : Bor (List ℕ)). b.now)) c.from_residual-in_err-within.ensures
-    ∙ sym (ap name_of (by_tables (goal.at.returns-in_err-within c).After-place ∙ ap (by_place contracts n) c.in_ok-place.was
-    ∙ ap (λ o. within o c.in_ok-place.place) past))
+    ∙ sym (ap name_of (by_tables (goal.at.returns-in_err-within c).After-index_of ∙ ap (by_index contracts n) c.in_ok-index.was
+    ∙ ap (λ o. within o c.in_ok-index.index) past))
 
 pub returns-in_err-there : goal.returns-in_err-there
 returns-in_err-there c =
@@ -52,8 +52,8 @@ returns-in_err-there c =
     let look = c.in_ok-within.ensures.lookup in
     let there = seen_at contract_model c.contracts.result.now (model_of c.args.self.now.program.now).contracts n (Some x) c.contracts.ensures (slice_get_read c.contracts.result.now _ n x refl look.3.0 look.1) in
     ap (option_map (λ (b : Bor (List ℕ)). b.now)) c.from_residual-in_err-there.ensures
-    ∙ sym (ap name_of (in_contract (goal.at.returns-in_err-there c).After-place c.in_ok-place.place x c.in_ok-place.was there
-    ∙ seen_at view c.deref.result.now _ c.in_ok-place.place None (ap (map view) c.deref.ensures.value) (slice_get_past c.deref.result.now c.in_ok-place.place c.in_err-there.ensures.lookup.3)))
+    ∙ sym (ap name_of (in_contract (goal.at.returns-in_err-there c).After-index_of c.in_ok-index.index x c.in_ok-index.was there
+    ∙ seen_at view c.deref.result.now _ c.in_ok-index.index None (ap (map view) c.deref.ensures.value) (slice_get_past c.deref.result.now c.in_ok-index.index c.in_err-there.ensures.lookup.3)))
 
 pub returns : goal.returns
 returns c =
@@ -65,5 +65,5 @@ returns c =
     let state = c.in_ok-there.field-0.now in
     let at = c.in_ok-there.ensures.lookup in
     ap Some c.state_name.ensures
-    ∙ sym (ap name_of (in_contract (goal.at.returns c).After-place c.in_ok-place.place x c.in_ok-place.was there
-    ∙ seen_at view c.deref.result.now _ c.in_ok-place.place (Some state) (ap (map view) c.deref.ensures.value) (slice_get_read c.deref.result.now _ c.in_ok-place.place state refl at.3.0 at.1)))
+    ∙ sym (ap name_of (in_contract (goal.at.returns c).After-index_of c.in_ok-index.index x c.in_ok-index.was there
+    ∙ seen_at view c.deref.result.now _ c.in_ok-index.index (Some state) (ap (map view) c.deref.ensures.value) (slice_get_read c.deref.result.now _ c.in_ok-index.index state refl at.3.0 at.1)))

@@ -22,7 +22,7 @@ loop-place-preserved c =
       count = c.read_pair-in-loop-place.ensures.count ∙ i.count;
       seen = λ pairs has. c.read_pair-in-loop-place.ensures.seen pairs (i.seen pairs has);
       lines = λ pairs steps first has at zip.
-          let s = next_step pairs c.args.places.now steps n 0 zip c.loop-place-test.true in
+          let s = next_step pairs c.args.indices.now steps n 0 zip c.loop-place-test.true in
           let here : Pair = (c.loop-place.point, leaves_of c.loop-place.before) in
           let copied = c.in_ok-copy_from.ensures in
           let later : suc n ≡ n + 1 = omega arith in
@@ -38,7 +38,7 @@ returns-clause-lines c = λ pairs steps first has at zip.
     let p = model_of c.args.self.now.program.now in
     let m = method_model c.args.self.now.method.now in
     let about = map (λ (v : VarId). v.0) c.args.watched.now in
-    let none = no_more_steps pairs c.args.places.now steps c.loop-place.place-index zip (omega (arith, c.loop-place-test.false)) in
+    let none = no_more_steps pairs c.args.indices.now steps c.loop-place.place-index zip (omega (arith, c.loop-place-test.false)) in
     sym (append-nil (map line_model c.loop-place.lines.items))
     ∙ ap (λ rest. map line_model c.loop-place.lines.items ++ path_lines p m about ((c.loop-place.point, leaves_of c.loop-place.before) ∷ rest)) (sym none)
     ∙ c.loop-place.invariant.lines pairs steps first has at zip

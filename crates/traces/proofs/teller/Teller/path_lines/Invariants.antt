@@ -17,7 +17,7 @@ invariant-loop-place l = record {
   count : length (pairs_of l.worker.seen) ≡ length (pairs_of l.fn.worker.seen);
   seen : (pairs : List outcomes.Pair) → HasSeen l.fn.worker pairs → HasSeen l.worker pairs;
   lines : (pairs steps : List outcomes.Pair) (first : outcomes.Pair) → HasSeen l.fn.worker pairs → slice_get pairs 0 ≡ Some first
-      → AllZip (λ place x. slice_get pairs place ≡ Some x) l.places steps
+      → AllZip (λ place x. slice_get pairs place ≡ Some x) l.indices steps
       → map line_model l.lines.items ++ path_lines (model_of l.self.program.now) (method_model l.self.method.now) (map (λ v. v.0) l.watched) ((l.point, leaves_of l.before) ∷ drop l.place-index steps)
       ≡ start_lines (model_of l.self.program.now) (method_model l.self.method.now) (map (λ v. v.0) l.watched) first.1 ++ path_lines (model_of l.self.program.now) (method_model l.self.method.now) (map (λ v. v.0) l.watched) (first ∷ steps);
 }

@@ -3,7 +3,7 @@ use Rattle.source.specs.Slices.{slice_of}
 use Rattle.tables.specs.Firsts.{first_of}
 use Rattle.declarations.specs.Program.{item_names}
 use Rattle.tables.specs.Words.{words_at}
-use Rattle.declarations.proofs.scope.Scope.place.Goals as goal
+use Rattle.declarations.proofs.scope.Scope.index_of.Goals as goal
 
 pub returns : goal.returns
 returns c = λ p h.

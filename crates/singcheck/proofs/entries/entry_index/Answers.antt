@@ -7,8 +7,8 @@ use Rattle.tree.specs.declared.item.Item.{Item}
 use Rattle.singcheck.specs.Replays.{IsFirstAt, method_names, names_in}
 use Rattle.singcheck.proofs.EntryLemmas.{first_in, fits_first, fits_row, rows_more, rows_round}
 use Rattle.sound.proofs.Lists.{each_append}
-use Rattle.singcheck.proofs.entries.entry_place.Goals as goal
-use Rattle.singcheck.proofs.entries.entry_place.Goals.{After-deref-item-items}
+use Rattle.singcheck.proofs.entries.entry_index.Goals as goal
+use Rattle.singcheck.proofs.entries.entry_index.Goals.{After-deref-item-items}
 
 names_of : List ℕ → Item → List (List ℕ)
 names_of text i = names_in text (definition_tree i.definition)
@@ -28,7 +28,7 @@ overflow_add-result c =
       arith,
       c.requires.few,
       whole,
-      fits_first (names_of c.args.text.now) c.deref-item-items.result.now c.loop-item.item-index c.item-item.result c.args.entry.now c.in-Some.place c.loop-item.before
+      fits_first (names_of c.args.text.now) c.deref-item-items.result.now c.loop-item.item-index c.item-item.result c.args.entry.now c.in-Some.index c.loop-item.before
           c.loop-item-test.true c.item-item.is c.loop-item.invariant.counted c.in-Some.ensures.some,
     )
 
@@ -39,8 +39,8 @@ returns-in-Some-clause-some c =
     let xs = c.deref-item-items.result.now in
     let i = c.loop-item.item-index in
     let x = c.item-item.result in
-    subst₂ (λ l k. IsFirstAt l c.args.entry.now k) (sym (whole_is (goal.at.returns-in-Some-clause-some c).After-deref-item-items)) (ap (λ b. b + c.in-Some.place) (sym c.loop-item.invariant.counted))
-    (first_in (flat_map row xs) (flat_map row (take i xs)) (row x) (flat_map row (drop (suc i) xs)) c.args.entry.now c.in-Some.place (rows_round row xs i x c.loop-item-test.true c.item-item.is) c.loop-item.invariant.others c.in-Some.ensures.some)
+    subst₂ (λ l k. IsFirstAt l c.args.entry.now k) (sym (whole_is (goal.at.returns-in-Some-clause-some c).After-deref-item-items)) (ap (λ b. b + c.in-Some.index) (sym c.loop-item.invariant.counted))
+    (first_in (flat_map row xs) (flat_map row (take i xs)) (row x) (flat_map row (drop (suc i) xs)) c.args.entry.now c.in-Some.index (rows_round row xs i x c.loop-item-test.true c.item-item.is) c.loop-item.invariant.others c.in-Some.ensures.some)
 
 pub overflow_add-before : goal.overflow_add-before
 unfolding names_of

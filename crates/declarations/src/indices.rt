@@ -3,7 +3,7 @@
 ghost use Rattle.std.specs.Prelude.{◌≡◌, option_map, option_and_then};
 ghost use Rattle.tree.specs.Trees.{message_tree};
 ghost use Rattle.declarations.specs.Kinds.{type_kind};
-ghost use Rattle.declarations.specs.Places.{contract_place, message_place, sent_place, message_at, state_place};
+ghost use Rattle.declarations.specs.Indices.{contract_index, message_index, sent_index, message_at, state_index};
 ghost use Rattle.declarations.specs.Named.{message_written, sent_message};
 ghost use Rattle.declarations.specs.Program.{Program, as_contract, item_at};
 ghost use Rattle.tables.specs.Words.{word_at};
@@ -26,24 +26,24 @@ impl<'a> Scope<'a> {
     }
 
     /// How many items stand before the first item of this name, if it is a contract.
-    pub fn contract_place(&self, name: Span) -> Option<usize>
-        ensures { (p : Program) → IsScope p self.now → result ≡ contract_place p name }
+    pub fn contract_index(&self, name: Span) -> Option<usize>
+        ensures { (p : Program) → IsScope p self.now → result ≡ contract_index p name }
     {
-        let (place, _declared) = self.contract(name)?;
-        Some(place)
+        let (index, _declared) = self.contract(name)?;
+        Some(index)
     }
 
-    /// How many messages stand before the first one of this name, in the contract that is the item at this place.
-    pub fn message_place(&self, contract: usize, name: Span) -> Option<usize>
-        ensures { (p : Program) → IsScope p self.now → result ≡ message_place p contract (word_at p.text name) }
+    /// How many messages stand before the first one of this name, in the contract that is the item at this index.
+    pub fn message_index(&self, contract: usize, name: Span) -> Option<usize>
+        ensures { (p : Program) → IsScope p self.now → result ≡ message_index p contract (word_at p.text name) }
     {
         let declared = self.contract_at(contract)?;
         declared.messages.find(name.slice(self.text))
     }
 
     /// The same of the message that a word like `SendM` sends.
-    pub fn sent_place(&self, contract: usize, word: Span) -> Option<usize>
-        ensures { (p : Program) → IsScope p self.now → result ≡ sent_place p contract word }
+    pub fn sent_index(&self, contract: usize, word: Span) -> Option<usize>
+        ensures { (p : Program) → IsScope p self.now → result ≡ sent_index p contract word }
     {
         let declared = self.contract_at(contract)?;
         let name = word.slice(self.text).strip_prefix(b"Send")?;
@@ -58,7 +58,7 @@ impl<'a> Scope<'a> {
         declared.outline.messages.get(index).copied()
     }
 
-    /// The first message of this name in the contract that is the item at this place.
+    /// The first message of this name in the contract that is the item at this index.
     pub fn message(&self, contract: usize, name: Span) -> Option<&'a Message>
         ensures { (p : Program) → IsScope p self.now → option_map (λ m. message_tree m.now) result
             ≡ option_and_then (λ c. message_written p.text c.1 (word_at p.text name)) (item_at as_contract p contract) }
@@ -78,12 +78,12 @@ impl<'a> Scope<'a> {
     }
 
     /// How many states, unnamed ones counted, stand before the first one of this name, in the contract that is the item at
-    /// this place.
-    pub fn state_place(&self, contract: usize, name: Span) -> Option<usize>
-        ensures { (p : Program) → IsScope p self.now → result ≡ state_place p contract name }
+    /// this index.
+    pub fn state_index(&self, contract: usize, name: Span) -> Option<usize>
+        ensures { (p : Program) → IsScope p self.now → result ≡ state_index p contract name }
     {
         let declared = self.contract_at(contract)?;
-        let place = declared.states.find(name.slice(self.text))?;
-        declared.named_place(place)
+        let index = declared.states.find(name.slice(self.text))?;
+        declared.named_index(index)
     }
 }

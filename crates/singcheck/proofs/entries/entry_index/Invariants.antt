@@ -3,7 +3,7 @@ use Rattle.std.specs.List.{flat_map}
 use Rattle.program.specs.Lists.{Each}
 use Rattle.tree.specs.Trees.{definition_tree}
 use Rattle.singcheck.specs.Replays.{names_in}
-use Rattle.singcheck.proofs.entries.entry_place.Given as goal
+use Rattle.singcheck.proofs.entries.entry_index.Given as goal
 
 -- no method so far has the name, and so many there are
 abbrev pub invariant-loop-item : goal.invariant-loop-item

@@ -8,17 +8,17 @@ use Rattle.declarations.specs.Program.{Program, as_contract, item_at, contract_n
 use Rattle.tables.specs.Words.{word_at, words_at, same_word}
 
 -- how many items stand before the contract of this name
-abbrev pub contract_place : Program → Span → Option ℕ
-contract_place p name = option_map (λ c. c.0) (contract_named p name)
+abbrev pub contract_index : Program → Span → Option ℕ
+contract_index p name = option_map (λ c. c.0) (contract_named p name)
 
--- how many messages stand before the first one that is written so, in the contract that is the item at this place
-abbrev pub message_place : Program → ℕ → List ℕ → Option ℕ
-message_place p n word =
+-- how many messages stand before the first one that is written so, in the contract that is the item at this index
+abbrev pub message_index : Program → ℕ → List ℕ → Option ℕ
+message_index p n word =
     option_and_then (λ c. first_of (words_at p.text (names_of_messages (messages_of c.1))) word) (item_at as_contract p n)
 
 -- the same of the message that a word like `SendM` sends
-abbrev pub sent_place : Program → ℕ → Span → Option ℕ
-sent_place p n word = if same_word (take 4 (word_at p.text word)) (codes "Send") then message_place p n (drop 4 (word_at p.text word))
+abbrev pub sent_index : Program → ℕ → Span → Option ℕ
+sent_index p n word = if same_word (take 4 (word_at p.text word)) (codes "Send") then message_index p n (drop 4 (word_at p.text word))
     else None
 
 -- the message there
@@ -26,9 +26,9 @@ abbrev pub message_at : Program → ℕ → ℕ → Option MessageTree
 message_at p n k = option_and_then (λ c. slice_get (messages_of c.1) k) (item_at as_contract p n)
 
 -- how many states, unnamed ones counted, stand before the first one of this name
-abbrev pub place_among : List ℕ → List StateTree → Span → Option ℕ
-place_among text states name = option_map (λ k. length (counted_states (take k states))) (first_among text (names_of_states states) name)
+abbrev pub index_among : List ℕ → List StateTree → Span → Option ℕ
+index_among text states name = option_map (λ k. length (counted_states (take k states))) (first_among text (names_of_states states) name)
 
--- the same in the contract that is the item at this place
-abbrev pub state_place : Program → ℕ → Span → Option ℕ
-state_place p n name = option_and_then (λ c. place_among p.text (states_of c.1) name) (item_at as_contract p n)
+-- the same in the contract that is the item at this index
+abbrev pub state_index : Program → ℕ → Span → Option ℕ
+state_index p n name = option_and_then (λ c. index_among p.text (states_of c.1) name) (item_at as_contract p n)
