@@ -2,6 +2,7 @@
 
 ghost use Rattle.std.specs.Prelude.{◌≡◌, map, take, List, OnOk, IfOk, slice_get};
 ghost use Rattle.tree.specs.ExpressionTrees.{expression_tree};
+ghost use Rattle.tree.specs.declared.types.«Type».{«Type» as TypeModel};
 ghost use Rattle.declarations.specs.Mistakes.{Adds};
 ghost use Rattle.names.specs.Frames.{IsFrame};
 ghost use Rattle.declarations.specs.Kinds.{type_kind};
@@ -17,7 +18,7 @@ use crate::wholes::judge_asked;
 use declarations::{Mistake, Scope, ValueKind};
 use source::Memory;
 use std::alloc::Global;
-use tree::{Expression, Field, Param, Parameter};
+use tree::{Expression, Field, Param, Parameter, Type};
 
 /// Adds what is wrong with an argument for a parameter of this kind, if there is one.
 fn judge_argument(
@@ -65,104 +66,70 @@ pub(crate) fn judge_arguments(
     Ok(())
 }
 
-/// The kinds of the first so many parameters of a method.
-fn parameter_kinds(
+/// What has a type in a text: a parameter of a method or of a message, or a field.
+pub(crate) trait Typed {
+    /// Its type.
+    ghost type_of: { Self → TypeModel };
+
+    /// Its type.
+    fn ty(&self) -> Type
+        ensures { result ≡ type_of self.now };
+}
+
+impl Typed for Parameter {
+    ghost type_of = { λ x. x.ty };
+
+    fn ty(&self) -> Type {
+        self.ty
+    }
+}
+
+impl Typed for Param {
+    ghost type_of = { λ x. x.ty };
+
+    fn ty(&self) -> Type {
+        self.ty
+    }
+}
+
+impl Typed for Field {
+    ghost type_of = { λ x. x.ty };
+
+    fn ty(&self) -> Type {
+        self.ty
+    }
+}
+
+/// The kinds of the first so many of these parameters or fields.
+fn kinds_of<T: Typed>(
     alloc: Global,
     scope: &Scope<'_>,
-    parameters: &[Parameter],
+    typed: &[T],
     most: usize,
 ) -> Result<Vec<ValueKind>, Memory>
     ensures { IfOk result (λ kinds. (p : Program) → IsScope p scope.now
-        → kinds.items ≡ map (λ x. type_kind p x.ty) (take most parameters.now)) }
+        → kinds.items ≡ map (λ x. type_kind p (T.type_of x)) (take most typed.now)) }
 {
     let mut kinds = Vec::new(alloc);
-    for parameter in &parameters[..most.min(parameters.len())] {
-        kinds.push(scope.kind(parameter.ty))?;
+    for one in &typed[..most.min(typed.len())] {
+        kinds.push(scope.kind(one.ty()))?;
     }
     Ok(kinds)
 }
 
-/// The kinds of the first so many parameters of a message.
-fn message_kinds(
-    alloc: Global,
-    scope: &Scope<'_>,
-    parameters: &[Param],
-    most: usize,
-) -> Result<Vec<ValueKind>, Memory>
-    ensures { IfOk result (λ kinds. (p : Program) → IsScope p scope.now
-        → kinds.items ≡ map (λ x. type_kind p x.ty) (take most parameters.now)) }
-{
-    let mut kinds = Vec::new(alloc);
-    for parameter in &parameters[..most.min(parameters.len())] {
-        kinds.push(scope.kind(parameter.ty))?;
-    }
-    Ok(kinds)
-}
-
-/// The kinds of the first so many of these fields.
-fn field_kinds(
-    alloc: Global,
-    scope: &Scope<'_>,
-    fields: &[Field],
-    most: usize,
-) -> Result<Vec<ValueKind>, Memory>
-    ensures { IfOk result (λ kinds. (p : Program) → IsScope p scope.now
-        → kinds.items ≡ map (λ f. type_kind p f.ty) (take most fields.now)) }
-{
-    let mut kinds = Vec::new(alloc);
-    for field in &fields[..most.min(fields.len())] {
-        kinds.push(scope.kind(field.ty))?;
-    }
-    Ok(kinds)
-}
-
-/// Adds what is wrong with arguments for the parameters of a method.
-pub(crate) fn judge_parameter_arguments(
+/// Adds what is wrong with arguments for these parameters or fields.
+pub(crate) fn judge_typed_arguments<T: Typed>(
     alloc: Global,
     scope: &Scope<'_>,
     variables: &Variables<'_>,
-    parameters: &[Parameter],
+    typed: &[T],
     arguments: &[Expression],
     found: &mut Vec<Mistake>,
 ) -> Result<(), Memory>
     ensures { (p : Program) (f : Frame) → IsScope p scope.now → IsFrame p.text f variables.now
         → OnOk result (Adds found.old.items found.new.items (argument_mistakes (record { program = p; variables = f.variables })
-        (map (λ x. type_kind p x.ty) parameters.now) (map shape (map expression_tree arguments.now)))) }
+        (map (λ x. type_kind p (T.type_of x)) typed.now) (map shape (map expression_tree arguments.now)))) }
 {
-    let kinds = parameter_kinds(alloc, scope, parameters, arguments.len())?;
-    judge_arguments(scope, variables, &kinds, arguments, found)
-}
-
-/// Adds what is wrong with arguments for the parameters of a message.
-pub(crate) fn judge_message_arguments(
-    alloc: Global,
-    scope: &Scope<'_>,
-    variables: &Variables<'_>,
-    parameters: &[Param],
-    arguments: &[Expression],
-    found: &mut Vec<Mistake>,
-) -> Result<(), Memory>
-    ensures { (p : Program) (f : Frame) → IsScope p scope.now → IsFrame p.text f variables.now
-        → OnOk result (Adds found.old.items found.new.items (argument_mistakes (record { program = p; variables = f.variables })
-        (map (λ x. type_kind p x.ty) parameters.now) (map shape (map expression_tree arguments.now)))) }
-{
-    let kinds = message_kinds(alloc, scope, parameters, arguments.len())?;
-    judge_arguments(scope, variables, &kinds, arguments, found)
-}
-
-/// Adds what is wrong with arguments for these fields.
-pub(crate) fn judge_field_arguments(
-    alloc: Global,
-    scope: &Scope<'_>,
-    variables: &Variables<'_>,
-    fields: &[Field],
-    arguments: &[Expression],
-    found: &mut Vec<Mistake>,
-) -> Result<(), Memory>
-    ensures { (p : Program) (f : Frame) → IsScope p scope.now → IsFrame p.text f variables.now
-        → OnOk result (Adds found.old.items found.new.items (argument_mistakes (record { program = p; variables = f.variables })
-        (map (λ x. type_kind p x.ty) fields.now) (map shape (map expression_tree arguments.now)))) }
-{
-    let kinds = field_kinds(alloc, scope, fields, arguments.len())?;
+    let kinds = kinds_of(alloc, scope, typed, arguments.len())?;
     judge_arguments(scope, variables, &kinds, arguments, found)
 }

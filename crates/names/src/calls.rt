@@ -22,7 +22,7 @@ ghost use Rattle.names.specs.Variables as model;
 ghost use Rattle.source.specs.declared.token.Span.{Span as SpanModel};
 ghost use Rattle.tables.specs.Words.{word_at, same_word};
 
-use crate::arguments::{judge_arguments, judge_message_arguments, judge_parameter_arguments};
+use crate::arguments::{judge_arguments, judge_typed_arguments};
 use crate::operands::ask;
 use crate::surroundings::{NameContext, Surroundings};
 use crate::told::judge_count;
@@ -122,7 +122,7 @@ fn judge_known_method(
     let method = callee.method;
     let (place, arguments) = (site.name.place, site.arguments);
     judge_count(method.params.len(), arguments.len(), place, found)?;
-    judge_parameter_arguments(alloc, scope, variables, &method.params, arguments, found)?;
+    judge_typed_arguments(alloc, scope, variables, &method.params, arguments, found)?;
     judge_start(context, callee.startable, site, found)?;
     let fits = result_fits(scope, method.result, site.role);
     let given = kind_given(scope, method.result);
@@ -224,7 +224,7 @@ fn judge_known_message(
     let well = is_sent(site.role, end, message.direction);
     ask(well, place, send_mismatch(site.role, end, site.name), found)?;
     judge_count(message.params.len(), arguments.len(), place, found)?;
-    judge_message_arguments(alloc, scope, variables, &message.params, arguments, found)
+    judge_typed_arguments(alloc, scope, variables, &message.params, arguments, found)
 }
 
 /// Why this send at this end is wrong.

@@ -14,7 +14,7 @@ ghost use Rattle.names.specs.Shapes.{shape};
 ghost use Rattle.names.specs.Values.{made_kind, made_mistakes, struct_made_mistakes, new_mistakes, value_mistakes};
 ghost use Rattle.names.specs.Variables.{Frame};
 
-use crate::arguments::judge_field_arguments;
+use crate::arguments::judge_typed_arguments;
 use crate::calls::{Role, judge_call, judge_unknown};
 use crate::operands::ask;
 use crate::surroundings::{NameContext, Surroundings};
@@ -46,7 +46,7 @@ fn judge_structure(
     match scope.owning_fields(name) {
         Some((place, owning)) => {
             judge_count(owning.len(), arguments.len(), name.place, found)?;
-            judge_field_arguments(alloc, scope, variables, owning, arguments, found)?;
+            judge_typed_arguments(alloc, scope, variables, owning, arguments, found)?;
             Ok(ValueKind::Pointer(place))
         }
         None => {

@@ -19,15 +19,15 @@ returns c = λ p f n here.
     let args = c.args.site.now.arguments.now in
     let es = map shape (map expression_tree args) in
     let place = c.args.site.now.name.place in
-    let result = c.judge_message_arguments.result in
+    let result = c.judge_typed_arguments.result in
     let old = c.args.found.now.items in
     let asked = c.ask.new.found.items in
     let counted = c.judge_count.new.found.items in
-    let new = c.judge_message_arguments.new.found.items in
+    let new = c.judge_typed_arguments.new.found.items in
     let kinds = message_kinds p (message_tree message) in
     on_adds result old asked new (unless (is_alone c.args.site.now.role && sends c.args.end message.direction) place (send_mismatch c.args.site.now.role c.args.end c.args.site.now.name)) (number_of_arguments params es place ++ argument_mistakes s kinds es)
     (subst (λ b. Adds old asked (unless b place (send_mismatch c.args.site.now.role c.args.end c.args.site.now.name))) c.is_sent-well.ensures
     (subst (λ m. Adds old asked (unless c.is_sent-well.result place m)) c.send_mismatch.ensures c.in_ok-ask.ensures))
     (on_adds result asked counted new (number_of_arguments params es place) (argument_mistakes s kinds es)
     (numbered expression_tree params c.len.result args place (omega (arith, c.len.ensures, message.params.ok.0)) c.in_ok-judge_count.ensures)
-    (subst (λ ps. OnOk result (Adds counted new (argument_mistakes s (map (λ x. type_kind p x.ty) ps) es))) c.deref.ensures.value (c.judge_message_arguments.ensures p f here.scope here.frame)))
+    (subst (λ ps. OnOk result (Adds counted new (argument_mistakes s (map (λ x. type_kind p x.ty) ps) es))) c.deref.ensures.value (c.judge_typed_arguments.ensures p f here.scope here.frame)))

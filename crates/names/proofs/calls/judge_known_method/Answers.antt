@@ -23,7 +23,7 @@ returns c = λ p f class here startable.
     let result = c.ask.result in
     let old = c.args.found.now.items in
     let counted = c.judge_count.new.found.items in
-    let given = c.judge_parameter_arguments.new.found.items in
+    let given = c.judge_typed_arguments.new.found.items in
     let started = c.judge_start.new.found.items in
     let new = c.ask.new.found.items in
     let count = number_of_arguments params es place in
@@ -34,7 +34,7 @@ returns c = λ p f class here startable.
     on_adds result old counted new count (each ++ (start ++ fits))
     (numbered expression_tree params c.len.result args place (omega (arith, c.len.ensures, method.params.ok.0)) c.in_ok-judge_count.ensures)
     (on_adds result counted given new each (start ++ fits)
-    (subst (λ ps. Adds counted given (argument_mistakes s (map (λ x. type_kind p x.ty) ps) es)) c.deref.ensures.value (c.in_ok-judge_parameter_arguments.ensures p f here.scope here.frame))
+    (subst (λ ps. Adds counted given (argument_mistakes s (map (λ x. type_kind p x.ty) ps) es)) c.deref.ensures.value (c.in_ok-judge_typed_arguments.ensures p f here.scope here.frame))
     (on_adds result given started new start fits (c.in_ok-judge_start.ensures p (method_tree method) here.scope startable)
     (subst (λ b. OnOk result (Adds started new (unless b place (Given (demand_of role) (result_kind p method.result))))) (c.result_fits-fits.ensures p here.scope)
     (subst (λ d. OnOk result (Adds started new (unless c.result_fits-fits.result place (Given d (result_kind p method.result))))) c.demand_of.ensures

@@ -14,24 +14,24 @@ use Rattle.names.proofs.PassLemmas.{structured}
 use Rattle.names.proofs.PendingLemmas.{numbered}
 use Rattle.names.proofs.values.judge_structure.Goals as goal
 
-pub returns-in_ok-judge_field_arguments-in-Some-clause-kind : goal.returns-in_ok-judge_field_arguments-in-Some-clause-kind
-returns-in_ok-judge_field_arguments-in-Some-clause-kind c = λ p scope.
+pub returns-in_ok-judge_typed_arguments-in-Some-clause-kind : goal.returns-in_ok-judge_typed_arguments-in-Some-clause-kind
+returns-in_ok-judge_typed_arguments-in-Some-clause-kind c = λ p scope.
     let looked = structured (struct_named p c.args.name) c.in-Some.place c.in-Some.owning.now (c.in-Some.ensures p scope) in
     ap pointer_kind (sym looked.is)
 
-pub returns-in_ok-judge_field_arguments-in-Some-clause-found : goal.returns-in_ok-judge_field_arguments-in-Some-clause-found
-returns-in_ok-judge_field_arguments-in-Some-clause-found c = λ p f here.
+pub returns-in_ok-judge_typed_arguments-in-Some-clause-found : goal.returns-in_ok-judge_typed_arguments-in-Some-clause-found
+returns-in_ok-judge_typed_arguments-in-Some-clause-found c = λ p f here.
     let s = in_frame p f in
     let name = c.args.name in
     let args = c.args.arguments.now in
     let es = map shape (map expression_tree args) in
     let old = c.args.found.now.items in
     let counted = c.judge_count.new.found.items in
-    let new = c.judge_field_arguments.new.found.items in
+    let new = c.judge_typed_arguments.new.found.items in
     let owning = c.in-Some.owning.now in
     let looked = structured (struct_named p name) c.in-Some.place owning (c.in-Some.ensures p here.scope) in
     let asked = fields_asked p looked.structure in
     let many : length owning ≡ length asked = omega (arith, ap length looked.owning, length-map (owning_fields looked.structure) (λ (x : made.Field.Field). type_kind p x.ty)) in
     subst (λ o. Adds old new (struct_made_mistakes s o name es)) (sym looked.is)
     (adds_then (numbered expression_tree asked (length owning) args name.place many c.in_ok-judge_count-in-Some.ensures)
-    (subst (λ xs. Adds counted new (argument_mistakes s (map (λ (x : made.Field.Field). type_kind p x.ty) xs) es)) looked.owning (c.in_ok-judge_field_arguments-in-Some.ensures p f here.scope here.frame)))
+    (subst (λ xs. Adds counted new (argument_mistakes s (map (λ (x : made.Field.Field). type_kind p x.ty) xs) es)) looked.owning (c.in_ok-judge_typed_arguments-in-Some.ensures p f here.scope here.frame)))

@@ -1,20 +1,19 @@
 use Rattle.std.proofs.Common.{◌∙◌, ap, map, subst}
 use Rattle.std.specs.Prelude.{OnOk}
 use Rattle.tree.specs.ExpressionTrees.{expression_tree}
-use Rattle.tree.specs.declared.class.Field.{Field}
 use Rattle.names.specs.Expressions.{InScope}
 use Rattle.declarations.specs.Mistakes.{Adds}
 use Rattle.declarations.specs.Kinds.{type_kind}
 use Rattle.names.specs.Shapes.{shape}
 use Rattle.names.specs.Values.{argument_mistakes}
 use Rattle.names.proofs.PendingLemmas.{enough_kinds}
-use Rattle.names.proofs.arguments.judge_field_arguments.Goals as goal
+use Rattle.names.proofs.arguments.judge_typed_arguments.Goals as goal
 
 pub returns : goal.returns
-returns c = λ p f scope frame.
+returns g c = λ p f scope frame.
     let s : InScope = record { program = p; variables = f.variables } in
     let args = c.args.arguments.now in
     let es = map shape (map expression_tree args) in
     subst (λ l. OnOk c.judge_arguments.result (Adds c.args.found.now.items c.judge_arguments.new.found.items l))
-    (ap (λ kinds. argument_mistakes s kinds es) (c.deref.ensures.value ∙ c.in_ok-kinds.ensures p scope) ∙ enough_kinds expression_tree (λ (x : Field). type_kind p x.ty) s c.args.fields.now args)
+    (ap (λ kinds. argument_mistakes s kinds es) (c.deref.ensures.value ∙ c.in_ok-kinds.ensures p scope) ∙ enough_kinds expression_tree (λ x. type_kind p (g.T.Typed.type_of x)) s c.args.typed.now args)
     (c.judge_arguments.ensures p f scope frame)
