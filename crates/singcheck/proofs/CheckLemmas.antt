@@ -14,7 +14,7 @@ use Rattle.singcheck.specs.Answers.{AreFindings}
 use Rattle.singcheck.specs.Checks.{AreCheckFindings, OfMethods, Checks, HasProgram, IsWrong}
 use Rattle.singcheck.specs.Lines.{clear_line}
 use Rattle.rules.specs.Programs.{model_of}
-use Rattle.singcheck.specs.Named.{AreBrokenOf, AreNamed, HasNames, IsBuilt, IsBuiltOf}
+use Rattle.singcheck.specs.Named.{AreBrokenOf, AreNamed, HasNames, IsBuilt, IsBuiltIn}
 use Rattle.singcheck.specs.declared.programs.Built.{Built}
 use Rattle.singcheck.specs.declared.programs.Built.TheVariants as built
 use Rattle.singcheck.specs.Reports.{IsReport}
@@ -81,8 +81,7 @@ clear_ok p found none are (Ok r) bytes is = λ text has. subst (Checks text r.by
 clear_ok p found none are (Err fault) bytes is = tt
 
 -- what a text comes to, from what its names and its contracts come to
-pub built_of : (text : List ℕ) (items : List ItemTree) (p : ProgramModel) → AreNamed text items p → (b : Built) → IsBuilt p b → IsBuiltOf text b
-built_of text items p named (built.Found findings) none = absurd none
+pub built_of : (text : List ℕ) (items : List ItemTree) (p : ProgramModel) → AreNamed text items p → (b : Built) → IsBuilt p b → IsBuiltIn text b
 built_of text items p named (built.Broken methods findings) is = subst (λ l. AreBrokenOf text l (map finding_parts findings.items)) (sym is.0) (record {
   resolved = record { items = items; parsed = named.names.parsed; clean = named.names.clean; are = named.names.contracts };
   whole = named.whole;

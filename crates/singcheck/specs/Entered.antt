@@ -1,6 +1,5 @@
 -- For proofs within the crate: what a text and an entry come to.
-use Rattle.std.specs.Prelude.{◌≡◌, ℕ, List, IsSomeAnd, map, slice_get, string_bytes, true}
-use Rattle.source.specs.Findings.{finding_parts}
+use Rattle.std.specs.Prelude.{◌≡◌, ℕ, List, Option, None, Some, IsSomeAnd, map, slice_get, string_bytes, true}
 use Rattle.program.specs.Programs.{ProgramModel}
 use Rattle.rules.specs.Programs.{is_entry, model_of}
 use Rattle.machine.specs.Outcomes.{Bounds}
@@ -11,11 +10,10 @@ use Rattle.sound.specs.Safe.{IsSafe}
 use Rattle.devices.specs.declared.fault.Input.TheVariants as input
 use Rattle.devices.specs.declared.fault.RunFault.{RunFault}
 use Rattle.devices.specs.declared.fault.RunFault.TheVariants.{Read, Entry, Schedule, Memory}
-use Rattle.singcheck.specs.Answers.{AreFindings}
 use Rattle.singcheck.specs.Replays.{HasEntry, LacksEntry, struct_names}
 use Rattle.singcheck.specs.declared.entering.Begun.{Begun}
-use Rattle.singcheck.specs.declared.entering.Entered.{Entered}
-use Rattle.singcheck.specs.declared.entering.Entered.TheVariants as entered
+use Rattle.singcheck.specs.Stages.{IsStage}
+use Rattle.singcheck.specs.declared.stage.Stage.{Stage}
 
 -- a run may begin with this method of a program
 abbrev pub Begins : ProgramModel → ℕ → Type 0
@@ -31,10 +29,14 @@ pub record IsBegun (text entry : List ℕ) (b : Begun) : Type 0 where
   pub entered : HasEntry text entry (model_of b.program) b.method.0
   pub structs : map string_bytes b.structs.items ≡ struct_names text entered.has.items
 
-abbrev pub IsEntered : List ℕ → List ℕ → Entered → Type 0
-IsEntered text entry (entered.Found findings) = AreFindings text (map finding_parts findings.items)
-IsEntered text entry entered.Lacking = LacksEntry text entry
-IsEntered text entry (entered.Begun b) = IsBegun text entry b
+-- or the text has no such entry
+abbrev pub ComesIn : List ℕ → List ℕ → Option Begun → Type 0
+ComesIn text entry None = LacksEntry text entry
+ComesIn text entry (Some b) = IsBegun text entry b
+
+-- or findings before its methods
+abbrev pub IsEntered : List ℕ → List ℕ → Stage (Option Begun) → Type 0
+IsEntered text entry entered = IsStage text (ComesIn text entry) entered
 
 -- what a schedule comes to is not known where it cannot be read, where a line is malformed, or for want of memory
 abbrev pub IsScheduledFault : RunFault → Type 0

@@ -14,14 +14,14 @@ use Rattle.resolving.specs.Fields.{structs_told}
 use Rattle.resolving.specs.Methods.{methods_told}
 use Rattle.rules.specs.Programs.{model_of}
 use Rattle.rules.specs.declared.lowered.Program.{Program}
-use Rattle.singcheck.specs.Answers.{AreFindings, IsProgram, IsResolved}
+use Rattle.singcheck.specs.Answers.{IsProgram, IsResolved}
 use Rattle.singcheck.specs.Checks.{HasProgram}
 use Rattle.singcheck.specs.Entered.{AreCleanSafe}
-use Rattle.singcheck.specs.Stages.{AreBroken}
+use Rattle.singcheck.specs.Stages.{AreBroken, IsStage}
 use Rattle.singcheck.specs.declared.programs.Built.{Built}
 use Rattle.singcheck.specs.declared.programs.Built.TheVariants as built
 use Rattle.singcheck.specs.declared.programs.Named.{Named}
-use Rattle.singcheck.specs.declared.programs.Named.TheVariants as named
+use Rattle.singcheck.specs.declared.stage.Stage.{Stage}
 
 -- the text is a program of these items, nothing is wrong with its names, and this is what it comes to
 pub record HasNames (text : List ℕ) (items : List ItemTree) (p : ProgramModel) : Type 0 where
@@ -40,9 +40,9 @@ pub record AreNamed (text : List ℕ) (items : List ItemTree) (p : ProgramModel)
   pub few : length p.methods ≤ MOST_METHODS
 
 -- the findings of the names of a tree, or the methods where there are none, and the tree
-abbrev pub IsNamed : List ℕ → Tree → Named → Type 0
-IsNamed text tree (named.Found findings) = AreFindings text (map finding_parts findings.items)
-IsNamed text tree (named.Methods methods other) = (other ≡ tree) × AreNamed text (program_tree tree) (program_model methods)
+abbrev pub IsNamed : List ℕ → Tree → Stage Named → Type 0
+IsNamed text tree named =
+    IsStage text (λ (n : Named). (n.tree ≡ tree) × AreNamed text (program_tree tree) (program_model n.methods)) named
 
 -- the program whose contracts are sound, and what is known of it
 pub record IsSoundOne (p : ProgramModel) (program : Program) : Type 0 where
@@ -63,15 +63,17 @@ pub record AreBrokenOf (text : List ℕ) (contracts : List ContractModel) (found
   pub room : length contracts < 2 ^ 32
   pub broken : AreBroken contracts found
 
--- what is wrong with a text before its methods, or its program where nothing is
-abbrev pub IsBuiltOf : List ℕ → Built → Type 0
-IsBuiltOf text (built.Found findings) = AreFindings text (map finding_parts findings.items)
-IsBuiltOf text (built.Broken methods findings) = AreBrokenOf text (contracts_model methods) (map finding_parts findings.items)
-IsBuiltOf text (built.Program program) = IsProgramBefore text program
+-- what is wrong with the contracts of a text, or its program where nothing is
+abbrev pub IsBuiltIn : List ℕ → Built → Type 0
+IsBuiltIn text (built.Broken methods findings) = AreBrokenOf text (contracts_model methods) (map finding_parts findings.items)
+IsBuiltIn text (built.Program program) = IsProgramBefore text program
+
+-- the same, or what is wrong with the text or its names
+abbrev pub IsBuiltOf : List ℕ → Stage Built → Type 0
+IsBuiltOf text b = IsStage text (IsBuiltIn text) b
 
 -- the methods of a program and what is wrong with its contracts, or the program where nothing is
 abbrev pub IsBuilt : ProgramModel → Built → Type 0
-IsBuilt p (built.Found findings) = ⊥
 IsBuilt p (built.Broken methods findings) =
     (contracts_model methods ≡ p.contracts) × AreBroken p.contracts (map finding_parts findings.items)
 IsBuilt p (built.Program program) = IsSoundOne p program

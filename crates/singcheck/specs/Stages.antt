@@ -1,5 +1,6 @@
 -- For proofs within the crate: what the stages answer each other.
-use Rattle.std.specs.Prelude.{◌≡◌, ◌≢◌, ◌<◌, ◌^◌, ℕ, List, [], ◌∷◌, ◌++◌, length, map, All}
+use Rattle.std.specs.Prelude.{◌≡◌, ◌≢◌, ◌<◌, ◌^◌, ℕ, List, [], ◌∷◌, ◌++◌, length, map, All, Vec}
+use Rattle.std.specs.Global.{Global}
 use Rattle.source.specs.Findings.{FindingParts, finding_parts}
 use Rattle.source.specs.declared.finding.Finding.{Finding}
 use Rattle.program.specs.Parts.{ContractModel, contract_model}
@@ -13,13 +14,9 @@ use Rattle.tree.specs.Programs.{program}
 use Rattle.tree.specs.Trees.{program_tree}
 use Rattle.tree.specs.declared.item.Tree.{Tree}
 use Rattle.singcheck.specs.declared.stages.Clean.{Clean}
-use Rattle.singcheck.specs.declared.soundness.Judgement.{Judgement}
-use Rattle.singcheck.specs.declared.soundness.Judgement.TheVariants as judgement
 use Rattle.singcheck.specs.declared.soundness.Judging.{Judging}
-use Rattle.singcheck.specs.declared.stages.Parsed.{Parsed}
-use Rattle.singcheck.specs.declared.stages.Parsed.TheVariants as parsed
-use Rattle.singcheck.specs.declared.stages.Staged.{Staged}
-use Rattle.singcheck.specs.declared.stages.Staged.TheVariants as staged
+use Rattle.singcheck.specs.declared.stage.Stage.{Stage}
+use Rattle.singcheck.specs.declared.stage.Stage.TheVariants as stage
 
 -- the contracts of the text, and a sound one for each
 pub record IsClean (text : List ℕ) (clean : Clean) : Type 0 where
@@ -32,15 +29,18 @@ pub record IsProgramOf (text : List ℕ) (tree : Tree) : Type 0 where
   pub parsed : IsProgram text (program_tree tree)
   pub few : length (program (program_tree tree)) < 2 ^ 32
 
+-- a stage answers the findings of the text, or that with which it goes on
+abbrev pub IsStage : {T : Type 0} → List ℕ → (T → Type 0) → Stage T → Type 0
+IsStage text GoesOn (stage.Found findings) = AreFindings text (map finding_parts findings.items)
+IsStage text GoesOn (stage.Clean t) = GoesOn t
+
 -- the text is no program, or this is its tree
-abbrev pub IsParsed : List ℕ → Parsed → Type 0
-IsParsed text (parsed.Found findings) = AreFindings text (map finding_parts findings.items)
-IsParsed text (parsed.Program tree) = IsProgramOf text tree
+abbrev pub IsParsed : List ℕ → Stage Tree → Type 0
+IsParsed text parsed = IsStage text (IsProgramOf text) parsed
 
 -- the findings of the text, or its contracts where there are none
-abbrev pub IsStaged : List ℕ → Staged → Type 0
-IsStaged text (staged.Found findings) = AreFindings text (map finding_parts findings.items)
-IsStaged text (staged.Clean clean) = IsClean text clean
+abbrev pub IsStaged : List ℕ → Stage Clean → Type 0
+IsStaged text staged = IsStage text (IsClean text) staged
 
 -- something is wrong with these contracts: all of it
 pub record AreBroken (contracts : List ContractModel) (found : List FindingParts) : Type 0 where
@@ -53,9 +53,9 @@ pub record AreSounds (contracts : List ContractModel) (sounds : List Sound) : Ty
   pub sound : All (λ c. IsSound c.parts) contracts
 
 -- what is wrong with these contracts, or the sound ones where nothing is
-abbrev pub IsJudgement : List ContractModel → Judgement → Type 0
-IsJudgement contracts (judgement.Found findings) = AreBroken contracts (map finding_parts findings.items)
-IsJudgement contracts (judgement.Sounds sounds) = AreSounds contracts sounds.items
+abbrev pub IsJudgement : List ContractModel → Stage (Vec Sound Global) → Type 0
+IsJudgement contracts (stage.Found findings) = AreBroken contracts (map finding_parts findings.items)
+IsJudgement contracts (stage.Clean sounds) = AreSounds contracts sounds.items
 
 -- a sound contract is kept
 pub record KeepsSound (c : ContractModel) (old new : Judging) : Type 0 where

@@ -10,7 +10,8 @@ ghost use Rattle.singcheck.specs.Stages.{IsClean, AddsLine};
 
 use crate::lines::{add_bounds, add_contracts};
 use crate::report::{Report, report_of};
-use crate::stages::{Clean, Staged, run_stages};
+use crate::stage::Stage;
+use crate::stages::{Clean, run_stages};
 use contracts::Sound;
 use devices::{Input, MAX_READ, RunFault, Sink, Source, Status, read_text, write_all};
 use program::{Contract, Side};
@@ -51,11 +52,11 @@ fn bounds_of(alloc: Global, text: &[u8]) -> Result<Report, Memory>
     ensures { IfOk result (λ answer. Answers text.now answer.bytes.items answer.status) }
 {
     match run_stages(alloc, text)? {
-        Staged::Found(findings) => Ok(Report {
+        Stage::Found(findings) => Ok(Report {
             bytes: report_of(alloc, findings)?,
             status: Status::Found,
         }),
-        Staged::Clean(clean) => Ok(Report {
+        Stage::Clean(clean) => Ok(Report {
             bytes: bounds_lines(alloc, &clean)?,
             status: Status::Empty,
         }),

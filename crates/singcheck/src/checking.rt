@@ -11,6 +11,7 @@ use crate::laws::one_program;
 use crate::limits::{MOST_SLOTS, MOST_WORKERS};
 use crate::programs::{Built, program_of};
 use crate::report::{Report, clear, finding_report};
+use crate::stage::Stage;
 use crate::tools::Tools;
 use crate::verdicts::analyse_methods;
 use devices::{CheckFault, Status};
@@ -105,12 +106,12 @@ pub(crate) fn check_text<R: Threads + Wait + Sync, G: Gate>(
 {
     one_program();
     match program_of(tools.alloc, text)? {
-        Built::Found(findings) => finding_report(tools.alloc, findings),
-        Built::Broken(methods, findings) => {
+        Stage::Found(findings) => finding_report(tools.alloc, findings),
+        Stage::Clean(Built::Broken(methods, findings)) => {
             drop(methods); // the report is made without them, which spares their memory
             finding_report(tools.alloc, findings)
         }
-        Built::Program(program) => check_methods(tools, &program),
+        Stage::Clean(Built::Program(program)) => check_methods(tools, &program),
     }
 }
 

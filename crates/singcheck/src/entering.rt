@@ -5,16 +5,17 @@ ghost use Rattle.tree.specs.Trees.{program_tree};
 ghost use Rattle.contracts.specs.Conditions.{IsSound};
 ghost use Rattle.program.specs.declared.limits.TheConstants.{MOST_METHODS};
 ghost use Rattle.rules.specs.Programs.{model_of};
-ghost use Rattle.singcheck.specs.Entered.{Begins, IsEntered};
+ghost use Rattle.singcheck.specs.Entered.{Begins, ComesIn, IsEntered};
 ghost use Rattle.singcheck.specs.Named.{HasNames};
 ghost use Rattle.singcheck.specs.Stages.{IsProgramOf};
 
 use crate::entries::{entry_index, struct_names};
 use crate::programs::{Built, Named, judged_program, named_methods};
-use crate::stages::{Parsed, parse_text};
+use crate::stage::Stage;
+use crate::stages::parse_text;
 use program::MethodId;
 use rules::Program;
-use source::{Finding, Memory};
+use source::Memory;
 use std::alloc::Global;
 use tree::Tree;
 
@@ -26,40 +27,40 @@ pub(crate) struct Begun {
     pub(crate) structs: Vec<String>,
 }
 
-/// What a text and an entry come to.
-#[derive(Drop)]
-pub(crate) enum Entered {
-    /// The findings of the first stage before the methods that has some.
-    Found(Vec<Finding>),
-    /// The text has no such method, or a run may not begin with it.
-    Lacking,
-    /// A run may begin.
-    Begun(Begun),
-}
-
-/// The text, up to its methods, and then the entry.
-pub(crate) fn enter(alloc: Global, text: &[u8], entry: &[u8]) -> Result<Entered, Memory>
+/// The text, up to its methods, and then the entry. None where the text has no such method, or a run may not begin with it.
+pub(crate) fn enter(
+    alloc: Global,
+    text: &[u8],
+    entry: &[u8],
+) -> Result<Stage<Option<Begun>>, Memory>
     ensures { IfOk result (IsEntered text.now entry.now) }
 {
     match parse_text(alloc, text)? {
-        Parsed::Found(findings) => Ok(Entered::Found(findings)),
-        Parsed::Program(tree) => enter_program(alloc, text, tree, entry),
+        Stage::Found(findings) => Ok(Stage::Found(findings)),
+        Stage::Clean(tree) => enter_program(alloc, text, tree, entry),
     }
 }
 
 /// The names and the contracts of a program, and then the entry.
-fn enter_program(alloc: Global, text: &[u8], tree: Tree, entry: &[u8]) -> Result<Entered, Memory>
+fn enter_program(
+    alloc: Global,
+    text: &[u8],
+    tree: Tree,
+    entry: &[u8],
+) -> Result<Stage<Option<Begun>>, Memory>
     requires program { IsProgramOf text.now tree }
     ensures { IfOk result (IsEntered text.now entry.now) }
 {
-    let (methods, tree) = match named_methods(alloc, tree, text)? {
-        Named::Found(findings) => return Ok(Entered::Found(findings)),
-        Named::Methods(methods, tree) => (methods, tree),
+    let Named { methods, tree } = match named_methods(alloc, tree, text)? {
+        Stage::Found(findings) => return Ok(Stage::Found(findings)),
+        Stage::Clean(named) => named,
     };
     match judged_program(alloc, methods)? {
-        Built::Found(findings) => Ok(Entered::Found(findings)),
-        Built::Broken(_, findings) => Ok(Entered::Found(findings)),
-        Built::Program(program) => enter_method(alloc, text, &tree, program, entry),
+        Built::Broken(_, findings) => Ok(Stage::Found(findings)),
+        Built::Program(program) => {
+            let begun = enter_method(alloc, text, &tree, program, entry)?;
+            Ok(Stage::Clean(begun))
+        }
     }
 }
 
@@ -70,17 +71,17 @@ fn enter_method(
     tree: &Tree,
     program: Program,
     entry: &[u8],
-) -> Result<Entered, Memory>
+) -> Result<Option<Begun>, Memory>
     requires program { HasNames text.now (program_tree tree.now) (model_of program) }
     requires sound { All (λ c. IsSound c.parts) (model_of program).contracts }
     requires few { length (model_of program).methods ≤ MOST_METHODS }
-    ensures { IfOk result (IsEntered text.now entry.now) }
+    ensures { IfOk result (ComesIn text.now entry.now) }
 {
     let Some(method) = entry_of(&program, entry_index(text, tree, entry)) else {
-        return Ok(Entered::Lacking);
+        return Ok(None);
     };
     let structs = struct_names(alloc, text, tree)?;
-    Ok(Entered::Begun(Begun {
+    Ok(Some(Begun {
         program,
         method,
         structs,

@@ -18,6 +18,7 @@ mod report;
 mod running;
 mod seats;
 mod soundness;
+mod stage;
 mod stages;
 mod tools;
 mod verdicts;

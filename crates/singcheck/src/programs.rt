@@ -6,8 +6,9 @@ ghost use Rattle.program.specs.Programs.{contracts_model, program_model};
 ghost use Rattle.singcheck.specs.Named.{IsBuilt, IsBuiltOf, IsNamed};
 ghost use Rattle.singcheck.specs.Stages.{IsProgramOf};
 
-use crate::soundness::{Judgement, judge_contracts};
-use crate::stages::{Parsed, parse_text};
+use crate::soundness::judge_contracts;
+use crate::stage::Stage;
+use crate::stages::parse_text;
 use names::{NameFaults, resolve_tree};
 use program::Methods;
 use rules::Program;
@@ -17,54 +18,49 @@ use std::alloc::Global;
 use tree::Tree;
 use wellformed::well_formed_methods;
 
-/// What the stage of the names answers.
+/// A program whose names are resolved: its methods, and with them the contracts, which are not judged yet; and its tree.
 #[derive(Drop)]
-pub(crate) enum Named {
-    /// What is wrong with them.
-    Found(Vec<Finding>),
-    /// Nothing is: the methods, and with them the contracts, which are not judged yet. And the tree.
-    Methods(Methods, Tree),
+pub(crate) struct Named {
+    pub(crate) methods: Methods,
+    pub(crate) tree: Tree,
 }
 
 /// What the methods come to, once their contracts are judged.
 #[derive(Drop)]
 pub(crate) enum Built {
-    /// What is wrong with the text, its tokens or its names.
-    Found(Vec<Finding>),
     /// The methods, and what is wrong with the contracts.
     Broken(Methods, Vec<Finding>),
     /// Nothing is: the program.
     Program(Program),
 }
 
-/// The stages of a text before its methods: what the first of them finds that finds something, and where none does the program.
-pub(crate) fn program_of(alloc: Global, text: &[u8]) -> Result<Built, Memory>
+/// The stages of a text before its methods.
+pub(crate) fn program_of(alloc: Global, text: &[u8]) -> Result<Stage<Built>, Memory>
     ensures { IfOk result (IsBuiltOf text.now) }
 {
     let tree = match parse_text(alloc, text)? {
-        Parsed::Found(findings) => return Ok(Built::Found(findings)),
-        Parsed::Program(tree) => tree,
+        Stage::Found(findings) => return Ok(Stage::Found(findings)),
+        Stage::Clean(tree) => tree,
     };
-    match named_methods(alloc, tree, text)? {
-        Named::Found(findings) => Ok(Built::Found(findings)),
-        Named::Methods(methods, tree) => {
-            drop(tree); // the contracts are judged without it, which spares its memory
-            judged_program(alloc, methods)
-        }
-    }
+    let Named { methods, tree } = match named_methods(alloc, tree, text)? {
+        Stage::Found(findings) => return Ok(Stage::Found(findings)),
+        Stage::Clean(named) => named,
+    };
+    drop(tree); // the contracts are judged without it, which spares its memory
+    Ok(Stage::Clean(judged_program(alloc, methods)?))
 }
 
 /// The stage of the names. The methods need the tree no more, and it comes back with them.
-pub(crate) fn named_methods(alloc: Global, tree: Tree, text: &[u8]) -> Result<Named, Memory>
+pub(crate) fn named_methods(alloc: Global, tree: Tree, text: &[u8]) -> Result<Stage<Named>, Memory>
     requires { IsProgramOf text.now tree }
     ensures { IfOk result (IsNamed text.now tree) }
 {
     match resolve_tree(alloc, tree, text) {
         Ok((resolved, tree)) => {
             let methods = well_formed_methods(alloc, &tree, text, resolved)?;
-            Ok(Named::Methods(methods, tree))
+            Ok(Stage::Clean(Named { methods, tree }))
         }
-        Err(NameFaults::Found(findings)) => Ok(Named::Found(findings)),
+        Err(NameFaults::Found(findings)) => Ok(Stage::Found(findings)),
         Err(NameFaults::Memory) => Err(Memory),
     }
 }
@@ -76,8 +72,8 @@ pub(crate) fn judged_program(alloc: Global, methods: Methods) -> Result<Built, M
     ensures { IfOk result (IsBuilt (program_model methods)) }
 {
     match judge_contracts(alloc, methods.contracts())? {
-        Judgement::Found(findings) => Ok(Built::Broken(methods, findings)),
-        Judgement::Sounds(sounds) => {
+        Stage::Found(findings) => Ok(Built::Broken(methods, findings)),
+        Stage::Clean(sounds) => {
             clean_methods_are_safe(&methods, &sounds);
             Ok(Built::Program(Program::new(alloc, methods, sounds)?))
         }

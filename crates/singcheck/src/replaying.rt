@@ -10,15 +10,14 @@ ghost use Rattle.singcheck.specs.Entered.{IsAnswerFault, IsBegun, IsScheduledFau
 ghost use Rattle.singcheck.specs.Replays.{HasSomeEntry, IsRan, LacksEntry, LacksSchedule, Replays, stop_status};
 ghost use Rattle.singcheck.specs.Safety.{HasEmptyReport, ReplaysWithinBounds, RunsSafely};
 
-use crate::entering::{Begun, Entered, enter};
+use crate::entering::{Begun, enter};
 use crate::laws::{
     each_program_has_bounds, each_program_is_well_formed, findings_or_program, one_program,
 };
 use crate::limits::MAX_SCHEDULE_READ;
 use crate::report::{Report, report_of};
-use devices::{
-    Input, MAX_READ, RunFault, Sink, Source, Status, read_text, read_up_to, write_all,
-};
+use crate::stage::Stage;
+use devices::{Input, MAX_READ, RunFault, Sink, Source, Status, read_text, read_up_to, write_all};
 use machine::{Event, Halt, replay};
 use replays::laws::a_front_tells_all;
 use replays::{ScheduleFault, lines_of, read_schedule};
@@ -110,12 +109,12 @@ fn answer_to<Q: Source>(
     empty_report_is_safe();
     runs_are_bounded();
     match enter(alloc, text, entry)? {
-        Entered::Found(findings) => Ok(Report {
+        Stage::Found(findings) => Ok(Report {
             bytes: report_of(alloc, findings)?,
             status: Status::Found,
         }),
-        Entered::Lacking => Err(RunFault::Entry),
-        Entered::Begun(begun) => run_schedule(alloc, &begun, schedule),
+        Stage::Clean(None) => Err(RunFault::Entry),
+        Stage::Clean(Some(begun)) => run_schedule(alloc, &begun, schedule),
     }
 }
 

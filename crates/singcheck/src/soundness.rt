@@ -4,22 +4,17 @@ ghost use Rattle.std.specs.Prelude.{◌≡◌, ◌++◌, ◌<◌, ◌^◌, All, 
 ghost use Rattle.program.specs.Parts.{ContractModel, IsWhole, contract_model};
 ghost use Rattle.singcheck.specs.Stages.{IsJudgement, Judges};
 
+use crate::stage::Stage;
 use contracts::{Judged, Sound, edges};
 use program::{ContractId, Resolved};
 use source::{Finding, Memory};
 use std::alloc::Global;
 
-/// What the stage of the contracts answers.
-#[derive(Drop)]
-pub(crate) enum Judgement {
-    /// What is wrong with them.
-    Found(Vec<Finding>),
-    /// All of them are sound: these, in order of the text.
-    Sounds(Vec<Sound>),
-}
-
 /// The contracts that are sound, or what is wrong with the others.
-pub(crate) fn judge_contracts(alloc: Global, resolved: &Resolved) -> Result<Judgement, Memory>
+pub(crate) fn judge_contracts(
+    alloc: Global,
+    resolved: &Resolved,
+) -> Result<Stage<Vec<Sound>>, Memory>
     requires whole { All (λ c. IsWhole c.parts) (map contract_model resolved.now.contracts.items) }
     requires few { length resolved.now.contracts.items < 2 ^ 32 }
     ensures { IfOk result (IsJudgement (map contract_model resolved.now.contracts.items)) }
@@ -33,9 +28,9 @@ pub(crate) fn judge_contracts(alloc: Global, resolved: &Resolved) -> Result<Judg
     }
     let Judging { sounds, findings } = judging;
     if findings.is_empty() {
-        Ok(Judgement::Sounds(sounds))
+        Ok(Stage::Clean(sounds))
     } else {
-        Ok(Judgement::Found(findings))
+        Ok(Stage::Found(findings))
     }
 }
 

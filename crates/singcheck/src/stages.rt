@@ -9,7 +9,8 @@ ghost use Rattle.program.specs.Parts.{IsWhole, contract_model};
 ghost use Rattle.singcheck.specs.Answers.{IsResolved, fault_findings, wrong_token};
 ghost use Rattle.singcheck.specs.Stages.{IsParsed, IsProgramOf, IsStaged};
 
-use crate::soundness::{Judgement, judge_contracts};
+use crate::soundness::judge_contracts;
+use crate::stage::Stage;
 use contracts::Sound;
 use names::{NameFaults, resolve_tree};
 use program::Resolved;
@@ -18,16 +19,6 @@ use std::alloc::Global;
 use syntax::{SyntaxFault, parse};
 use tree::Tree;
 
-/// What the stages of a text, its names and its contracts answer. A later one only looks where the earlier ones found
-/// nothing.
-#[derive(Drop)]
-pub(crate) enum Staged {
-    /// The findings of the first stage that has some.
-    Found(Vec<Finding>),
-    /// None of them found anything.
-    Clean(Clean),
-}
-
 /// A resolved program, and its contracts, which are sound, in order of the text.
 #[derive(Drop)]
 pub(crate) struct Clean {
@@ -35,34 +26,25 @@ pub(crate) struct Clean {
     pub(crate) sounds: Vec<Sound>,
 }
 
-/// What a text is.
-#[derive(Drop)]
-pub(crate) enum Parsed {
-    /// No program: what is wrong with it.
-    Found(Vec<Finding>),
-    /// A program: the tree that its tokens spell.
-    Program(Tree),
-}
-
 /// The stages of a text, its names and its contracts.
-pub(crate) fn run_stages(alloc: Global, text: &[u8]) -> Result<Staged, Memory>
+pub(crate) fn run_stages(alloc: Global, text: &[u8]) -> Result<Stage<Clean>, Memory>
     ensures { IfOk result (IsStaged text.now) }
 {
     match parse_text(alloc, text)? {
-        Parsed::Found(findings) => Ok(Staged::Found(findings)),
-        Parsed::Program(tree) => staged_names(alloc, text, tree),
+        Stage::Found(findings) => Ok(Stage::Found(findings)),
+        Stage::Clean(tree) => staged_names(alloc, text, tree),
     }
 }
 
 /// The first stage: the text and its tokens, which go with the end of it.
-pub(crate) fn parse_text(alloc: Global, text: &[u8]) -> Result<Parsed, Memory>
+pub(crate) fn parse_text(alloc: Global, text: &[u8]) -> Result<Stage<Tree>, Memory>
     ensures { IfOk result (IsParsed text.now) }
 {
     match lex(alloc, text) {
         Ok(tokens) => parse_tokens(alloc, tokens),
         Err(fault) => {
             let finding = fault_finding(alloc, fault)?;
-            Ok(Parsed::Found(one(alloc, finding)?))
+            Ok(Stage::Found(one(alloc, finding)?))
         }
     }
 }
@@ -79,14 +61,14 @@ pub(crate) fn fault_finding(alloc: Global, fault: TextFault) -> Result<Finding, 
 }
 
 /// What the text of these tokens is.
-fn parse_tokens(alloc: Global, tokens: Tokens) -> Result<Parsed, Memory>
+fn parse_tokens(alloc: Global, tokens: Tokens) -> Result<Stage<Tree>, Memory>
     requires few { length tokens.list.items < 2 ^ 32 }
     ensures { (text : List ℕ) → AreTokens text tokens.list.items → tokens.end ≡ place_of (body_of text)
         → IfOk result (IsParsed text) }
 {
     match parse(alloc, &tokens) {
-        Ok(tree) => Ok(Parsed::Program(tree)),
-        Err(SyntaxFault::At(number)) => Ok(Parsed::Found(wrong_at(alloc, &tokens, number)?)),
+        Ok(tree) => Ok(Stage::Clean(tree)),
+        Err(SyntaxFault::At(number)) => Ok(Stage::Found(wrong_at(alloc, &tokens, number)?)),
         Err(SyntaxFault::Memory) => Err(Memory),
     }
 }
@@ -120,7 +102,7 @@ pub(crate) fn token_at(tokens: &Tokens, number: usize) -> Option<Token>
 
 /// The stages of names and contracts. The tree goes before the contracts are judged, or the findings of names are written: these can
 /// have its memory.
-fn staged_names(alloc: Global, text: &[u8], tree: Tree) -> Result<Staged, Memory>
+fn staged_names(alloc: Global, text: &[u8], tree: Tree) -> Result<Stage<Clean>, Memory>
     requires { IsProgramOf text.now tree }
     ensures { IfOk result (IsStaged text.now) }
 {
@@ -129,21 +111,21 @@ fn staged_names(alloc: Global, text: &[u8], tree: Tree) -> Result<Staged, Memory
             drop(tree);
             staged_contracts(alloc, resolved)
         }
-        Err(NameFaults::Found(found)) => Ok(Staged::Found(found)),
+        Err(NameFaults::Found(found)) => Ok(Stage::Found(found)),
         Err(NameFaults::Memory) => Err(Memory),
     }
 }
 
 /// The stage of the contracts.
-fn staged_contracts(alloc: Global, resolved: Resolved) -> Result<Staged, Memory>
+fn staged_contracts(alloc: Global, resolved: Resolved) -> Result<Stage<Clean>, Memory>
     requires whole { All (λ c. IsWhole c.parts) (map contract_model resolved.contracts.items) }
     requires few { length resolved.contracts.items < 2 ^ 32 }
     ensures { IfOk result (λ staged. (text : List ℕ)
         → IsResolved text (map contract_model resolved.contracts.items) → IsStaged text staged) }
 {
     match judge_contracts(alloc, &resolved)? {
-        Judgement::Found(findings) => Ok(Staged::Found(findings)),
-        Judgement::Sounds(sounds) => Ok(Staged::Clean(Clean { resolved, sounds })),
+        Stage::Found(findings) => Ok(Stage::Found(findings)),
+        Stage::Clean(sounds) => Ok(Stage::Clean(Clean { resolved, sounds })),
     }
 }
 

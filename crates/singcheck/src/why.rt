@@ -18,6 +18,7 @@ use crate::explaining::{explain_contracts, explain_methods, explained_in_order, 
 use crate::programs::{Built, program_of};
 use crate::remarking::explain_text;
 use crate::report::{Report, clear, finding_report};
+use crate::stage::Stage;
 use devices::{Input, MAX_READ, RunFault, Sink, Source, Status, read_text, write_all};
 use program::Resolved;
 use rules::Program;
@@ -62,9 +63,11 @@ fn why_of(alloc: Global, text: &[u8], named: Option<Place>) -> Result<Report, Me
     ensures { IfOk result (λ answer. Explains named text.now answer.bytes.items answer.status) }
 {
     match program_of(alloc, text)? {
-        Built::Found(findings) => why_text(alloc, text, findings, named),
-        Built::Broken(methods, _) => why_contracts(alloc, methods.contracts(), named),
-        Built::Program(program) => why_methods(alloc, &program, named),
+        Stage::Found(findings) => why_text(alloc, text, findings, named),
+        Stage::Clean(Built::Broken(methods, _)) => {
+            why_contracts(alloc, methods.contracts(), named)
+        }
+        Stage::Clean(Built::Program(program)) => why_methods(alloc, &program, named),
     }
 }
 

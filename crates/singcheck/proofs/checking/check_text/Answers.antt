@@ -3,7 +3,7 @@ use Rattle.std.proofs.lemmas.Result.{IfOk-weaker}
 use Rattle.source.specs.Findings.{finding_parts}
 use Rattle.rules.specs.Programs.{model_of}
 use Rattle.singcheck.specs.Checks.{Before}
-use Rattle.singcheck.specs.Named.{IsBuiltOf}
+use Rattle.singcheck.specs.Named.{IsBuiltIn, IsBuiltOf}
 use Rattle.singcheck.specs.Safety.{IsSafeText}
 use Rattle.singcheck.proofs.CheckLemmas.{broken_findings, reported_ok}
 use Rattle.singcheck.proofs.SafetyLemmas.{found_unsafe, safe_text}
@@ -18,30 +18,30 @@ returns-in-Found-clause-report g c =
 pub returns-in-Found-clause-safe : goal.returns-in-Found-clause-safe
 returns-in-Found-clause-safe g c = found_unsafe (IsSafeText c.args.text.now) c.finding_report.result c.finding_report.ensures.status
 
-pub returns-in-Broken-clause-report : goal.returns-in-Broken-clause-report
-returns-in-Broken-clause-report g c =
+pub returns-in-Clean-Broken-clause-report : goal.returns-in-Clean-Broken-clause-report
+returns-in-Clean-Broken-clause-report g c =
     let text = c.args.text.now in
-    let found = map finding_parts c.in-Broken.findings.items in
-    let built = subst (IsBuiltOf text) c.in-Broken.is c.in_ok-findings.ensures in
-    reported_ok text found (Before (broken_findings text _ found built)) c.finding_report-in-Broken.result c.finding_report-in-Broken.ensures.bytes c.finding_report-in-Broken.ensures.status
+    let found = map finding_parts c.in-Clean-Broken.findings.items in
+    let built = subst (IsBuiltIn text) c.in-Clean-Broken.field-0-is (subst (IsBuiltOf text) c.in-Clean-Broken.is c.in_ok-findings.ensures) in
+    reported_ok text found (Before (broken_findings text _ found built)) c.finding_report-in-Clean-Broken.result c.finding_report-in-Clean-Broken.ensures.bytes c.finding_report-in-Clean-Broken.ensures.status
 
-pub returns-in-Broken-clause-safe : goal.returns-in-Broken-clause-safe
-returns-in-Broken-clause-safe g c = found_unsafe (IsSafeText c.args.text.now) c.finding_report-in-Broken.result c.finding_report-in-Broken.ensures.status
+pub returns-in-Clean-Broken-clause-safe : goal.returns-in-Clean-Broken-clause-safe
+returns-in-Clean-Broken-clause-safe g c = found_unsafe (IsSafeText c.args.text.now) c.finding_report-in-Clean-Broken.result c.finding_report-in-Clean-Broken.ensures.status
 
-pub returns-in-Program-clause-report : goal.returns-in-Program-clause-report
-returns-in-Program-clause-report g c =
+pub returns-in-Clean-Program-clause-report : goal.returns-in-Clean-Program-clause-report
+returns-in-Clean-Program-clause-report g c =
     let text = c.args.text.now in
-    let built = subst (IsBuiltOf text) c.in-Program.is c.in_ok-findings.ensures in
+    let built = subst (IsBuiltIn text) c.in-Clean-Program.field-0-is (subst (IsBuiltOf text) c.in-Clean-Program.is c.in_ok-findings.ensures) in
     IfOk-weaker c.check_methods.result _ _ (λ r told. told text built.has) c.check_methods.ensures.report
 
-pub returns-in-Program-clause-safe : goal.returns-in-Program-clause-safe
-returns-in-Program-clause-safe g c =
+pub returns-in-Clean-Program-clause-safe : goal.returns-in-Clean-Program-clause-safe
+returns-in-Clean-Program-clause-safe g c =
     let text = c.args.text.now in
-    let p = model_of c.in-Program.program in
-    let built = subst (IsBuiltOf text) c.in-Program.is c.in_ok-findings.ensures in
+    let p = model_of c.in-Clean-Program.program in
+    let built = subst (IsBuiltIn text) c.in-Clean-Program.field-0-is (subst (IsBuiltOf text) c.in-Clean-Program.is c.in_ok-findings.ensures) in
     IfOk-weaker c.check_methods.result _ _ (λ r clean empty. safe_text text p (λ q other. c.one_program.ensures text p q built.has other) (clean empty) built.safe) c.check_methods.ensures.clean
 
 pub check_methods-requires-clause-few : goal.check_methods-requires-clause-few
 check_methods-requires-clause-few g c κs within =
-    let built = subst (IsBuiltOf c.args.text.now) c.in-Program.is c.in_ok-findings.ensures in
+    let built = subst (IsBuiltIn c.args.text.now) c.in-Clean-Program.field-0-is (subst (IsBuiltOf c.args.text.now) c.in-Clean-Program.is c.in_ok-findings.ensures) in
     omega (arith, built.few)

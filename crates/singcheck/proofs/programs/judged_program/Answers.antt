@@ -23,12 +23,12 @@ judge_contracts-requires c =
 
 pub clean_methods_are_safe-requires : goal.clean_methods_are_safe-requires
 clean_methods_are_safe-requires c =
-    let sounds = subst (IsJudgement (map contract_model c.contracts.result.now.contracts.items)) c.in-Sounds.is c.in_ok-findings.ensures in
+    let sounds = subst (IsJudgement (map contract_model c.contracts.result.now.contracts.items)) c.in-Clean.is c.in_ok-findings.ensures in
     record { sound = ap (map sound_parts) c.deref.ensures.value ∙ sounds.kept ∙ ap (map (λ (x : ContractModel). x.parts)) c.contracts.ensures }
 
 pub new-requires : goal.new-requires
 new-requires c =
-    let sounds = subst (IsJudgement (map contract_model c.contracts.result.now.contracts.items)) c.in-Sounds.is c.in_ok-findings.ensures in
+    let sounds = subst (IsJudgement (map contract_model c.contracts.result.now.contracts.items)) c.in-Clean.is c.in_ok-findings.ensures in
     record { sound = sounds.kept ∙ ap (map (λ (x : ContractModel). x.parts)) c.contracts.ensures }
 
 pub returns-in-Found : goal.returns-in-Found
@@ -36,11 +36,11 @@ returns-in-Found c =
     let contracts = map contract_model c.contracts.result.now.contracts.items in
     (refl, subst (λ l. AreBroken l (map finding_parts c.in-Found.findings.items)) c.contracts.ensures (subst (IsJudgement contracts) c.in-Found.is c.in_ok-findings.ensures))
 
-pub returns-in_ok-new-in-Sounds : goal.returns-in_ok-new-in-Sounds
-returns-in_ok-new-in-Sounds c =
+pub returns-in_ok-new-in-Clean : goal.returns-in_ok-new-in-Clean
+returns-in_ok-new-in-Clean c =
     let contracts = map contract_model c.contracts.result.now.contracts.items in
-    let sounds = subst (IsJudgement contracts) c.in-Sounds.is c.in_ok-findings.ensures in
-    let same = c.in_ok-new-in-Sounds.ensures in
+    let sounds = subst (IsJudgement contracts) c.in-Clean.is c.in_ok-findings.ensures in
+    let same = c.in_ok-new-in-Clean.ensures in
     record {
       same = same;
       sound = subst (λ (p : ProgramModel). All (λ (s : ContractModel). IsSound s.parts) p.contracts) (sym same)

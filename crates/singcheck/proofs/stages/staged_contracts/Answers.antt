@@ -10,8 +10,8 @@ returns-in-Found c = λ text resolved.
     let contracts = map contract_model c.args.resolved.contracts.items in
     unsound text contracts (map finding_parts c.in-Found.findings.items) resolved (subst (IsJudgement contracts) c.in-Found.is c.in_ok-findings.ensures)
 
-pub returns-in-Sounds : goal.returns-in-Sounds
-returns-in-Sounds c = λ text resolved.
+pub returns-in-Clean : goal.returns-in-Clean
+returns-in-Clean c = λ text resolved.
     let contracts = map contract_model c.args.resolved.contracts.items in
-    let sounds = subst (IsJudgement contracts) c.in-Sounds.is c.in_ok-findings.ensures in
+    let sounds = subst (IsJudgement contracts) c.in-Clean.is c.in_ok-findings.ensures in
     record { resolved = resolved; sounds = sounds.kept; sound = sounds.sound }

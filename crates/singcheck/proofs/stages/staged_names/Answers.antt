@@ -14,9 +14,9 @@ use Rattle.singcheck.proofs.stages.staged_names.Goals as goal
 
 pub staged_contracts-requires : goal.staged_contracts-requires
 staged_contracts-requires c =
-    let few = few_contracts c.args.text.now (program_tree c.args.tree) c.in-Ok.resolved.contracts.items contract_model c.in-Ok.ensures.resolved in
+    let few = few_contracts c.args.text.now (program_tree c.args.tree) c.in-Ok.resolved.contracts.items contract_model c.in-Ok.ensures.resolved.contracts in
     record {
-      whole = All-map (λ s. IsWhole s.parts) contract_model c.in-Ok.resolved.contracts.items c.in-Ok.ensures.whole;
+      whole = All-map (λ s. IsWhole s.parts) contract_model c.in-Ok.resolved.contracts.items c.in-Ok.ensures.resolved.whole;
       few = omega (arith, few, c.requires.few);
     }
 
@@ -26,8 +26,8 @@ returns-in-Ok c =
     let resolved : IsResolved text (map contract_model c.in-Ok.resolved.contracts.items) = record {
       items = program_tree c.args.tree;
       parsed = c.requires.parsed;
-      clean = c.in-Ok.ensures.clean;
-      are = c.in-Ok.ensures.resolved;
+      clean = c.in-Ok.ensures.resolved.clean;
+      are = c.in-Ok.ensures.resolved.contracts;
     } in
     IfOk-weaker c.staged_contracts.result _ _ (λ staged h. h text resolved) c.staged_contracts.ensures
 

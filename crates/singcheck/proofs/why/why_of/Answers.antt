@@ -5,7 +5,7 @@ use Rattle.std.proofs.lemmas.Result.{IfOk-weaker}
 use Rattle.source.specs.Findings.{finding_parts}
 use Rattle.program.specs.Parts.{IsWhole, contract_model}
 use Rattle.program.specs.Programs.{contracts_model}
-use Rattle.singcheck.specs.Named.{AreBrokenOf, IsBuiltOf}
+use Rattle.singcheck.specs.Named.{AreBrokenOf, IsBuiltIn, IsBuiltOf}
 use Rattle.singcheck.proofs.why.why_of.Goals as goal
 
 pub why_text-requires : goal.why_text-requires
@@ -13,28 +13,28 @@ why_text-requires c = subst (IsBuiltOf c.args.text.now) c.in-Found.is c.in_ok-fi
 
 pub why_contracts-requires : goal.why_contracts-requires
 why_contracts-requires c =
-    let built = subst (IsBuiltOf c.args.text.now) c.in-Broken.is c.in_ok-findings.ensures in
+    let built = subst (IsBuiltIn c.args.text.now) c.in-Clean-Broken.field-0-is (subst (IsBuiltOf c.args.text.now) c.in-Clean-Broken.is c.in_ok-findings.ensures) in
     let resolved = c.contracts.result.now.contracts.items in
     let size = length-map resolved contract_model in
     let same = ap length c.contracts.ensures in
     record {
-      whole = All-same (λ s. IsWhole s.parts) (map contract_model resolved) (contracts_model c.in-Broken.methods) c.contracts.ensures built.whole;
+      whole = All-same (λ s. IsWhole s.parts) (map contract_model resolved) (contracts_model c.in-Clean-Broken.methods) c.contracts.ensures built.whole;
       few = omega (arith, size, same, built.room);
     }
 
-pub returns-in-Broken : goal.returns-in-Broken
-returns-in-Broken c =
+pub returns-in-Clean-Broken : goal.returns-in-Clean-Broken
+returns-in-Clean-Broken c =
     let text = c.args.text.now in
-    let found = map finding_parts c.in-Broken.field-1.items in
-    let built = subst (IsBuiltOf text) c.in-Broken.is c.in_ok-findings.ensures in
+    let found = map finding_parts c.in-Clean-Broken.field-0-1.items in
+    let built = subst (IsBuiltIn text) c.in-Clean-Broken.field-0-is (subst (IsBuiltOf text) c.in-Clean-Broken.is c.in_ok-findings.ensures) in
     IfOk-weaker c.why_contracts.result _ _ (λ r told. told text found (subst (λ l. AreBrokenOf text l found) (sym c.contracts.ensures) built)) c.why_contracts.ensures
 
 pub why_methods-requires : goal.why_methods-requires
 why_methods-requires c =
-    let built = subst (IsBuiltOf c.args.text.now) c.in-Program.is c.in_ok-findings.ensures in
+    let built = subst (IsBuiltIn c.args.text.now) c.in-Clean-Program.field-0-is (subst (IsBuiltOf c.args.text.now) c.in-Clean-Program.is c.in_ok-findings.ensures) in
     record { few = omega (arith, built.few) }
 
 pub returns : goal.returns
 returns c =
-    let built = subst (IsBuiltOf c.args.text.now) c.in-Program.is c.in_ok-findings.ensures in
+    let built = subst (IsBuiltIn c.args.text.now) c.in-Clean-Program.field-0-is (subst (IsBuiltOf c.args.text.now) c.in-Clean-Program.is c.in_ok-findings.ensures) in
     IfOk-weaker c.why_methods.result _ _ (λ r told. told c.args.text.now built.has) c.why_methods.ensures
