@@ -1,5 +1,5 @@
 -- That program is well formed.
-use Rattle.std.proofs.Common.{◌≡◌, ◌<◌, ◌∙◌, ℕ, zero, suc, false, true≢false, List, [], ◌∷◌, ◌++◌, Option, Some, None, map, slice_get, refl, sym, ap, subst, arith}
+use Rattle.std.proofs.Common.{◌≡◌, ◌<◌, ◌∙◌, ℕ, zero, suc, false, true≢false, List, [], ◌∷◌, ◌++◌, Some, None, map, slice_get, refl, sym, ap, subst, arith}
 use Rattle.std.specs.Prelude.{IfSome}
 use Rattle.std.specs.Global.{Vec}
 use Rattle.program.specs.Methods.{MethodModel, VariableModel, method_model}
@@ -12,12 +12,7 @@ use Rattle.program.specs.declared.contract.Contract.{Contract}
 use Rattle.program.specs.declared.kind.HeapKind.{HeapKind}
 use Rattle.program.specs.declared.method.Method.{Method}
 use Rattle.acceptance_methods.specs.Exchanges.{deletes, exchange, method, new, structs}
-
-one_some : {X : Type 0} (x y : X) → Path (Option X) (Some x) (Some y) → x ≡ y
-one_some x y e = cc
-
-none_some : {X : Type 0} (x : X) → Path (Option X) None (Some x) → ⊥
-none_some x e = cc
+use Rattle.rules.proofs.TransferLemmas.{none_some, one_some}
 
 nested_at : (n : ℕ) (v : VariableModel) → slice_get method.variables n ≡ Some v → IfSome v.outer (λ o. o.0 < n)
 nested_at zero v there = subst (λ (x : VariableModel). IfSome x.outer (λ o. o.0 < 0)) (one_some _ v there) tt

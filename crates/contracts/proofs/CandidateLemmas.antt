@@ -32,7 +32,7 @@ chosen {X} P (y ∷ ys) none = chosen P ys without
         (λ x p c. all x p (Contains-tail y ys x (λ same. with found right all (subst P (sym same) p)) c))
 
 -- what one element adds is among what all add
-in_flat : {X Y : Type 0} (f : X → List Y) (xs : List X) (x : X) (y : Y)
+pub in_flat : {X Y : Type 0} (f : X → List Y) (xs : List X) (x : X) (y : Y)
     → Contains xs x → Contains (f x) y → Contains (flat_map f xs) y
 in_flat f [] x y c d = absurd (none_in x c)
 in_flat f (z ∷ zs) x y c d = contains_either (Contains (flat_map f (z ∷ zs)) y) z x zs c

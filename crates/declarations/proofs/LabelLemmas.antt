@@ -1,12 +1,11 @@
 -- Names of states, one behind another.
-use Rattle.std.proofs.Common.{◌≡◌, ℕ, Bor, ◌+◌, ◌-◌, ◌<◌, ◌≤◌, true, List, Option, None, Some, [], ◌∷◌, ◌++◌, length, map, take, drop, get_or, sym, ap, refl, ◌∙◌, arith, append_assoc, append-nil}
-use Rattle.std.specs.Prelude.{IfSome, ◌&&◌, nat_le, if◌then◌else◌, slice_get, option_map, codes}
+use Rattle.std.proofs.Common.{◌≡◌, ℕ, Bor, ◌+◌, ◌-◌, ◌<◌, ◌≤◌, List, Option, None, Some, [], ◌∷◌, ◌++◌, length, map, take, drop, get_or, sym, ap, refl, ◌∙◌, arith, append_assoc, append-nil}
+use Rattle.std.specs.Prelude.{IfSome, if◌then◌else◌, slice_get, option_map, codes}
 use Rattle.std.specs.Option.{option_copied}
 use Rattle.std.specs.Slice.{IsItemAt}
 use Rattle.std.specs.Str.Lossy.{utf8_lossy}
 use Rattle.std.specs.Cmp.Lexicographic.{same_text}
 use Rattle.std.proofs.Math.Seq.{take-append_seam, drop-append_seam}
-use Rattle.std.proofs.lemmas.Bool.Decides.{nat_tests}
 use Rattle.std.proofs.lemmas.List.{length-append, length-map, map-append, get_or-map}
 use Rattle.std.proofs.lemmas.List.Quantifiers.{position-Some}
 use Rattle.std.proofs.lemmas.Option.{get_or_from_slice_get, slice_get-map, slice_get_read}
@@ -21,9 +20,7 @@ use Rattle.declarations.specs.declared.labels.Labels.{Labels}
 use Rattle.tables.specs.Firsts.{first_of}
 use Rattle.tables.specs.Words.{same_word, word_at, words_at}
 use Rattle.declarations.proofs.BehindLemmas.{mapped_more, number_more}
-
-within : (s e n : ℕ) → s ≤ e → e ≤ n → (nat_le s e && nat_le e n) ≡ true
-within s e n h k = grind (arith, nat_tests)
+use Rattle.source.proofs.SpelledLemmas.{within}
 
 -- what is written last stands there
 stands_last : (old word new : List ℕ) (part : Part) → new ≡ old ++ word → part.start ≡ length old → part.end ≡ length new → Stands new part word

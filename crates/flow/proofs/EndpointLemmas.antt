@@ -32,18 +32,18 @@ named_at cases done x seen b lt at is =
     at_drop_more (behind seen) cases done x lt ∙ ap (λ c. behind seen (c ∷ drop (done + 1) cases)) at
     ∙ ap (λ (t : Bool). if t then behind seen (drop (done + 1) cases) else (x.endpoint ∷ behind (x.endpoint.variable.0 ∷ seen) (drop (done + 1) cases))) is
 
-was_there : (added b : Bool) → added ≡ false → added ≡ not b → b ≡ true
+pub was_there : (added b : Bool) → added ≡ false → added ≡ not b → b ≡ true
 was_there added true old is = refl
 was_there added false old is = sym old ∙ is
 
-was_not : (added b : Bool) → added ≡ true → added ≡ not b → b ≡ false
+pub was_not : (added b : Bool) → added ≡ true → added ≡ not b → b ≡ false
 was_not added true fresh is = sym fresh ∙ is
 was_not added false fresh is = refl
 
-at_same : (v q : ℕ) → is_at (nat_cmp v) q ≡ (v == q)
+pub at_same : (v q : ℕ) → is_at (nat_cmp v) q ≡ (v == q)
 at_same v q = grind (arith, nat_tests)
 
-same_test : (a b c : Bool) → a ≡ b → cond a true c ≡ (b || c)
+pub same_test : (a b c : Bool) → a ≡ b → cond a true c ≡ (b || c)
 same_test a true c is = ap (λ t. cond t true c) is
 same_test a false c is = ap (λ t. cond t true c) is
 

@@ -14,12 +14,12 @@ use Rattle.program.specs.declared.statement.Awaited.{Awaited}
 use Rattle.program.specs.declared.statement.Awaited.TheVariants.{Message, Closed}
 use Rattle.flow.specs.Cases.{CaseKey, EntranceModel, awaited_number, awaits, case_for, key_cmp, key_of}
 
-both_equal : (a b : Ordering) → is_eq (ordering_then a b) ≡ is_eq a && is_eq b
+pub both_equal : (a b : Ordering) → is_eq (ordering_then a b) ≡ is_eq a && is_eq b
 both_equal Less b = refl
 both_equal Equal b = refl
 both_equal Greater b = refl
 
-number_same : (x y : ℕ) → is_eq (nat_cmp x y) ≡ (y == x)
+pub number_same : (x y : ℕ) → is_eq (nat_cmp x y) ≡ (y == x)
 number_same x y = grind (arith, nat_tests)
 
 awaited_same : (message : Option ℕ) (awaited : Awaited) → is_eq (option_cmp nat_cmp message (awaited_number awaited)) ≡ awaits awaited message

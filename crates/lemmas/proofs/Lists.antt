@@ -1,5 +1,5 @@
 -- Facts on lists that two crates need.
-use Rattle.std.proofs.Common.{◌≡◌, ℕ, zero, suc, ◌+◌, ◌-◌, ◌<◌, ◌==◌, List, [], ◌∷◌, ◌++◌, length, map, take, get_or, true, false, refl, sym, ap, ◌∙◌, arith}
+use Rattle.std.proofs.Common.{◌≡◌, ℕ, Some, slice_get, drop, zero, suc, ◌+◌, ◌-◌, ◌<◌, ◌==◌, List, [], ◌∷◌, ◌++◌, length, map, take, get_or, true, false, refl, sym, ap, ◌∙◌, arith}
 use Rattle.std.specs.List.{flat_map, enumerate_from}
 use Rattle.std.proofs.lemmas.List.{length-append, map-append, flat_map_more, take_more}
 use Rattle.std.proofs.Math.Seq.{take-append_seam}
@@ -43,3 +43,13 @@ some_of (suc n) m is h = omega (arith, is)
 
 pub none_of : (n m : ℕ) → n ≡ m → (n == 0) ≡ true → m ≡ 0
 none_of n m is h = sym is ∙ eqb-true n 0 h
+
+-- the last one is there
+pub last_there : {X : Type 0} (xs : List X) (x : X) → slice_get (xs ++ x ∷ []) (length xs) ≡ Some x
+last_there [] x = refl
+last_there (z ∷ xs) x = last_there xs x
+
+-- of no elements none is left
+pub none_left : {X : Type 0} (i : ℕ) → drop {A = X} i [] ≡ []
+none_left zero = refl
+none_left (suc i) = refl

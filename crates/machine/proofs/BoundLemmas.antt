@@ -15,7 +15,7 @@ use Rattle.machine.specs.Outcomes.{Bounds}
 use Rattle.machine.specs.Runs.{AreBounds}
 
 -- a contract has one bound for each sign
-least : (edges : List Edge) (first : StateId) (sign : Sign) (m n : ℕ) → IsBound edges first sign m → IsBound edges first sign n → m ≤ n
+pub least : (edges : List Edge) (first : StateId) (sign : Sign) (m n : ℕ) → IsBound edges first sign m → IsBound edges first sign n → m ≤ n
 least edges first sign m n one other =
     let long = one.long in
     let most = other.most one.from one.to one.way one.walk one.reached one.leads one.one_sign in

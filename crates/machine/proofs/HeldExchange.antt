@@ -14,7 +14,7 @@ use Rattle.machine.proofs.HeapLemmas.{changed_all}
 use Rattle.machine.proofs.Holding.{inside_not_process, owned_there, process_not_inside, rooted_put}
 
 -- ---- what fields hold
-one_if_true : (b : Bool) → 0 < one_if b → b ≡ true
+pub one_if_true : (b : Bool) → 0 < one_if b → b ≡ true
 one_if_true true h = refl
 one_if_true false h = absurd (omega arith)
 

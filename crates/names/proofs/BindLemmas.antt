@@ -1,5 +1,5 @@
 -- The names that a case binds, one after another.
-use Rattle.std.proofs.Common.{◌≡◌, ℕ, zero, suc, ◌+◌, ◌<◌, List, [], ◌∷◌, length, drop, get_or, Option, Some, None, sym, refl, ap, ◌∙◌, subst, arith, add-one}
+use Rattle.std.proofs.Common.{◌≡◌, ℕ, zero, suc, ◌+◌, ◌<◌, List, [], ◌∷◌, length, drop, get_or, Option, Some, None, sym, ap, ◌∙◌, subst, arith, add-one}
 use Rattle.std.specs.Prelude.{slice_get}
 use Rattle.declarations.specs.declared.mistake.Mistake.{Mistake}
 use Rattle.tree.specs.declared.statement.Bind.{Bind}
@@ -9,10 +9,7 @@ use Rattle.declarations.specs.Program.{Program}
 use Rattle.names.specs.Variables.{Frame, Turn, follow}
 use Rattle.names.specs.declared.variables.Variables.{Variables}
 use Rattle.names.proofs.TurnLemmas.{Ongoing}
-
-none_left : (i : ℕ) → drop {A = Param} i [] ≡ []
-none_left zero = refl
-none_left (suc i) = refl
+use Rattle.lemmas.proofs.Lists.{none_left}
 
 -- a name, and those behind it
 abbrev bound_next : Program → Option Param → Bind → List Param → List Bind → Frame → Turn

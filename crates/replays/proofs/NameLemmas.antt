@@ -1,8 +1,7 @@
 -- Where states stand in their contracts, and their names.
-use Rattle.std.proofs.Common.{◌≡◌, ◌<◌, ◌+◌, ◌==◌, ℕ, zero, suc, Bool, true, false, not, cond, ltb, eqb, List, [], ◌∷◌, ◌++◌, length, map, take, get_or, Bor, Option, Some, None, refl, ap, ap₂, sym, ◌∙◌, subst₂, arith, ltb-false}
+use Rattle.std.proofs.Common.{◌≡◌, ◌<◌, ◌+◌, ◌==◌, ℕ, zero, suc, Bool, true, false, not, cond, ltb, List, [], ◌∷◌, ◌++◌, length, map, take, get_or, Bor, Option, Some, None, refl, ap, ap₂, sym, ◌∙◌, subst₂, arith, ltb-false}
 use Rattle.std.specs.Prelude.{find, option_and_then, option_map, slice_get, string_bytes}
 use Rattle.std.specs.BTreeMap.{BTreeMap, get}
-use Rattle.std.specs.Cmp.{unsigned_tied}
 use Rattle.std.specs.Option.{option_map_or, unwrap_or}
 use Rattle.std.specs.Slice.{IsItemAt}
 use Rattle.std.specs.List.{position_or_len}
@@ -16,6 +15,7 @@ use Rattle.program.specs.declared.contract.Contract.{Contract}
 use Rattle.replays.proofs.LineLemmas.{map_twice}
 use Rattle.replays.specs.Names.{state_of}
 use Rattle.replays.specs.Placed.{ArePlaced, index_in}
+use Rattle.flow.proofs.KeyLemmas.{number_same}
 
 -- the tables for contracts, one for each
 abbrev pub HasIndices : ContractModel → BTreeMap ℕ ℕ → Type 0
@@ -34,15 +34,9 @@ placed_more (d ∷ contracts) [] c m same h p n state = absurd (omega (arith, sa
 placed_more (d ∷ contracts) (t ∷ tables) c m same h p zero state = h zero state
 placed_more (d ∷ contracts) (t ∷ tables) c m same h p (suc n) state = placed_more contracts tables c m (omega (arith, same)) (λ k q. h (suc k) q) p n state
 
-same_test : (x y : ℕ) → is_eq (nat_cmp x y) ≡ (y == x)
-same_test x y = unsigned_tied x y ∙ flipped x y
-  where
-    flipped : (a b : ℕ) → eqb a b ≡ eqb b a
-    flipped a b = grind arith
-
 first_among : (states : List StateParts) (q : ℕ) → position_or_len (λ x. is_eq (nat_cmp q x)) (map (λ (s : StateParts). s.id.0) states) ≡ position_or_len (λ (s : StateParts). s.id.0 == q) states
 first_among [] q = refl
-first_among (s ∷ states) q = ap (λ b. cond (not b) (1 + position_or_len (λ x. is_eq (nat_cmp q x)) (map (λ (s : StateParts). s.id.0) states)) 0) (same_test q s.id.0)
+first_among (s ∷ states) q = ap (λ b. cond (not b) (1 + position_or_len (λ x. is_eq (nat_cmp q x)) (map (λ (s : StateParts). s.id.0) states)) 0) (number_same q s.id.0)
     ∙ ap (λ n. cond (not (s.id.0 == q)) (1 + n) 0) (first_among states q)
 
 -- at its place stands the first state of a number

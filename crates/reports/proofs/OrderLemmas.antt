@@ -1,17 +1,13 @@
 -- The order of a report is total, and tells any two findings apart.
-use Rattle.std.proofs.Common.{◌≡◌, ℕ, ◌<◌, List, refl, sym, ap, ◌∙◌}
+use Rattle.std.proofs.Common.{◌≡◌, ℕ, List}
 use Rattle.std.specs.Cmp.{IsTotalOrder}
-use Rattle.std.specs.Cmp.Lexicographic.{slice_cmp}
-use Rattle.std.specs.Ordering.{nat_cmp, ordering_then, is_eq}
-use Rattle.std.specs.declared.cmp.Ordering.{Ordering}
-use Rattle.std.specs.declared.cmp.Ordering.TheVariants.{Less, Equal, Greater}
-use Rattle.std.proofs.lemmas.Cmp.{ranked, by_ranked, then_total, on_total, nat_cmp_total, nat_list_cmp_total}
-use Rattle.std.proofs.lemmas.Map.Text.{is_eq-slice_cmp}
-use Rattle.std.proofs.lemmas.Slice.Eq.{bytes_eq-Decides}
+use Rattle.std.specs.declared.cmp.Ordering.TheVariants.{Equal}
+use Rattle.std.proofs.lemmas.Cmp.{then_total, on_total, nat_cmp_total, nat_list_cmp_total}
 use Rattle.source.specs.Findings.{FindingParts, finding_parts, finding_cmp, code_name}
 use Rattle.source.specs.declared.finding.Code.{Code}
 use Rattle.reports.specs.Orders.{report_cmp}
 use Rattle.reports.proofs.CodeLemmas.{one_code}
+use Rattle.lemmas.proofs.Orders.{same_bytes, same_number, then_equal}
 
 pub report_total : IsTotalOrder report_cmp
 report_total = then_total (on_total (λ f. f.place.line) nat_cmp_total)
@@ -21,17 +17,6 @@ report_total = then_total (on_total (λ f. f.place.line) nat_cmp_total)
 
 pub finding_total : IsTotalOrder finding_cmp
 finding_total = on_total finding_parts report_total
-
-then_equal : (a b : Ordering) → ordering_then a b ≡ Equal → (a ≡ Equal) × (b ≡ Equal)
-then_equal Less b e = absurd (cc)
-then_equal Equal b e = (refl, e)
-then_equal Greater b e = absurd (cc)
-
-same_number : (x y : ℕ) → nat_cmp x y ≡ Equal → x ≡ y
-same_number x y e = by_ranked (x < y) (x ≡ y) (y < x) (nat_cmp x y) (ranked x y (nat_cmp x y) refl) (λ l p. absurd (cc (e, l))) (λ _ p. p) (λ g p. absurd (cc (e, g)))
-
-same_bytes : (xs ys : List ℕ) → slice_cmp nat_cmp xs ys ≡ Equal → xs ≡ ys
-same_bytes xs ys e = (bytes_eq-Decides xs ys).0 (sym (is_eq-slice_cmp xs ys) ∙ ap is_eq e)
 
 told : ℕ → ℕ → Code → List ℕ → FindingParts
 told line col code text = record { place = record { line = line; col = col }; code = code; text = text }

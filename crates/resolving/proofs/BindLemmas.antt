@@ -14,6 +14,7 @@ use Rattle.resolving.specs.Pieces.{Told, follow}
 use Rattle.resolving.specs.Steps.{IsBound, IsTold}
 use Rattle.resolving.specs.declared.locals.Declaration.{Declaration}
 use Rattle.resolving.specs.declared.locals.Locals.{Locals}
+use Rattle.lemmas.proofs.Lists.{none_left}
 
 -- a name that is declared, with its number, is bound
 pub declared_bound : {T E : Type 0} (p : Program) (param : Option Param) (b : Bind) (f : Frame) (d : Declaration) (number : Option VarId) (old new : List VarId) (l : Locals) (r : Result T E)
@@ -36,10 +37,6 @@ none_bound rest f none frame = record { frame = f; stands = frame; what = ap (λ
 -- a name, and those behind it
 abbrev bound_next : Program → Option Param → Bind → List Param → List Bind → Frame → Told (List VarId)
 bound_next p param b params binds f = follow (λ x xs. x ++ xs) (bind_told p param b f) (binds_told p params binds)
-
-none_left : (i : ℕ) → drop {A = Param} i [] ≡ []
-none_left zero = refl
-none_left (suc i) = refl
 
 next_bound : (p : Program) (params : List Param) (binds : List Bind) (i : ℕ) (d b : Bind) → i < length binds → b ≡ get_or binds i d → binds_told p (drop i params) (drop i binds) ≡ bound_next p (slice_get params i) b (drop (suc i) params) (drop (suc i) binds)
 next_bound p params [] i d b lt is = absurd (omega (arith, lt))

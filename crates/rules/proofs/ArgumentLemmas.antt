@@ -1,11 +1,10 @@
 -- Checks of arguments: what was found stands for them, argument by argument.
-use Rattle.std.proofs.Common.{◌≡◌, ℕ, ◌+◌, ◌<◌, ◌≤◌, Bool, true, false, not, cond, ◌||◌, ◌==◌, List, [], ◌∷◌, ◌++◌, length, drop, slice_index_or, Option, None, Some, if◌then◌else◌, refl, sym, ap, ◌∙◌, append_assoc, arith, zip, ◌⊎◌, inl, inr, min, ⊎_elim}
+use Rattle.std.proofs.Common.{◌≡◌, ℕ, ◌+◌, ◌<◌, ◌≤◌, Bool, true, false, not, ◌||◌, ◌==◌, List, [], ◌∷◌, ◌++◌, length, drop, slice_index_or, Option, None, Some, if◌then◌else◌, refl, sym, ap, ◌∙◌, append_assoc, arith, zip, ◌⊎◌, inl, inr, min, ⊎_elim}
 use Rattle.std.specs.BTreeSet.{BTreeSet, contains, IsEmpty, Updates}
 use Rattle.std.specs.BTreeMap.{is_at}
 use Rattle.std.specs.List.{list_any}
 use Rattle.std.specs.Ordering.{nat_cmp}
 use Rattle.std.proofs.lemmas.Bool.{cases_lt}
-use Rattle.std.proofs.lemmas.Bool.Decides.{nat_tests}
 use Rattle.std.proofs.lemmas.List.{at_drop_all, at_drop_more, drop_all}
 use Rattle.source.specs.Findings.{FindingParts}
 use Rattle.program.specs.Lists.{is_among}
@@ -20,6 +19,7 @@ use Rattle.rules.specs.Repeats.{first_again, told_again}
 use Rattle.rules.specs.Texts.{twice}
 use Rattle.rules.specs.declared.breach.Breach.{Breach}
 use Rattle.rules.specs.declared.row.Leaf.{Leaf}
+use Rattle.flow.proofs.EndpointLemmas.{same_test, at_same, was_not, was_there}
 
 -- so many arguments were looked at, the variables of these are in the set, and none of them was given before
 pub record Looked (set : BTreeSet ℕ) (arguments : List Argument) (done : ℕ) : Type 0 where
@@ -31,21 +31,6 @@ again_at : (arguments : List Argument) (done : ℕ) (d : Argument) (earlier : Li
 again_at arguments done d earlier b lt is =
     let a = slice_index_or arguments done d in
     at_drop_more (first_again earlier) arguments done d lt ∙ ap (λ (t : Bool). if t then Some a.mention else first_again (a.mention.variable.0 ∷ earlier) (drop (done + 1) arguments)) is
-
-was_there : (added b : Bool) → added ≡ false → added ≡ not b → b ≡ true
-was_there added true old is = refl
-was_there added false old is = sym old ∙ is
-
-was_not : (added b : Bool) → added ≡ true → added ≡ not b → b ≡ false
-was_not added true fresh is = sym fresh ∙ is
-was_not added false fresh is = refl
-
-at_same : (v q : ℕ) → is_at (nat_cmp v) q ≡ (v == q)
-at_same v q = grind (arith, nat_tests)
-
-same_test : (a b c : Bool) → a ≡ b → cond a true c ≡ (b || c)
-same_test a true c is = ap (λ t. cond t true c) is
-same_test a false c is = ap (λ t. cond t true c) is
 
 -- the next one was given before
 pub looked_again : (set : BTreeSet ℕ) (arguments : List Argument) (done : ℕ) (d : Argument) (added : Bool) → done < length arguments → added ≡ false → added ≡ not (contains nat_cmp set (slice_index_or arguments done d).mention.variable.0)

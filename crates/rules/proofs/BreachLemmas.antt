@@ -1,10 +1,9 @@
 -- Breaches that compare as equal are the same.
-use Rattle.std.proofs.Common.{◌≡◌, ◌<◌, ◌↔◌, ℕ, List, [], ◌∷◌, get_or, refl, sym, ap, subst, ◌∙◌}
-use Rattle.std.specs.Cmp.Lexicographic.{slice_cmp}
-use Rattle.std.specs.Ordering.{MatchOrdering, nat_cmp, ordering_then}
+use Rattle.std.proofs.Common.{◌≡◌, ◌↔◌, ℕ, List, [], ◌∷◌, get_or, refl, sym, ap, subst, ◌∙◌}
+use Rattle.std.specs.Ordering.{nat_cmp, ordering_then}
 use Rattle.std.specs.declared.cmp.Ordering.{Ordering}
-use Rattle.std.specs.declared.cmp.Ordering.TheVariants.{Less, Equal, Greater}
-use Rattle.std.proofs.lemmas.Cmp.{nat_cmp_total, nat_list_cmp_total, ranked, tied_itself}
+use Rattle.std.specs.declared.cmp.Ordering.TheVariants.{Equal}
+use Rattle.std.proofs.lemmas.Cmp.{nat_cmp_total, nat_list_cmp_total, tied_itself}
 use Rattle.program.specs.declared.number.MessageId.{MessageId}
 use Rattle.program.specs.declared.number.VarId.{VarId}
 use Rattle.rules.specs.Reasons.{numbers, reason_cmp}
@@ -12,23 +11,7 @@ use Rattle.rules.specs.declared.breach.Breach.{Breach}
 use Rattle.rules.specs.declared.breach.Reason.{Reason}
 use Rattle.rules.specs.declared.breach.Reason.TheVariants.{NotOwned, NotSent, WrongFor, WrongForCall, NotCovered, NothingToReceive}
 use Rattle.rules.specs.declared.breach.Reason.TheVariants.{Overwritten, StillOwned, NotBack, Lent, Twice, WrongForResult, NoResult, WrongForField}
-
--- what is equal has equal parts
-both_equal : (a b : Ordering) → ordering_then a b ≡ Equal → (a ≡ Equal) × (b ≡ Equal)
-both_equal Less b e = absurd (cc)
-both_equal Equal b e = (refl, e)
-both_equal Greater b e = absurd (cc)
-
-one_number : (x y : ℕ) → nat_cmp x y ≡ Equal → x ≡ y
-one_number x y e = subst (λ r. MatchOrdering r (x < y) (x ≡ y) (y < x)) e (ranked x y (nat_cmp x y) refl)
-
-one_list : (xs ys : List ℕ) → slice_cmp nat_cmp xs ys ≡ Equal → xs ≡ ys
-one_list [] [] e = refl
-one_list [] (y ∷ ys) e = absurd (cc)
-one_list (x ∷ xs) [] e = absurd (cc)
-one_list (x ∷ xs) (y ∷ ys) e =
-    let both = both_equal (nat_cmp x y) (slice_cmp nat_cmp xs ys) e in
-    λ i. one_number x y both.0 i ∷ one_list xs ys both.1 i
+use Rattle.lemmas.proofs.Orders.{same_bytes, same_number, then_equal}
 
 -- the reasons of these numbers, by the number of the check
 abbrev reasons : ℕ → ℕ → ℕ → List Reason
@@ -62,7 +45,7 @@ read_back NoResult = refl
 read_back (WrongForField variable) = refl
 
 one_reason : (a b : Reason) → reason_cmp a b ≡ Equal → a ≡ b
-one_reason a b e = sym (read_back a) ∙ ap reason_of (one_list (numbers a) (numbers b) e) ∙ read_back b
+one_reason a b e = sym (read_back a) ∙ ap reason_of (same_bytes (numbers a) (numbers b) e) ∙ read_back b
 
 -- how the order of breaches computes
 abbrev order : Breach → Breach → Ordering
@@ -70,10 +53,10 @@ order a b = ordering_then (ordering_then (nat_cmp a.place.line b.place.line) (na
 
 one_breach : (a b : Breach) → order a b ≡ Equal → a ≡ b
 one_breach a b e =
-    let both = both_equal (ordering_then (nat_cmp a.place.line b.place.line) (nat_cmp a.place.col b.place.col)) (reason_cmp a.reason b.reason) e in
-    let place = both_equal (nat_cmp a.place.line b.place.line) (nat_cmp a.place.col b.place.col) both.0 in
-    let line = one_number a.place.line b.place.line place.0 in
-    let col = one_number a.place.col b.place.col place.1 in
+    let both = then_equal (ordering_then (nat_cmp a.place.line b.place.line) (nat_cmp a.place.col b.place.col)) (reason_cmp a.reason b.reason) e in
+    let place = then_equal (nat_cmp a.place.line b.place.line) (nat_cmp a.place.col b.place.col) both.0 in
+    let line = same_number a.place.line b.place.line place.0 in
+    let col = same_number a.place.col b.place.col place.1 in
     let reason = one_reason a.reason b.reason both.1 in
     λ i. record { place = record { line = line i; col = col i }; reason = reason i }
 

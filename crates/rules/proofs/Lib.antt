@@ -14,4 +14,4 @@ pub mod RepeatLemmas
 pub mod EndLemmas
 pub mod KindLemmas
 mod SmallSteps
-mod TransferLemmas
+pub mod TransferLemmas

@@ -25,7 +25,7 @@ zero_suc n = grind (arith, nat_tests)
 suc_zero : (n : ℕ) → (suc n == 0) ≡ false
 suc_zero n = grind (arith, nat_tests)
 
-suc_suc : (a b : ℕ) → (suc a == suc b) ≡ (a == b)
+pub suc_suc : (a b : ℕ) → (suc a == suc b) ≡ (a == b)
 suc_suc a b = grind (arith, nat_tests)
 
 -- what stands in a list with one more behind it

@@ -31,7 +31,7 @@ use Rattle.rules.specs.declared.row.Leaf.{Leaf}
 use Rattle.rules.specs.declared.row.Leaf.TheVariants.{Nothing, Block, CutOff, State}
 use Rattle.rules.proofs.ProgramLemmas.{outcome_is}
 
-claimed_size : (row : List Leaf) (arguments : List Argument) → length (claimed row arguments) ≡ length row
+pub claimed_size : (row : List Leaf) (arguments : List Argument) → length (claimed row arguments) ≡ length row
 claimed_size row [] = refl
 claimed_size row (a ∷ arguments) =
     claimed_size (if a.claimed then set row a.mention.variable.0 Nothing else row) arguments ∙ one a.claimed

@@ -29,7 +29,7 @@ use Rattle.rules.proofs.ArgumentLemmas.{zip_nil}
 use Rattle.rules.proofs.ProgramLemmas.{at_point, one_method, outcome_is}
 
 -- parts of tests
-of_not : (b : Bool) → not b ≡ true → b ≡ false
+pub of_not : (b : Bool) → not b ≡ true → b ≡ false
 of_not true e = absurd (true≢false (sym e))
 of_not false e = refl
 
@@ -37,10 +37,10 @@ of_both : (a b : Bool) → (a && b) ≡ true → (a ≡ true) × (b ≡ true)
 of_both true b e = (refl, e)
 of_both false b e = absurd (true≢false (sym e))
 
-one_some : {X : Type 0} (x y : X) → Path (Option X) (Some x) (Some y) → x ≡ y
+pub one_some : {X : Type 0} (x y : X) → Path (Option X) (Some x) (Some y) → x ≡ y
 one_some x y e = cc
 
-none_some : {X : Type 0} (x : X) → Path (Option X) None (Some x) → ⊥
+pub none_some : {X : Type 0} (x : X) → Path (Option X) None (Some x) → ⊥
 none_some x e = cc
 
 one_of : {X : Type 0} (b : Bool) (x y : X) → Path (Option X) (Some x) (if b then Some y else None) → (b ≡ true) × (x ≡ y)

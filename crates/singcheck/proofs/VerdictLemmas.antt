@@ -18,7 +18,7 @@ use Rattle.shelf.specs.declared.receipt.Receipt.{Receipt}
 use Rattle.shelf.specs.declared.shelf.Shelf.{Shelf}
 use Rattle.singcheck.specs.Checks.{IsWrong}
 use Rattle.singcheck.specs.Verdicts.{AddsVerdict, AreOfMethods, HasVerdict, IsPut, IsWrongAmong}
-use Rattle.singcheck.proofs.SameLemmas.{nothing_in}
+use Rattle.singcheck.proofs.one_answer.SameLemmas.{nothing_in}
 
 -- a verdict is all that is found in its method
 pub verdict_exactly : (p : ProgramModel) (n : ℕ) (found : List FindingParts) → IsMethodVerdict p n found → AreExactly (IsFoundIn p n) found

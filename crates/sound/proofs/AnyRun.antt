@@ -37,22 +37,22 @@ use Rattle.sound.specs.Operands.{stateless}
 use Rattle.sound.specs.Queues.{IsBounded, IsLiveEnd}
 use Rattle.sound.proofs.Contracts.{sound_program}
 use Rattle.sound.proofs.Arguments.{or_false}
-use Rattle.sound.proofs.Blocks.{queues_append}
-use Rattle.sound.proofs.Lists.{true≢false, eqb_same}
-use Rattle.sound.proofs.NewBlock as made
-use Rattle.sound.proofs.Giving.{given_counts, payloads_claim}
+use Rattle.sound.proofs.blocks.Blocks.{queues_append}
+use Rattle.sound.proofs.blocks.NewBlock as made
+use Rattle.sound.proofs.events.Giving.{given_counts, payloads_claim}
 use Rattle.sound.proofs.Invariant.{one_if, standing_in, ChannelsFit, IsSoundProgram}
-use Rattle.sound.proofs.NewEnds as opened
+use Rattle.sound.proofs.blocks.NewEnds as opened
 use Rattle.sound.proofs.Queues.{queues_are_walks}
-use Rattle.sound.proofs.Sending.{channel_of}
-use Rattle.sound.proofs.AnyBlocks.{AreGiven, IsFine, RunFits, delete_fits, exchange_fits, given_fine, given_mine, given_once, one_test}
-use Rattle.sound.proofs.AnyBlocks.{own_at, still_own, plain_append, start_fits, tested_append}
-use Rattle.sound.proofs.AnyEvent.{send_fine, switch_fine}
+use Rattle.sound.proofs.events.Sending.{channel_of}
+use Rattle.sound.proofs.blocks.AnyBlocks.{AreGiven, IsFine, RunFits, delete_fits, exchange_fits, given_fine, given_mine, given_once, one_test}
+use Rattle.sound.proofs.blocks.AnyBlocks.{own_at, still_own, plain_append, start_fits, tested_append}
+use Rattle.sound.proofs.events.AnyEvent.{send_fine, switch_fine}
 use Rattle.program.specs.WellFormed.{AreWellFormed}
 use Rattle.sound.specs.Premises.{AreSound}
 use Rattle.machine.specs.Runs.{AreBounds}
 use Rattle.sound.proofs.Trees.{graphs_fit}
 use Rattle.machine.specs.Instructions.{is_own, argument_tests, send_tests, edge_out, value_tests, returns, event_of, exchanges}
+use Rattle.machine.proofs.ChangeLemmas.{eqb_same, true≢false}
 
 -- What is asked of an instruction, whatever is found: a new block is no endpoint, and the contract of a new channel is there.
 abbrev pub IsMadeWell : ProgramModel → MethodModel → Instruction → Type 0

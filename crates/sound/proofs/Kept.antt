@@ -25,12 +25,14 @@ use Rattle.machine.specs.Frames.{method_at, instruction_at}
 use Rattle.machine.specs.Heaps.{IsHeld, occurs}
 use Rattle.machine.specs.World.{MessageHeld, Block, Frame, World, block_at, stack_at, read, is_inside, is_queue, owns, cut_off, freed}
 use Rattle.sound.specs.Operands.{stateless}
-use Rattle.sound.proofs.Basics.{one_if_most, one_true, standing_read, process_apart, stack_there}
+use Rattle.sound.proofs.Basics.{standing_read, process_apart, stack_there}
 use Rattle.sound.proofs.Invariant.{IsOn, HasLeaf, LeafFits, RowFits, one_if, standing, kept_back, waiting, held, IsLent}
 use Rattle.sound.proofs.Invariant.{with_first}
 use Rattle.sound.proofs.Invariant.{by_role, as_claimed, standing_in, AreLent, WaitsFor, RestFits, StackFits, in_queue, AreDeclared}
 use Rattle.sound.proofs.Invariant.{AreBrought, ChannelsFit, FieldsDeclared, Holds, StaysCutOff}
-use Rattle.sound.proofs.Lists.{true≢false, eqb_same}
+use Rattle.machine.proofs.CountLemmas.{one_or_none}
+use Rattle.machine.proofs.HeldExchange.{one_if_true}
+use Rattle.machine.proofs.ChangeLemmas.{eqb_same, true≢false}
 
 -- the block stays what it is, but for an endpoint that is cut off then
 pub record IsKept (bs bs' : List Block) (a : ℕ) : Type 0 where
@@ -277,7 +279,7 @@ fields_kept p bs bs' a held same h within lives =
     (declared_kept bs bs' (field_kinds p.structs (block_at bs a).kind) (block_at bs a).fields same.cut
     (λ x some short. same.kept x (
       a,
-      one_true (is_inside (block_at bs x).owner a)
+      one_if_true (is_inside (block_at bs x).owner a)
           (subst (λ (n : ℕ). 0 < n) (sym (occurs_standing (block_at bs a).fields x) ∙ held.holds_are a x) some),
     ) short)
     (h a within (same.lives a within lives))))
@@ -338,7 +340,7 @@ goes_on p w self f rest m next vs' row' bs' h is there below reached fits g = re
     below' : RestFits p bs' (went f next vs') rest
     below' = rest_above p bs' f (went f next vs') m rest there refl g.lent
         (rest_kept p w.blocks bs' f rest g.cut (λ a some within. g.kept a
-        (let e = once a in let most = one_if_most (owns w.blocks self a) in omega arith) within) below)
+        (let e = once a in let most = one_or_none (owns w.blocks self a) in omega arith) within) below)
 
     mine : (q : ℕ) → q ≡ self → StackFits p bs' (stack_at (set w.processes self (went f next vs' ∷ rest)) q)
     mine q e = subst (λ (fs : List Frame). StackFits p bs' fs)
@@ -347,7 +349,7 @@ goes_on p w self f rest m next vs' row' bs' h is there below reached fits g = re
 
     not_ours : (q a : ℕ) → q ≢ self → 0 < held p a (stack_at w.processes q) → standing a f.variables ≡ 0
     not_ours q a n some =
-        let owned : owns w.blocks q a ≡ true = one_true (owns w.blocks q a) (subst (λ (k : ℕ). 0 < k) (h.own q a) some) in
+        let owned : owns w.blocks q a ≡ true = one_if_true (owns w.blocks q a) (subst (λ (k : ℕ). 0 < k) (h.own q a) some) in
         let no : owns w.blocks self a ≡ false = process_apart (block_at w.blocks a).owner q self owned n in
         let e = once a in
         let z : one_if (owns w.blocks self a) ≡ 0 = ap one_if no in

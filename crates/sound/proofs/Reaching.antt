@@ -42,8 +42,9 @@ use Rattle.analyse.specs.Reach.{Leads, IsPath, Reached}
 use Rattle.sound.specs.GraphFit.{IsGraphFit, IsFit, Keeps, IsEntrance, IsBoundAt, AreBrought}
 use Rattle.sound.proofs.Checks.{Passed, checked_passed, goes_same, leaf_set_other, not_refused, passed_left, row_set_still, row_still}
 use Rattle.sound.proofs.Checks.{something_is}
-use Rattle.sound.proofs.Lists.{each_all, each_append, each_contains, each_flat, each_map, not_false, true≢false}
+use Rattle.sound.proofs.Lists.{each_all, each_append, each_contains, each_flat, each_map, not_false}
 use Rattle.sound.proofs.Parameters.{field_known}
+use Rattle.machine.proofs.ChangeLemmas.{true≢false}
 
 -- the case that is found stands among the cases
 pub case_is : (P : EntranceModel → Type 0) (cases : List EntranceModel) (v : ℕ) (n : Option ℕ) (c : EntranceModel) → Each P cases

@@ -21,11 +21,12 @@ use Rattle.flow.specs.Lowering.{Lays, acts, both, called, forgets, made_new, one
 use Rattle.rules.specs.Endpoints.{brought}
 use Rattle.sound.specs.GraphFit.{Keeps, Scope}
 use Rattle.sound.proofs.Binding.{leads_in}
-use Rattle.sound.proofs.Branching.{keeps_within}
+use Rattle.sound.proofs.events.Branching.{keeps_within}
 use Rattle.sound.proofs.Laying.{LaysFit, OneScope, Within, both_fits, gone_fits, nothing_fits, one_fits}
-use Rattle.sound.proofs.Lists.{each_at, some_more, some_there}
+use Rattle.sound.proofs.Lists.{some_more, some_there}
 use Rattle.sound.proofs.Operands.{all_claim, contract_at, end_variable, found_kinds, given_fit, is_taken, of_kind, payloads_of_kinds}
 use Rattle.sound.proofs.Scopes.{Grown, in_scope, own_gone, scope_parted}
+use Rattle.rules.proofs.EndLemmas.{each_at}
 
 module _ (p : ProgramModel) (m : MethodModel) (well : IsWellFormed p.contracts p.messages p.structs p.methods m) where
   -- a statement of the method, where these variables are the last in scope

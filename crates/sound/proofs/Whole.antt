@@ -27,25 +27,26 @@ use Rattle.program.specs.declared.kind.HeapKind.{HeapKind}
 use Rattle.machine.specs.Heaps.{IsHeld}
 use Rattle.machine.proofs.Chains.{is_inside_is}
 use Rattle.machine.proofs.Holding.{inside_not_process}
-use Rattle.sound.proofs.Lists.{each_map, true≢false}
-use Rattle.sound.proofs.Beginning.{start_holds}
-use Rattle.sound.proofs.Exchanging.{good_exchange}
-use Rattle.sound.proofs.Making.{good_new}
-use Rattle.sound.proofs.Calling.{good_call}
+use Rattle.sound.proofs.Lists.{each_map}
+use Rattle.sound.proofs.events.Beginning.{start_holds}
+use Rattle.sound.proofs.events.Exchanging.{good_exchange}
+use Rattle.sound.proofs.events.Making.{good_new}
+use Rattle.sound.proofs.events.Calling.{good_call}
 use Rattle.sound.proofs.Checks.{reached_more, IsClean}
-use Rattle.sound.proofs.Deleting.{good_delete}
+use Rattle.sound.proofs.events.Deleting.{good_delete}
 use Rattle.sound.proofs.Invariant.{TopFits, RestFits, StackFits, Holds, held, one_if, IsSoundProgram, AreDeclared, FieldsDeclared}
-use Rattle.sound.proofs.Opening.{good_channel}
-use Rattle.sound.proofs.Owning.{owns_what}
+use Rattle.sound.proofs.events.Opening.{good_channel}
+use Rattle.sound.proofs.blocks.Owning.{owns_what}
 use Rattle.sound.proofs.Queues.{queues_are_walks}
 use Rattle.sound.proofs.Quiet.{good_use, good_branch, good_forget, good_move}
-use Rattle.sound.proofs.Returning.{good_return}
-use Rattle.sound.proofs.Sending.{good_send}
-use Rattle.sound.proofs.Starting.{good_start}
-use Rattle.sound.proofs.Switching.{good_switch}
+use Rattle.sound.proofs.events.Returning.{good_return}
+use Rattle.sound.proofs.events.Sending.{good_send}
+use Rattle.sound.proofs.events.Starting.{good_start}
+use Rattle.sound.proofs.events.Switching.{good_switch}
 use Rattle.sound.proofs.Reaching.{reached_none}
 use Rattle.sound.proofs.Here.{IsGood, Here, outcome_at}
 use Rattle.machine.specs.Instructions.{event_of}
+use Rattle.machine.proofs.ChangeLemmas.{true≢false}
 
 -- a process that has ended owns nothing
 ended_has_nothing : (p : ProgramModel) (w : World) → Holds p w → (q a : ℕ) → stack_at w.processes q ≡ [] → owns w.blocks q a ≡ false

@@ -15,7 +15,7 @@ use Rattle.source.specs.declared.kind.Kind.{Kind}
 use Rattle.source.specs.declared.place.Place.{Place}
 use Rattle.source.specs.declared.token.Token.{Token}
 
-within : (s e n : ℕ) → s ≤ e → e ≤ n → (nat_le s e && nat_le e n) ≡ true
+pub within : (s e n : ℕ) → s ≤ e → e ≤ n → (nat_le s e && nat_le e n) ≡ true
 within s e n h k = grind (arith, nat_tests)
 
 -- the slice from a piece's first byte to behind its last one

@@ -4,10 +4,11 @@ use Rattle.std.specs.Prelude.{◌||◌}
 use Rattle.std.specs.List.{flat_map}
 use Rattle.tree.specs.Symbols.{Symbol}
 use Rattle.syntax.specs.Reading.{never, Stops, leads, Fails, Takes, last_at, many_at}
-use Rattle.syntax.proofs.Pieces.{ReadsOneWay, Piece, Follows, both, both_way, both_piece, fails_first, fails_second, fails_here, fails_after, ends, meets, or_left, or_right, stops_left, stops_right, stops_both}
+use Rattle.syntax.proofs.Pieces.{ReadsOneWay, Piece, Follows, both, both_way, both_piece, fails_first, fails_second, fails_here, fails_after, ends, meets, or_right, stops_left, stops_right, stops_both}
 use Rattle.syntax.proofs.Beginnings.{Starts, Splits, Leaves, row_starts}
 use Rattle.syntax.proofs.Repeats.{nil_open_way, cons_open_way, many_open_piece, many_stops, many_fails}
 use Rattle.syntax.proofs.Options.{MeetsOpen, open_way, open_piece}
+use Rattle.lemmas.proofs.Bools.{or_left}
 
 -- an operator has an end of its own, and begins by nothing that a part goes on by
 pub record Joins {X O : Type 0} (a : X → List Symbol) (o : O → List Symbol) (f : Symbol → Bool) (at : X → Symbol → Bool) (starts : Symbol → Bool) : Type 0 where

@@ -15,7 +15,7 @@ use Rattle.syntax.specs.States.{state_on, body_at, state_at, member_at, members_
 use Rattle.program.specs.declared.contract as sign_nodes
 use Rattle.tree.specs.declared.contract.Member.{Member}
 use Rattle.program.specs.declared.contract.Direction.TheVariants as direction
-use Rattle.syntax.proofs.Pieces.{Piece, Follows, Meets, ReadsOneWay, both, both_piece, next, via_piece, wide_way, or_left, or_right}
+use Rattle.syntax.proofs.Pieces.{Piece, Follows, Meets, ReadsOneWay, both, both_piece, next, via_piece, wide_way, or_right}
 use Rattle.syntax.proofs.Beginnings.{Starts, Splits, Leaves, splits_self}
 use Rattle.syntax.proofs.Repeats.{many_piece, many_open_piece, many_stops, row_stops, last_more}
 use Rattle.syntax.proofs.Choices.{Form, Same, Other, form_way}
@@ -23,6 +23,7 @@ use Rattle.syntax.proofs.KindLemmas.{kinds_apart}
 use Rattle.syntax.proofs.CursorLemmas.{fixed_piece, placed_piece, named_piece}
 use Rattle.syntax.proofs.MessageRules.{message_piece, message_starts}
 use Rattle.syntax.proofs.BodyRules.{state_piece}
+use Rattle.lemmas.proofs.Bools.{or_left}
 
 -- { message }
 

@@ -12,10 +12,11 @@ use Rattle.syntax.specs.OperatorReads.{equality_of, relation_of, joins, opens_re
 use Rattle.tree.specs.Expressions.{LevelTree, StepTrees, AtomTree, TargetTree, Unary, Chain, Done, More, Number, True, False, Target, Parens, Variable, Field, Element, StepOf, level, steps, step}
 use Rattle.syntax.specs.ExpressionReads.{level_on, level_at, steps_at, target_on, target_at, atom_at}
 use Rattle.tree.specs.Factors.{step_row}
-use Rattle.syntax.proofs.Pieces.{or_left, or_right, stops_with}
+use Rattle.syntax.proofs.Pieces.{or_right, stops_with}
 use Rattle.syntax.proofs.Chains.{Joins, chain, chain_at, last_of}
 use Rattle.syntax.proofs.KindLemmas.{apart_kinds}
 use Rattle.syntax.proofs.OperatorRules.{operator_piece, operator_starts}
+use Rattle.lemmas.proofs.Bools.{or_left}
 
 -- what some expression of a level goes on by is more than what one does
 

@@ -6,12 +6,13 @@ use Rattle.source.specs.declared.kind.Kind.TheVariants.{Comma}
 use Rattle.tree.specs.Symbols.{Symbol, Fixed, by_kind, is_kind}
 use Rattle.tree.specs.Spelling.{comma, listed, optional}
 use Rattle.syntax.specs.Reading.{never, Stops, leads, Fails, optional_at, listed_on, listed_at}
-use Rattle.syntax.proofs.Pieces.{Piece, both, both_piece, via_piece, via_fails, same_piece, same_fails, fails_first, fails_second, ends, meets, stops_never, or_left, or_right}
+use Rattle.syntax.proofs.Pieces.{Piece, both, both_piece, via_piece, via_fails, same_piece, same_fails, fails_first, fails_second, ends, meets, stops_never, or_right}
 use Rattle.syntax.proofs.Beginnings.{Starts, Splits, splits_self, row_starts}
 use Rattle.syntax.proofs.Repeats.{many_piece, many_fails, ended_leaves}
 use Rattle.syntax.proofs.Options.{opt_piece, opt_fails}
 use Rattle.syntax.proofs.CursorLemmas.{fixed_piece}
 use Rattle.syntax.proofs.KindLemmas.{kinds_apart}
+use Rattle.lemmas.proofs.Bools.{or_left}
 
 -- such a piece begins by a kind, and none by a comma
 pub record Item {X : Type 0} (a : X → List Symbol) (p : Option Kind → Bool) : Type 0 where

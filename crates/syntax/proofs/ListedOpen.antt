@@ -7,12 +7,13 @@ use Rattle.source.specs.declared.kind.Kind.TheVariants.{Comma}
 use Rattle.tree.specs.Symbols.{Symbol, Fixed, by_kind, is_kind}
 use Rattle.tree.specs.Spelling.{comma, listed, optional}
 use Rattle.syntax.specs.Reading.{never, Stops, leads, Fails, Takes, optional_at, last_at, many_at, listed_open_on, listed_open_at}
-use Rattle.syntax.proofs.Pieces.{Piece, Follows, both, next, via_piece, via_fails, same_piece, same_fails, fails_here, fails_after, fails_first, fails_second, or_left, or_right, stops_left}
+use Rattle.syntax.proofs.Pieces.{Piece, Follows, both, next, via_piece, via_fails, same_piece, same_fails, fails_here, fails_after, fails_first, fails_second, or_right, stops_left}
 use Rattle.syntax.proofs.Beginnings.{Starts, Splits, Leaves, row_starts}
 use Rattle.syntax.proofs.Repeats.{many_open_piece, many_fails, at_stops, tail_stops, rest_stops, last_more}
 use Rattle.syntax.proofs.Listed.{to, from, back, there}
 use Rattle.syntax.proofs.Options.{Opens, MeetsOpen, open_piece, open_opt_piece, open_opt_fails}
 use Rattle.syntax.proofs.CursorLemmas.{fixed, fixed_piece}
+use Rattle.lemmas.proofs.Bools.{or_left}
 
 -- such a piece begins by a kind, and goes on by no comma
 pub record OpenItem {X : Type 0} (a : X → List Symbol) (f : Symbol → Bool) (at : X → Symbol → Bool) (p : Option Kind → Bool) : Type 0 where

@@ -14,7 +14,7 @@ use Rattle.tree.specs.StatementGrammar.{init, exchange}
 use Rattle.syntax.specs.StatementParts.{init_on, result_on, declared, assigned, called, channel_ends, jump, delete, start, return_parts}
 use Rattle.tree.specs.declared.statement as made
 use Rattle.syntax.specs.declared.statement_ends.ChannelEnds.{ChannelEnds}
-use Rattle.syntax.proofs.Pieces.{Piece, Follows, Meets, both, both_piece, next, via_piece, or_left, or_right}
+use Rattle.syntax.proofs.Pieces.{Piece, Follows, Meets, both, both_piece, next, via_piece, or_right}
 use Rattle.syntax.proofs.Beginnings.{Starts}
 use Rattle.syntax.proofs.Options.{Opens, open_opt_piece}
 use Rattle.syntax.proofs.CursorLemmas.{fixed, fixed_piece, placed_piece, named_piece}
@@ -22,6 +22,7 @@ use Rattle.syntax.proofs.ExpressionFails.{expression_piece, expression_starts, e
 use Rattle.syntax.proofs.ValueFails.{value_piece, value_apart}
 use Rattle.syntax.proofs.ValueForms.{call_piece, maybe_dot_piece, dot_follows, dot_meets}
 use Rattle.syntax.proofs.ValueRules.{arguments_piece}
+use Rattle.lemmas.proofs.Bools.{or_left}
 
 -- a value, and what ends it
 

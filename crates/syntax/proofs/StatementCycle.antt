@@ -13,7 +13,7 @@ use Rattle.tree.specs.StatementTrees.{StatementTree, If, BlockTree, Braces, Test
 use Rattle.tree.specs.StatementGrammar.{awaited, bind, statement, block, test, others, case}
 use Rattle.syntax.specs.StatementParts.{CaseFrontTree, case_front}
 use Rattle.syntax.specs.StatementFirsts.{opens_statement, statement_on, others_at, statement_at, statements_on, statements_at, statement_list, case_at, cases_on, cases_at}
-use Rattle.syntax.proofs.Pieces.{Follows, Meets, ReadsOneWay, both, both_way, via_way, via_fails, same_fails, or_left, or_right, ends, meets}
+use Rattle.syntax.proofs.Pieces.{Follows, Meets, ReadsOneWay, both, both_way, via_way, via_fails, same_fails, or_right, ends, meets}
 use Rattle.syntax.proofs.Beginnings.{Begins, Starts, Splits, Leaves}
 use Rattle.syntax.proofs.Repeats.{many_stops, row_stops}
 use Rattle.syntax.proofs.Options.{Opens}
@@ -22,6 +22,7 @@ use Rattle.syntax.proofs.Enclosed.{InBraces}
 use Rattle.syntax.proofs.KindLemmas.{kinds_apart, apart_kinds}
 use Rattle.syntax.proofs.CursorLemmas.{fixed_piece}
 use Rattle.syntax.proofs.StatementRows.{list_row, row_list, list_spelled}
+use Rattle.lemmas.proofs.Bools.{or_left}
 
 -- block = "{" { statement } "}" .
 

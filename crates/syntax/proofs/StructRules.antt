@@ -42,10 +42,10 @@ type_met = record { here = λ t p r h. type_meets.here t p.0 [] tt }
 abbrev Behind : Type 0
 Behind = type_nodes.Type.Type × (Span × Unit {0})
 
-abbrev pub behind_access : Behind → List Symbol
-behind_access = both value_type named_end
+abbrev pub type_and_name : Behind → List Symbol
+type_and_name = both value_type named_end
 
-pub behind_piece : Piece behind_access never (λ _. never)
+pub behind_piece : Piece type_and_name never (λ _. never)
 behind_piece = both_piece type_piece named_end_piece type_ends type_met
 
 abbrev pub field_to : made.Field.Field → Option item_nodes.Access.Access × Behind
@@ -61,16 +61,16 @@ type_apart (Some kind.Private) h = sym h
 type_apart (Some kind.Internal) h = sym h
 type_apart k h = refl
 
-access_stops : (p : Behind) (r : List Symbol) → Stops (by_kind opens_access) (behind_access p ++ r)
+access_stops : (p : Behind) (r : List Symbol) → Stops (by_kind opens_access) (type_and_name p ++ r)
 access_stops p r =
     let b = type_starts.each p.0 in
     subst (λ l. Stops (by_kind opens_access) ((l ++ named_end p.1) ++ r)) (sym b.is) (type_apart (kind_at (b.head ∷ [])) b.first)
 
-pub field_follows : Follows (by_kind opens_access) behind_access never
+pub field_follows : Follows (by_kind opens_access) type_and_name never
 field_follows = record { each = λ p r h. access_stops p r }
 
-field_meets : Meets {X = Option item_nodes.Access.Access} (optional_at (by_kind opens_access) (λ _. never)) behind_access (λ _. never)
-field_meets = record { here = elim [ None ↦ λ p r h. access_stops p r | Some a ↦ λ p r h. stops_never (behind_access p ++ r) ] }
+field_meets : Meets {X = Option item_nodes.Access.Access} (optional_at (by_kind opens_access) (λ _. never)) type_and_name (λ _. never)
+field_meets = record { here = elim [ None ↦ λ p r h. access_stops p r | Some a ↦ λ p r h. stops_never (type_and_name p ++ r) ] }
 
 pub field_piece : Piece field never (λ _. never)
 field_piece = via_piece field_to field_from (λ _. refl) (both_piece access_piece behind_piece field_follows field_meets)

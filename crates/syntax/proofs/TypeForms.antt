@@ -17,13 +17,14 @@ use Rattle.tree.specs.declared.types.Type.TheVariants as type
 use Rattle.tree.specs.declared.types.Heap.TheVariants as heap
 use Rattle.syntax.specs.declared.fronts as parts
 use Rattle.syntax.specs.declared.fronts.NamedTail.TheVariants as tail
-use Rattle.syntax.proofs.Pieces.{Piece, Follows, Meets, ReadsOneWay, both_piece, next, via_piece, wide_way, or_left, or_right}
+use Rattle.syntax.proofs.Pieces.{Piece, Follows, Meets, ReadsOneWay, both_piece, next, via_piece, wide_way, or_right}
 use Rattle.syntax.proofs.Beginnings.{Begins}
 use Rattle.syntax.proofs.Choices.{Form, FormOf, Same, Other, form_way}
 use Rattle.syntax.proofs.Listed.{Item}
 use Rattle.syntax.proofs.CursorLemmas.{named_piece}
 use Rattle.syntax.proofs.TypeRules.{scalar_type_piece, pointer_piece}
 use Rattle.syntax.proofs.EndpointRules.{endpoint_piece}
+use Rattle.lemmas.proofs.Bools.{or_left}
 
 -- named_tail = pointer_tail | endpoint_tail .
 

@@ -15,7 +15,7 @@ use Rattle.tree.specs.Values.{CallTree, MadeTree, NewTree, ValueTree, Struct, Ar
 use Rattle.syntax.specs.ValueReads.{value_on, value_at, is_callee, opens_value}
 use Rattle.program.specs.declared.kind.Scalar.{Scalar}
 use Rattle.program.specs.declared.kind.Scalar.TheVariants as scalar
-use Rattle.syntax.proofs.Pieces.{Piece, ReadsOneWay, next, via_piece, via_fails, fails_first, fails_after, stops_never, or_left, or_right}
+use Rattle.syntax.proofs.Pieces.{Piece, ReadsOneWay, next, via_piece, via_fails, fails_first, fails_after, stops_never, or_right}
 use Rattle.syntax.proofs.Beginnings.{Begins, Starts, splits_self}
 use Rattle.syntax.proofs.Options.{opt_fails}
 use Rattle.syntax.proofs.Choices.{Form, Same, Other, form_way, form_fails}
@@ -28,6 +28,7 @@ use Rattle.syntax.proofs.AtomRules.{target_form, dot_piece}
 use Rattle.syntax.proofs.ExpressionFails.{index_piece, expression_piece, expression_starts, expression_apart, unary_fails, atom_fails, dotted_fails}
 use Rattle.syntax.proofs.ValueRules.{arguments_piece}
 use Rattle.syntax.proofs.ValueForms.{call_piece, call_to, call_from, dot_starts, dot_follows, lifted, lifted_spelled, no_expression, opens_call, no_call, no_member_call, value_only}
+use Rattle.lemmas.proofs.Bools.{or_left}
 
 -- made_struct = ID arguments .
 

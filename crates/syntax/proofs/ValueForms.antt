@@ -14,7 +14,7 @@ use Rattle.tree.specs.Expressions.{AtomTree, Unary, Chain, Done, Target, Variabl
 use Rattle.syntax.specs.ExpressionReads.{expression_on, expression_at, opens_expression}
 use Rattle.tree.specs.Values.{CallTree, NewTree, ValueTree, Expression, Call, New, arguments, call, new_spelling, value_spelling}
 use Rattle.syntax.specs.ValueReads.{value_on, value_at, is_callee}
-use Rattle.syntax.proofs.Pieces.{Piece, next, via_piece, via_fails, fails_after, fails_second, stops_with, stops_never, or_left, or_right, both_piece, Follows, Meets}
+use Rattle.syntax.proofs.Pieces.{Piece, next, via_piece, via_fails, fails_after, fails_second, stops_with, stops_never, or_right, both_piece, Follows, Meets}
 use Rattle.syntax.proofs.Beginnings.{Starts, splits_self, stops_leads}
 use Rattle.syntax.proofs.Options.{opt_piece}
 use Rattle.syntax.proofs.KindLemmas.{apart_kinds}
@@ -24,6 +24,7 @@ use Rattle.syntax.proofs.AtomRules.{dot_piece}
 use Rattle.syntax.proofs.ExpressionRules.{level_way}
 use Rattle.syntax.proofs.ExpressionFails.{expression_piece, expression_starts, expression_apart}
 use Rattle.syntax.proofs.ValueRules.{arguments_piece}
+use Rattle.lemmas.proofs.Bools.{or_left}
 
 -- call = ID [ "." ID ] arguments .
 

@@ -11,6 +11,7 @@ use Rattle.lemmas.proofs.FirstPlaces.{position_push}
 use Rattle.lemmas.proofs.Options.{none_is}
 use Rattle.tables.specs.Firsts.{IsApart, first_of}
 use Rattle.tables.specs.Words.{same_word}
+use Rattle.lemmas.proofs.Lists.{last_there}
 
 -- a word that a list has already changes no first place
 pub first_kept : (words : List (List ℕ)) (w q : List ℕ) → is_some (first_of words w) ≡ true
@@ -57,10 +58,6 @@ still_there : {X : Type 0} (xs more : List X) (y : X) (k : ℕ) → slice_get xs
 still_there [] more y k at = cc
 still_there (z ∷ xs) more y zero at = at
 still_there (z ∷ xs) more y (suc k) at = still_there xs more y k at
-
-last_there : {X : Type 0} (xs : List X) (x : X) → slice_get (xs ++ x ∷ []) (length xs) ≡ Some x
-last_there [] x = refl
-last_there (z ∷ xs) x = last_there xs x
 
 -- with a word that it lacks, a list has words twice exactly where it had before
 pub apart_more : (words : List (List ℕ)) (w : List ℕ) → first_of words w ≡ None → IsApart words ↔ IsApart (words ++ w ∷ [])

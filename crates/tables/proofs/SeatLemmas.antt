@@ -69,10 +69,6 @@ pub or_true : (a : Bool) → (a || true) ≡ true
 or_true true = refl
 or_true false = refl
 
-pub first_false : (a b : Bool) → (a || b) ≡ false → a ≡ false
-first_false true b h = cc
-first_false false b h = refl
-
 -- the bucket that a look-up gives
 pub bucket_found : (items buckets : List Bucket) (i : ℕ) (found : Option (Bor Bucket)) (b : Bucket) → is_some found ≡ ltb i (length items)
     → IfSome found (λ x. x.now ≡ get_or items i x.now) → items ≡ buckets → option_copied found ≡ Some b → slice_get buckets i ≡ Some b

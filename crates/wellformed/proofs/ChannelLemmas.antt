@@ -31,6 +31,7 @@ use Rattle.wellformed.proofs.MentionLemmas.{block_mentioned, held_known}
 use Rattle.wellformed.proofs.KindLemmas.{HasContract, HoldsEnd, contract_known, end_holds}
 use Rattle.wellformed.proofs.ListLemmas.{both_none}
 use Rattle.wellformed.proofs.Standing.{AreStanding, Around, IsHeld, IsKnown, last_of, scope_of}
+use Rattle.lemmas.proofs.Bools.{both_true}
 
 -- a kind that is that of an end of this contract
 record IsEndKind (n : ℕ) (k : declared.ValueKind.ValueKind) : Type 0 where
@@ -48,10 +49,6 @@ end_kind p n kind.Unknown known fits = absurd known
 same_number : (n : ℕ) → (n == n) ≡ true
 same_number n = eq-eqb n n refl
 
-and_true : (a b : Bool) → a ≡ true → b ≡ true → (a && b) ≡ true
-and_true true b first second = second
-and_true false b first second = cc
-
 left_of : (a b c : Bool) → (a || (b && c)) ≡ true → (a || b) ≡ true
 left_of true b c h = refl
 left_of false true c h = refl
@@ -68,7 +65,7 @@ ends_fit : (p : Program) (n : ℕ) (a b : Side) (x y : HeapKind) → HoldsEnd p 
 ends_fit p n a b x y left right differ =
     let k = contract_number p n in
     let apart = subst (λ z. not (z && same_side a b) ≡ true) (same_number n) differ in
-    let ends = and_true (k.0 == k.0) ((k.0 == k.0) && not (same_side a b)) (same_number k.0) (and_true (k.0 == k.0) (not (same_side a b)) (same_number k.0) apart) in
+    let ends = both_true (k.0 == k.0) ((k.0 == k.0) && not (same_side a b)) (same_number k.0) (both_true (k.0 == k.0) (not (same_side a b)) (same_number k.0) apart) in
     subst (λ z. are_ends k.0 z y ≡ true) (sym left.is) (subst (λ z. are_ends k.0 (Endpoint k a left.state) z ≡ true) (sym right.is) ends)
 
 -- the contract of an end that is known

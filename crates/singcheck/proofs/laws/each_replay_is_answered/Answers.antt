@@ -1,4 +1,4 @@
-use Rattle.singcheck.proofs.EachReplayLemmas.{ran_some, replay_some}
+use Rattle.singcheck.proofs.one_answer.EachReplayLemmas.{ran_some, replay_some}
 use Rattle.singcheck.proofs.laws.each_replay_is_answered.Goals as goal
 
 pub returns-clause-comes : goal.returns-clause-comes

@@ -1,4 +1,4 @@
-use Rattle.singcheck.proofs.EachLemmas.{bounds_some, check_some}
+use Rattle.singcheck.proofs.one_answer.EachLemmas.{bounds_some, check_some}
 use Rattle.singcheck.proofs.laws.each_text_is_answered.Goals as goal
 
 pub returns-clause-bounds : goal.returns-clause-bounds

@@ -1,4 +1,4 @@
-use Rattle.singcheck.proofs.OneCheckLemmas.{before_or_methods}
+use Rattle.singcheck.proofs.one_answer.OneCheckLemmas.{before_or_methods}
 use Rattle.singcheck.proofs.laws.findings_or_program.Goals as goal
 
 pub returns : goal.returns

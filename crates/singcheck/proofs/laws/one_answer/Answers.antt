@@ -2,8 +2,8 @@ use Rattle.std.proofs.Common.{◌≡◌, ℕ, List, refl}
 use Rattle.devices.specs.declared.fault.Status.{Status}
 use Rattle.devices.specs.declared.fault.Status.TheVariants.{Empty, Found}
 use Rattle.singcheck.specs.Answers.{Answers}
-use Rattle.singcheck.proofs.OnlyLemmas.{Laws, found_or_bounds, one_bounds, one_findings}
-use Rattle.singcheck.proofs.SameLemmas.{one_report}
+use Rattle.singcheck.proofs.one_answer.OnlyLemmas.{Laws, found_or_bounds, one_bounds, one_findings}
+use Rattle.singcheck.proofs.one_answer.SameLemmas.{one_report}
 use Rattle.singcheck.proofs.laws.one_answer.Goals as goal
 
 one_text : Laws → (text a b : List ℕ) (s t : Status) → Answers text a s → Answers text b t → a ≡ b

@@ -1,4 +1,4 @@
-use Rattle.singcheck.proofs.OneCheckLemmas.{one_answer_of, one_status_of}
+use Rattle.singcheck.proofs.one_answer.OneCheckLemmas.{one_answer_of, one_status_of}
 use Rattle.singcheck.proofs.laws.one_check.Goals as goal
 
 pub returns-clause-bytes : goal.returns-clause-bytes

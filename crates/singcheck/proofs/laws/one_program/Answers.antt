@@ -1,4 +1,4 @@
-use Rattle.singcheck.proofs.OneCheckLemmas.{one_seen}
+use Rattle.singcheck.proofs.one_answer.OneCheckLemmas.{one_seen}
 use Rattle.singcheck.proofs.laws.one_program.Goals as goal
 
 pub returns : goal.returns

@@ -1,4 +1,4 @@
-use Rattle.singcheck.proofs.OneReplayLemmas.{one_bytes, one_status, no_entry, no_schedule}
+use Rattle.singcheck.proofs.one_answer.OneReplayLemmas.{one_bytes, one_status, no_entry, no_schedule}
 use Rattle.singcheck.proofs.laws.one_replay.Goals as goal
 
 pub returns-clause-bytes : goal.returns-clause-bytes

@@ -1,8 +1,9 @@
 use Rattle.std.proofs.Common.{length, arith, ◌≡◌, not, sym, ap, ◌∙◌}
 use Rattle.std.specs.Prelude.{◌||◌}
 use Rattle.tables.specs.Tables.{seated_by}
-use Rattle.tables.proofs.SeatLemmas.{below_kept, bucket_found, crowded_here, crowds_grow, first_false, home_found, or_true, seats_kept}
+use Rattle.tables.proofs.SeatLemmas.{below_kept, bucket_found, crowded_here, crowds_grow, home_found, or_true, seats_kept}
 use Rattle.tables.proofs.tables.Table.seat.Goals as goal
+use Rattle.lemmas.proofs.Bools.{or_left}
 
 pub returns-clause-kept : goal.returns-clause-kept
 returns-clause-kept c = λ names q few none.
@@ -57,4 +58,4 @@ returns-clause-uncrowded c = λ q.
     let is = bucket_found c.deref.result.now buckets c.home-home.result c.get.result c.in-Some.bucket found.0 found.1
     c.deref.ensures.value (sym c.copied.ensures ∙ c.in-Some.is) in
     crowds_grow buckets c.home-home.result c.in-Some.bucket (record taken { crowded = taken.crowded || not c.take-seated.result }) q is
-    (λ none. sym c.take-seated.ensures.crowded ∙ first_false taken.crowded (not c.take-seated.result) none)
+    (λ none. sym c.take-seated.ensures.crowded ∙ or_left taken.crowded (not c.take-seated.result) none)

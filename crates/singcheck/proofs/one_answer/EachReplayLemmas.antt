@@ -1,0 +1,88 @@
+-- Each text, entry and schedule has an answer of `replay`, no entry, or a malformed line.
+use Rattle.std.proofs.Common.{◌≡◌, ℕ, List, Option, None, Some, slice_get, refl, sym, ap, subst, ◌∙◌}
+use Rattle.std.proofs.Math.Path.{fun_ext}
+use Rattle.std.specs.Option.{option_map}
+use Rattle.program.specs.Parts.{ContractModel}
+use Rattle.program.specs.Programs.{ProgramModel}
+use Rattle.program.specs.declared.kind.Side.{Side}
+use Rattle.declarations.specs.Program.{Program}
+use Rattle.resolving.specs.Brought.{messages_told}
+use Rattle.resolving.specs.Fields.{structs_told}
+use Rattle.resolving.specs.Methods.{methods_told}
+use Rattle.machine.specs.Outcomes.{Bounds}
+use Rattle.machine.specs.Replays.{IsReplay, ReplayModel}
+use Rattle.machine.specs.Runs.{AreBounds}
+use Rattle.machine.specs.declared.halts.Event.{Event}
+use Rattle.machine.proofs.BoundLemmas.{bound_is, bound_past}
+use Rattle.replays.specs.Schedules.{IsFirstMalformed, IsSchedule}
+use Rattle.replays.specs.WorldLines.{replay_lines}
+use Rattle.devices.specs.declared.fault.Status.{Status}
+use Rattle.devices.specs.declared.fault.Status.TheVariants.{Found}
+use Rattle.singcheck.specs.Checks.{HasProgram}
+use Rattle.singcheck.specs.Replays.{Answered as answered, ComesTo, HasEntry, IsRan, NoEntry, NoSchedule, OfFindings, OfRun, stop_status}
+use Rattle.singcheck.specs.Replays.{struct_names}
+use Rattle.singcheck.proofs.one_answer.EachLemmas.{Answered, sound_some}
+use Rattle.singcheck.proofs.one_answer.InsertLemmas.{report_there}
+
+-- what the crates below say: a program has bounds, a schedule is read, and events have a replay
+pub record Replaying : Type 0 where
+  pub bounds : (text : List ℕ) (p : ProgramModel) → HasProgram text p → ((bound : Bounds) → AreBounds p bound → ⊥) → ⊥
+  pub read : (bytes : List ℕ) → ((events : List Event) → ¬ IsSchedule bytes events) → ((n : ℕ) → ¬ IsFirstMalformed bytes n) → ⊥
+  pub replays : (p : ProgramModel) (bound : Bounds) (m : ℕ) (events : List Event)
+      → ((r : ReplayModel) → ¬ IsReplay p bound m events r) → ⊥
+
+-- a program has one bound for each end of a contract
+bound_at : (p : ProgramModel) (a b : Bounds) (n : ℕ) (side : Side) → AreBounds p a → AreBounds p b
+    → (o : Option ContractModel) → slice_get p.contracts n ≡ o → a n side ≡ b n side
+bound_at p a b n side are also None none = sym (bound_past p a n side are none) ∙ bound_past p b n side also none
+bound_at p a b n side are also (Some c) there =
+    bound_is p b n side c.parts (a n side) also (ap (option_map (λ (x : ContractModel). x.parts)) there) ∣ are.are n c side there ∣₁
+
+one_bounds : (p : ProgramModel) (a b : Bounds) → AreBounds p a → AreBounds p b → a ≡ b
+one_bounds p a b are also = fun_ext (λ n. fun_ext (λ side. bound_at p a b n side are also (slice_get p.contracts n) refl))
+
+-- from an entry, the events of a schedule come to something
+pub ran_some : Replaying → (entry lines text : List ℕ) (p : ProgramModel) (n : ℕ) (events : List Event) → HasEntry text entry p n
+    → IsSchedule lines events
+    → ((bytes : List ℕ) (status : Status) → ¬ IsRan entry lines text bytes status) → ⊥
+ran_some laws entry lines text p n events entered told none = laws.bounds text p entered.has (λ bound are.
+    laws.replays p bound n events (λ r is.
+    let names = struct_names text entered.has.items in
+    none (replay_lines (record { program = p; structs = names }) events r.steps r.halt r.world) (stop_status r.halt) (record {
+      program = p;
+      n = n;
+      entered = entered;
+      events = events;
+      told = told;
+      replayed = r;
+      led = λ other others. subst (λ (b : Bounds). IsReplay p b n events r) (one_bounds p bound other are others) is;
+      are = refl;
+      is = refl;
+    })))
+
+-- a schedule is read there, or has a malformed line
+scheduled_some : Replaying → (entry lines text : List ℕ) (p : ProgramModel) (n : ℕ) → HasEntry text entry p n
+    → (ComesTo entry lines text → ⊥) → ⊥
+scheduled_some laws entry lines text p n entered none = laws.read lines
+    (λ events told. ran_some laws entry lines text p n events entered told (λ bytes status ran. none (answered bytes status (OfRun ran))))
+    (λ line malformed. none (NoSchedule line (record { program = p; n = n; entered = entered; malformed = malformed })))
+
+-- a program has the entry or lacks it
+entered_some : Replaying → (entry lines text : List ℕ) (p : ProgramModel) → HasProgram text p → (ComesTo entry lines text → ⊥) → ⊥
+entered_some laws entry lines text p has none =
+    none (NoEntry (record {
+      program = p;
+      has = has;
+      none =
+          λ n at. scheduled_some laws entry lines text p n (record { has = has; at = at }) none;
+    }))
+
+pub replay_some : Answered → Replaying → (entry lines text : List ℕ) → (ComesTo entry lines text → ⊥) → ⊥
+replay_some stages laws entry lines text none = sound_some stages text
+    (λ found are.
+    let report = report_there found in
+    none (answered report.0 Found (OfFindings (record { found = found; are = are; told = report.1 }) refl)))
+    (λ items contracts program.
+    let named : Program = record { text = text; items = items } in
+    entered_some laws entry lines text (record { contracts = contracts; messages = messages_told named; structs = structs_told named; methods = methods_told named })
+    (record { items = items; program = program; messages = refl; structs = refl; methods = refl }) none)

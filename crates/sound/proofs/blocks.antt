@@ -1,0 +1,9 @@
+pub mod AnyBlocks
+pub mod Blocks
+pub mod ExchangedBlocks
+pub mod HandedBlocks
+pub mod NewBlock
+pub mod NewEnds
+pub mod Owning
+pub mod ReceivedBlocks
+pub mod SentBlocks

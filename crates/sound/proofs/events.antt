@@ -1,0 +1,16 @@
+pub mod AnyEvent
+pub mod Beginning
+pub mod Branching
+pub mod Calling
+pub mod Deleting
+pub mod Entering
+pub mod Exchanging
+pub mod GivenBack
+pub mod Giving
+pub mod Making
+pub mod Moving
+pub mod Opening
+pub mod Returning
+pub mod Sending
+pub mod Starting
+pub mod Switching
